@@ -1,0 +1,14 @@
+use crate::node::TermId;
+use crate::script::Name;
+use crate::terms::Terms;
+use base::Items;
+
+/// A definition of a predicate: its parameters, and a term over them, which are variables from 0 on
+/// in the term. The sorts of the parameters are those of the predicate's arguments.
+#[derive(Debug, Drop)]
+pub struct Definition {
+    pub pred: u32,
+    pub params: Items<Name>,
+    pub terms: Terms,
+    pub body: TermId,
+}

@@ -1,0 +1,89 @@
+use crate::sort::Sort;
+use base::{Copied, Items, Memory, Same};
+use std::alloc::Global;
+
+/// The number of a term in its arena, from 0.
+#[derive(Clone, Copy, Debug, PartialEq, Eq)]
+pub struct TermId(pub u32);
+
+/// The operators of the theories Core and Ints. `Sub` is `-`, with one argument or more.
+#[derive(Clone, Copy, Debug, PartialEq, Eq)]
+pub enum OpKind {
+    Not,
+    And,
+    Or,
+    Xor,
+    Implies,
+    Eq,
+    Distinct,
+    Ite,
+    Add,
+    Mul,
+    Sub,
+    Abs,
+    Div,
+    Mod,
+    Le,
+    Lt,
+    Ge,
+    Gt,
+}
+
+/// One node of a term. Its parts are named by number.
+#[derive(Debug, Drop)]
+pub enum Node {
+    Num(i64),
+    True,
+    False,
+    /// A quantified variable of an assertion, or a parameter of a definition, numbered from 0 in
+    /// the order of the text.
+    Var {
+        binder: u32,
+        sort: Sort,
+    },
+    /// A name that a `let` binds to this term.
+    LetVar {
+        bound: TermId,
+    },
+    /// A predicate, numbered from 0 in the order of the declarations, at its arguments.
+    Pred {
+        pred: u32,
+        args: Items<TermId>,
+    },
+    Op {
+        op: OpKind,
+        args: Items<TermId>,
+    },
+    /// `(_ divisible by)` of the argument.
+    Divisible {
+        by: i64,
+        arg: TermId,
+    },
+    Let {
+        bound: Items<TermId>,
+        body: TermId,
+    },
+    /// The quantified variables are numbered from `first` on.
+    Forall {
+        first: u32,
+        sorts: Items<Sort>,
+        body: TermId,
+    },
+    Exists {
+        first: u32,
+        sorts: Items<Sort>,
+        body: TermId,
+    },
+}
+
+impl Same for TermId {
+    fn equals(&self, other: &TermId) -> bool {
+        *self == *other
+    }
+}
+
+impl Copied for TermId {
+    fn copy(&self, _alloc: Global) -> Result<TermId, Memory> {
+        Ok(*self)
+    }
+}
