@@ -1,5 +1,5 @@
 -- Terms in an arena: each node stands after its parts, so that what it means rests on those before it.
-use Rattle.std.specs.Prelude.{ℕ, ◌<◌, List, [], ◌∷◌, length, slice_index_or, Bool, true, IsTrue, nat_lt, ◌&&◌}
+use Rattle.std.specs.Prelude.{ℕ, ◌<◌, List, length, slice_index_or, Bool, true, IsTrue, nat_lt, ◌&&◌}
 use Rattle.std.specs.List.{list_all}
 use Rattle.term_tree.specs.declared.node.TermId.{TermId}
 use Rattle.term_tree.specs.declared.node.Node.{Node}

@@ -3,6 +3,7 @@
 #![tactic(auto)]
 
 mod definition;
+mod laws;
 mod node;
 mod refusal;
 mod scalar;
@@ -11,6 +12,7 @@ mod sort;
 mod terms;
 
 pub use definition::Definition;
+pub use laws::meaning_of_nodes;
 pub use node::{Node, OpKind, TermId};
 pub use refusal::{Checked, Kind, Refusal};
 pub use scalar::Value;

@@ -1,0 +1,86 @@
+-- When a term has a value under definitions of the predicates (SMT-LIB 2.6, section 5.3): a relation by cases on the
+-- term. A quantifier ranges over all integers or both truth values, wherever it stands. That a universal statement is
+-- true or false cannot be decided in general, so a term need not be known to have a value; it never has two.
+use Rattle.std.specs.Prelude.{◌≡◌, ℕ, zero, suc, ◌-◌, List, [], ◌∷◌, ◌++◌, true, false, nat_lt, if◌then◌else◌, slice_index_or}
+use Rattle.term_tree.specs.declared.sort.Sort.{Sort}
+use Rattle.term_tree.specs.declared.sort.Sort.TheVariants.{Int as IntSort, Bool as BoolSort}
+use Rattle.term_tree.specs.declared.node.TermId.{TermId}
+use Rattle.term_tree.specs.declared.node.Node.{Node}
+use Rattle.term_tree.specs.declared.node.Node.TheVariants.{Num, True, False, Var, LetVar, Pred, Op, Divisible, Let, Forall, Exists}
+use Rattle.term_tree.specs.declared.scalar.Value.{Value}
+use Rattle.term_tree.specs.declared.scalar.Value.TheVariants.{Int, Bool as Truth}
+use Rattle.term_tree.specs.Operators.{result_of, divides, integer}
+use Rattle.term_tree.specs.Value.{Environment}
+
+-- what each predicate gives for a list of arguments
+abbrev pub Interpretation : Type 0
+Interpretation = ℕ → List Value → Value
+
+-- what a term may be worth in an environment
+abbrev pub Meaning : Type 1
+Meaning = Environment → Value → Type 0
+
+abbrev pub HasSort : Sort → Value → Type 0
+HasSort IntSort (Int n) = Unit {0}
+HasSort BoolSort (Truth b) = Unit {0}
+HasSort IntSort (Truth b) = ⊥
+HasSort BoolSort (Int n) = ⊥
+
+-- one value for each sort
+abbrev pub HaveSorts : List Sort → List Value → Type 0
+HaveSorts [] [] = Unit {0}
+HaveSorts (s ∷ sorts) (v ∷ values) = HasSort s v × HaveSorts sorts values
+HaveSorts [] (v ∷ values) = ⊥
+HaveSorts (s ∷ sorts) [] = ⊥
+
+-- the environment in which the variables from `first` on have these values
+abbrev pub bound_from : ℕ → List Value → Environment → Environment
+bound_from first values env k = if nat_lt k first then env k else slice_index_or values (k - first) (env k)
+
+-- the terms have these values, in order
+abbrev pub HaveValues : (ℕ → Meaning) → List TermId → Environment → List Value → Type 0
+HaveValues part [] env [] = Unit {0}
+HaveValues part (id ∷ ids) env (v ∷ values) = part id.0 env v × HaveValues part ids env values
+HaveValues part [] env (v ∷ values) = ⊥
+HaveValues part (id ∷ ids) env [] = ⊥
+
+-- true where the body is true at every value, false where it is false at one
+abbrev pub HoldsForAll : Meaning → ℕ → List Sort → Environment → Value → Type 0
+HoldsForAll body first sorts env (Truth true) = (values : List Value) → HaveSorts sorts values → body (bound_from first values env) (Truth true)
+HoldsForAll body first sorts env (Truth false) = (values : List Value) × HaveSorts sorts values × body (bound_from first values env) (Truth false)
+HoldsForAll body first sorts env (Int n) = ⊥
+
+-- true where the body is true at one value, false where it is false at every one
+abbrev pub HoldsForSome : Meaning → ℕ → List Sort → Environment → Value → Type 0
+HoldsForSome body first sorts env (Truth true) = (values : List Value) × HaveSorts sorts values × body (bound_from first values env) (Truth true)
+HoldsForSome body first sorts env (Truth false) = (values : List Value) → HaveSorts sorts values → body (bound_from first values env) (Truth false)
+HoldsForSome body first sorts env (Int n) = ⊥
+
+-- one node, over what its parts mean
+abbrev pub node_meaning : Interpretation → (ℕ → Meaning) → Node → Meaning
+node_meaning I part (Num n) env v = v ≡ Int n
+node_meaning I part True env v = v ≡ Truth true
+node_meaning I part False env v = v ≡ Truth false
+node_meaning I part (Var binder sort) env v = v ≡ env binder
+node_meaning I part (LetVar bound) env v = part bound.0 env v
+node_meaning I part (Pred pred args) env v = (values : List Value) × HaveValues part args env values × (v ≡ I pred values)
+node_meaning I part (Op op args) env v = (values : List Value) × HaveValues part args env values × (v ≡ result_of op values)
+node_meaning I part (Divisible by arg) env v = (value : Value) × part arg.0 env value × (v ≡ Truth (divides by (integer value)))
+node_meaning I part (Let bound body) env v = part body.0 env v
+node_meaning I part (Forall first sorts body) env v = HoldsForAll (part body.0) first sorts env v
+node_meaning I part (Exists first sorts body) env v = HoldsForSome (part body.0) first sorts env v
+
+-- what a number stands for, where these are the terms so far; there is nothing behind them
+abbrev pub meaning_in : List Meaning → ℕ → Meaning
+meaning_in [] id env v = ⊥
+meaning_in (m ∷ earlier) zero env v = m env v
+meaning_in (m ∷ earlier) (suc id) env v = meaning_in earlier id env v
+
+-- what the nodes mean, in order, each over those before it
+abbrev pub meanings_from : Interpretation → List Meaning → List Node → List Meaning
+meanings_from I earlier [] = earlier
+meanings_from I earlier (node ∷ nodes) = meanings_from I (earlier ++ node_meaning I (meaning_in earlier) node ∷ []) nodes
+
+-- the term of that number has this value in this environment
+abbrev pub HasValue : Interpretation → List Node → ℕ → Environment → Value → Type 0
+HasValue I nodes = meaning_in (meanings_from I [] nodes)
