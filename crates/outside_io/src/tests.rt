@@ -1,6 +1,9 @@
-ghost use Rattle.std.specs.Prelude.{◌<◌};
+ghost use Rattle.std.specs.Prelude.{◌≡◌, ◌<◌, ◌≤◌, [], Some, length, IsOk, IfOk, IfErr, IfSome};
+ghost use Rattle.outside_io.specs.declared.read.ReadStop.TheVariants.{Memory};
 
-use crate::{MemSink, MemSource, ReadStop, StdSink, StdSource, read_all, write_all};
+use crate::{
+    Failed, MemSink, MemSource, ReadStop, Sink, Source, StdSink, StdSource, read_all, write_all,
+};
 use std::alloc::{AllocError, Global};
 use std::io::{self, Read, Write};
 use std::test::Fail;
@@ -15,6 +18,36 @@ fn source_of(
 {
     let bytes = Vec::from_slice(alloc, bytes)?;
     Ok(MemSource::new(bytes, step, Vec::from_slice(alloc, fails)?))
+}
+
+/// What a caller concludes of a source in memory that names no turn: no fault, and all the bytes.
+fn read_sound(alloc: Global, source: &mut MemSource, limit: usize) -> Result<Vec<u8>, ReadStop>
+    requires sound { ⟦<MemSource as Source>⟧.fails source.old ≡ Some [] }
+    requires short { IfSome (⟦<MemSource as Source>⟧.left source.old) (λ left. length left ≤ limit) }
+    ensures stop { IfErr result (λ stop. stop ≡ Memory) }
+    ensures all { IfOk result (λ bytes. ⟦<MemSource as Source>⟧.left source.old ≡ Some bytes.items) }
+{
+    read_all(alloc, source, limit)
+}
+
+/// What a caller concludes of a sink in memory that names no turn and has room: no fault.
+fn write_sound(sink: &mut MemSink, bytes: &[u8]) -> Result<(), Failed>
+    requires sound { ⟦<MemSink as Sink>⟧.fails sink.old ≡ Some [] }
+    requires room { IfSome (⟦<MemSink as Sink>⟧.room sink.old) (λ room. length bytes.now ≤ room) }
+    ensures { IsOk result }
+{
+    write_all(sink, bytes)
+}
+
+#[test]
+fn a_source_and_a_sink_that_name_no_turn_move_all_bytes(rt: HostRuntime) -> Result<(), Fail> {
+    let bytes = Vec::from_slice(rt.alloc(), b"unsat")?;
+    let mut source = MemSource::new(bytes, 2, Vec::new(rt.alloc()));
+    let read = read_sound(rt.alloc(), &mut source, 5)?;
+    let mut sink = MemSink::new(rt.alloc(), 5, 3, Vec::new(rt.alloc()))?;
+    write_sound(&mut sink, b"unsat")?;
+    assert_eq!(rt; sink.held(), read.as_slice());
+    Ok(())
 }
 
 #[test]

@@ -1,0 +1,3 @@
+(set-logic HORN)
+(declare-fun reached (Int) Bool)
+(assert (reached 0))
