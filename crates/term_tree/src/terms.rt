@@ -1,5 +1,5 @@
 ghost use Rattle.std.specs.Prelude.{◌≡◌, ◌<◌, ◌^◌, ◌++◌, [], ◌∷◌, length, slice_get, Some, IfOk, OnErr, IsTrue};
-ghost use Rattle.term_tree.specs.Arena.{has_parts_below};
+ghost use Rattle.term_tree.specs.Arena.{IsArena, has_parts_below};
 
 use crate::node::{Node, TermId};
 use base::Memory;
@@ -58,6 +58,13 @@ impl Terms {
         ensures { result ≡ length self.now.nodes }
     {
         self.nodes.len()
+    }
+
+    /// That each node stands after its parts, for a proof that needs it of all nodes.
+    pub fn is_arena(&self)
+        ensures { IsArena self.now.nodes }
+    {
+        let _ = &self.nodes;
     }
 
     /// The node of that number.
