@@ -1,0 +1,64 @@
+-- What the program's top call promises.
+use Rattle.std.specs.Prelude.{◌≡◌, ℕ, ◌≤◌, ◌<◌, ◌^◌, List, [], ◌∷◌, length, take, Bool, IfSome, codes, true, false, ◌≢◌}
+use Rattle.std.specs.declared.option.Option.{Option}
+use Rattle.std.specs.Str.{bytes_eq}
+use Rattle.outside_io.specs.Bytes.{Appends}
+use Rattle.term_tree.specs.declared.script.Script.{Script}
+use Rattle.term_tree.specs.declared.definition.Definition.{Definition}
+use Rattle.term_tree.specs.declared.refusal.Refusal.{Refusal}
+use Rattle.term_tree.specs.declared.refusal.Kind.TheVariants.{TooLong}
+use Rattle.term_tree.specs.Solution.{IsSolution}
+use Rattle.sort_check.specs.Command.{Command}
+use Rattle.sort_check.specs.Facts.{IsScript, IsScriptOf, IsRefused}
+use Rattle.chc_cli.specs.Texts.{IsSatText, error_text, usage_text, memory_text}
+
+-- the words after the program's name are `solve` alone
+abbrev pub is_solve : List (List ℕ) → Bool
+is_solve (word ∷ []) = bytes_eq word (codes "solve")
+is_solve _ = false
+
+-- the bytes are a script, and the text is an answer to it: definitions under which every assertion is true
+pub record IsSatAnswer (bytes : List ℕ) (text : List ℕ) : Type 0 where
+  pub commands : List Command
+  pub script : Script
+  pub definitions : List Definition
+  pub is_script : IsScript bytes commands
+  pub spelled : IsScriptOf commands script
+  pub solution : IsSolution script definitions
+  pub answer : IsSatText script.preds definitions text
+
+-- The refusal is that of the bytes left in the source. Where it isn't that they are too many, they are those read.
+pub record RefusesInput (left : Option (List ℕ)) (read : List ℕ) (refusal : Refusal) : Type 0 where
+  pub input : IfSome left (λ bytes. IsRefused bytes refusal)
+  pub bytes : refusal.kind ≢ TooLong → IsRefused read refusal
+
+-- what was read are all the bytes of the source, and none where they are too many
+pub record ReadsInput (left : Option (List ℕ)) (read : List ℕ) (refusal : Refusal) : Type 0 where
+  pub whole : refusal.kind ≢ TooLong → IfSome left (λ bytes. read ≡ bytes)
+  pub none : refusal.kind ≡ TooLong → read ≡ []
+
+-- the text that the call was to write: its kinds are told apart by the status that it was to end with
+pub data IsMeant (words : List (List ℕ)) (left : Option (List ℕ)) (read text : List ℕ) : Type 0 where
+  sat : is_solve words ≡ true → IsSatAnswer read text → IsMeant words left read text
+  error : (refusal : Refusal) → is_solve words ≡ true → RefusesInput left read refusal → text ≡ error_text refusal → IsMeant words left read text
+  usage : is_solve words ≡ false → text ≡ usage_text → IsMeant words left read text
+  memory : text ≡ memory_text → IsMeant words left read text
+
+-- status 4: a prefix of the text that was meant is held, and not all of it
+pub record WritesPart (words : List (List ℕ)) (left : Option (List ℕ)) (read : List ℕ) (old new : Option (List ℕ)) : Type 0 where
+  pub text : List ℕ
+  pub meant : IsMeant words left read text
+  pub count : ℕ
+  pub part : count < length text
+  pub held : Appends (take count text) old new
+
+-- status 0: the sink holds the answer behind what it held
+pub record Answers (read : List ℕ) (old new : Option (List ℕ)) : Type 0 where
+  pub text : List ℕ
+  pub answer : IsSatAnswer read text
+  pub held : Appends text old new
+
+-- status 1: it holds the line of the refusal
+pub record Refuses (left : Option (List ℕ)) (read : List ℕ) (refusal : Refusal) (old new : Option (List ℕ)) : Type 0 where
+  pub refused : RefusesInput left read refusal
+  pub held : Appends (error_text refusal) old new

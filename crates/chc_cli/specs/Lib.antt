@@ -1,0 +1,4 @@
+pub mod Answers
+pub mod Headline
+pub mod Plans
+pub mod Texts

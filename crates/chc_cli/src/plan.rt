@@ -1,0 +1,91 @@
+ghost use Rattle.std.specs.Prelude.{◌≡◌, ◌≤◌, ◌<◌, ◌^◌, List, ℕ, length, vec_len, Some, None, true, false, if◌then◌else◌};
+ghost use Rattle.outside_io.specs.Counts.{counted};
+ghost use Rattle.outside_io.specs.declared.turn.Turn.TheVariants.{Fault};
+ghost use Rattle.chc_cli.specs.Plans.{IsPlan, is_fault};
+
+use crate::answer::answer_to;
+use crate::texts::error_line;
+use outside_io::{ReadStop, Source, read_all};
+use std::alloc::Global;
+use term_tree::{Kind, Refusal};
+
+/// The most bytes that an input may have.
+const MOST_BYTES: usize = 16_777_216;
+
+/// What a call of `solve` is to write, whole, before anything is written.
+#[derive(Drop)]
+pub enum Plan {
+    Answered {
+        read: Vec<u8>,
+        text: Vec<u8>,
+    },
+    Refused {
+        read: Vec<u8>,
+        refusal: Refusal,
+        line: Vec<u8>,
+    },
+    ReadFault,
+    OutOfMemory {
+        read: Vec<u8>,
+    },
+}
+
+/// Reads the source to its end, and finds what is to be written.
+pub fn plan_for<S: Source>(alloc: Global, source: &mut S) -> Plan
+    ensures plan { IsPlan (S.left source.old) result }
+    ensures faults { S.faults source.new ≡ (if is_fault result then counted (S.faults source.old) else S.faults source.old) }
+    ensures last { is_fault result ≡ true → S.last source.new ≡ Fault }
+{
+    match read_all(alloc, source, MOST_BYTES) {
+        Ok(read) => plan_of(alloc, read),
+        Err(ReadStop::TooLong) => plan_of_too_long(alloc),
+        Err(ReadStop::ReadFault) => Plan::ReadFault,
+        Err(ReadStop::Memory) => Plan::OutOfMemory {
+            read: Vec::new(alloc),
+        },
+    }
+}
+
+/// What is to be written for the bytes of an input that isn't too long.
+fn plan_of(alloc: Global, read: Vec<u8>) -> Plan
+    requires { vec_len read ≤ 2 ^ 24 }
+    ensures plan { IsPlan (Some read.items) result }
+    ensures fault { is_fault result ≡ false }
+{
+    match answer_to(alloc, read.as_slice()) {
+        Ok(answer) => match answer.refusal {
+            None => Plan::Answered {
+                read,
+                text: answer.text,
+            },
+            Some(refusal) => Plan::Refused {
+                read,
+                refusal,
+                line: answer.text,
+            },
+        },
+        Err(_) => Plan::OutOfMemory { read },
+    }
+}
+
+/// What is to be written where the input has too many bytes.
+fn plan_of_too_long(alloc: Global) -> Plan
+    ensures plan { (bytes : List ℕ) → 2 ^ 24 < length bytes → IsPlan (Some bytes) result }
+    ensures untold { IsPlan None result }
+    ensures fault { is_fault result ≡ false }
+{
+    let refusal = Refusal {
+        kind: Kind::TooLong,
+        offset: MOST_BYTES as u64,
+        command: 0,
+    };
+    let read = Vec::new(alloc);
+    match error_line(alloc, &refusal) {
+        Ok(line) => Plan::Refused {
+            read,
+            refusal,
+            line,
+        },
+        Err(_) => Plan::OutOfMemory { read },
+    }
+}

@@ -1,0 +1,134 @@
+ghost use Rattle.std.specs.Prelude.{◌≡◌, ◌≢◌, ◌≤◌, ◌↔◌, List, ℕ, [], map, true, false, IfSome, IsSome};
+ghost use Rattle.std.specs.String.{string_bytes};
+ghost use Rattle.outside_io.specs.Bytes.{Appends};
+ghost use Rattle.outside_io.specs.Counts.{counted};
+ghost use Rattle.outside_io.specs.declared.turn.Turn.TheVariants.{Fault};
+ghost use Rattle.chc_cli.specs.Headline.{is_solve, Answers, Refuses, ReadsInput, WritesPart};
+ghost use Rattle.chc_cli.specs.Texts.{usage_text, memory_text};
+
+use crate::plan::{Plan, plan_for};
+use crate::texts::{memory_line, usage_line};
+use crate::words::is_solve;
+use outside_io::{Sink, Source, write_all};
+use std::alloc::Global;
+use term_tree::Refusal;
+
+/// How a call ended.
+///
+/// | status | name |
+/// |---|---|
+/// | 0 | answered |
+/// | 1 | script refused |
+/// | 2 | usage: the words are no command |
+/// | 3 | the source has failed |
+/// | 4 | the sink has failed |
+/// | 5 | out of memory |
+#[derive(Drop)]
+pub struct Report {
+    pub status: u8,
+    /// The bytes that were read. None where reading stopped before the end, or the words are no command.
+    pub read: Vec<u8>,
+    /// The refusal, exactly under status 1.
+    pub refusal: Option<Refusal>,
+}
+
+/// The program: it carries out the words after the program's name over what the source gives, and
+/// writes one text into the sink.
+///
+/// Where a source or sink does not tell its bytes, the clauses on these say nothing.
+pub fn chc_run<S: Source, K: Sink>(
+    alloc: Global,
+    words: &[String],
+    source: &mut S,
+    sink: &mut K,
+) -> Report
+    ensures statuses { result.status ≤ 5 }
+
+    // 0: the text that the sink holds now is a sat answer: definitions under which every assertion of the script that the bytes read spell is true.
+    ensures answered { result.status ≡ 0 → Answers result.read.items (K.held sink.old) (K.held sink.new) }
+    ensures answers_all { result.status ≡ 0 → IfSome (S.left source.old) (λ bytes. result.read.items ≡ bytes) }
+
+    // 1: it is the line of the one refusal of the bytes.
+    ensures refused { IfSome result.refusal (λ refusal. Refuses (S.left source.old) result.read.items refusal (K.held sink.old) (K.held sink.new)) }
+    ensures refuses_all { IfSome result.refusal (ReadsInput (S.left source.old) result.read.items) }
+    ensures refusal { IsSome result.refusal ↔ (result.status ≡ 1) }
+
+    // 2: other words than `solve` are answered so, and nothing is read for them.
+    ensures usage { result.status ≡ 2 → Appends usage_text (K.held sink.old) (K.held sink.new) }
+    ensures solves { is_solve (map string_bytes words.now) ≡ true → result.status ≢ 2 }
+    ensures other_words { is_solve (map string_bytes words.now) ≡ false → result.status ≢ 4 → result.status ≡ 2 }
+    ensures unread { is_solve (map string_bytes words.now) ≡ false → S.turns source.new ≡ S.turns source.old }
+
+    // 3: exactly where the source has failed, and then nothing is written.
+    ensures source_faults { result.status ≢ 3 → S.faults source.new ≡ S.faults source.old }
+    ensures read_fault { result.status ≡ 3 → S.faults source.new ≡ counted (S.faults source.old) }
+    ensures stops_reading { result.status ≡ 3 → S.last source.new ≡ Fault }
+    ensures unwritten { result.status ≡ 3 → K.turns sink.new ≡ K.turns sink.old }
+    ensures holds_nothing { result.status ≡ 3 → K.held sink.new ≡ K.held sink.old }
+
+    // 4: exactly where the sink has failed, and then it holds a prefix of what was meant.
+    ensures sink_faults { result.status ≢ 4 → K.faults sink.new ≡ K.faults sink.old }
+    ensures write_fault { result.status ≡ 4 → K.faults sink.new ≡ counted (K.faults sink.old) }
+    ensures stops_writing { result.status ≡ 4 → K.last sink.new ≡ Fault }
+    ensures writes_part { result.status ≡ 4 → WritesPart (map string_bytes words.now) (S.left source.old) result.read.items (K.held sink.old) (K.held sink.new) }
+
+    // 5: want of memory.
+    ensures memory { result.status ≡ 5 → Appends memory_text (K.held sink.old) (K.held sink.new) }
+{
+    if !is_solve(words) {
+        let status = match write_all(sink, usage_line()) {
+            Ok(()) => 2,
+            Err(_) => 4,
+        };
+        return Report {
+            status,
+            read: Vec::new(alloc),
+            refusal: None,
+        };
+    }
+    match plan_for(alloc, source) {
+        Plan::Answered { read, text } => {
+            let status = match write_all(sink, text.as_slice()) {
+                Ok(()) => 0,
+                Err(_) => 4,
+            };
+            Report {
+                status,
+                read,
+                refusal: None,
+            }
+        }
+        Plan::Refused {
+            read,
+            refusal,
+            line,
+        } => match write_all(sink, line.as_slice()) {
+            Ok(()) => Report {
+                status: 1,
+                read,
+                refusal: Some(refusal),
+            },
+            Err(_) => Report {
+                status: 4,
+                read,
+                refusal: None,
+            },
+        },
+        Plan::ReadFault => Report {
+            status: 3,
+            read: Vec::new(alloc),
+            refusal: None,
+        },
+        Plan::OutOfMemory { read } => {
+            let status = match write_all(sink, memory_line()) {
+                Ok(()) => 5,
+                Err(_) => 4,
+            };
+            Report {
+                status,
+                read,
+                refusal: None,
+            }
+        }
+    }
+}

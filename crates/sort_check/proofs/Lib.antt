@@ -1,0 +1,7 @@
+pub mod BookLemmas
+pub mod CheckLemmas
+pub mod NameLemmas
+pub mod ParseLemmas
+pub mod SoundLemmas
+pub mod TermLemmas
+pub mod TokenLemmas

@@ -1,0 +1,12 @@
+//! From bytes to scripts: which texts are scripts, and the refusal of every other text.
+#![tactic(auto)]
+
+mod book;
+mod commands;
+mod facts;
+mod names;
+mod numerals;
+mod reserved;
+mod tokens;
+
+pub use facts::check_facts;
