@@ -1,5 +1,6 @@
 pub mod BookLemmas
 pub mod CheckLemmas
+pub mod LawLemmas
 pub mod NameLemmas
 pub mod ParseLemmas
 pub mod SoundLemmas

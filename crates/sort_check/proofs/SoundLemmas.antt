@@ -140,7 +140,7 @@ command_found ts c rest h =
     let all : ts ≡ (o.0.0, Open) ∷ (n.0.0, Word n.0.1) ∷ n.0.2 = open_some ts o.0 o.1 ∙ ap (λ r. (o.0.0, Open) ∷ r) (word_some o.0.1 n.0 n.1) in
     subst (λ (r : List Placed). Found r c rest) (sym all) (named_found o.0.0 n.0.0 n.0.1 n.0.2 (c, rest) n.2)
 
-append_nothing : {X : Type 0} (xs : List X) → xs ++ [] ≡ xs
+pub append_nothing : {X : Type 0} (xs : List X) → xs ++ [] ≡ xs
 append_nothing [] = refl
 append_nothing (x ∷ xs) = ap (λ ys. x ∷ ys) (append_nothing xs)
 

@@ -4,6 +4,7 @@
 mod book;
 mod commands;
 mod facts;
+pub mod laws;
 mod names;
 mod numerals;
 mod reserved;

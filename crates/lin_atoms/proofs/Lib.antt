@@ -1,0 +1,11 @@
+pub mod AgreeLemmas
+pub mod DenialLemmas
+pub mod DivisionLemmas
+pub mod DotLemmas
+pub mod LinearLemmas
+pub mod MergeLemmas
+pub mod RatioLemmas
+pub mod TermLemmas
+pub mod TruthLemmas
+pub mod ValueLemmas
+pub mod WordLemmas

@@ -1,0 +1,30 @@
+use Rattle.std.proofs.Common.{◌≡◌, ◌+◌, ◌^◌, ◌∙◌, arith, rules, get_or, FitsSigned, to_z}
+use Rattle.std.specs.Prelude.{pos, ◌+ℤ◌, ◌*ℤ◌}
+use Rattle.std.specs.Int.{w64, w128}
+use Rattle.std.proofs.lemmas.Int.{ints, to_z-of_z}
+use Rattle.lin_atoms.proofs.DotLemmas.{dot-more}
+use Rattle.lin_atoms.proofs.dot.sign_of_dot.Goals as goal
+
+pub overflow_add-high : goal.overflow_add-high
+overflow_add-high c = omega (arith, ints, c.loop-i.invariant.high, c.parts-upper.ensures.high, c.loop-i-test.true, c.requires.short)
+
+pub loop-i-preserved : goal.loop-i-preserved
+loop-i-preserved c =
+    let i = c.loop-i.i in
+    let high = to_z w128 c.loop-i.high-bits in
+    let a_fits : FitsSigned w64 (get_or c.args.a.now i (pos 0)) = search rules in
+    let b_fits : FitsSigned w64 (get_or c.args.b.now i (pos 0)) = search rules in
+    let c_fits : FitsSigned w128 c.args.c = c.ranges.c in
+    let product_fits : FitsSigned w128 c.product.result = search rules in
+    let upper_fits : FitsSigned w128 c.parts-upper.result.0 = search rules in
+    let sum_fits : FitsSigned w128 (high +ℤ c.parts-upper.result.0) = omega (arith, ints, c.loop-i.invariant.high, c.parts-upper.ensures.high, c.loop-i-test.true, c.requires.short) in
+    let halves = simp to_z-of_z at c.parts-upper.ensures.value in
+    let multiplied = simp to_z-of_z at c.product.ensures in
+    let before = simp to_z-of_z at c.loop-i.invariant.value in
+    let added : (high +ℤ c.parts-upper.result.0) *ℤ pos (2 ^ 64) +ℤ pos (c.loop-i.low + c.parts-upper.result.1) ≡ high *ℤ pos (2 ^ 64) +ℤ pos c.loop-i.low +ℤ get_or c.args.a.now i (pos 0) *ℤ get_or c.args.b.now i (pos 0) =
+    omega (arith, ints, halves ∙ multiplied) in
+    simp to_z-of_z (record {
+      value = dot-more c.args.a.now c.args.b.now i _ _ _ c.loop-i-test.true c.requires.same before added;
+      high = omega (arith, ints, c.loop-i.invariant.high, c.parts-upper.ensures.high);
+      low = omega (arith, c.loop-i.invariant.low, c.parts-upper.ensures.low);
+    })

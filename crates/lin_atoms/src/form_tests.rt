@@ -1,0 +1,196 @@
+//! Forms with values that were worked out by hand.
+
+use crate::{Divisor, Form, Lin, LinStop, Lit, WideStop, denied, holds};
+use base::{Copied, Items, Same};
+use std::alloc::Global;
+use std::test::Fail;
+
+const MOST: i64 = i64::MAX;
+
+const WIDE: i128 = 1 << 64;
+
+fn made(alloc: Global, terms: &[(u32, i64)], constant: i128) -> Result<Result<Lin, LinStop>, Fail> {
+    let mut list = Vec::new(alloc);
+    list.extend_from_slice(terms)?;
+    Ok(Lin::new(list, constant))
+}
+
+fn lin(alloc: Global, terms: &[(u32, i64)], constant: i128) -> Result<Lin, Fail> {
+    Ok(made(alloc, terms, constant)??)
+}
+
+fn is(alloc: Global, form: &Lin, terms: &[(u32, i64)], constant: i128) -> Result<bool, Fail> {
+    Ok(form.equals(&lin(alloc, terms, constant)?))
+}
+
+#[test]
+fn terms_out_of_order_and_wide_numbers_are_no_form(rt: HostRuntime) -> Result<(), Fail> {
+    for (terms, constant, wanted) in [
+        ([(1, 1), (0, 1)], 0, Some(LinStop::Order)),
+        ([(1, 1), (1, 1)], 0, Some(LinStop::Order)),
+        ([(0, 1), (1, 0)], 0, Some(LinStop::Order)),
+        ([(0, MOST), (u32::MAX, -MOST)], WIDE - 1, None),
+        ([(0, MOST), (u32::MAX, -MOST)], 1 - WIDE, None),
+        ([(0, i64::MIN), (1, 1)], 0, Some(LinStop::Wide)),
+        ([(0, 1), (1, 1)], WIDE, Some(LinStop::Wide)),
+        ([(0, 1), (1, 1)], -WIDE, Some(LinStop::Wide)),
+    ] {
+        assert!(rt; made(rt.alloc(), &terms, constant)?.err() == wanted);
+    }
+    Ok(())
+}
+
+#[test]
+fn sums_beyond_2_to_the_127_that_come_back_are_exact(rt: HostRuntime) -> Result<(), Fail> {
+    let terms = [(0, MOST), (1, MOST), (2, -MOST), (3, -MOST)];
+    let point = [MOST, MOST, MOST, MOST];
+    for (constant, at_most, equal) in [(-1, true, false), (0, true, true), (1, false, false)] {
+        let le = Lit::Le(lin(rt.alloc(), &terms, constant)?);
+        assert_eq!(rt; le.holds(&point), at_most, "{constant} is at most 0");
+        let eq = Lit::Eq(lin(rt.alloc(), &terms, constant)?);
+        assert_eq!(rt; eq.holds(&point), equal, "{constant} is 0");
+    }
+    Ok(())
+}
+
+fn divides(alloc: Global, n: i64, coefficient: i64, constant: i128, x: i64) -> Result<bool, Fail> {
+    let divisor = Divisor::new(n).ok_or("no divisor")?;
+    let form = lin(alloc, &[(0, coefficient)], constant)?;
+    Ok(Lit::Div(divisor, form).holds(&[x]))
+}
+
+#[test]
+fn divisibility_counts_negative_numbers_by_their_magnitudes(rt: HostRuntime) -> Result<(), Fail> {
+    for (n, coefficient, constant, x, wanted) in [
+        (3, 1, 0, -3, true),
+        (3, 1, 0, -4, false),
+        (3, 1, 1, -4, true),
+        (3, -2, 0, 4, false),
+        (MOST, MOST, 0, MOST, true),
+        (MOST, 1, 0, -MOST, true),
+        (MOST, 1, 0, 1 - MOST, false),
+        (7, 1, 0, 0, true),
+    ] {
+        let divides = divides(rt.alloc(), n, coefficient, constant, x)?;
+        assert_eq!(rt;
+            divides,
+            wanted,
+            "{n} divides {coefficient} * {x} + {constant}"
+        );
+    }
+    Ok(())
+}
+
+fn added_is(
+    alloc: Global,
+    a: &[(u32, i64)],
+    b: &[(u32, i64)],
+    wanted: &[(u32, i64)],
+) -> Result<bool, Fail> {
+    let a = lin(alloc, a, 3)?;
+    let b = lin(alloc, b, 4)?;
+    let sum = a.added(alloc, &b)?;
+    is(alloc, &sum, wanted, 7)
+}
+
+fn scaled_is(
+    alloc: Global,
+    k: i64,
+    terms: &[(u32, i64)],
+    wanted: &[(u32, i64)],
+) -> Result<bool, Fail> {
+    let form = lin(alloc, terms, 0)?;
+    let multiple = form.scaled(alloc, k)?;
+    is(alloc, &multiple, wanted, 0)
+}
+
+#[test]
+fn sums_and_multiples_are_normal_forms(rt: HostRuntime) -> Result<(), Fail> {
+    let alloc = rt.alloc();
+    assert!(rt;
+        added_is(
+            alloc,
+            &[(0, 2), (1, -1)],
+            &[(1, 1), (2, 1)],
+            &[(0, 2), (2, 1)]
+        )?
+    );
+    assert!(rt; added_is(alloc, &[(3, 1)], &[(1, 5), (3, 1)], &[(1, 5), (3, 2)])?);
+    assert!(rt; scaled_is(alloc, -3, &[(0, 2), (1, -1)], &[(0, -6), (1, 3)])?);
+    assert!(rt; scaled_is(alloc, 0, &[(0, 2), (1, -1)], &[])?);
+    Ok(())
+}
+
+fn renamed_is(alloc: Global, names: &[u32], wanted: &[(u32, i64)]) -> Result<bool, Fail> {
+    let form = lin(alloc, &[(0, MOST), (1, MOST), (2, -MOST)], 3)?;
+    let named = form.renamed(alloc, names)?;
+    is(alloc, &named, wanted, 3)
+}
+
+fn replaced(alloc: Global, variable: u32, name: u32) -> Result<Result<Lin, WideStop>, Fail> {
+    let form = lin(alloc, &[(0, MOST), (1, 2)], 0)?;
+    Ok(form.replaced(alloc, variable, name))
+}
+
+#[test]
+fn coefficients_of_one_name_are_added_up(rt: HostRuntime) -> Result<(), Fail> {
+    assert!(rt; renamed_is(rt.alloc(), &[5, 5, 5], &[(5, MOST)])?);
+    assert!(rt; renamed_is(rt.alloc(), &[4, 1, 4], &[(1, MOST)])?);
+    assert!(rt; renamed_is(rt.alloc(), &[2, 1], &[(1, MOST)])?);
+    assert!(rt; replaced(rt.alloc(), 1, 7)?.is_ok());
+    assert!(rt; matches!(replaced(rt.alloc(), 1, 0)?, Err(WideStop::Wide)));
+    Ok(())
+}
+
+fn first_is(lits: &Items<Lit>, wanted: &Lit) -> bool {
+    match lits.get(0) {
+        Some(first) => first.equals(wanted),
+        None => false,
+    }
+}
+
+fn equality(alloc: Global) -> Result<Items<Lit>, Fail> {
+    let lit = Lit::Eq(lin(alloc, &[(0, 2)], 3)?);
+    Ok(denied(alloc, &lit)?)
+}
+
+#[test]
+fn denial_of_an_equality_is_below_or_above(rt: HostRuntime) -> Result<(), Fail> {
+    let lits = equality(rt.alloc())?;
+    assert_eq!(rt; lits.len(), 2);
+    let below = Lit::Le(lin(rt.alloc(), &[(0, 2)], 4)?);
+    assert!(rt; first_is(&lits, &below));
+    Ok(())
+}
+
+#[test]
+fn denial_stops_where_the_constant_has_no_room(rt: HostRuntime) -> Result<(), Fail> {
+    for (constant, wanted) in [(1 - WIDE, true), (2 - WIDE, false), (WIDE - 1, false)] {
+        let lit = Lit::Le(lin(rt.alloc(), &[(0, 2)], constant)?);
+        assert_eq!(rt; denied(rt.alloc(), &lit).is_err(), wanted, "at {constant}");
+    }
+    Ok(())
+}
+
+/// x is at most y, or 3 doesn't divide y.
+fn sample(alloc: Global) -> Result<Form, Fail> {
+    let three = Divisor::new(3).ok_or("no divisor")?;
+    let mut parts = Items::new(alloc);
+    parts.push(Form::Lit(Lit::Le(lin(alloc, &[(0, 1), (1, -1)], 0)?)))?;
+    parts.push(Form::Lit(Lit::NDiv(three, lin(alloc, &[(1, 1)], 0)?)))?;
+    Ok(Form::Or(parts))
+}
+
+#[test]
+fn formulas_are_true_as_or_says(rt: HostRuntime) -> Result<(), Fail> {
+    let form = sample(rt.alloc())?;
+    let copied = form.copy(rt.alloc())?;
+    assert!(rt; copied.equals(&form));
+    assert!(rt; form.is_below(2) && !form.is_below(1));
+    for (x, y, wanted) in [(3, 3, true), (4, 3, false), (5, 4, true)] {
+        assert_eq!(rt; holds(&form, &[x, y]), wanted, "at {x}, {y}");
+    }
+    assert!(rt; holds(&Form::And(Items::new(rt.alloc())), &[]));
+    assert!(rt; !holds(&Form::Or(Items::new(rt.alloc())), &[]));
+    Ok(())
+}

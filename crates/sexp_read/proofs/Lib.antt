@@ -1,0 +1,7 @@
+pub mod Between
+pub mod Exists
+pub mod Machine
+pub mod Numbers
+pub mod Progress
+pub mod Reaches
+pub mod Steps

@@ -1,0 +1,4 @@
+pub mod Leaves
+pub mod Lexicon
+pub mod Opened
+pub mod Trees

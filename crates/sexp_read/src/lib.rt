@@ -1,0 +1,18 @@
+//! S-expressions: which trees a text spells, with their offsets, and where its first fault stands.
+#![tactic(auto)]
+
+mod laws;
+mod leaves;
+mod lexer;
+mod reader;
+mod runs;
+#[cfg(test)]
+mod tests;
+mod token;
+mod tree;
+mod words;
+
+pub use laws::{every_text_has_a_reading, no_text_has_two_readings};
+pub use leaves::{is_word, leaf_bytes, numeral_value, symbol_bytes};
+pub use reader::read_commands;
+pub use tree::{LeafKind, TextStop, Tree, Trees};
