@@ -6,7 +6,7 @@ use Rattle.std.proofs.Math.IntN.{*ℤ_comm}
 use Rattle.std.proofs.lemmas.Int.{ints}
 use Rattle.std.proofs.lemmas.Bool.{ltb-true, eqb-true, eqb-false}
 use Rattle.base.proofs.IntLemmas.{*ℤ_assoc, *ℤ-+ℤ}
-use Rattle.lin_atoms.specs.Linear.{Linear, sum_at, value_at, variable_at, lin_is_below}
+use Rattle.lin_atoms.specs.Linear.{Linear, sum_at, value_at, variable_at, lin_all, lin_is_below}
 use Rattle.lin_atoms.specs.Algebra.{added, name_in, negated, put_for, renamed, scaled, scaled_terms}
 use Rattle.lin_atoms.proofs.LinearLemmas.{both_true, sum_at-negated}
 use Rattle.lin_atoms.proofs.TermLemmas.{sum_at-term_on, sum_at-collected, sum_at-++}
@@ -75,13 +75,13 @@ put_here p q x y v here other false e = other (λ same. eqb-false v x e same)
 pub value_at-put : (p q : List ℤ) (x y : ℕ) (a : Linear) → variable_at q x ≡ variable_at p y → ((v : ℕ) → (v ≡ x → ⊥) → variable_at q v ≡ variable_at p v) → value_at p (renamed (put_for y x) a) ≡ value_at q a
 value_at-put p q x y a here other = value_at-renamed p q (put_for y x) a (λ v. put_here p q x y v here (other v) (v == x) refl)
 
-sum_at-agree : (n : ℕ) (p q : List ℤ) (ts : List (ℕ × ℤ)) → ((v : ℕ) → v < n → variable_at p v ≡ variable_at q v) → list_all (λ t. nat_lt t.0 n) ts ≡ true → sum_at p ts ≡ sum_at q ts
-sum_at-agree n p q [] same h = refl
-sum_at-agree n p q (t ∷ ts) same h =
-    let parts = both_true (nat_lt t.0 n) _ h in
-    let first : t.1 *ℤ variable_at p t.0 ≡ t.1 *ℤ variable_at q t.0 = ap (λ z. t.1 *ℤ z) (same t.0 (ltb-true _ _ parts.0)) in
-    let rest = sum_at-agree n p q ts same parts.1 in
+sum_at-agree : (test : ℕ → Bool) (p q : List ℤ) (ts : List (ℕ × ℤ)) → ((v : ℕ) → test v ≡ true → variable_at p v ≡ variable_at q v) → list_all (λ t. test t.0) ts ≡ true → sum_at p ts ≡ sum_at q ts
+sum_at-agree test p q [] same h = refl
+sum_at-agree test p q (t ∷ ts) same h =
+    let parts = both_true (test t.0) _ h in
+    let first : t.1 *ℤ variable_at p t.0 ≡ t.1 *ℤ variable_at q t.0 = ap (λ z. t.1 *ℤ z) (same t.0 parts.0) in
+    let rest = sum_at-agree test p q ts same parts.1 in
     omega (arith, ints, first, rest)
 
-pub value_at-agree : (n : ℕ) (p q : List ℤ) (a : Linear) → ((v : ℕ) → v < n → variable_at p v ≡ variable_at q v) → lin_is_below n a ≡ true → value_at p a ≡ value_at q a
-value_at-agree n p q a same h = ap (λ z. z +ℤ a.constant) (sum_at-agree n p q a.terms same h)
+pub value_at-agree : (test : ℕ → Bool) (p q : List ℤ) (a : Linear) → ((v : ℕ) → test v ≡ true → variable_at p v ≡ variable_at q v) → lin_all test a ≡ true → value_at p a ≡ value_at q a
+value_at-agree test p q a same h = ap (λ z. z +ℤ a.constant) (sum_at-agree test p q a.terms same h)

@@ -19,11 +19,6 @@ sum_at point (t ∷ ts) = t.1 *ℤ variable_at point t.0 +ℤ sum_at point ts
 abbrev pub value_at : List ℤ → Linear → ℤ
 value_at point lin = sum_at point lin.terms +ℤ lin.constant
 
--- the coefficient of a variable, 0 where it doesn't occur
-abbrev pub coefficient_of : ℕ → List (ℕ × ℤ) → ℤ
-coefficient_of v [] = pos 0
-coefficient_of v (t ∷ ts) = (if t.0 == v then t.1 else pos 0) +ℤ coefficient_of v ts
-
 -- the numbers that have room in a form of the code: coefficients below 2 ^ 63, constants below 2 ^ 64 in magnitude
 abbrev pub is_small : ℤ → Bool
 is_small a = nat_lt (nat_abs a) (2 ^ 63)
@@ -47,9 +42,13 @@ are_ordered from (t ∷ ts) = nat_le from t.0 && (nat_lt 0 (nat_abs t.1) && are_
 abbrev pub is_linear : Linear → Bool
 is_linear lin = are_ordered 0 lin.terms && fits lin
 
+-- whether each variable that occurs passes a test
+abbrev pub lin_all : (ℕ → Bool) → Linear → Bool
+lin_all test lin = list_all (λ t. test t.0) lin.terms
+
 -- whether each variable that occurs is below n
 abbrev pub lin_is_below : ℕ → Linear → Bool
-lin_is_below n lin = list_all (λ t. nat_lt t.0 n) lin.terms
+lin_is_below n = lin_all (λ v. nat_lt v n)
 
 abbrev pub of_constant : ℤ → Linear
 of_constant k = record { terms = []; constant = k }

@@ -1,11 +1,11 @@
 //! Laws of the definitions, as contracts of functions that do nothing.
 
-ghost use Rattle.std.specs.Prelude.{◌≡◌, ℕ, ◌<◌, ◌+ℤ◌, ◌*ℤ◌, List, ℤ, length, map, not, neg_ℤ, IsTrue};
+ghost use Rattle.std.specs.Prelude.{◌≡◌, ℕ, ◌+ℤ◌, ◌*ℤ◌, List, ℤ, length, map, not, neg_ℤ, Bool, true, IsTrue};
 ghost use Rattle.std.specs.List.{list_any};
 ghost use Rattle.lin_atoms.specs.Algebra.{added, name_in, negated, plus, put_for, renamed, scaled};
 ghost use Rattle.lin_atoms.specs.Denial.{denial};
-ghost use Rattle.lin_atoms.specs.Linear.{Linear, lin_is_below, value_at, variable_at};
-ghost use Rattle.lin_atoms.specs.Truth.{is_below, lit_is_below, lit_truth, truth};
+ghost use Rattle.lin_atoms.specs.Linear.{Linear, lin_all, lin_is_below, value_at, variable_at};
+ghost use Rattle.lin_atoms.specs.Truth.{all_variables, lit_all, lit_truth, truth};
 ghost use Rattle.lin_atoms.specs.declared.form.Form.{Form};
 ghost use Rattle.lin_atoms.specs.declared.lit.Lit.{Lit};
 
@@ -30,10 +30,10 @@ pub fn denial_is_complement()
     ensures { (point : List ℤ) (lit : Lit) → list_any (lit_truth point) (denial lit) ≡ not (lit_truth point lit) }
 {}
 
-/// Value and truth depend on the variables that occur alone: they are the same at two points
-/// that agree below a number, where each variable that occurs is below it.
+/// Value and truth depend on the variables that occur alone: they are the same at two points that
+/// agree on a set of variables, given by a test, that has each variable that occurs.
 pub fn truth_depends_on_variables()
-    ensures value { (n : ℕ) (p q : List ℤ) (a : Linear) → ((v : ℕ) → v < n → variable_at p v ≡ variable_at q v) → IsTrue (lin_is_below n a) → value_at p a ≡ value_at q a }
-    ensures literal { (n : ℕ) (p q : List ℤ) (lit : Lit) → ((v : ℕ) → v < n → variable_at p v ≡ variable_at q v) → IsTrue (lit_is_below n lit) → lit_truth p lit ≡ lit_truth q lit }
-    ensures form { (n : ℕ) (p q : List ℤ) (form : Form) → ((v : ℕ) → v < n → variable_at p v ≡ variable_at q v) → IsTrue (is_below n form) → truth p form ≡ truth q form }
+    ensures value { (test : ℕ → Bool) (p q : List ℤ) (a : Linear) → ((v : ℕ) → test v ≡ true → variable_at p v ≡ variable_at q v) → IsTrue (lin_all test a) → value_at p a ≡ value_at q a }
+    ensures literal { (test : ℕ → Bool) (p q : List ℤ) (lit : Lit) → ((v : ℕ) → test v ≡ true → variable_at p v ≡ variable_at q v) → IsTrue (lit_all test lit) → lit_truth p lit ≡ lit_truth q lit }
+    ensures form { (test : ℕ → Bool) (p q : List ℤ) (form : Form) → ((v : ℕ) → test v ≡ true → variable_at p v ≡ variable_at q v) → IsTrue (all_variables test form) → truth p form ≡ truth q form }
 {}

@@ -41,4 +41,4 @@ pub use truth::holds;
 #[cfg(test)]
 mod form_tests;
 #[cfg(test)]
-mod tests;
+mod number_tests;

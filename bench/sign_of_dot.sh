@@ -1,0 +1,12 @@
+#!/bin/sh
+# Measures the sign of a scalar product against a plain loop in 128 bits, in one run.
+set -e
+top=$(cd "$(dirname "$0")/.." && pwd)
+kit=$(dirname "$(dirname "$(readlink -f "$(command -v rt)")")")
+(cd "$top/crates/lin_atoms_c" && rt lib >/dev/null)
+work=$(mktemp -d)
+trap 'rm -rf "$work"' EXIT
+rustc -O -o "$work/sign_of_dot" "$top/bench/sign_of_dot.rs" \
+    -C link-arg="$top/crates/lin_atoms_c/out/liblin_atoms_c.a" \
+    -C link-arg="$kit/c/liblibc_c.a" -C link-arg="$kit/c/libos_c.a"
+"$work/sign_of_dot"
