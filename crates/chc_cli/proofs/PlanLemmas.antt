@@ -1,12 +1,13 @@
 -- What is planned for the bytes that were read is planned for those of the source.
 use Rattle.std.proofs.Common.{◌≡◌, ℕ, ◌+◌, ◌<◌, ◌≤◌, ◌^◌, List, [], ◌++◌, length, refl, ap, sym, ◌∙◌, subst, arith, length-append}
-use Rattle.std.specs.Prelude.{Some, None, IfSome, MatchOption}
+use Rattle.std.specs.Prelude.{Some, None, IfSome, MatchOption, ◌≢◌}
 use Rattle.std.specs.Option.{option_map}
 use Rattle.std.specs.declared.option.Option.{Option}
 use Rattle.outside_io.specs.Bytes.{TakesCount}
 use Rattle.term_tree.specs.declared.refusal.Refusal.{Refusal}
 use Rattle.term_tree.specs.declared.refusal.Kind.TheVariants.{TooLong, NoCheckSat, Unbuilt}
-use Rattle.sort_check.specs.Facts.{IsRefused}
+use Rattle.sort_check.specs.Command.{Command}
+use Rattle.sort_check.specs.Facts.{IsScript, IsRefused}
 use Rattle.sort_check.specs.Facts.IsRefused.{too_long, no_check_sat, unbuilt}
 use Rattle.chc_cli.specs.declared.plan.Plan.{Plan}
 use Rattle.chc_cli.specs.declared.plan.Plan.TheVariants.{Answered, Refused, ReadFault, OutOfMemory}
@@ -51,3 +52,16 @@ refused_plan read bytes answer refusal same short is h =
     let refused : IsRefused read refusal = subst (λ (b : List ℕ). IsRefused b refusal) same both.0 in
     let parts = refuses read refusal (subst (λ (b : List ℕ). length b ≤ 2 ^ 24) same short) refused in
     (parts.0, parts.1, both.1)
+
+module _ (not_both : (text : List ℕ) (commands : List Command) (refusal : Refusal) → IsScript text commands → IsRefused text refusal → ⊥) where
+  -- what is answered is not refused
+  pub answered_only : (left : Option (List ℕ)) (read text : List ℕ) (status : ℕ) → IsSatAnswer read text → IfSome left (λ bytes. read ≡ bytes)
+      → IfSome left (λ bytes. (refusal : Refusal) → IsRefused bytes refusal → status ≢ 0)
+  answered_only None read text status h same = tt
+  answered_only (Some bytes) read text status h same = λ refusal refused e. not_both bytes h.commands refusal (subst (λ (b : List ℕ). IsScript b h.commands) same h.is_script) refused
+
+  -- what is refused is no script
+  pub refused_only : (left : Option (List ℕ)) (read : List ℕ) (refusal : Refusal) (status : ℕ) → RefusesInput left read refusal
+      → IfSome left (λ bytes. (commands : List Command) → IsScript bytes commands → status ≢ 1)
+  refused_only None read refusal status h = tt
+  refused_only (Some bytes) read refusal status h = λ commands is_script e. not_both bytes commands refusal is_script h.input

@@ -3,12 +3,16 @@ ghost use Rattle.std.specs.String.{string_bytes};
 ghost use Rattle.outside_io.specs.Bytes.{Appends};
 ghost use Rattle.outside_io.specs.Counts.{counted};
 ghost use Rattle.outside_io.specs.declared.turn.Turn.TheVariants.{Fault};
+ghost use Rattle.term_tree.specs.declared.refusal.Refusal.{Refusal};
+ghost use Rattle.sort_check.specs.Command.{Command};
+ghost use Rattle.sort_check.specs.Facts.{IsScript, IsRefused};
 ghost use Rattle.chc_cli.specs.Headline.{is_solve, Answers, Refuses, ReadsInput, WritesPart};
 ghost use Rattle.chc_cli.specs.Texts.{usage_text, memory_text};
 
 use crate::plan::{Plan, plan_for};
 use crate::texts::{memory_line, usage_line};
 use crate::words::is_solve;
+use sort_check::laws::not_both;
 use outside_io::{Sink, Source, write_all};
 use std::alloc::Global;
 use term_tree::Refusal;
@@ -53,6 +57,10 @@ pub fn chc_run<S: Source, K: Sink>(
     ensures refuses_all { IfSome result.refusal (ReadsInput (S.left source.old) result.read.items) }
     ensures refusal { IsSome result.refusal ↔ (result.status ≡ 1) }
 
+    // Both exactly: of bytes that are a script no refusal is told, and bytes that are refused are not answered.
+    ensures answers_scripts { IfSome (S.left source.old) (λ bytes. (commands : List Command) → IsScript bytes commands → result.status ≢ 1) }
+    ensures refuses_others { IfSome (S.left source.old) (λ bytes. (refusal : Refusal) → IsRefused bytes refusal → result.status ≢ 0) }
+
     // 2: other words than `solve` are answered so, and nothing is read for them.
     ensures usage { result.status ≡ 2 → Appends usage_text (K.held sink.old) (K.held sink.new) }
     ensures solves { is_solve (map string_bytes words.now) ≡ true → result.status ≢ 2 }
@@ -86,6 +94,7 @@ pub fn chc_run<S: Source, K: Sink>(
             refusal: None,
         };
     }
+    not_both();
     match plan_for(alloc, source) {
         Plan::Answered { read, text } => {
             let status = match write_all(sink, text.as_slice()) {
