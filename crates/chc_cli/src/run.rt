@@ -12,8 +12,8 @@ ghost use Rattle.chc_cli.specs.Texts.{usage_text, memory_text};
 use crate::plan::{Plan, plan_for};
 use crate::texts::{memory_line, usage_line};
 use crate::words::is_solve;
-use sort_check::laws::not_both;
 use outside_io::{Sink, Source, write_all};
+use sort_check::laws::not_both;
 use std::alloc::Global;
 use term_tree::Refusal;
 

@@ -1,1 +1,9 @@
+pub mod DivisionLemmas
+pub mod EvaluationLemmas
+pub mod FoldLemmas
+pub mod LawLemmas
 pub mod MeaningLemmas
+pub mod OperatorLemmas
+pub mod PlainLemmas
+pub mod ValueLemmas
+pub mod WalkLemmas

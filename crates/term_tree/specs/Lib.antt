@@ -1,6 +1,17 @@
+pub mod Agreement
 pub mod Arena
+pub mod Constants
+pub mod Division
+pub mod Fold
 pub mod Kind
+pub mod Known
+pub mod Legal
 pub mod Operators
+pub mod Relations
 pub mod Solution
+pub mod Sorts
+pub mod Subterms
 pub mod Truth
 pub mod Value
+pub mod Walk
+pub mod Width

@@ -1,9 +1,23 @@
-ghost use Rattle.std.specs.Prelude.{◌≡◌, ◌↔◌, ℕ, List, slice_get, Some};
+ghost use Rattle.std.specs.Prelude.{◌≡◌, ◌↔◌, ◌<◌, ◌++◌, [], ◌∷◌, ℕ, ℤ, pos, List, length, slice_get, Some, true, false};
+ghost use Rattle.term_tree.specs.declared.definition.Definition.{Definition};
+ghost use Rattle.term_tree.specs.declared.script.Script.{Script};
+ghost use Rattle.term_tree.specs.declared.node.OpKind.TheVariants.{Implies, Div, Mod};
+ghost use Rattle.term_tree.specs.declared.node.Node.TheVariants.{Op, Pred};
+ghost use Rattle.term_tree.specs.declared.node.TermId.{TermId};
+ghost use Rattle.term_tree.specs.declared.scalar.Value.TheVariants.{Int, Bool as Truth};
 ghost use Rattle.term_tree.specs.declared.node.Node.{Node};
 ghost use Rattle.term_tree.specs.declared.scalar.Value.{Value};
 ghost use Rattle.term_tree.specs.Arena.{IsArena};
-ghost use Rattle.term_tree.specs.Value.{Environment};
-ghost use Rattle.term_tree.specs.Truth.{Interpretation, HasValue, node_meaning};
+ghost use Rattle.term_tree.specs.Value.{Environment, node_worth, value_of};
+ghost use Rattle.term_tree.specs.Truth.{Interpretation, HasValue, HaveValues, node_meaning};
+ghost use Rattle.term_tree.specs.Agreement.{AgreeEverywhere, all_true, all_positive};
+ghost use Rattle.term_tree.specs.Division.{IsDivision};
+ghost use Rattle.term_tree.specs.Operators.{result_of};
+ghost use Rattle.term_tree.specs.Solution.{DefinesEach, IsSolution, interpretation_of};
+ghost use Rattle.term_tree.specs.Subterms.{IsPlain};
+ghost use Rattle.term_tree.specs.declared.script.Pred.{Pred as Declared};
+ghost use Rattle.term_tree.specs.Sorts.{node_sort, sort_of};
+ghost use Rattle.term_tree.specs.Constants.{constant_of, node_constant};
 
 /// The law of a node: in an arena a term has a value exactly where its node gives that value over
 /// what its parts mean. So truth goes by cases on terms, and sharing and order play no part in it.
@@ -11,4 +25,69 @@ pub fn meaning_of_nodes()
     ensures { (I : Interpretation) (nodes : List Node) (id : ℕ) (node : Node) (env : Environment) (v : Value) →
         IsArena nodes → slice_get nodes id ≡ Some node →
         (HasValue I nodes id env v ↔ node_meaning I (HasValue I nodes) node env v) }
+{}
+
+/// The law of a node for the function: in an arena the value of a term is what its node gives over
+/// the values of its parts.
+pub fn worth_of_nodes()
+    ensures { (nodes : List Node) (id : ℕ) (node : Node) (env : Environment) →
+        IsArena nodes → slice_get nodes id ≡ Some node →
+        value_of nodes id env ≡ node_worth (value_of nodes) node env }
+{}
+
+/// A term has at most one value.
+pub fn at_most_one_value()
+    ensures { (I : Interpretation) (nodes : List Node) (id : ℕ) (env : Environment) (v w : Value) →
+        HasValue I nodes id env v → HasValue I nodes id env w → v ≡ w }
+{}
+
+/// Without predicates and quantifiers a term has exactly the value that the function gives, under
+/// all definitions.
+pub fn value_without_predicates()
+    ensures { (I : Interpretation) (nodes : List Node) (id : ℕ) (env : Environment) (v : Value) →
+        IsArena nodes → id < length nodes → IsPlain nodes id →
+        (HasValue I nodes id env v ↔ (v ≡ value_of nodes id env)) }
+{}
+
+/// `div` and `mod` are the one quotient and the one remainder of Euclid's division.
+pub fn one_division()
+    ensures { (m n q r : ℤ) → (n ≡ pos 0 → ⊥) →
+        (IsDivision m n q r ↔ ((result_of Div (Int m ∷ Int n ∷ []) ≡ Int q) × (result_of Mod (Int m ∷ Int n ∷ []) ≡ Int r))) }
+{}
+
+/// That every integer is at least 0 is false, and not true: a universal term is false where its body
+/// is false at one value.
+pub fn not_all_are_positive()
+    ensures untrue { (I : Interpretation) (env : Environment) → HasValue I all_positive 3 env (Truth true) → ⊥ }
+    ensures false_ { (I : Interpretation) (env : Environment) → HasValue I all_positive 3 env (Truth false) }
+{}
+
+/// Where every predicate is defined as `true`, an implication that ends in a predicate is true, if
+/// its other parts and the arguments have values.
+pub fn heads_are_true_under_true()
+    ensures { (nodes : List Node) (id pred : ℕ) (parts args : List TermId) (head : TermId) (env : Environment) (values arguments : List Value) →
+        IsArena nodes → slice_get nodes id ≡ Some (Op Implies (parts ++ head ∷ [])) → slice_get nodes head.0 ≡ Some (Pred pred args) →
+        HaveValues (HasValue all_true nodes) parts env values → HaveValues (HasValue all_true nodes) args env arguments →
+        HasValue all_true nodes id env (Truth true) }
+{}
+
+/// A solution stays one when each definition is replaced by one that has the same value everywhere.
+pub fn same_values_same_solution()
+    ensures { (script : Script) (old new : List Definition) →
+        AgreeEverywhere (interpretation_of old) (interpretation_of new) → DefinesEach 0 script.preds new →
+        IsSolution script old → IsSolution script new }
+{}
+
+/// The law of a node for sorts.
+pub fn sort_of_nodes()
+    ensures { (preds : List Declared) (nodes : List Node) (id : ℕ) (node : Node) →
+        IsArena nodes → slice_get nodes id ≡ Some node →
+        sort_of preds nodes id ≡ node_sort preds (sort_of preds nodes) node }
+{}
+
+/// The law of a node for constants.
+pub fn constant_of_nodes()
+    ensures { (nodes : List Node) (id : ℕ) (node : Node) →
+        IsArena nodes → slice_get nodes id ≡ Some node →
+        constant_of nodes id ≡ node_constant (constant_of nodes) node }
 {}

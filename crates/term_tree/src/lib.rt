@@ -2,17 +2,31 @@
 //! scripts of assertions about them.
 #![tactic(auto)]
 
+mod arithmetic;
+mod copies;
 mod definition;
+mod evaluation;
 mod laws;
+mod logic;
 mod node;
+mod operators;
+mod pending;
 mod refusal;
 mod scalar;
 mod script;
 mod sort;
+mod subterms;
 mod terms;
+#[cfg(test)]
+mod tests;
 
 pub use definition::Definition;
-pub use laws::meaning_of_nodes;
+pub use evaluation::{ValueStop, value};
+pub use laws::{
+    at_most_one_value, constant_of_nodes, heads_are_true_under_true, meaning_of_nodes,
+    not_all_are_positive, one_division, same_values_same_solution, sort_of_nodes,
+    value_without_predicates, worth_of_nodes,
+};
 pub use node::{Node, OpKind, TermId};
 pub use refusal::{Checked, Kind, Refusal};
 pub use scalar::Value;

@@ -1,3 +1,7 @@
+ghost use Rattle.std.specs.Prelude.{◌≡◌};
+ghost use Rattle.std.specs.List.{list_all};
+ghost use Rattle.term_tree.specs.Arena.{has_parts_below, is_below};
+
 use crate::sort::Sort;
 use base::{Copied, Items, Memory, Same};
 use std::alloc::Global;
@@ -74,6 +78,32 @@ pub enum Node {
         sorts: Items<Sort>,
         body: TermId,
     },
+}
+
+fn are_below(ids: &[TermId], bound: usize) -> bool
+    ensures { result ≡ list_all (is_below bound) ids.now }
+{
+    ids.iter().all(|id| (id.0 as usize) < bound)
+}
+
+impl Node {
+    /// Whether all parts of the node have numbers below this one, as an arena of that length needs.
+    pub fn has_parts_below(&self, bound: usize) -> bool
+        ensures { result ≡ has_parts_below bound self.now }
+    {
+        match self {
+            Node::Num(_) | Node::True | Node::False | Node::Var { .. } => true,
+            Node::LetVar { bound: id } => (id.0 as usize) < bound,
+            Node::Pred { args, .. } => are_below(args.as_slice(), bound),
+            Node::Op { args, .. } => are_below(args.as_slice(), bound),
+            Node::Divisible { arg, .. } => (arg.0 as usize) < bound,
+            Node::Let { bound: ids, body } => {
+                are_below(ids.as_slice(), bound) && (body.0 as usize) < bound
+            }
+            Node::Forall { body, .. } => (body.0 as usize) < bound,
+            Node::Exists { body, .. } => (body.0 as usize) < bound,
+        }
+    }
 }
 
 impl Same for TermId {

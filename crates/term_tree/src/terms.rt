@@ -1,8 +1,9 @@
 ghost use Rattle.std.specs.Prelude.{◌≡◌, ◌<◌, ◌^◌, ◌++◌, [], ◌∷◌, length, slice_get, Some, IfOk, OnErr, IsTrue};
 ghost use Rattle.term_tree.specs.Arena.{IsArena, has_parts_below};
 
+use crate::copies::copy_nodes;
 use crate::node::{Node, TermId};
-use base::Memory;
+use base::{Copied, Memory};
 use std::alloc::Global;
 use std::marker::Model;
 
@@ -82,5 +83,13 @@ impl Terms {
         ensures { slice_get self.now.offsets id.0 ≡ Some result }
     {
         self.offsets[id.0 as usize]
+    }
+}
+
+impl Copied for Terms {
+    fn copy(&self, alloc: Global) -> Result<Terms, Memory> {
+        let nodes = copy_nodes(alloc, self.nodes.as_slice())?;
+        let offsets = Vec::from_slice(alloc, self.offsets.as_slice())?;
+        Ok(Terms { nodes, offsets })
     }
 }

@@ -1,0 +1,9 @@
+use Rattle.std.proofs.Common.{◌≡◌, map, drop}
+use Rattle.std.specs.Prelude.{pos, ◌+ℤ◌}
+use Rattle.term_tree.specs.Operators.{integer}
+use Rattle.term_tree.specs.Width.{checked_fold}
+use Rattle.term_tree.proofs.arithmetic.sum.Given as goal
+
+-- what the rest gives from here is what all give from the start
+abbrev pub invariant-loop-value : goal.invariant-loop-value
+invariant-loop-value l = checked_fold (λ a n. a +ℤ n) l.total (map integer (drop l.value-index l.values)) ≡ checked_fold (λ a n. a +ℤ n) (pos 0) (map integer l.values)
