@@ -1,0 +1,37 @@
+use base::Items;
+use term_tree::{Definition, Value};
+
+/// Why it is not known whether a script is satisfiable.
+#[derive(Clone, Copy, Debug, PartialEq, Eq)]
+pub enum UnknownCause {
+    /// This many units of work were given, and are spent.
+    Units(u32),
+    /// No step was left to take.
+    Stalled,
+    /// A worker had no memory.
+    NoMemory,
+}
+
+/// A step of a derivation: an instance of an assertion whose body atoms are the conclusions of
+/// earlier steps. Steps and assertions are numbered from 1.
+#[derive(Debug, Drop)]
+pub struct Line {
+    pub number: u64,
+    pub assertion: u64,
+    /// The values of the assertion's variables, in order.
+    pub values: Items<Value>,
+    /// The steps that give its body atoms, in order.
+    pub premises: Items<u64>,
+    /// The predicate and its arguments; none for false.
+    pub head: Option<(u32, Items<Value>)>,
+}
+
+/// An answer to a script.
+#[derive(Debug, Drop)]
+pub enum Answer {
+    /// A solution: one definition for each predicate, in order of declaration.
+    Sat(Items<Definition>),
+    /// A derivation of false.
+    Unsat(Items<Line>),
+    Unknown { level: u32, cause: UnknownCause },
+}

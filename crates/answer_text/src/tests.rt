@@ -1,0 +1,327 @@
+//! Answers made by hand, with the texts that the rules give for them.
+
+ghost use Rattle.std.specs.Prelude.{◌≡◌};
+ghost use Rattle.std.specs.List.{list_all};
+ghost use Rattle.term_tree.specs.Arena.{is_below};
+
+use crate::{Answer, Line, UnknownCause, error_line, level_line, write_answer};
+use base::{Items, Memory};
+use std::alloc::Global;
+use std::process::Abort;
+use std::test::Fail;
+use term_tree::{
+    Definition, Kind, Name, Node, OpKind, Pred, Refusal, Script, Sort, TermId, Terms, Value,
+};
+
+/// A step by hand; its number is its place.
+#[derive(Clone, Copy)]
+struct Step<'a> {
+    assertion: u64,
+    values: &'a [Value],
+    premises: &'a [u64],
+    head: Option<(u32, &'a [Value])>,
+}
+
+fn pred(alloc: Global, name: &[u8], sorts: &[Sort]) -> Result<Pred, Memory> {
+    let bytes = Items::from_slice(alloc, name)?;
+    let args = Items::from_slice(alloc, sorts)?;
+    Ok(Pred {
+        name: Name { bytes },
+        args,
+    })
+}
+
+fn script(alloc: Global, preds: &[(&[u8], &[Sort])]) -> Result<Script, Memory> {
+    let mut declared = Vec::new(alloc);
+    for (name, sorts) in preds {
+        declared.push(pred(alloc, name, sorts)?)?;
+    }
+    Ok(Script {
+        preds: Items::from_vec(declared),
+        asserts: Items::new(alloc),
+        terms: Terms::new(alloc),
+    })
+}
+
+fn conclusion(
+    alloc: Global,
+    head: Option<(u32, &[Value])>,
+) -> Result<Option<(u32, Items<Value>)>, Memory> {
+    match head {
+        None => Ok(None),
+        Some((pred, values)) => Ok(Some((pred, Items::from_slice(alloc, values)?))),
+    }
+}
+
+fn line(alloc: Global, number: u64, step: Step) -> Result<Line, Memory> {
+    let values = Items::from_slice(alloc, step.values)?;
+    let premises = Items::from_slice(alloc, step.premises)?;
+    let head = conclusion(alloc, step.head)?;
+    Ok(Line {
+        number,
+        assertion: step.assertion,
+        values,
+        premises,
+        head,
+    })
+}
+
+fn derivation(alloc: Global, steps: &[Step]) -> Result<Answer, Memory> {
+    let mut lines = Vec::new(alloc);
+    for (i, step) in steps.iter().enumerate() {
+        lines.push(line(alloc, i as u64 + 1, *step)?)?;
+    }
+    Ok(Answer::Unsat(Items::from_vec(lines)))
+}
+
+fn are_below(args: &[TermId], length: usize) -> bool
+    ensures { result ≡ list_all (is_below length) args.now }
+{
+    args.iter().all(|arg| (arg.0 as usize) < length)
+}
+
+/// Adds an application, where its parts are there.
+fn apply(alloc: Global, terms: &mut Terms, op: OpKind, args: &[TermId]) -> Result<TermId, Memory> {
+    if terms.len() > 1000 || !are_below(args, terms.len()) {
+        return Err(Memory);
+    }
+    let args = Items::from_slice(alloc, args)?;
+    let id = terms.add(Node::Op { op, args }, 0)?;
+    Ok(id)
+}
+
+fn number(terms: &mut Terms, number: i64) -> Result<TermId, Memory> {
+    if terms.len() > 1000 {
+        return Err(Memory);
+    }
+    let id = terms.add(Node::Num(number), 0)?;
+    Ok(id)
+}
+
+fn argument(terms: &mut Terms, binder: u32, sort: Sort) -> Result<TermId, Memory> {
+    if terms.len() > 1000 {
+        return Err(Memory);
+    }
+    let id = terms.add(Node::Var { binder, sort }, 0)?;
+    Ok(id)
+}
+
+fn multiple(terms: &mut Terms, by: i64, arg: TermId) -> Result<TermId, Memory> {
+    if terms.len() > 1000 || arg.0 as usize >= terms.len() {
+        return Err(Memory);
+    }
+    let id = terms.add(Node::Divisible { by, arg }, 0)?;
+    Ok(id)
+}
+
+fn truth(terms: &mut Terms, truth: bool) -> Result<TermId, Memory> {
+    if terms.len() > 1000 {
+        return Err(Memory);
+    }
+    let id = if truth {
+        terms.add(Node::True, 0)?
+    } else {
+        terms.add(Node::False, 0)?
+    };
+    Ok(id)
+}
+
+/// One definition for each predicate, true and false in turn.
+fn constants(alloc: Global, count: u32) -> Result<Answer, Memory> {
+    let mut definitions = Vec::new(alloc);
+    for pred in 0..count {
+        let mut terms = Terms::new(alloc);
+        let body = truth(&mut terms, pred % 2 == 0)?;
+        let params = Items::new(alloc);
+        definitions.push(Definition {
+            pred,
+            params,
+            terms,
+            body,
+        })?;
+    }
+    Ok(Answer::Sat(Items::from_vec(definitions)))
+}
+
+/// The Bool argument less twice the Int argument is at most 5.
+fn bound(alloc: Global, terms: &mut Terms) -> Result<TermId, Memory> {
+    let x0 = argument(terms, 0, Sort::Int)?;
+    let two = number(terms, 2)?;
+    let minus_two = apply(alloc, terms, OpKind::Sub, &[two])?;
+    let first = apply(alloc, terms, OpKind::Mul, &[minus_two, x0])?;
+    let second = bit(alloc, terms)?;
+    let sum = apply(alloc, terms, OpKind::Add, &[first, second])?;
+    let five = number(terms, 5)?;
+    apply(alloc, terms, OpKind::Le, &[sum, five])
+}
+
+/// The Bool argument as a number.
+fn bit(alloc: Global, terms: &mut Terms) -> Result<TermId, Memory> {
+    let x1 = argument(terms, 1, Sort::Bool)?;
+    let one = number(terms, 1)?;
+    let zero = number(terms, 0)?;
+    apply(alloc, terms, OpKind::Ite, &[x1, one, zero])
+}
+
+fn lemma(alloc: Global) -> Result<Answer, Memory> {
+    let mut terms = Terms::new(alloc);
+    let at_most = bound(alloc, &mut terms)?;
+    let x0 = argument(&mut terms, 0, Sort::Int)?;
+    let divisible = multiple(&mut terms, 3, x0)?;
+    let cube = apply(alloc, &mut terms, OpKind::And, &[at_most, divisible])?;
+    let body = apply(alloc, &mut terms, OpKind::Not, &[cube])?;
+    let params = Items::new(alloc);
+    let definition = Definition {
+        pred: 0,
+        params,
+        terms,
+        body,
+    };
+    let mut definitions = Vec::new(alloc);
+    definitions.push(definition)?;
+    Ok(Answer::Sat(Items::from_vec(definitions)))
+}
+
+fn expect(
+    rt: &impl Abort,
+    alloc: Global,
+    preds: &[(&[u8], &[Sort])],
+    answer: &Answer,
+    text: &[u8],
+) -> Result<(), Memory> {
+    let script = script(alloc, preds)?;
+    let printed = write_answer(alloc, &script, answer)?;
+    assert!(rt; printed.as_slice() == text);
+    Ok(())
+}
+
+#[test]
+fn a_derivation_by_counting_up_is_printed_step_by_step(rt: HostRuntime) -> Result<(), Fail> {
+    let alloc = rt.alloc();
+    let steps = [
+        Step {
+            assertion: 1,
+            values: &[],
+            premises: &[],
+            head: Some((0, &[Value::Int(0)])),
+        },
+        Step {
+            assertion: 2,
+            values: &[Value::Int(0)],
+            premises: &[1],
+            head: Some((0, &[Value::Int(1)])),
+        },
+        Step {
+            assertion: 3,
+            values: &[],
+            premises: &[2],
+            head: None,
+        },
+    ];
+    let answer = derivation(alloc, &steps)?;
+    let text =
+        b"unsat\n(derivation\n(step 1 1 () () (p 0))\n(step 2 2 (0) (1) (p 1))\n(step 3 3 () (2) false)\n)\n";
+    expect(&rt, alloc, &[(b"p", &[Sort::Int])], &answer, text)?;
+    Ok(())
+}
+
+#[test]
+fn truth_values_and_negative_numbers_stand_in_steps(rt: HostRuntime) -> Result<(), Fail> {
+    let alloc = rt.alloc();
+    let steps = [
+        Step {
+            assertion: 1,
+            values: &[],
+            premises: &[],
+            head: Some((0, &[])),
+        },
+        Step {
+            assertion: 2,
+            values: &[],
+            premises: &[1],
+            head: Some((1, &[Value::Bool(true), Value::Int(-2)])),
+        },
+        Step {
+            assertion: 3,
+            values: &[Value::Bool(true), Value::Int(-2)],
+            premises: &[2, 1],
+            head: None,
+        },
+    ];
+    let answer = derivation(alloc, &steps)?;
+    let text =
+        b"unsat\n(derivation\n(step 1 1 () () q)\n(step 2 2 () (1) (r true (- 2)))\n(step 3 3 (true (- 2)) (2 1) false)\n)\n";
+    expect(
+        &rt,
+        alloc,
+        &[(b"q", &[]), (b"r", &[Sort::Bool, Sort::Int])],
+        &answer,
+        text,
+    )?;
+    Ok(())
+}
+
+#[test]
+fn names_stand_between_bars_where_they_are_no_simple_symbols(rt: HostRuntime) -> Result<(), Fail> {
+    let alloc = rt.alloc();
+    let answer = constants(alloc, 5)?;
+    let preds: [(&[u8], &[Sort]); 5] = [
+        (b"main@entry", &[Sort::Int, Sort::Bool]),
+        (b"a b", &[]),
+        (b"7up", &[]),
+        (b"", &[]),
+        (b"let", &[]),
+    ];
+    let text =
+        b"sat\n(\n(define-fun main@entry ((x0 Int) (x1 Bool)) Bool true)\n(define-fun |a b| () Bool false)\n(define-fun |7up| () Bool true)\n(define-fun || () Bool false)\n(define-fun |let| () Bool true)\n)\n";
+    expect(&rt, alloc, &preds, &answer, text)?;
+    Ok(())
+}
+
+#[test]
+fn a_lemma_is_the_negation_of_a_cube_of_literals(rt: HostRuntime) -> Result<(), Fail> {
+    let alloc = rt.alloc();
+    let answer = lemma(alloc)?;
+    let text =
+        b"sat\n(\n(define-fun p ((x0 Int) (x1 Bool)) Bool (not (and (<= (+ (* (- 2) x0) (ite x1 1 0)) 5) ((_ divisible 3) x0))))\n)\n";
+    expect(
+        &rt,
+        alloc,
+        &[(b"p", &[Sort::Int, Sort::Bool])],
+        &answer,
+        text,
+    )?;
+    Ok(())
+}
+
+#[test]
+fn an_unknown_answer_has_its_level_and_cause(rt: HostRuntime) -> Result<(), Fail> {
+    let alloc = rt.alloc();
+    let cases: [(u32, UnknownCause, &[u8]); 4] = [
+        (0, UnknownCause::Units(0), b"unknown\n; level 0 units 0\n"),
+        (1, UnknownCause::Units(1), b"unknown\n; level 1 units 1\n"),
+        (0, UnknownCause::Stalled, b"unknown\n; level 0 stalled\n"),
+        (7, UnknownCause::NoMemory, b"unknown\n; level 7 memory\n"),
+    ];
+    for (level, cause, text) in cases {
+        expect(&rt, alloc, &[], &Answer::Unknown { level, cause }, text)?;
+    }
+    Ok(())
+}
+
+#[test]
+fn the_longest_lines_fit(rt: HostRuntime) {
+    let mut line = [0; 64];
+    let length = level_line(u32::MAX, UnknownCause::Units(u32::MAX), &mut line);
+    assert!(rt; &line[..length] == b"; level 4294967295 units 4294967295\n".as_slice());
+    let refusal = Refusal {
+        kind: Kind::UnknownSymbol,
+        offset: u64::MAX,
+        command: u32::MAX,
+    };
+    let mut line = [0; 128];
+    let length = error_line(&refusal, &mut line);
+    let text =
+        b"(error \"kind 10 UnknownSymbol at byte 18446744073709551615 after 4294967295 commands\")\n";
+    assert!(rt; &line[..length] == text.as_slice());
+}

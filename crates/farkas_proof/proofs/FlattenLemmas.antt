@@ -1,0 +1,32 @@
+-- What a conjunction gives is what its parts give, one after another.
+use Rattle.std.proofs.Common.{◌≡◌, List, [], ◌∷◌, ◌++◌, map, refl, ap, sym, ◌∙◌}
+use mathlib.Core.Former.{Count}
+use Rattle.std.specs.List.{flat_map}
+use Rattle.farkas_proof.specs.Flatten.{literals, literals_step, disjunctions, disjunctions_of_row}
+use Rattle.lin_atoms.specs.declared.lit.Lit.{Lit}
+use Rattle.lin_atoms.specs.declared.form.Form.{Form, And', Or', Row_of-Form, end_of-Form, more_of-Form, items-the_row-Form, items_hidden-the_row-Form-0}
+use Rattle.lin_atoms.specs.declared.form.Form.TheViews.{And, Or}
+use Rattle.lin_atoms.specs.declared.form.Form.TheVariants.{rolls-And}
+use Rattle.lin_atoms.specs.declared.form.Form.TheFolds.{fold-roll-Form}
+
+joined_map : {X Y : Type 0} (f : X → List Y) (xs : List X) → flat_map (λ ys. ys) (map f xs) ≡ flat_map f xs
+joined_map f [] = refl
+joined_map f (x ∷ xs) = ap (λ ys. f x ++ ys) (joined_map f xs)
+
+pub literals-And : (parts : List Form) → literals (And parts) ≡ flat_map literals parts
+literals-And parts = ap literals (sym (rolls-And parts)) ∙ fold-roll-Form (List Lit) literals_step _ ∙ joined_map literals parts
+
+of_row : (n : _) (row : Row_of-Form n) → disjunctions_of_row row ≡ flat_map disjunctions (items-the_row-Form n row)
+of_row n end_of-Form = refl
+of_row n (more_of-Form part rest) = ap (λ ys. disjunctions part ++ ys) (of_row _ rest)
+
+abbrev row_of : Form → (n : Count) × Row_of-Form n
+row_of (And' shape row) = (_, row)
+row_of (Or' shape row) = (_, row)
+row_of _ = (_, end_of-Form)
+
+pub disjunctions-And : (parts : List Form) → disjunctions (And parts) ≡ flat_map disjunctions parts
+disjunctions-And parts = let row = row_of (And parts) in of_row row.0 row.1 ∙ ap (flat_map disjunctions) (items_hidden-the_row-Form-0 parts)
+
+pub disjunctions-Or : (parts : List Form) → disjunctions (Or parts) ≡ parts ∷ []
+disjunctions-Or parts = let row = row_of (Or parts) in ap (λ ys. ys ∷ []) (items_hidden-the_row-Form-0 parts)

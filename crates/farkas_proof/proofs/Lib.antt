@@ -1,0 +1,9 @@
+pub mod FlattenLemmas
+pub mod FormLemmas
+pub mod QuotientLemmas
+pub mod SoundLemmas
+pub mod TreeLemmas
+pub mod SumLemmas
+pub mod EndLemmas
+pub mod JudgeLemmas
+pub mod RoomLemmas

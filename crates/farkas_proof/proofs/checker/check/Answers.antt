@@ -1,0 +1,17 @@
+use Rattle.std.proofs.Common.{◌≡◌, ap, sym, ◌∙◌, true, subst}
+use Rattle.std.specs.Prelude.{ℤ, List, false}
+use Rattle.lin_atoms.specs.Denial.{lit_fits}
+use Rattle.lin_atoms.specs.Truth.{truth}
+use Rattle.lin_atoms.specs.declared.form.Form.{Form}
+use Rattle.farkas_proof.specs.Refutation.{HasNoPoint, is_sound, judged}
+use Rattle.farkas_proof.proofs.RoomLemmas.{legal_without}
+use Rattle.farkas_proof.proofs.TreeLemmas.{no_point}
+use Rattle.farkas_proof.proofs.checker.check.Goals as goal
+
+pub invariant_of-result : goal.invariant_of-result
+invariant_of-result c = record {
+  no_point = λ point. ap (truth point) c.in_ok-form-in-Ok.ensures ∙ no_point lit_fits c.args.form.now c.args.proof.now (ap is_sound c.in-Ok.ensures) point;
+}
+
+pub returns-in_ok-proof-in-Ok-clause-legal : goal.returns-in_ok-proof-in-Ok-clause-legal
+returns-in_ok-proof-in-Ok-clause-legal c = legal_without lit_fits c.args.form.now c.args.proof.now (ap is_sound c.in-Ok.ensures)

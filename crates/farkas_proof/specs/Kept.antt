@@ -1,0 +1,10 @@
+-- What a refuted form is, and its proof.
+use Rattle.lin_atoms.specs.declared.form.Form.{Form}
+use Rattle.farkas_proof.specs.declared.refuted.Refuted.{Refuted}
+use Rattle.farkas_proof.specs.declared.tree.Refutation.{Refutation}
+
+abbrev pub form_of : Refuted → Form
+form_of refuted = refuted.form
+
+abbrev pub proof_of : Refuted → Refutation
+proof_of refuted = refuted.proof

@@ -1,0 +1,6 @@
+pub mod Combination
+pub mod Flatten
+pub mod Refutation
+pub mod Sum
+pub mod Tells
+pub mod Kept

@@ -1,0 +1,4 @@
+pub mod ReadingLemmas
+pub mod RuleLemmas
+pub mod SpellingLemmas
+pub mod TermLemmas

@@ -1,0 +1,6 @@
+pub mod Operators
+pub mod Reading
+pub mod Rules
+pub mod Spelling
+pub mod Term
+pub mod Words

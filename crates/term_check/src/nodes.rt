@@ -1,0 +1,48 @@
+//! The nodes that terms become in an arena.
+
+ghost use Rattle.std.specs.Prelude.{◌≡◌, length, IfOk, IsTrue};
+ghost use Rattle.term_tree.specs.Arena.{has_parts_below};
+ghost use Rattle.term_check.specs.Term.{IsNodeAt, IsAligned, Keeps};
+ghost use Rattle.term_check.specs.Reading.{atom_node};
+
+use crate::atom::Atom;
+use base::{Items, Memory};
+use std::alloc::Global;
+use term_tree::{Node, TermId, Terms};
+
+/// Puts a node into the arena. An arena of 2 ^ 32 nodes has no room for more.
+pub fn add_node(terms: &mut Terms, node: Node, start: u32) -> Result<TermId, Memory>
+    requires aligned { IsAligned terms.old }
+    requires below { IsTrue (has_parts_below (length terms.old.nodes) node) }
+    ensures at { IfOk result (λ id. IsNodeAt terms.new id.0 node start) }
+    ensures keeps { Keeps terms.old terms.new }
+{
+    if terms.len() >= 1 << 32 {
+        return Err(Memory);
+    }
+    terms.add(node, start)
+}
+
+/// The node of a term without parts. A name that `let` binds has none here.
+pub fn atom_node(alloc: Global, atom: Atom) -> Node
+    ensures { result ≡ atom_node atom }
+{
+    match atom {
+        Atom::Number(value) => Node::Num(value),
+        Atom::Truth(true) => Node::True,
+        Atom::Truth(false) => Node::False,
+        Atom::BoundVariable { number, sort } => Node::Var {
+            binder: number,
+            sort,
+        },
+        Atom::LetName {
+            number: _,
+            sort: _,
+            constant: _,
+        } => Node::False,
+        Atom::Predicate(pred) => Node::Pred {
+            pred,
+            args: Items::new(alloc),
+        },
+    }
+}

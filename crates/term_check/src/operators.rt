@@ -1,0 +1,177 @@
+//! The table of operators: their names, how many arguments they take, and of which sorts.
+
+ghost use Rattle.std.specs.Prelude.{◌≡◌};
+ghost use Rattle.term_check.specs.Operators.{core_operator, number_operator, order_operator, operator_named, least_arguments, most_arguments, wanted, is_arithmetic, is_division, is_product, is_choice, is_distinct};
+
+use term_tree::OpKind;
+
+/// Which sorts the arguments of an operator have.
+#[derive(Clone, Copy, Debug, PartialEq, Eq)]
+pub enum Sorts {
+    Bools,
+    Ints,
+    /// All have one sort.
+    Alike,
+    /// A Bool, and then two of one sort.
+    Choice,
+}
+
+fn core_operator(name: &[u8]) -> Option<OpKind>
+    ensures { result ≡ core_operator name.now }
+{
+    if name == b"not".as_slice() {
+        Some(OpKind::Not)
+    } else if name == b"and".as_slice() {
+        Some(OpKind::And)
+    } else if name == b"or".as_slice() {
+        Some(OpKind::Or)
+    } else if name == b"xor".as_slice() {
+        Some(OpKind::Xor)
+    } else if name == b"=>".as_slice() {
+        Some(OpKind::Implies)
+    } else if name == b"=".as_slice() {
+        Some(OpKind::Eq)
+    } else if name == b"distinct".as_slice() {
+        Some(OpKind::Distinct)
+    } else if name == b"ite".as_slice() {
+        Some(OpKind::Ite)
+    } else {
+        None
+    }
+}
+
+fn number_operator(name: &[u8]) -> Option<OpKind>
+    ensures { result ≡ number_operator name.now }
+{
+    if name == b"+".as_slice() {
+        Some(OpKind::Add)
+    } else if name == b"*".as_slice() {
+        Some(OpKind::Mul)
+    } else if name == b"-".as_slice() {
+        Some(OpKind::Sub)
+    } else if name == b"abs".as_slice() {
+        Some(OpKind::Abs)
+    } else if name == b"div".as_slice() {
+        Some(OpKind::Div)
+    } else if name == b"mod".as_slice() {
+        Some(OpKind::Mod)
+    } else {
+        None
+    }
+}
+
+fn order_operator(name: &[u8]) -> Option<OpKind>
+    ensures { result ≡ order_operator name.now }
+{
+    if name == b"<=".as_slice() {
+        Some(OpKind::Le)
+    } else if name == b"<".as_slice() {
+        Some(OpKind::Lt)
+    } else if name == b">=".as_slice() {
+        Some(OpKind::Ge)
+    } else if name == b">".as_slice() {
+        Some(OpKind::Gt)
+    } else {
+        None
+    }
+}
+
+/// The operator of that name.
+pub fn operator_named(name: &[u8]) -> Option<OpKind>
+    ensures { result ≡ operator_named name.now }
+{
+    match core_operator(name) {
+        Some(op) => Some(op),
+        None => match number_operator(name) {
+            Some(op) => Some(op),
+            None => order_operator(name),
+        },
+    }
+}
+
+/// How many arguments an operator takes at least.
+pub fn least_arguments(op: OpKind) -> usize
+    ensures { result ≡ least_arguments op }
+{
+    match op {
+        OpKind::Not | OpKind::And | OpKind::Or | OpKind::Add => 1,
+        OpKind::Mul | OpKind::Sub | OpKind::Abs => 1,
+        OpKind::Xor | OpKind::Implies | OpKind::Eq | OpKind::Distinct => 2,
+        OpKind::Div | OpKind::Mod => 2,
+        OpKind::Le | OpKind::Lt | OpKind::Ge | OpKind::Gt => 2,
+        OpKind::Ite => 3,
+    }
+}
+
+/// How many arguments an operator takes at most, if there is a number. That `distinct` is limited
+/// is another rule.
+pub fn most_arguments(op: OpKind) -> Option<usize>
+    ensures { result ≡ most_arguments op }
+{
+    match op {
+        OpKind::Not | OpKind::Abs => Some(1),
+        OpKind::Div | OpKind::Mod => Some(2),
+        OpKind::Ite => Some(3),
+        _ => None,
+    }
+}
+
+/// The sorts of the arguments.
+pub fn wanted(op: OpKind) -> Sorts
+    ensures { result ≡ wanted op }
+{
+    match op {
+        OpKind::Not | OpKind::And | OpKind::Or | OpKind::Xor | OpKind::Implies => Sorts::Bools,
+        OpKind::Eq | OpKind::Distinct => Sorts::Alike,
+        OpKind::Ite => Sorts::Choice,
+        _ => Sorts::Ints,
+    }
+}
+
+/// Whether the operator gives an integer for integers.
+pub fn is_arithmetic(op: OpKind) -> bool
+    ensures { result ≡ is_arithmetic op }
+{
+    match op {
+        OpKind::Add | OpKind::Mul | OpKind::Sub | OpKind::Abs | OpKind::Div | OpKind::Mod => true,
+        _ => false,
+    }
+}
+
+/// Whether it is `div` or `mod`.
+pub fn is_division(op: OpKind) -> bool
+    ensures { result ≡ is_division op }
+{
+    match op {
+        OpKind::Div | OpKind::Mod => true,
+        _ => false,
+    }
+}
+
+pub fn is_product(op: OpKind) -> bool
+    ensures { result ≡ is_product op }
+{
+    match op {
+        OpKind::Mul => true,
+        _ => false,
+    }
+}
+
+/// Whether it is `ite`.
+pub fn is_choice(op: OpKind) -> bool
+    ensures { result ≡ is_choice op }
+{
+    match op {
+        OpKind::Ite => true,
+        _ => false,
+    }
+}
+
+pub fn is_distinct(op: OpKind) -> bool
+    ensures { result ≡ is_distinct op }
+{
+    match op {
+        OpKind::Distinct => true,
+        _ => false,
+    }
+}

@@ -1,0 +1,219 @@
+//! What an application owes to its arguments, in the order of checking.
+
+ghost use Rattle.std.specs.Prelude.{ℕ, ℤ, pos, ◌≡◌, ◌+◌, ◌^◌, ◌≤◌, length, ◌≤ℤ◌, ◌-◌, nat_abs};
+ghost use Rattle.term_check.specs.Rules.{fault, number_fault, same_sort, first_not, first_unlike, choice_fault, sort_fault, second_sort, result_sort, varying, divisor_fault, product_fault, linear_fault, narrow, narrow_product, wide_unless, product_constant, constant_of, applied, divisible_fault, declared_fault};
+
+use crate::operators::{
+    Sorts, is_arithmetic, is_choice, is_distinct, is_division, is_product, least_arguments,
+    most_arguments, wanted,
+};
+use crate::part::{Fault, Part};
+use crate::values::{narrow_product, narrow_value, varying};
+use term_tree::{Kind, OpKind, Sort};
+
+/// How many terms `distinct` may have.
+const MOST_DISTINCT: usize = 64;
+
+fn fault(kind: Kind, offset: u32) -> Fault
+    ensures { result ≡ fault kind offset }
+{
+    Fault { kind, offset }
+}
+
+/// Whether so many arguments are too few or too many for an operator that starts there.
+pub fn number_fault(op: OpKind, start: u32, number: usize) -> Option<Fault>
+    ensures { result ≡ number_fault op start number }
+{
+    if number < least_arguments(op) {
+        return Some(fault(Kind::Arity, start));
+    }
+    match most_arguments(op) {
+        Some(most) if most < number => Some(fault(Kind::Arity, start)),
+        _ if is_distinct(op) && MOST_DISTINCT < number => Some(fault(Kind::Count, start)),
+        _ => None,
+    }
+}
+
+fn same_sort(a: Sort, b: Sort) -> bool
+    ensures { result ≡ same_sort a b }
+{
+    match (a, b) {
+        (Sort::Int, Sort::Int) | (Sort::Bool, Sort::Bool) => true,
+        _ => false,
+    }
+}
+
+fn first_not(sort: Sort, parts: &[Part]) -> Option<Fault>
+    ensures { result ≡ first_not sort parts.now }
+{
+    for part in parts {
+        if !same_sort(part.sort, sort) {
+            return Some(fault(Kind::SortMismatch, part.start));
+        }
+    }
+    None
+}
+
+fn first_unlike(parts: &[Part]) -> Option<Fault>
+    ensures { result ≡ first_unlike parts.now }
+{
+    match parts {
+        [] => None,
+        [first, rest @ ..] => first_not(first.sort, rest),
+    }
+}
+
+fn choice_fault(parts: &[Part]) -> Option<Fault>
+    ensures { result ≡ choice_fault parts.now }
+{
+    match parts {
+        [] => None,
+        [condition, rest @ ..] => {
+            if same_sort(condition.sort, Sort::Bool) {
+                first_unlike(rest)
+            } else {
+                Some(fault(Kind::SortMismatch, condition.start))
+            }
+        }
+    }
+}
+
+/// The first argument that is of a wrong sort.
+fn sort_fault(wanted: Sorts, parts: &[Part]) -> Option<Fault>
+    ensures { result ≡ sort_fault wanted parts.now }
+{
+    match wanted {
+        Sorts::Bools => first_not(Sort::Bool, parts),
+        Sorts::Ints => first_not(Sort::Int, parts),
+        Sorts::Alike => first_unlike(parts),
+        Sorts::Choice => choice_fault(parts),
+    }
+}
+
+fn second_sort(parts: &[Part]) -> Sort
+    ensures { result ≡ second_sort parts.now }
+{
+    match parts {
+        [_, second, ..] => second.sort,
+        _ => Sort::Bool,
+    }
+}
+
+fn result_sort(op: OpKind, parts: &[Part]) -> Sort
+    ensures { result ≡ result_sort op parts.now }
+{
+    if is_choice(op) {
+        second_sort(parts)
+    } else if is_arithmetic(op) {
+        Sort::Int
+    } else {
+        Sort::Bool
+    }
+}
+
+fn divisor_fault(start: u32, parts: &[Part]) -> Option<Fault>
+    ensures { result ≡ divisor_fault start parts.now }
+{
+    match parts {
+        [_, divisor, ..] => match divisor.constant {
+            None => Some(fault(Kind::NotLinear, start)),
+            Some(0) => Some(fault(Kind::ZeroDivisor, start)),
+            Some(_) => None,
+        },
+        _ => None,
+    }
+}
+
+fn product_fault(start: u32, parts: &[Part]) -> Option<Fault>
+    ensures { result ≡ product_fault start parts.now }
+{
+    if varying(parts) > 1 {
+        Some(fault(Kind::NotLinear, start))
+    } else {
+        None
+    }
+}
+
+fn linear_fault(op: OpKind, start: u32, parts: &[Part]) -> Option<Fault>
+    ensures { result ≡ linear_fault op start parts.now }
+{
+    if is_product(op) {
+        product_fault(start, parts)
+    } else if is_division(op) {
+        divisor_fault(start, parts)
+    } else {
+        None
+    }
+}
+
+fn wide_unless(start: u32, value: Option<i64>) -> Result<Option<i64>, Fault>
+    ensures { result ≡ wide_unless start value }
+{
+    match value {
+        Some(value) => Ok(Some(value)),
+        None => Err(fault(Kind::TooWide, start)),
+    }
+}
+
+fn product_constant(start: u32, parts: &[Part]) -> Result<Option<i64>, Fault>
+    ensures { result ≡ product_constant start parts.now }
+{
+    match narrow_product(parts) {
+        None => Err(fault(Kind::TooWide, start)),
+        Some(product) => {
+            if varying(parts) == 0 {
+                Ok(Some(product))
+            } else {
+                Ok(None)
+            }
+        }
+    }
+}
+
+fn constant_of(op: OpKind, start: u32, parts: &[Part]) -> Result<Option<i64>, Fault>
+    ensures { result ≡ constant_of op start parts.now }
+{
+    if is_product(op) {
+        product_constant(start, parts)
+    } else if is_arithmetic(op) && varying(parts) == 0 {
+        wide_unless(start, narrow_value(op, parts))
+    } else {
+        Ok(None)
+    }
+}
+
+/// What an operator at these arguments, whose number is right, is in its turn, or the first rule that
+/// it breaks.
+pub fn applied(op: OpKind, start: u32, parts: &[Part]) -> Result<Part, Fault>
+    ensures { result ≡ applied op start parts.now }
+{
+    if let Some(fault) = sort_fault(wanted(op), parts) {
+        return Err(fault);
+    }
+    if let Some(fault) = linear_fault(op, start, parts) {
+        return Err(fault);
+    }
+    match constant_of(op, start, parts) {
+        Ok(constant) => Ok(Part {
+            start,
+            sort: result_sort(op, parts),
+            constant,
+        }),
+        Err(fault) => Err(fault),
+    }
+}
+
+/// The rule that a predicate's arguments break first, as many as it was declared with.
+pub fn declared_fault(sorts: &[Sort], parts: &[Part]) -> Option<Fault>
+    ensures { result ≡ declared_fault sorts.now parts.now }
+{
+    let mut i = 0;
+    while i < sorts.len() && i < parts.len() {
+        let part = parts[i];
+        if !same_sort(part.sort, sorts[i]) {
+            return Some(fault(Kind::SortMismatch, part.start));
+        }
+        i += 1;
+    }
+    None
+}
