@@ -21,6 +21,3 @@ pub use laws::refuted_forms_have_no_point;
 pub use refuted::Refuted;
 pub use stop::CheckStop;
 pub use tree::Refutation;
-
-#[cfg(test)]
-mod tests;
