@@ -16,7 +16,7 @@ use Rattle.term_check.specs.declared.head.Head.{Head}
 use Rattle.term_check.specs.declared.head.Head.TheVariants.{Operator, Declared}
 use Rattle.term_check.specs.Term.{operation, predicate}
 use Rattle.term_check.specs.Rules.{fault, unless, applied, declared_fault}
-use Rattle.term_check.specs.Spelling.{Scope, Spelled, Gathered, ◌>>=◌, spelled, list_spelled, all_spelled, added, nothing_yet, application, head_of, head_fault, list_head, is_binder, is_word, leaf_atom, let_spelled_by, quantifier_spelled, with_part, sorts_of, spells}
+use Rattle.term_check.specs.Spelling.{Scope, Spelled, Gathered, ◌>>=◌, spelled, list_spelled, all_spelled, added, nothing_yet, application, head_of, head_fault, list_head, is_binder, is_word, leaf_atom, let_spelled_by, quantifier_spelled, quantifier_fault, with_part, sorts_of, spells}
 use Rattle.term_check.specs.Reading.{each_spelled, applied_list, begins_binder, begins_unknown, has_unknown, row_has_unknown, list_has_unknown}
 
 abbrev row_of : Tree → (n : Count) × Row_of-Tree n
@@ -43,7 +43,7 @@ list_of_row : (text : List ℕ) (scope : Scope) (next start : ℕ) (n : _) (row 
 list_of_row text scope next start n end_of-Tree h = refl
 list_of_row text scope next start n (more_of-Tree head rest) h =
     past_all (is_word text head (codes "let")) (is_word text head (codes "forall")) (is_word text head (codes "exists"))
-    (let_spelled_by text scope next start rest) (quantifier_spelled text scope next start true rest) (quantifier_spelled text scope next start false rest) _ h ∙ same_then (head_of text scope.preds head) _ _ (λ hd.
+    (let_spelled_by text scope next start rest) (unless (quantifier_fault scope.quantifies start) (quantifier_spelled text scope next start true rest)) (unless (quantifier_fault scope.quantifies start) (quantifier_spelled text scope next start false rest)) _ h ∙ same_then (head_of text scope.preds head) _ _ (λ hd.
     ap (λ (r : Result Gathered Fault). unless (head_fault scope.preds hd start (length (items-the_row-Tree _ rest))) (r >>= application scope.preds hd start))
     (all_of_row text scope (nothing_yet next) _ rest))
 

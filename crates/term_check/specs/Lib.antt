@@ -4,3 +4,4 @@ pub mod Rules
 pub mod Spelling
 pub mod Term
 pub mod Words
+pub mod Weight

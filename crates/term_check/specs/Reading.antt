@@ -19,8 +19,8 @@ use Rattle.term_check.specs.Rules.{fault, unless}
 use Rattle.term_check.specs.Term.{IsTermAt, AreTermsAt}
 use Rattle.term_check.specs.Spelling.{Scope, Spelled, Gathered, ◌>>=◌, spelled, added, nothing_yet, application, head_of, head_fault, is_binder, leaf_atom}
 
-abbrev pub scope_of : List Predicates → List Named → Scope
-scope_of preds names = record { preds = preds; names = names }
+abbrev pub scope_of : List Predicates → List Named → Bool → Scope
+scope_of preds names quantifies = record { preds = preds; names = names; quantifies = quantifies }
 
 -- the trees, each in full, one after another
 abbrev pub each_spelled : List ℕ → Scope → Gathered → List Tree → Result Gathered Fault

@@ -29,10 +29,11 @@ use Rattle.term_check.specs.Operators.{operator_named}
 use Rattle.term_check.specs.Rules.{fault, unless, or_else, narrow, number_fault, first_not, same_sort, applied, divisible_fault, declared_fault}
 use Rattle.term_check.specs.Term.{Term, numeral, truth, variable, let_name, predicate, operation, divisible, binding, universal, existential, Terms, none, more, with_last}
 
--- The names that a term may use: the declared predicates in their order, and the bound names, the innermost last.
+-- What a term may use: the declared predicates in their order, the bound names, the innermost last, and whether quantifiers.
 pub record Scope : Type 0 where
   pub preds : List Pred
   pub names : List Named
+  pub quantifies : Bool
 
 -- a term, what it is to the term around it, and the number of the next quantified variable of the text
 pub record Spelled : Type 0 where
@@ -303,7 +304,7 @@ repeated_fault text seen item = if is_among seen (name_or_none (name_in text ite
 
 abbrev pub let_names_fault : List ℕ → List (List ℕ) → List Tree → Option Fault
 let_names_fault text seen [] = None
-let_names_fault text seen (item ∷ items) = or_else (repeated_fault text seen item) (let_names_fault text (name_or_none (name_in text item) ∷ seen) items)
+let_names_fault text seen (item ∷ items) = or_else (repeated_fault text seen item) (let_names_fault text (seen ++ name_or_none (name_in text item) ∷ []) items)
 
 abbrev pub sort_name_fault : List ℕ → Tree → Option Fault
 sort_name_fault text item = if is_some (sort_in text item) then None else Some (fault UnknownSort (sort_start item))
@@ -312,7 +313,7 @@ sort_name_fault text item = if is_some (sort_in text item) then None else Some (
 abbrev pub variables_fault : List ℕ → List (List ℕ) → List Tree → Option Fault
 variables_fault text seen [] = None
 variables_fault text seen (item ∷ items) =
-    or_else (repeated_fault text seen item) (or_else (sort_name_fault text item) (variables_fault text (name_or_none (name_in text item) ∷ seen) items))
+    or_else (repeated_fault text seen item) (or_else (sort_name_fault text item) (variables_fault text (seen ++ name_or_none (name_in text item) ∷ []) items))
 
 abbrev pub sort_or_bool : Option Sort → Sort
 sort_or_bool None = BoolSort
@@ -369,6 +370,11 @@ abbrev pub quantifier : Bool → ℕ → ℕ → List Sort → Term → Term
 quantifier true start first sorts body = universal start first sorts body
 quantifier false start first sorts body = existential start first sorts body
 
+-- a quantifier where there may be none
+abbrev pub quantifier_fault : Bool → ℕ → Option Fault
+quantifier_fault true start = None
+quantifier_fault false start = Some (fault CommandForm start)
+
 -- the words that begin the forms with binders
 abbrev pub is_binder : List ℕ → Tree → Bool
 is_binder text tree = is_word text tree (codes "let") || is_word text tree (codes "forall") || is_word text tree (codes "exists")
@@ -382,8 +388,8 @@ abbrev mutual
   list_spelled text scope next start end_of-Tree = Err (fault CommandForm start)
   list_spelled text scope next start (more_of-Tree head rest) =
       if is_word text head (codes "let") then let_spelled_by text scope next start rest
-      else if is_word text head (codes "forall") then quantifier_spelled text scope next start true rest
-      else if is_word text head (codes "exists") then quantifier_spelled text scope next start false rest
+      else if is_word text head (codes "forall") then unless (quantifier_fault scope.quantifies start) (quantifier_spelled text scope next start true rest)
+      else if is_word text head (codes "exists") then unless (quantifier_fault scope.quantifies start) (quantifier_spelled text scope next start false rest)
       else head_of text scope.preds head >>= λ h. unless (head_fault scope.preds h start (length (items-the_row-Tree _ rest))) (all_spelled text scope (nothing_yet next) rest >>= application scope.preds h start)
 
   -- the trees, each in full, one after another

@@ -1,4 +1,4 @@
-//! Terms put into an arena from what was read: leaves, and heads with their arguments.
+//! Terms put into an arena from what was read: trees, leaves, and heads with their arguments.
 
 ghost use Rattle.std.specs.Prelude.{◌≡◌, ◌<◌, ◌^◌, length, IfOk, IsErrOf, IsTrue, true, []};
 ghost use Rattle.std.specs.List.{list_all, list_any};
@@ -8,6 +8,7 @@ ghost use Rattle.term_check.specs.declared.part.Fault.{Fault as AFault};
 ghost use Rattle.term_check.specs.Rules.{applied};
 ghost use Rattle.term_check.specs.Term.{IsNodeAt, IsAligned, Keeps, AreTermsAt};
 ghost use Rattle.term_check.specs.Spelling.{spelled, leaf_term, leaf_atom, nothing_yet, Gathered, application};
+ghost use Rattle.term_check.specs.Weight.{weight};
 ghost use Rattle.term_check.specs.Reading.{scope_of, each_spelled, is_let_name, has_unknown, list_has_unknown, begins_binder, is_divisibility, applied_list, IsFound, AreFound};
 
 use crate::found::{Found, FoundAll};
@@ -19,11 +20,30 @@ use crate::nodes::{add_node, atom_node};
 use crate::part::Part;
 use crate::rules::{applied, declared_fault};
 use crate::scope::Named;
+use crate::signature::Signature;
 use crate::stop::TermStop;
 use base::Items;
-use sexp_read::LeafKind;
+use sexp_read::{LeafKind, Tree};
 use std::alloc::Global;
 use term_tree::{Node, Pred, Sort, Terms};
+
+/// Reads a tree as a term over the declared predicates, without names bound around it, and puts it
+/// into the arena. A refusal leaves the terms that were there where they are.
+pub fn check_term(
+    alloc: Global,
+    text: &[u8],
+    signature: &Signature,
+    tree: &Tree,
+    terms: &mut Terms,
+) -> Result<Found, TermStop>
+    requires aligned { IsAligned terms.old }
+    requires weight { weight tree.now < 2 ^ 32 }
+    ensures found { IfOk result (λ found. IsFound (spelled text.now (scope_of signature.now [] true) 0 tree.now) terms.new found.id found.part found.next) }
+    ensures fault { (fault : AFault) → IsErrOf result (TermStop.Fault fault) → spelled text.now (scope_of signature.now [] true) 0 tree.now ≡ Err fault }
+    ensures keeps { Keeps terms.old terms.new }
+{
+    Err(TermStop::Memory)
+}
 
 /// Reads a leaf as a term over the declared predicates and the bound names, the innermost last.
 pub fn check_leaf(
@@ -39,8 +59,8 @@ pub fn check_leaf(
 ) -> Result<Found, TermStop>
     requires preds { length preds.now < 2 ^ 32 }
     requires aligned { IsAligned terms.old }
-    ensures found { IfOk result (λ found. IsFound (leaf_term text.now (scope_of preds.now names.now) next kind start end) terms.new found.id found.part found.next) }
-    ensures fault { (fault : AFault) → IsErrOf result (TermStop.Fault fault) → leaf_term text.now (scope_of preds.now names.now) next kind start end ≡ Err fault }
+    ensures found { IfOk result (λ found. IsFound (leaf_term text.now (scope_of preds.now names.now true) next kind start end) terms.new found.id found.part found.next) }
+    ensures fault { (fault : AFault) → IsErrOf result (TermStop.Fault fault) → leaf_term text.now (scope_of preds.now names.now true) next kind start end ≡ Err fault }
     ensures unbuilt { IsErrOf result TermStop.Unbuilt → is_let_name (leaf_atom text.now preds.now names.now kind start end) ≡ true }
     ensures keeps { Keeps terms.old terms.new }
 {
