@@ -1,4 +1,15 @@
+pub mod AtomLemmas
+pub mod BinderLemmas
+pub mod ConstantLemmas
+pub mod KnownLemmas
+pub mod LegalityLemmas
+pub mod NameLemmas
+pub mod NodeLemmas
+pub mod OutcomeLemmas
 pub mod ReadingLemmas
 pub mod RuleLemmas
+pub mod SortLemmas
 pub mod SpellingLemmas
+pub mod TellingLemmas
 pub mod TermLemmas
+pub mod ToldLemmas

@@ -1,3 +1,4 @@
+pub mod Legality
 pub mod Operators
 pub mod Reading
 pub mod Rules
