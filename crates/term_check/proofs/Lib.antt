@@ -1,8 +1,13 @@
+pub mod ApplyLemmas
 pub mod AtomLemmas
 pub mod BinderLemmas
 pub mod ConstantLemmas
+pub mod CycleLemmas
+pub mod FormulaLemmas
 pub mod KnownLemmas
+pub mod LeafLemmas
 pub mod LegalityLemmas
+pub mod LightLemmas
 pub mod NameLemmas
 pub mod NodeLemmas
 pub mod OutcomeLemmas

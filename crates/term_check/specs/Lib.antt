@@ -1,8 +1,11 @@
+pub mod Formula
+pub mod Known
 pub mod Legality
 pub mod Operators
 pub mod Reading
 pub mod Rules
 pub mod Spelling
+pub mod TellsFormula
 pub mod Term
-pub mod Words
 pub mod Weight
+pub mod Words

@@ -1,68 +1,90 @@
 -- What the reading of a tree gives, in an arena.
-use Rattle.std.specs.Prelude.{◌≡◌, ℕ, List, [], ◌∷◌, length, Bool, true, false, ◌||◌, Result, Ok, Err}
-use Rattle.std.specs.List.{list_any}
-use Rattle.sexp_read.specs.declared.tree.Tree.{Tree, Leaf, List', Row_of-Tree, end_of-Tree, more_of-Tree, items-the_row-Tree}
+use Rattle.std.specs.Prelude.{◌≡◌, ℕ, ℤ, Option, ◌+◌, List, [], ◌∷◌, length, Bool, true, false, Result, Ok, Err, slice_get, Some, if◌then◌else◌, codes, pos}
+use Rattle.sexp_read.specs.declared.tree.Tree.{Tree}
+use Rattle.term_tree.specs.declared.sort.Sort.{Sort}
+use Rattle.term_tree.specs.declared.script.Pred.{Pred as Predicates}
+use Rattle.term_tree.specs.declared.node.Node.{Node}
+use Rattle.term_tree.specs.declared.node.Node.TheVariants.{Num, True, False, Var, LetVar, Pred, Forall, Exists}
+use Rattle.term_tree.specs.declared.node.TermId.{TermId}
+use Rattle.term_tree.specs.declared.refusal.Kind.TheVariants.{CommandForm}
+use Rattle.term_tree.specs.Arena.{Arena}
 use Rattle.term_check.specs.declared.atom.Atom.{Atom}
 use Rattle.term_check.specs.declared.atom.Atom.TheVariants.{Number, Truth, BoundVariable, LetName, Predicate}
-use Rattle.term_tree.specs.declared.node.Node.{Node}
-use Rattle.term_tree.specs.declared.node.Node.TheVariants.{Num, True, False, Var, Pred}
-use Rattle.term_check.specs.declared.head.Head.{Head}
-use Rattle.term_check.specs.declared.head.Head.TheVariants.{Divisibility}
-use Rattle.term_tree.specs.declared.script.Pred.{Pred as Predicates}
-use Rattle.term_tree.specs.declared.refusal.Kind.TheVariants.{CommandForm}
-use Rattle.term_tree.specs.declared.node.TermId.{TermId}
-use Rattle.term_tree.specs.Arena.{Arena}
 use Rattle.term_check.specs.declared.part.Part.{Part}
 use Rattle.term_check.specs.declared.part.Fault.{Fault}
+use Rattle.term_check.specs.declared.found.Found.{Found}
+use Rattle.term_check.specs.declared.found.FoundAll.{FoundAll}
+use Rattle.term_check.specs.declared.stop.TermStop.{TermStop}
+use Rattle.term_check.specs.declared.stop.TermStop.TheVariants.{Memory as OutOfMemory, Fault as Broken}
 use Rattle.term_check.specs.declared.scope.Named.{Named}
-use Rattle.term_check.specs.Rules.{fault, unless}
-use Rattle.term_check.specs.Term.{IsTermAt, AreTermsAt}
-use Rattle.term_check.specs.Spelling.{Scope, Spelled, Gathered, ◌>>=◌, spelled, added, nothing_yet, application, head_of, head_fault, is_binder, leaf_atom}
+use Rattle.term_check.specs.Rules.{fault, unless, divisible_fault}
+use Rattle.term_check.specs.Term.{IsNodeAt, IsTermAt, AreTermsAt}
+use Rattle.term_check.specs.Spelling.{Scope, Spelled, Gathered, ◌>>=◌, spelled, added, nothing_yet, application, head_of, head_fault, is_word, items_of, binder_fault, let_names_fault, variables_fault, with_lets, with_variables, let_spelled, quantified, quantifier, quantifier_fault, sorts_bound, number_or_0}
 
 abbrev pub scope_of : List Predicates → List Named → Bool → Scope
 scope_of preds names quantifies = record { preds = preds; names = names; quantifies = quantifies }
 
+-- The forms of terms by the list of their trees.
+
+-- one more tree
+abbrev pub next_spelled : List ℕ → Scope → Gathered → Tree → Result Gathered Fault
+next_spelled text scope g tree = spelled text scope g.next tree >>= λ s. Ok (added g s)
+
 -- the trees, each in full, one after another
 abbrev pub each_spelled : List ℕ → Scope → Gathered → List Tree → Result Gathered Fault
 each_spelled text scope g [] = Ok g
-each_spelled text scope g (tree ∷ trees) = spelled text scope g.next tree >>= λ s. each_spelled text scope (added g s) trees
+each_spelled text scope g (tree ∷ trees) = next_spelled text scope g tree >>= λ h. each_spelled text scope h trees
 
 -- a head with its arguments
-abbrev pub applied_list : List ℕ → Scope → ℕ → ℕ → List Tree → Result Spelled Fault
-applied_list text scope next start [] = Err (fault CommandForm start)
-applied_list text scope next start (head ∷ args) =
+abbrev pub applied_list : List ℕ → Scope → ℕ → ℕ → Tree → List Tree → Result Spelled Fault
+applied_list text scope next start head args =
     head_of text scope.preds head >>= λ h. unless (head_fault scope.preds h start (length args)) (each_spelled text scope (nothing_yet next) args >>= application scope.preds h start)
 
-abbrev pub begins_binder : List ℕ → List Tree → Bool
-begins_binder text [] = false
-begins_binder text (head ∷ args) = is_binder text head
+-- the term of an item of let
+abbrev pub item_bound : List ℕ → Scope → Gathered → List Tree → Result Gathered Fault
+item_bound text scope g (name ∷ term ∷ []) = next_spelled text scope g term
+item_bound text scope g _ = Ok g
 
--- The forms that the reading doesn't know yet: binders, names that let binds, and divisibility.
-abbrev pub is_let_name : Result Atom Fault → Bool
-is_let_name (Ok (LetName number sort constant)) = true
-is_let_name _ = false
+-- the terms of all items
+abbrev pub all_bound : List ℕ → Scope → Gathered → List Tree → Result Gathered Fault
+all_bound text scope g [] = Ok g
+all_bound text scope g (item ∷ items) = item_bound text scope g (items_of item) >>= λ h. all_bound text scope h items
 
-abbrev pub is_divisibility : Result Head Fault → Bool
-is_divisibility (Ok (Divisibility by)) = true
-is_divisibility _ = false
+-- the names of let, and the term below them
+abbrev pub under_lets : List ℕ → Scope → ℕ → List Tree → Tree → Gathered → Result Spelled Fault
+under_lets text scope start items body g =
+    unless (let_names_fault text [] items) (spelled text (with_lets text scope items g.parts) g.next body >>= λ s. Ok (let_spelled start g s))
 
-abbrev pub begins_unknown : List ℕ → List Predicates → List Tree → Bool
-begins_unknown text preds [] = false
-begins_unknown text preds (head ∷ args) = is_binder text head || is_divisibility (head_of text preds head)
+abbrev pub let_list : List ℕ → Scope → ℕ → ℕ → List Tree → Result Spelled Fault
+let_list text scope next start (binder ∷ body ∷ []) =
+    unless (binder_fault text binder) (all_bound text scope (nothing_yet next) (items_of binder) >>= under_lets text scope start (items_of binder) body)
+let_list text scope next start _ = Err (fault CommandForm start)
 
-abbrev mutual
-  pub has_unknown : List ℕ → List Predicates → List Named → Tree → Bool
-  has_unknown text preds names (Leaf kind start end) = is_let_name (leaf_atom text preds names kind start end)
-  has_unknown text preds names (List' shape row start end) = begins_unknown text preds (items-the_row-Tree _ row) || row_has_unknown text preds names row
+-- the term below the variables of a quantifier
+abbrev pub under_variables : List ℕ → Scope → ℕ → ℕ → Bool → List Tree → Tree → Result Spelled Fault
+under_variables text scope next start all items body =
+    spelled text (with_variables text scope next items) (next + length items) body >>= λ s. quantified (quantifier all start next (sorts_bound text items)) start s
 
-  pub row_has_unknown : {n : _} → List ℕ → List Predicates → List Named → Row_of-Tree n → Bool
-  row_has_unknown text preds names end_of-Tree = false
-  row_has_unknown text preds names (more_of-Tree tree rest) = has_unknown text preds names tree || row_has_unknown text preds names rest
+abbrev pub quantifier_list : List ℕ → Scope → ℕ → ℕ → Bool → List Tree → Result Spelled Fault
+quantifier_list text scope next start all (binder ∷ body ∷ []) =
+    unless (binder_fault text binder) (unless (variables_fault text [] (items_of binder)) (under_variables text scope next start all (items_of binder) body))
+quantifier_list text scope next start all _ = Err (fault CommandForm start)
 
-abbrev pub list_has_unknown : List ℕ → List Predicates → List Named → List Tree → Bool
-list_has_unknown text preds names trees = begins_unknown text preds trees || list_any (has_unknown text preds names) trees
+abbrev pub any_list : List ℕ → Scope → ℕ → ℕ → List Tree → Result Spelled Fault
+any_list text scope next start [] = Err (fault CommandForm start)
+any_list text scope next start (head ∷ rest) =
+    if is_word text head (codes "let") then let_list text scope next start rest
+    else if is_word text head (codes "forall") then unless (quantifier_fault scope.quantifies start) (quantifier_list text scope next start true rest)
+    else if is_word text head (codes "exists") then unless (quantifier_fault scope.quantifies start) (quantifier_list text scope next start false rest)
+    else applied_list text scope next start head rest
 
--- the node of a term without parts; names of let have none here
+-- the divisor of (_ divisible n) at its argument
+abbrev pub divisor_of : Option ℕ → ℕ → List Part → Result ℤ Fault
+divisor_of by start parts = unless (divisible_fault by start parts) (Ok (pos (number_or_0 by)))
+
+-- Nodes.
+
+-- the node of a term without parts that is no name of let
 abbrev pub atom_node : Atom → Node
 atom_node (Number k) = Num k
 atom_node (Truth true) = True
@@ -71,9 +93,44 @@ atom_node (BoundVariable number sort) = Var number sort
 atom_node (LetName number sort constant) = False
 atom_node (Predicate number) = Pred number []
 
--- a term that was spelled, which the arena has at this number
-abbrev pub IsFound : Result Spelled Fault → Arena → TermId → Part → ℕ → Type 0
-IsFound outcome arena id part next = (s : Spelled) × (outcome ≡ Ok s) × IsTermAt arena [] s.term id.0 × (s.part ≡ part) × (s.next ≡ next)
+-- the node of a term without parts, where the terms of lets around it stand at these
+abbrev pub IsAtomNode : List TermId → Atom → Node → Type 0
+IsAtomNode lets (LetName number sort constant) node = (bound : TermId) × (slice_get lets number ≡ Some bound) × (node ≡ LetVar bound)
+IsAtomNode lets atom node = node ≡ atom_node atom
 
-abbrev pub AreFound : Result Gathered Fault → Arena → List TermId → List Part → ℕ → Type 0
-AreFound outcome arena ids parts next = (g : Gathered) × (outcome ≡ Ok g) × AreTermsAt arena [] g.terms ids × (g.parts ≡ parts) × (g.next ≡ next)
+abbrev pub quantifier_node : Bool → ℕ → List Sort → TermId → Node
+quantifier_node true first sorts body = Forall first sorts body
+quantifier_node false first sorts body = Exists first sorts body
+
+-- What was found, in an arena where the terms of lets around it stand at these.
+
+-- a term that was spelled, which the arena has at this number
+abbrev pub IsFoundUnder : List TermId → Result Spelled Fault → Arena → TermId → Part → ℕ → Type 0
+IsFoundUnder lets outcome arena id part next = (s : Spelled) × (outcome ≡ Ok s) × IsTermAt arena lets s.term id.0 × (s.part ≡ part) × (s.next ≡ next)
+
+abbrev pub IsFound : Result Spelled Fault → Arena → TermId → Part → ℕ → Type 0
+IsFound = IsFoundUnder []
+
+-- terms that were gathered, which the arena has at these numbers
+pub record IsGathered (lets : List TermId) (arena : Arena) (g : Gathered) (ids : List TermId) (parts : List Part) (next : ℕ) : Type 0 where
+  pub terms : AreTermsAt arena lets g.terms ids
+  pub parts_are : g.parts ≡ parts
+  pub next_is : g.next ≡ next
+  pub level : length ids ≡ length parts
+
+-- an answer has put this node there, unless memory wanted
+abbrev pub IsAdded : Node → ℕ → Part → ℕ → Arena → Result Found TermStop → Type 0
+IsAdded node start part next arena (Ok found) = IsNodeAt arena found.id.0 node start × (found.part ≡ part) × (found.next ≡ next)
+IsAdded node start part next arena (Err OutOfMemory) = Unit {0}
+IsAdded node start part next arena (Err (Broken f)) = ⊥
+
+-- an answer tells what a tree spells, or its first fault
+abbrev pub Tells : List TermId → Result Spelled Fault → Arena → Result Found TermStop → Type 0
+Tells lets outcome arena (Ok found) = IsFoundUnder lets outcome arena found.id found.part found.next
+Tells lets outcome arena (Err OutOfMemory) = Unit {0}
+Tells lets outcome arena (Err (Broken f)) = outcome ≡ Err f
+
+abbrev pub TellsAll : List TermId → Result Gathered Fault → Arena → Result FoundAll TermStop → Type 0
+TellsAll lets outcome arena (Ok all) = (g : Gathered) × (outcome ≡ Ok g) × IsGathered lets arena g all.ids.items all.parts.items all.next
+TellsAll lets outcome arena (Err OutOfMemory) = Unit {0}
+TellsAll lets outcome arena (Err (Broken f)) = outcome ≡ Err f

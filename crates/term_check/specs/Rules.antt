@@ -1,15 +1,15 @@
 -- What an application owes to its arguments, rule by rule in the order of checking: their number, their sorts, that products
 -- and divisions are linear, that no divisor is 0, and that constants are small (SMT-LIB 2.6, section 3.6, with the theories
 -- Core and Ints; linear terms as in the logics LIA).
-use Rattle.std.specs.Prelude.{ℕ, ◌+◌, ◌^◌, List, [], ◌∷◌, map, fold, Bool, true, false, not, ◌&&◌, ◌||◌, nat_lt, nat_eq, ◌==◌, Option, None, Some, Result, Ok, Err, ℤ, pos, ◌*ℤ◌, nat_abs, if◌then◌else◌}
+use Rattle.std.specs.Prelude.{ℕ, ◌+◌, ◌^◌, List, [], ◌∷◌, map, fold, Bool, true, false, ◌&&◌, nat_lt, nat_eq, Option, None, Some, Result, Ok, Err, ℤ, pos, ◌*ℤ◌, nat_abs, if◌then◌else◌}
 use Rattle.std.specs.Int.{int_div_euclid, int_rem_euclid}
 use Rattle.std.specs.Ordering.{int_eq}
 use Rattle.term_tree.specs.declared.node.OpKind.{OpKind}
-use Rattle.term_tree.specs.declared.node.OpKind.TheVariants.{Add, Mul, Sub, Abs, Div, Mod}
+use Rattle.term_tree.specs.declared.node.OpKind.TheVariants.{Add, Sub, Abs, Div, Mod}
 use Rattle.term_tree.specs.declared.sort.Sort.{Sort}
 use Rattle.term_tree.specs.declared.sort.Sort.TheVariants.{Int as IntSort, Bool as BoolSort}
 use Rattle.term_tree.specs.declared.refusal.Kind.{Kind}
-use Rattle.term_tree.specs.declared.refusal.Kind.TheVariants.{CommandForm, Arity, Count, SortMismatch, NotLinear, ZeroDivisor, TooWide}
+use Rattle.term_tree.specs.declared.refusal.Kind.TheVariants.{Arity, Count, SortMismatch, NotLinear, ZeroDivisor, TooWide}
 use Rattle.term_tree.specs.Operators.{sum_of, difference_of, on_two, first_of_all}
 use Rattle.term_check.specs.declared.operators.Sorts.{Sorts}
 use Rattle.term_check.specs.declared.operators.Sorts.TheVariants.{Bools, Ints, Alike, Choice}

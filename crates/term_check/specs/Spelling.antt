@@ -2,12 +2,12 @@
 -- by the theories Core and Ints, and linear terms). The rules come in the order of checking: the form and name of a head, the
 -- number of arguments, the arguments from left to right, each in full, and then the rules of the application. At let the
 -- bound terms come before the names, and at a quantifier its binder comes first. Words are compared by their bytes.
-use Rattle.std.specs.Prelude.{ℕ, ℤ, pos, ◌+◌, ◌^◌, List, [], ◌∷◌, ◌++◌, length, map, Bool, true, false, not, ◌&&◌, ◌||◌, nat_eq, Option, None, Some, Result, Ok, Err, if◌then◌else◌, slice_get, codes}
-use Rattle.std.specs.List.{list_any, list_all}
+use Rattle.std.specs.Prelude.{ℕ, ℤ, pos, ◌+◌, List, [], ◌∷◌, ◌++◌, length, map, Bool, true, false, not, ◌&&◌, ◌||◌, nat_eq, Option, None, Some, Result, Ok, Err, if◌then◌else◌, slice_get, codes}
+use Rattle.std.specs.List.{list_all}
 use Rattle.std.specs.Str.{bytes_eq}
 use Rattle.base.specs.Numeral.{number_of}
 use Rattle.sexp_read.specs.declared.tree.LeafKind.{LeafKind}
-use Rattle.sexp_read.specs.declared.tree.LeafKind.TheVariants.{Symbol, Quoted, Numeral, Decimal, Text, Keyword}
+use Rattle.sexp_read.specs.declared.tree.LeafKind.TheVariants.{Symbol, Quoted, Numeral}
 use Rattle.sexp_read.specs.declared.tree.Tree.{Tree, Leaf, List', Row_of-Tree, end_of-Tree, more_of-Tree, items-the_row-Tree}
 use Rattle.sexp_read.specs.Leaves.{inner, symbol_bytes, word_bytes, numeral_value, small}
 use Rattle.term_tree.specs.declared.sort.Sort.{Sort}
@@ -26,7 +26,7 @@ use Rattle.term_check.specs.declared.head.Head.{Head}
 use Rattle.term_check.specs.declared.head.Head.TheVariants.{Operator, Declared, Constant, Divisibility}
 use Rattle.term_check.specs.Words.{is_among, reserved_words}
 use Rattle.term_check.specs.Operators.{operator_named}
-use Rattle.term_check.specs.Rules.{fault, unless, or_else, narrow, number_fault, first_not, same_sort, applied, divisible_fault, declared_fault}
+use Rattle.term_check.specs.Rules.{fault, unless, or_else, narrow, number_fault, same_sort, applied, divisible_fault, declared_fault}
 use Rattle.term_check.specs.Term.{Term, numeral, truth, variable, let_name, predicate, operation, divisible, binding, universal, existential, Terms, none, more, with_last}
 
 -- What a term may use: the declared predicates in their order, the bound names, the innermost last, and whether quantifiers.

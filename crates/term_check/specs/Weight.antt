@@ -10,3 +10,8 @@ abbrev mutual
   pub row_weight : {n : _} → Row_of-Tree n → ℕ
   row_weight end_of-Tree = 0
   row_weight (more_of-Tree tree rest) = weight tree + row_weight rest
+
+-- of trees, one after another
+abbrev pub weights : List Tree → ℕ
+weights [] = 0
+weights (tree ∷ trees) = weight tree + weights trees

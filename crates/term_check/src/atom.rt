@@ -1,6 +1,3 @@
-ghost use Rattle.std.specs.Prelude.{◌≡◌};
-ghost use Rattle.term_check.specs.Reading.{is_let_name};
-
 use term_tree::Sort;
 
 /// A term without parts.
@@ -21,16 +18,4 @@ pub enum Atom {
     },
     /// A predicate without arguments, by its number.
     Predicate(u32),
-}
-
-impl Atom {
-    /// Whether it is a name that a `let` binds.
-    pub fn is_let_name(&self) -> bool
-        ensures { result ≡ is_let_name (Ok self.now) }
-    {
-        match self {
-            Atom::LetName { .. } => true,
-            _ => false,
-        }
-    }
 }

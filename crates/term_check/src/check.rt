@@ -1,31 +1,27 @@
-//! Terms put into an arena from what was read: trees, leaves, and heads with their arguments.
+//! The terms of a text, and the formulas over parameters.
 
-ghost use Rattle.std.specs.Prelude.{◌≡◌, ◌<◌, ◌^◌, length, IfOk, IsErrOf, IsTrue, true, []};
-ghost use Rattle.std.specs.List.{list_all, list_any};
-ghost use Rattle.term_tree.specs.declared.node.Node.TheVariants.{Op, Pred as PredNode};
-ghost use Rattle.term_tree.specs.Arena.{is_below};
+ghost use Rattle.std.specs.Prelude.{◌≡◌, ℕ, ◌+◌, ◌<◌, ◌^◌, length, IfOk, IsErrOf, Result, Ok, Err, true, []};
+ghost use Rattle.term_tree.specs.Arena.{Arena};
 ghost use Rattle.term_check.specs.declared.part.Fault.{Fault as AFault};
-ghost use Rattle.term_check.specs.Rules.{applied};
-ghost use Rattle.term_check.specs.Term.{IsNodeAt, IsAligned, Keeps, AreTermsAt};
-ghost use Rattle.term_check.specs.Spelling.{spelled, leaf_term, leaf_atom, nothing_yet, Gathered, application};
+ghost use Rattle.term_check.specs.Term.{Term, IsAligned, IsTermAt, Keeps};
+ghost use Rattle.term_check.specs.Spelling.{Spelled, spelled};
 ghost use Rattle.term_check.specs.Weight.{weight};
-ghost use Rattle.term_check.specs.Reading.{scope_of, each_spelled, is_let_name, has_unknown, list_has_unknown, begins_binder, is_divisibility, applied_list, IsFound, AreFound};
+ghost use Rattle.term_check.specs.Reading.{scope_of, IsFound, Tells};
+ghost use Rattle.term_check.specs.Formula.{bool_term, formula};
+ghost use Rattle.term_check.specs.TellsFormula.{TellsFormula};
 
-use crate::found::{Found, FoundAll};
-use crate::head::Head;
-use crate::heads::unapplied_fault;
-use crate::leaves::{atom_part, leaf_atom};
-use crate::names::sorts_of;
-use crate::nodes::{add_node, atom_node};
-use crate::part::Part;
-use crate::rules::{applied, declared_fault};
-use crate::scope::Named;
+use crate::bindings::Bindings;
+use crate::found::Found;
+use crate::reader::Reader;
+use crate::reading::read_term;
+use crate::rules::same_sort;
 use crate::signature::Signature;
 use crate::stop::TermStop;
-use base::Items;
-use sexp_read::{LeafKind, Tree};
+use base::Memory;
+use sexp_read::Tree;
 use std::alloc::Global;
-use term_tree::{Node, Pred, Sort, Terms};
+use term_tree::{Name, Sort, TermId, Terms};
+use thiserror::Error;
 
 /// Reads a tree as a term over the declared predicates, without names bound around it, and puts it
 /// into the arena. A refusal leaves the terms that were there where they are.
@@ -42,90 +38,73 @@ pub fn check_term(
     ensures fault { (fault : AFault) → IsErrOf result (TermStop.Fault fault) → spelled text.now (scope_of signature.now [] true) 0 tree.now ≡ Err fault }
     ensures keeps { Keeps terms.old terms.new }
 {
-    Err(TermStop::Memory)
+    let mut reader = Reader::new(alloc, text, signature, Bindings::new(alloc), true);
+    read_term(&mut reader, 0, tree, terms)
 }
 
-/// Reads a leaf as a term over the declared predicates and the bound names, the innermost last.
-pub fn check_leaf(
+/// Why a tree gave no formula.
+#[derive(Debug, Drop, Error)]
+pub enum FormulaStop {
+    #[error("out of memory")]
+    Memory,
+    /// Here is the first fault.
+    #[error("no formula at byte {offset}")]
+    Bad { offset: u64 },
+}
+
+impl From<Memory> for FormulaStop {
+    ghost use Rattle.std.specs.Prelude.{◌≡◌};
+    ghost use Rattle.term_check.specs.declared.check.FormulaStop.TheVariants.{Memory as OutOfMemory};
+
+    ghost from_gives = { λ _ e. e ≡ OutOfMemory };
+
+    fn from(_: Memory) -> FormulaStop {
+        FormulaStop::Memory
+    }
+}
+
+/// Whether the answer about a tree is a formula.
+fn bool_term(read: Result<Found, TermStop>) -> Result<TermId, FormulaStop>
+    ensures { (arena : Arena) (outcome : Result Spelled AFault) → Tells [] outcome arena read → TellsFormula (bool_term outcome) arena result }
+{
+    match read {
+        Ok(found) => {
+            if same_sort(found.part.sort, Sort::Bool) {
+                Ok(found.id)
+            } else {
+                let offset = u64::from(found.part.start);
+                Err(FormulaStop::Bad { offset })
+            }
+        }
+        Err(TermStop::Memory) => Err(FormulaStop::Memory),
+        Err(TermStop::Fault(fault)) => {
+            let offset = u64::from(fault.offset);
+            Err(FormulaStop::Bad { offset })
+        }
+    }
+}
+
+/// Reads a tree as a formula, a Bool term without predicates and quantifiers, over parameters, which
+/// are its variables by number. A predicate is an unknown symbol at its name, and a quantifier is
+/// refused at its own start.
+pub fn check_formula(
     alloc: Global,
     text: &[u8],
-    preds: &[Pred],
-    names: &[Named],
-    next: u32,
-    kind: LeafKind,
-    start: u32,
-    end: u32,
-    terms: &mut Terms,
-) -> Result<Found, TermStop>
-    requires preds { length preds.now < 2 ^ 32 }
-    requires aligned { IsAligned terms.old }
-    ensures found { IfOk result (λ found. IsFound (leaf_term text.now (scope_of preds.now names.now true) next kind start end) terms.new found.id found.part found.next) }
-    ensures fault { (fault : AFault) → IsErrOf result (TermStop.Fault fault) → leaf_term text.now (scope_of preds.now names.now true) next kind start end ≡ Err fault }
-    ensures unbuilt { IsErrOf result TermStop.Unbuilt → is_let_name (leaf_atom text.now preds.now names.now kind start end) ≡ true }
-    ensures keeps { Keeps terms.old terms.new }
+    tree: &Tree,
+    params: &[(Name, Sort)],
+) -> Result<(Terms, TermId), FormulaStop>
+    requires weight { length params.now + weight tree.now < 2 ^ 32 }
+    ensures formula { IfOk result (λ made. (term : Term) × (formula text.now params.now tree.now ≡ Ok term) × IsTermAt made.0 [] term made.1.0) }
+    ensures bad { (offset : ℕ) → IsErrOf result (FormulaStop.Bad offset) → formula text.now params.now tree.now ≡ Err offset }
 {
-    let atom = match leaf_atom(text, preds, names, kind, start, end) {
-        Ok(atom) => atom,
-        Err(fault) => return Err(TermStop::Fault(fault)),
-    };
-    if atom.is_let_name() {
-        return Err(TermStop::Unbuilt);
-    }
-    let id = add_node(terms, atom_node(alloc, atom), start)?;
-    Ok(Found {
-        id,
-        part: atom_part(start, atom),
-        next,
-    })
-}
-
-/// Applies a head to arguments that were read, as many as it takes.
-pub fn apply(
-    preds: &[Pred],
-    head: Head,
-    start: u32,
-    all: FoundAll,
-    terms: &mut Terms,
-) -> Result<Found, TermStop>
-    requires aligned { IsAligned terms.old }
-    requires below { IsTrue (list_all (is_below (length terms.old.nodes)) all.ids.items) }
-    ensures found { (g : Gathered) → AreTermsAt terms.old [] g.terms all.ids.items → g.parts ≡ all.parts.items → g.next ≡ all.next
-        → IfOk result (λ found. IsFound (application preds.now head start g) terms.new found.id found.part found.next) }
-    ensures fault { (g : Gathered) → g.parts ≡ all.parts.items → (fault : AFault) → IsErrOf result (TermStop.Fault fault) → application preds.now head start g ≡ Err fault }
-    ensures unbuilt { IsErrOf result TermStop.Unbuilt → is_divisibility (Ok head) ≡ true }
-    ensures keeps { Keeps terms.old terms.new }
-{
-    match head {
-        Head::Operator(op) => {
-            let part = match applied(op, start, &all.parts) {
-                Ok(part) => part,
-                Err(fault) => return Err(TermStop::Fault(fault)),
-            };
-            let args = Items::from_vec(all.ids);
-            let id = add_node(terms, Node::Op { op, args }, start)?;
-            Ok(Found {
-                id,
-                part,
-                next: all.next,
-            })
-        }
-        Head::Declared(pred) => {
-            if let Some(fault) = declared_fault(sorts_of(preds, pred), &all.parts) {
-                return Err(TermStop::Fault(fault));
-            }
-            let args = Items::from_vec(all.ids);
-            let id = add_node(terms, Node::Pred { pred, args }, start)?;
-            Ok(Found {
-                id,
-                part: Part {
-                    start,
-                    sort: Sort::Bool,
-                    constant: None,
-                },
-                next: all.next,
-            })
-        }
-        Head::Constant => Err(TermStop::Fault(unapplied_fault(start, all.parts.len()))),
-        Head::Divisibility(_) => Err(TermStop::Unbuilt),
+    let signature = Signature::new(alloc);
+    let mut bindings = Bindings::new(alloc);
+    bindings.bind_params(alloc, 0, params)?;
+    let mut reader = Reader::new(alloc, text, &signature, bindings, false);
+    let mut terms = Terms::new(alloc);
+    let read = read_term(&mut reader, params.len() as u32, tree, &mut terms);
+    match bool_term(read) {
+        Ok(id) => Ok((terms, id)),
+        Err(stop) => Err(stop),
     }
 }

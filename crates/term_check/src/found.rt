@@ -1,4 +1,8 @@
+ghost use Rattle.std.specs.Prelude.{◌≡◌, ◌++◌, [], ◌∷◌, IfOk};
+
 use crate::part::Part;
+use base::Memory;
+use std::alloc::Global;
 use term_tree::TermId;
 
 /// A term that was read: its number in the arena, what it is to the term around it, and the number of
@@ -16,4 +20,36 @@ pub struct FoundAll {
     pub ids: Vec<TermId>,
     pub parts: Vec<Part>,
     pub next: u32,
+}
+
+impl FoundAll {
+    /// None yet, where the next variable has this number.
+    pub fn new(alloc: Global, next: u32) -> FoundAll
+        ensures ids { result.ids.items ≡ [] }
+        ensures parts { result.parts.items ≡ [] }
+        ensures next { result.next ≡ next }
+    {
+        FoundAll {
+            ids: Vec::new(alloc),
+            parts: Vec::new(alloc),
+            next,
+        }
+    }
+}
+
+/// One more behind the others.
+pub fn with_next(all: FoundAll, found: Found) -> Result<FoundAll, Memory>
+    ensures ids { IfOk result (λ more. more.ids.items ≡ all.ids.items ++ found.id ∷ []) }
+    ensures parts { IfOk result (λ more. more.parts.items ≡ all.parts.items ++ found.part ∷ []) }
+    ensures next { IfOk result (λ more. more.next ≡ found.next) }
+{
+    let mut ids = all.ids;
+    let mut parts = all.parts;
+    ids.push(found.id)?;
+    parts.push(found.part)?;
+    Ok(FoundAll {
+        ids,
+        parts,
+        next: found.next,
+    })
 }

@@ -1,17 +1,19 @@
 //! Heads of applications, and how many arguments they take.
 
-ghost use Rattle.std.specs.Prelude.{◌≡◌, ◌<◌, ◌^◌, length};
-ghost use Rattle.term_check.specs.Spelling.{is_numeral, is_word, is_symbol, is_divisible, is_binder, list_head, head_of, unapplied_fault, declared_number_fault, head_fault};
+ghost use Rattle.std.specs.Prelude.{◌≡◌};
+ghost use Rattle.term_check.specs.Spelling.{is_numeral, is_word, is_symbol, is_divisible, list_head, head_of, unapplied_fault, declared_number_fault, head_fault};
 
 use crate::head::Head;
 use crate::names::{sorts_of, symbol_head};
 use crate::part::Fault;
 use crate::rules::number_fault;
+use crate::signature::Signature;
 use crate::words::is_reserved;
 use sexp_read::{LeafKind, Tree, numeral_value, symbol_bytes};
 use term_tree::{Kind, Pred};
 
-fn is_symbol(text: &[u8], tree: &Tree, name: &[u8]) -> bool
+/// Whether the tree is a symbol of these bytes, between bars or not.
+pub fn is_symbol(text: &[u8], tree: &Tree, name: &[u8]) -> bool
     ensures { result ≡ is_symbol text.now tree.now name.now }
 {
     match symbol_bytes(text, tree) {
@@ -20,7 +22,8 @@ fn is_symbol(text: &[u8], tree: &Tree, name: &[u8]) -> bool
     }
 }
 
-fn is_word(text: &[u8], tree: &Tree, name: &[u8]) -> bool
+/// Whether the tree is a symbol of these bytes without bars.
+pub fn is_word(text: &[u8], tree: &Tree, name: &[u8]) -> bool
     ensures { result ≡ is_word text.now tree.now name.now }
 {
     match tree {
@@ -30,13 +33,6 @@ fn is_word(text: &[u8], tree: &Tree, name: &[u8]) -> bool
         },
         Tree::List { .. } => false,
     }
-}
-
-/// Whether the tree is a word that begins a form with binders.
-pub fn is_binder(text: &[u8], tree: &Tree) -> bool
-    ensures { result ≡ is_binder text.now tree.now }
-{
-    is_word(text, tree, b"let") || is_word(text, tree, b"forall") || is_word(text, tree, b"exists")
 }
 
 fn is_numeral(tree: &Tree) -> bool
@@ -122,9 +118,8 @@ pub fn head_fault(preds: &[Pred], head: Head, start: u32, number: usize) -> Opti
 }
 
 /// What a head is, by its form and name.
-pub fn head_of(text: &[u8], preds: &[Pred], tree: &Tree) -> Result<Head, Fault>
-    requires { length preds.now < 2 ^ 32 }
-    ensures { result ≡ head_of text.now preds.now tree.now }
+pub fn head_of(text: &[u8], signature: &Signature, tree: &Tree) -> Result<Head, Fault>
+    ensures { result ≡ head_of text.now signature.now tree.now }
 {
     match tree {
         Tree::List { items, start, .. } => list_head(text, *start, items.as_slice()),
@@ -134,7 +129,7 @@ pub fn head_of(text: &[u8], preds: &[Pred], tree: &Tree) -> Result<Head, Fault>
                     kind: Kind::UnknownSymbol,
                     offset: *start,
                 }),
-                _ => symbol_head(preds, *start, name),
+                _ => symbol_head(signature, *start, name),
             },
             None => Err(Fault {
                 kind: Kind::CommandForm,

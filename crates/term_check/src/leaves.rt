@@ -1,13 +1,15 @@
 //! Terms that are leaves.
 
-ghost use Rattle.std.specs.Prelude.{◌≡◌, ◌<◌, ◌^◌, length, pos};
+ghost use Rattle.std.specs.Prelude.{◌≡◌, length, pos};
 ghost use Rattle.sexp_read.specs.declared.tree.Tree.TheVariants.{Leaf};
 ghost use Rattle.term_check.specs.Spelling.{narrow_number, numeral_atom, bare_predicate, free_symbol, bound_symbol, symbol_atom, leaf_atom, atom_part};
 
 use crate::atom::Atom;
-use crate::names::{bound_to, pred_named, sorts_of};
+use crate::names::sorts_of;
 use crate::part::{Fault, Part};
-use crate::scope::{Bound, Named};
+use crate::reader::Reader;
+use crate::scope::Bound;
+use crate::signature::Signature;
 use crate::values::narrow;
 use crate::words::is_reserved;
 use sexp_read::{LeafKind, Tree, numeral_value, symbol_bytes};
@@ -34,24 +36,22 @@ fn bare_predicate(preds: &[Pred], start: u32, number: Option<u32>) -> Result<Ato
     }
 }
 
-fn free_symbol(preds: &[Pred], start: u32, name: &[u8]) -> Result<Atom, Fault>
-    requires { length preds.now < 2 ^ 32 }
-    ensures { result ≡ free_symbol preds.now start name.now }
+fn free_symbol(signature: &Signature, start: u32, name: &[u8]) -> Result<Atom, Fault>
+    ensures { result ≡ free_symbol signature.now start name.now }
 {
     if name == b"true".as_slice() {
         Ok(Atom::Truth(true))
     } else if name == b"false".as_slice() {
         Ok(Atom::Truth(false))
     } else {
-        bare_predicate(preds, start, pred_named(name, preds))
+        bare_predicate(signature.preds(), start, signature.number_of(name))
     }
 }
 
-fn symbol_atom(preds: &[Pred], names: &[Named], start: u32, name: &[u8]) -> Result<Atom, Fault>
-    requires { length preds.now < 2 ^ 32 }
-    ensures { result ≡ symbol_atom preds.now names.now start name.now }
+fn symbol_atom<'a>(reader: &Reader<'a>, start: u32, name: &[u8]) -> Result<Atom, Fault>
+    ensures { result ≡ symbol_atom reader.now.scope.preds reader.now.scope.names start name.now }
 {
-    match bound_to(name, names) {
+    match reader.bound_to(name) {
         Some(Bound::Variable { number, sort }) => Ok(Atom::BoundVariable { number, sort }),
         Some(
             Bound::Let {
@@ -64,7 +64,7 @@ fn symbol_atom(preds: &[Pred], names: &[Named], start: u32, name: &[u8]) -> Resu
             sort,
             constant,
         }),
-        None => free_symbol(preds, start, name),
+        None => free_symbol(reader.signature(), start, name),
     }
 }
 
@@ -87,22 +87,20 @@ fn numeral_atom(start: u32, value: Option<i64>) -> Result<Atom, Fault>
 }
 
 /// What a leaf of this kind stands for as a term, or the rule that it breaks.
-pub fn leaf_atom(
-    text: &[u8],
-    preds: &[Pred],
-    names: &[Named],
+pub fn leaf_atom<'a>(
+    reader: &Reader<'a>,
     kind: LeafKind,
     start: u32,
     end: u32,
 ) -> Result<Atom, Fault>
-    requires { length preds.now < 2 ^ 32 }
-    ensures { result ≡ leaf_atom text.now preds.now names.now kind start end }
+    ensures { result ≡ leaf_atom reader.now.text reader.now.scope.preds reader.now.scope.names kind start end }
 {
+    let text = reader.text();
     let leaf = Tree::Leaf { kind, start, end };
     match symbol_bytes(text, &leaf) {
         Some(name) => match kind {
             LeafKind::Symbol if is_reserved(name) => Err(fault(Kind::UnknownSymbol, start)),
-            _ => symbol_atom(preds, names, start, name),
+            _ => symbol_atom(reader, start, name),
         },
         None => match kind {
             LeafKind::Numeral => numeral_atom(start, narrow_number(numeral_value(text, &leaf))),

@@ -2,7 +2,10 @@
 //! a scope, or which rule it breaks first.
 #![tactic(auto)]
 
+mod apply;
 mod atom;
+mod binders;
+mod bindings;
 mod check;
 mod found;
 mod head;
@@ -14,25 +17,22 @@ mod names;
 mod nodes;
 mod operators;
 mod part;
+mod reader;
+mod reading;
 mod rules;
 mod scope;
+mod seen;
 mod signature;
 mod stop;
 mod values;
 mod words;
 
-pub use atom::Atom;
-pub use check::{apply, check_leaf, check_term};
-pub use found::{Found, FoundAll};
-pub use head::Head;
-pub use heads::{head_fault, head_of, is_binder};
-pub use laws::terms_stay;
-pub use leaves::leaf_atom;
+pub use check::{FormulaStop, check_formula, check_term};
+pub use found::Found;
+pub use laws::{items_are_lighter, terms_stay, trees_are_light};
 pub use legality::{found_terms_are_legal, spelled_formulas_are_legal, spelled_terms_are_legal};
-pub use operators::{least_arguments, most_arguments, operator_named};
+pub use operators::operator_named;
 pub use part::{Fault, Part};
-pub use rules::{applied, declared_fault, number_fault};
-pub use scope::{Bound, Named};
 pub use signature::Signature;
 pub use stop::TermStop;
 pub use words::is_reserved;

@@ -7,6 +7,7 @@ use crate::head::Head;
 use crate::operators::operator_named;
 use crate::part::Fault;
 use crate::scope::{Bound, Named};
+use crate::signature::Signature;
 use term_tree::{Kind, Pred, Sort};
 
 /// What the last of that name stands for.
@@ -47,14 +48,13 @@ pub fn sorts_of(preds: &[Pred], number: u32) -> &[Sort]
     }
 }
 
-fn name_head(preds: &[Pred], start: u32, name: &[u8]) -> Result<Head, Fault>
-    requires { length preds.now < 2 ^ 32 }
-    ensures { result ≡ name_head preds.now start name.now }
+fn name_head(signature: &Signature, start: u32, name: &[u8]) -> Result<Head, Fault>
+    ensures { result ≡ name_head signature.now start name.now }
 {
     if name == b"true".as_slice() || name == b"false".as_slice() {
         return Ok(Head::Constant);
     }
-    match pred_named(name, preds) {
+    match signature.number_of(name) {
         Some(number) => Ok(Head::Declared(number)),
         None => Err(Fault {
             kind: Kind::UnknownSymbol,
@@ -64,12 +64,11 @@ fn name_head(preds: &[Pred], start: u32, name: &[u8]) -> Result<Head, Fault>
 }
 
 /// The operator, predicate or constant that a head names.
-pub fn symbol_head(preds: &[Pred], start: u32, name: &[u8]) -> Result<Head, Fault>
-    requires { length preds.now < 2 ^ 32 }
-    ensures { result ≡ symbol_head preds.now start name.now }
+pub fn symbol_head(signature: &Signature, start: u32, name: &[u8]) -> Result<Head, Fault>
+    ensures { result ≡ symbol_head signature.now start name.now }
 {
     match operator_named(name) {
         Some(op) => Ok(Head::Operator(op)),
-        None => name_head(preds, start, name),
+        None => name_head(signature, start, name),
     }
 }

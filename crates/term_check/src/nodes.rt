@@ -1,13 +1,14 @@
 //! The nodes that terms become in an arena.
 
-ghost use Rattle.std.specs.Prelude.{◌≡◌, length, IfOk, IsTrue};
+ghost use Rattle.std.specs.Prelude.{◌≡◌, length, IfOk, IsTrue, true};
 ghost use Rattle.term_tree.specs.Arena.{has_parts_below};
 ghost use Rattle.term_check.specs.Term.{IsNodeAt, IsAligned, Keeps};
-ghost use Rattle.term_check.specs.Reading.{atom_node};
+ghost use Rattle.term_check.specs.Known.{is_atom_below};
+ghost use Rattle.term_check.specs.Reading.{IsAtomNode};
 
 use crate::atom::Atom;
+use crate::reader::Reader;
 use base::{Items, Memory};
-use std::alloc::Global;
 use term_tree::{Node, TermId, Terms};
 
 /// Puts a node into the arena. An arena of 2 ^ 32 nodes has no room for more.
@@ -23,9 +24,10 @@ pub fn add_node(terms: &mut Terms, node: Node, start: u32) -> Result<TermId, Mem
     terms.add(node, start)
 }
 
-/// The node of a term without parts. A name that `let` binds has none here.
-pub fn atom_node(alloc: Global, atom: Atom) -> Node
-    ensures { result ≡ atom_node atom }
+/// The node of a term without parts.
+pub fn atom_node<'a>(reader: &Reader<'a>, atom: Atom) -> Node
+    requires { is_atom_below (length reader.now.lets) atom ≡ true }
+    ensures { IsAtomNode reader.now.lets atom result }
 {
     match atom {
         Atom::Number(value) => Node::Num(value),
@@ -36,13 +38,15 @@ pub fn atom_node(alloc: Global, atom: Atom) -> Node
             sort,
         },
         Atom::LetName {
-            number: _,
+            number,
             sort: _,
             constant: _,
-        } => Node::False,
+        } => Node::LetVar {
+            bound: reader.let_term(number),
+        },
         Atom::Predicate(pred) => Node::Pred {
             pred,
-            args: Items::new(alloc),
+            args: Items::new(reader.alloc()),
         },
     }
 }

@@ -1,7 +1,8 @@
 //! What an application owes to its arguments, in the order of checking.
 
 ghost use Rattle.std.specs.Prelude.{ℕ, ℤ, pos, ◌≡◌, ◌+◌, ◌^◌, ◌≤◌, length, ◌≤ℤ◌, ◌-◌, nat_abs};
-ghost use Rattle.term_check.specs.Rules.{fault, number_fault, same_sort, first_not, first_unlike, choice_fault, sort_fault, second_sort, result_sort, varying, divisor_fault, product_fault, linear_fault, narrow, narrow_product, wide_unless, product_constant, constant_of, applied, divisible_fault, declared_fault};
+ghost use Rattle.term_check.specs.Rules.{fault, number_fault, same_sort, first_not, first_unlike, choice_fault, sort_fault, second_sort, result_sort, varying, divisor_fault, product_fault, linear_fault, narrow, narrow_product, wide_unless, product_constant, constant_of, applied, divisibility_fault, divisible_fault, declared_fault};
+ghost use Rattle.term_check.specs.Reading.{divisor_of};
 
 use crate::operators::{
     Sorts, is_arithmetic, is_choice, is_distinct, is_division, is_product, least_arguments,
@@ -34,7 +35,8 @@ pub fn number_fault(op: OpKind, start: u32, number: usize) -> Option<Fault>
     }
 }
 
-fn same_sort(a: Sort, b: Sort) -> bool
+/// Whether the sorts are the same.
+pub fn same_sort(a: Sort, b: Sort) -> bool
     ensures { result ≡ same_sort a b }
 {
     match (a, b) {
@@ -216,4 +218,42 @@ pub fn declared_fault(sorts: &[Sort], parts: &[Part]) -> Option<Fault>
         i += 1;
     }
     None
+}
+
+fn divisibility_fault(start: u32, by: Option<u64>) -> Option<Fault>
+    ensures { result ≡ divisibility_fault start by }
+{
+    match by {
+        None => Some(fault(Kind::TooWide, start)),
+        Some(0) => Some(fault(Kind::ZeroDivisor, start)),
+        Some(by) => {
+            if by < 1 << 63 {
+                None
+            } else {
+                Some(fault(Kind::TooWide, start))
+            }
+        }
+    }
+}
+
+fn divisible_fault(by: Option<u64>, start: u32, parts: &[Part]) -> Option<Fault>
+    ensures { result ≡ divisible_fault by start parts.now }
+{
+    match first_not(Sort::Int, parts) {
+        Some(fault) => Some(fault),
+        None => divisibility_fault(start, by),
+    }
+}
+
+/// The divisor of `(_ divisible n)` at its argument, or the rule that it breaks first.
+pub fn divisor(by: Option<u64>, start: u32, parts: &[Part]) -> Result<i64, Fault>
+    ensures { result ≡ divisor_of by start parts.now }
+{
+    match divisible_fault(by, start, parts) {
+        Some(fault) => Err(fault),
+        None => match by {
+            Some(by) => Ok(by as i64),
+            None => Ok(0),
+        },
+    }
 }

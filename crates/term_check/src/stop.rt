@@ -1,6 +1,11 @@
+ghost use Rattle.std.specs.Prelude.{◌≡◌};
+ghost use Rattle.term_tree.specs.declared.refusal.Kind.TheVariants.{CommandForm};
+ghost use Rattle.term_check.specs.Rules.{fault};
+
 use crate::part::Fault;
 use base::Memory;
 use std::alloc::{AllocError, AllocFailed};
+use term_tree::Kind;
 use thiserror::Error;
 
 /// Why a tree gave no term.
@@ -11,9 +16,6 @@ pub enum TermStop {
     /// The first rule that the tree breaks.
     #[error("a rule is broken")]
     Fault(Fault),
-    /// The tree has a form with a binder, which isn't built yet.
-    #[error("a binder")]
-    Unbuilt,
 }
 
 impl From<Memory> for TermStop {
@@ -47,4 +49,14 @@ impl<T: Drop> From<AllocFailed<T>> for TermStop {
     fn from(_: AllocFailed<T>) -> TermStop {
         TermStop::Memory
     }
+}
+
+/// The tree that starts there hasn't the form of a term.
+pub fn bad_form(start: u32) -> TermStop
+    ensures { result ≡ TermStop.Fault (fault CommandForm start) }
+{
+    TermStop::Fault(Fault {
+        kind: Kind::CommandForm,
+        offset: start,
+    })
 }

@@ -1,4 +1,4 @@
-use Rattle.std.proofs.Common.{◌≡◌, ◌+◌, ◌*◌, ◌^◌, ◌≤◌, ◌∷◌, drop, pos, nat_abs, map, fold, ◌+ℤ◌, ◌-ℤ◌, length, ◌-◌}
+use Rattle.std.proofs.Common.{◌≡◌, drop, length, ◌-◌}
 use Rattle.term_check.specs.Rules.{declared_fault}
 use Rattle.term_check.proofs.rules.declared_fault.Given as goal
 

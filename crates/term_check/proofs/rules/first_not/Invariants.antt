@@ -1,4 +1,4 @@
-use Rattle.std.proofs.Common.{◌≡◌, ◌+◌, ◌*◌, ◌^◌, ◌≤◌, ◌∷◌, drop, pos, nat_abs, map, fold, ◌+ℤ◌}
+use Rattle.std.proofs.Common.{◌≡◌, drop}
 use Rattle.term_check.specs.Rules.{first_not}
 use Rattle.term_check.proofs.rules.first_not.Given as goal
 

@@ -1,4 +1,4 @@
-use Rattle.std.proofs.Common.{◌≡◌, ◌+◌, ◌*◌, ◌^◌, ◌≤◌, ◌∷◌, drop, pos, nat_abs, map, fold, ◌+ℤ◌, ◌-ℤ◌, length, ◌-◌}
+use Rattle.std.proofs.Common.{◌≡◌, drop, map, fold}
 use Rattle.term_check.specs.Rules.{narrow_product, multiplied}
 use Rattle.term_check.proofs.values.narrow_product.Given as goal
 

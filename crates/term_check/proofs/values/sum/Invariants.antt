@@ -1,4 +1,4 @@
-use Rattle.std.proofs.Common.{◌≡◌, ◌+◌, ◌*◌, ◌^◌, ◌≤◌, ◌∷◌, drop, pos, nat_abs, map, fold, ◌+ℤ◌}
+use Rattle.std.proofs.Common.{◌≡◌, ◌*◌, ◌^◌, ◌≤◌, drop, nat_abs, map, fold, ◌+ℤ◌}
 use Rattle.term_tree.specs.Operators.{sum_of}
 use Rattle.term_check.specs.Rules.{worth}
 use Rattle.term_check.proofs.values.sum.Given as goal

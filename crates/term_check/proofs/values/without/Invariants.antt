@@ -1,4 +1,4 @@
-use Rattle.std.proofs.Common.{◌≡◌, ◌+◌, ◌*◌, ◌^◌, ◌≤◌, ◌∷◌, drop, pos, nat_abs, map, fold, ◌+ℤ◌, ◌-ℤ◌, length, ◌-◌}
+use Rattle.std.proofs.Common.{◌≡◌, ◌+◌, ◌*◌, ◌^◌, ◌≤◌, drop, nat_abs, map, fold, ◌-ℤ◌}
 use Rattle.term_check.specs.Rules.{worth}
 use Rattle.term_check.proofs.values.without.Given as goal
 

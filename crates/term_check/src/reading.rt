@@ -1,0 +1,326 @@
+//! The recursion over trees: which term a tree spells, put into an arena, or its first fault. It goes
+//! as deep as the tree.
+
+ghost use Rattle.std.specs.Prelude.{◌≡◌, ◌+◌, ◌^◌, ◌<◌, ◌≤◌, length, IfOk, OnOk};
+ghost use Rattle.term_check.specs.Known.{IsReady};
+ghost use Rattle.term_check.specs.Reading.{next_spelled, each_spelled, applied_list, any_list, IsGathered, Tells, TellsAll};
+ghost use Rattle.term_check.specs.Reading.{item_bound, all_bound, under_lets, let_list, under_variables, quantifier_list};
+ghost use Rattle.term_check.specs.Rules.{unless};
+ghost use Rattle.term_check.specs.Spelling.{spelled, nothing_yet, quantifier_fault, Gathered};
+ghost use Rattle.term_check.specs.Term.{Keeps};
+ghost use Rattle.term_check.specs.Weight.{weight, weights};
+
+use crate::apply::{add_binding, add_quantifier, apply, read_leaf};
+use crate::binders::{binder_fault, items_of, let_names_fault, sorts_bound, variables_fault};
+use crate::found::{Found, FoundAll, with_next};
+use crate::heads::{head_fault, head_of, is_word};
+use crate::reader::Reader;
+use crate::stop::{TermStop, bad_form};
+use sexp_read::Tree;
+use term_tree::Terms;
+
+/// Reads a tree as a term. After a refusal the reader is of no use.
+#[cycle(term)]
+pub fn read_term<'a>(
+    reader: &mut Reader<'a>,
+    next: u32,
+    tree: &Tree,
+    terms: &mut Terms,
+) -> Result<Found, TermStop>
+    requires ready { IsReady reader.old terms.old next (weight tree.now) }
+    ensures told { Tells reader.old.lets (spelled reader.old.text reader.old.scope next tree.now) terms.new result }
+    ensures keeps { Keeps terms.old terms.new }
+    ensures kept { OnOk result (reader.new ≡ reader.old) }
+    ensures next { IfOk result (λ found. found.next ≤ next + weight tree.now) }
+{
+    match tree {
+        Tree::Leaf { kind, start, end } => read_leaf(reader, next, *kind, *start, *end, terms),
+        Tree::List { items, start, .. } => {
+            read_list(reader, next, *start, items.as_slice(), terms)
+        }
+    }
+}
+
+/// Reads a list, by its trees, as a term.
+#[cycle(term)]
+fn read_list<'a>(
+    reader: &mut Reader<'a>,
+    next: u32,
+    start: u32,
+    items: &[Tree],
+    terms: &mut Terms,
+) -> Result<Found, TermStop>
+    requires ready { IsReady reader.old terms.old next (weights items.now) }
+    ensures told { Tells reader.old.lets (any_list reader.old.text reader.old.scope next start items.now) terms.new result }
+    ensures keeps { Keeps terms.old terms.new }
+    ensures kept { OnOk result (reader.new ≡ reader.old) }
+    ensures next { IfOk result (λ found. found.next ≤ next + weights items.now) }
+{
+    match items {
+        [] => Err(bad_form(start)),
+        [head, rest @ ..] => {
+            let text = reader.text();
+            if is_word(text, head, b"let") {
+                read_let(reader, next, start, rest, terms)
+            } else if is_word(text, head, b"forall") {
+                read_quantifier(reader, next, start, true, rest, terms)
+            } else if is_word(text, head, b"exists") {
+                read_quantifier(reader, next, start, false, rest, terms)
+            } else {
+                read_application(reader, next, start, head, rest, terms)
+            }
+        }
+    }
+}
+
+/// Reads a head and its arguments.
+#[cycle(term)]
+fn read_application<'a>(
+    reader: &mut Reader<'a>,
+    next: u32,
+    start: u32,
+    head: &Tree,
+    args: &[Tree],
+    terms: &mut Terms,
+) -> Result<Found, TermStop>
+    requires ready { IsReady reader.old terms.old next (weights args.now) }
+    ensures told { Tells reader.old.lets (applied_list reader.old.text reader.old.scope next start head.now args.now) terms.new result }
+    ensures keeps { Keeps terms.old terms.new }
+    ensures kept { OnOk result (reader.new ≡ reader.old) }
+    ensures next { IfOk result (λ found. found.next ≤ next + weights args.now) }
+{
+    let signature = reader.signature();
+    let head = match head_of(reader.text(), signature, head) {
+        Ok(head) => head,
+        Err(fault) => return Err(TermStop::Fault(fault)),
+    };
+    if let Some(fault) = head_fault(signature.preds(), head, start, args.len()) {
+        return Err(TermStop::Fault(fault));
+    }
+    match read_arguments(reader, next, args, terms) {
+        Ok(all) => apply(signature.preds(), head, start, all, terms),
+        Err(stop) => Err(stop),
+    }
+}
+
+/// Reads trees one after another.
+#[cycle(term)]
+fn read_arguments<'a>(
+    reader: &mut Reader<'a>,
+    next: u32,
+    args: &[Tree],
+    terms: &mut Terms,
+) -> Result<FoundAll, TermStop>
+    requires ready { IsReady reader.old terms.old next (weights args.now) }
+    ensures told { TellsAll reader.old.lets (each_spelled reader.old.text reader.old.scope (nothing_yet next) args.now) terms.new result }
+    ensures keeps { Keeps terms.old terms.new }
+    ensures kept { OnOk result (reader.new ≡ reader.old) }
+    ensures next { IfOk result (λ all. all.next ≤ next + weights args.now) }
+    ensures count { IfOk result (λ all. length all.ids.items ≡ length args.now) }
+{
+    let mut all = FoundAll::new(reader.alloc(), next);
+    for arg in args {
+        match read_next(reader, all, arg, terms) {
+            Ok(more) => all = more,
+            Err(stop) => return Err(stop),
+        }
+    }
+    Ok(all)
+}
+
+/// Reads one more tree behind those that were read.
+#[cycle(term)]
+fn read_next<'a>(
+    reader: &mut Reader<'a>,
+    all: FoundAll,
+    tree: &Tree,
+    terms: &mut Terms,
+) -> Result<FoundAll, TermStop>
+    requires ready { IsReady reader.old terms.old all.next (weight tree.now) }
+    ensures told { (g : Gathered) → IsGathered reader.old.lets terms.old g all.ids.items all.parts.items all.next
+        → TellsAll reader.old.lets (next_spelled reader.old.text reader.old.scope g tree.now) terms.new result }
+    ensures keeps { Keeps terms.old terms.new }
+    ensures kept { OnOk result (reader.new ≡ reader.old) }
+    ensures next { IfOk result (λ more. more.next ≤ all.next + weight tree.now) }
+    ensures count { IfOk result (λ more. length more.ids.items ≡ length all.ids.items + 1) }
+{
+    match read_term(reader, all.next, tree, terms) {
+        Ok(found) => Ok(with_next(all, found)?),
+        Err(stop) => Err(stop),
+    }
+}
+
+/// Reads what follows the word `let`.
+#[cycle(term)]
+fn read_let<'a>(
+    reader: &mut Reader<'a>,
+    next: u32,
+    start: u32,
+    rest: &[Tree],
+    terms: &mut Terms,
+) -> Result<Found, TermStop>
+    requires ready { IsReady reader.old terms.old next (weights rest.now) }
+    ensures told { Tells reader.old.lets (let_list reader.old.text reader.old.scope next start rest.now) terms.new result }
+    ensures keeps { Keeps terms.old terms.new }
+    ensures kept { OnOk result (reader.new ≡ reader.old) }
+    ensures next { IfOk result (λ found. found.next ≤ next + weights rest.now) }
+{
+    match rest {
+        [binder, body] => {
+            if let Some(fault) = binder_fault(reader.text(), binder) {
+                return Err(TermStop::Fault(fault));
+            }
+            let items = items_of(binder);
+            match read_bound(reader, next, items, terms) {
+                Ok(all) => read_under_lets(reader, start, items, all, body, terms),
+                Err(stop) => Err(stop),
+            }
+        }
+        _ => Err(bad_form(start)),
+    }
+}
+
+/// Reads the terms that the items of a `let` bind.
+#[cycle(term)]
+fn read_bound<'a>(
+    reader: &mut Reader<'a>,
+    next: u32,
+    items: &[Tree],
+    terms: &mut Terms,
+) -> Result<FoundAll, TermStop>
+    requires ready { IsReady reader.old terms.old next (weights items.now) }
+    ensures told { TellsAll reader.old.lets (all_bound reader.old.text reader.old.scope (nothing_yet next) items.now) terms.new result }
+    ensures keeps { Keeps terms.old terms.new }
+    ensures kept { OnOk result (reader.new ≡ reader.old) }
+    ensures next { IfOk result (λ all. all.next ≤ next + weights items.now) }
+    ensures count { IfOk result (λ all. length all.ids.items ≤ length items.now) }
+{
+    let mut all = FoundAll::new(reader.alloc(), next);
+    for item in items {
+        match read_item(reader, all, items_of(item), terms) {
+            Ok(more) => all = more,
+            Err(stop) => return Err(stop),
+        }
+    }
+    Ok(all)
+}
+
+/// Reads the term of an item of a `let`, a name and a term.
+#[cycle(term)]
+fn read_item<'a>(
+    reader: &mut Reader<'a>,
+    all: FoundAll,
+    item: &[Tree],
+    terms: &mut Terms,
+) -> Result<FoundAll, TermStop>
+    requires ready { IsReady reader.old terms.old all.next (weights item.now) }
+    ensures told { (g : Gathered) → IsGathered reader.old.lets terms.old g all.ids.items all.parts.items all.next
+        → TellsAll reader.old.lets (item_bound reader.old.text reader.old.scope g item.now) terms.new result }
+    ensures keeps { Keeps terms.old terms.new }
+    ensures kept { OnOk result (reader.new ≡ reader.old) }
+    ensures next { IfOk result (λ more. more.next ≤ all.next + weights item.now) }
+    ensures count { IfOk result (λ more. length more.ids.items ≤ length all.ids.items + 1) }
+{
+    match item {
+        [_, term] => read_next(reader, all, term, terms),
+        _ => Ok(all),
+    }
+}
+
+/// Reads the term below the names of a `let`, whose own terms were read.
+#[cycle(term)]
+fn read_under_lets<'a>(
+    reader: &mut Reader<'a>,
+    start: u32,
+    items: &[Tree],
+    all: FoundAll,
+    body: &Tree,
+    terms: &mut Terms,
+) -> Result<Found, TermStop>
+    requires ready { IsReady reader.old terms.old all.next (weight body.now) }
+    requires room { length reader.old.lets + (length items.now + weight body.now) < 2 ^ 32 }
+    requires count { length all.ids.items ≤ length items.now }
+    requires gathered { (g : Gathered) × IsGathered reader.old.lets terms.old g all.ids.items all.parts.items all.next }
+    ensures told { (g : Gathered) → IsGathered reader.old.lets terms.old g all.ids.items all.parts.items all.next
+        → Tells reader.old.lets (under_lets reader.old.text reader.old.scope start items.now body.now g) terms.new result }
+    ensures keeps { Keeps terms.old terms.new }
+    ensures kept { OnOk result (reader.new ≡ reader.old) }
+    ensures next { IfOk result (λ found. found.next ≤ all.next + weight body.now) }
+{
+    if let Some(fault) = let_names_fault(reader.alloc(), reader.text(), items)? {
+        return Err(TermStop::Fault(fault));
+    }
+    let (names, lets) = (reader.names(), reader.lets());
+    reader.bind_lets(items, &all.parts, &all.ids)?;
+    match read_term(reader, all.next, body, terms) {
+        Ok(found) => {
+            reader.leave(names, lets);
+            add_binding(start, all, found, terms)
+        }
+        Err(stop) => Err(stop),
+    }
+}
+
+/// Reads what follows the word `forall`, or the word `exists`.
+#[cycle(term)]
+fn read_quantifier<'a>(
+    reader: &mut Reader<'a>,
+    next: u32,
+    start: u32,
+    is_universal: bool,
+    rest: &[Tree],
+    terms: &mut Terms,
+) -> Result<Found, TermStop>
+    requires ready { IsReady reader.old terms.old next (weights rest.now) }
+    ensures told { Tells reader.old.lets (unless (quantifier_fault reader.old.scope.quantifies start) (quantifier_list reader.old.text reader.old.scope next start is_universal rest.now)) terms.new result }
+    ensures keeps { Keeps terms.old terms.new }
+    ensures kept { OnOk result (reader.new ≡ reader.old) }
+    ensures next { IfOk result (λ found. found.next ≤ next + weights rest.now) }
+{
+    if !reader.quantifies() {
+        return Err(bad_form(start));
+    }
+    match rest {
+        [binder, body] => {
+            if let Some(fault) = binder_fault(reader.text(), binder) {
+                return Err(TermStop::Fault(fault));
+            }
+            let items = items_of(binder);
+            if let Some(fault) = variables_fault(reader.alloc(), reader.text(), items)? {
+                return Err(TermStop::Fault(fault));
+            }
+            read_under_variables(reader, next, start, is_universal, items, body, terms)
+        }
+        _ => Err(bad_form(start)),
+    }
+}
+
+/// Reads the term below the variables of a quantifier.
+#[cycle(term)]
+fn read_under_variables<'a>(
+    reader: &mut Reader<'a>,
+    next: u32,
+    start: u32,
+    is_universal: bool,
+    items: &[Tree],
+    body: &Tree,
+    terms: &mut Terms,
+) -> Result<Found, TermStop>
+    requires ready { IsReady reader.old terms.old next (length items.now + weight body.now) }
+    ensures told { Tells reader.old.lets (under_variables reader.old.text reader.old.scope next start is_universal items.now body.now) terms.new result }
+    ensures keeps { Keeps terms.old terms.new }
+    ensures kept { OnOk result (reader.new ≡ reader.old) }
+    ensures next { IfOk result (λ found. found.next ≤ next + length items.now + weight body.now) }
+{
+    let sorts = sorts_bound(reader.alloc(), reader.text(), items)?;
+    let (names, lets) = (reader.names(), reader.lets());
+    reader.bind_variables(next, items)?;
+    let below = next + items.len() as u32;
+    match read_term(reader, below, body, terms) {
+        Ok(found) => {
+            reader.leave(names, lets);
+            add_quantifier(is_universal, next, sorts, start, found, terms)
+        }
+        Err(stop) => Err(stop),
+    }
+}
