@@ -1,33 +1,30 @@
 -- Where every predicate is defined as `true`, every fact is true.
-use Rattle.std.proofs.Common.{◌≡◌, ℕ, zero, suc, ◌+◌, ◌<◌, List, [], ◌∷◌, ◌++◌, length, get_or, Bool, true, false, map, refl, ap, sym, ◌∙◌, subst, arith, codes}
-use Rattle.std.proofs.lemmas.Option.{get_or_from_slice_get, slice_get_within}
+use Rattle.std.proofs.Common.{◌≡◌, ℕ, zero, suc, ◌+◌, ◌<◌, List, [], ◌∷◌, length, true, map, refl, ap, sym, ◌∙◌, subst, arith, codes}
+use Rattle.std.proofs.lemmas.Option.{slice_get_within}
 use Rattle.std.proofs.lemmas.List.{length-map}
 use Rattle.std.proofs.lemmas.List.FromFn.{length-enumerate_from}
-use Rattle.std.specs.Prelude.{slice_get, Some, None, MatchOption, pos}
-use Rattle.std.specs.List.{enumerate_from, AllByRecursion, list_all}
-use Rattle.base.specs.Numeral.{number_of}
-use Rattle.term_tree.specs.declared.sort.Sort.{Sort}
+use Rattle.std.specs.Prelude.{Some, None, MatchOption}
+use Rattle.std.specs.List.{enumerate_from, AllByRecursion}
 use Rattle.term_tree.specs.declared.node.TermId.{TermId}
-use Rattle.term_tree.specs.declared.node.Node.{Node}
-use Rattle.term_tree.specs.declared.node.Node.TheVariants.{Num, True, Pred}
+use Rattle.term_tree.specs.declared.node.Node.TheVariants.{True}
 use Rattle.term_tree.specs.declared.scalar.Value.{Value}
-use Rattle.term_tree.specs.declared.scalar.Value.TheVariants.{Int, Bool as Truth}
+use Rattle.term_tree.specs.declared.scalar.Value.TheVariants.{Bool as Truth}
 use Rattle.term_tree.specs.declared.script.Pred.{Pred as Predicate}
 use Rattle.term_tree.specs.declared.script.Script.{Script}
 use Rattle.term_tree.specs.declared.script.Assertion.{Assertion}
 use Rattle.term_tree.specs.declared.definition.Definition.{Definition}
-use Rattle.term_tree.specs.Arena.{Arena, IsArena, has_parts_below}
+use Rattle.term_tree.specs.Arena.{Arena, IsArena}
 use Rattle.term_tree.specs.Value.{Environment}
-use Rattle.term_tree.specs.Truth.{Interpretation, HasValue, HaveValues}
-use Rattle.term_tree.specs.Solution.{interpretation_of, DefinesEach, IsTrueUnder, IsSolution}
-use Rattle.term_tree.proofs.MeaningLemmas.{has_value_at}
+use Rattle.term_tree.specs.Truth.{Interpretation, HasValue}
+use Rattle.term_tree.specs.Solution.{interpretation_of, DefinesEach}
+use Rattle.term_tree.proofs.HeadLemmas.{application}
 use Rattle.sort_check.specs.Command.{Command, Fact, declared}
 use Rattle.sort_check.specs.Command.Command.{SetLogic, Declare, Assert, CheckSat}
 use Rattle.term_tree.specs.declared.refusal.Refusal.{Refusal}
 use Rattle.term_tree.specs.declared.refusal.Checked.{Checked}
 use Rattle.std.specs.declared.option.Option.{Option}
-use Rattle.sort_check.specs.Facts.{AreNumerals, IsFact, AreFacts, IsScript, IsScriptOf, IsRefused, IsChecked, predicate_of}
-use Rattle.chc_cli.specs.Texts.{parameter_name, Spell, IsSatText, sat_text}
+use Rattle.sort_check.specs.Facts.{IsFact, AreFacts, IsScript, IsScriptOf, IsRefused, IsChecked, predicate_of}
+use Rattle.chc_cli.specs.Texts.{parameter_name, Spell, sat_text}
 use Rattle.chc_cli.specs.Headline.{IsSatAnswer}
 
 -- the predicate of that number, defined as `true`
@@ -68,28 +65,11 @@ gives_true number [] pred values within = absurd (omega arith)
 gives_true number (p ∷ preds) zero values within = refl
 gives_true number (p ∷ preds) (suc pred) values within = gives_true (number + 1) preds pred values (omega arith)
 
-abbrev integers : List (ℕ × List ℕ) → List Value
-integers numerals = map (λ n. Int (pos (number_of n.1))) numerals
-
 module _ (I : Interpretation) (terms : Arena) (arena : IsArena terms.nodes) where
-  numerals_have : (ids : List TermId) (numerals : List (ℕ × List ℕ)) (env : Environment) → AreNumerals terms ids numerals → HaveValues (HasValue I terms.nodes) ids env (integers numerals)
-  numerals_have [] [] env h = tt
-  numerals_have [] (n ∷ ns) env h = absurd h
-  numerals_have (id ∷ ids) [] env h = absurd h
-  numerals_have (id ∷ ids) (n ∷ ns) env h =
-      ((has_value_at I terms.nodes id.0 (Num (pos (number_of n.1))) env (Int (pos (number_of n.1))) h.0 refl).back refl, numerals_have ids ns env h.2)
-
   fact_holds : (preds : List (List ℕ × ℕ)) (term : TermId) (fact : Fact) (env : Environment) → ((pred : ℕ) (values : List Value) → pred < length preds → I pred values ≡ Truth true)
       → IsFact preds terms term fact → HasValue I terms.nodes term.0 env (Truth true)
   fact_holds preds term fact env true_at h =
-      let node : Node = Pred h.pred h.args in
-      let same : get_or terms.nodes term.0 node ≡ node = get_or_from_slice_get terms.nodes term.0 node node h.node in
-      let below : has_parts_below term.0 node ≡ true = subst (λ (m : Node). has_parts_below term.0 m ≡ true) same (arena term.0 node (slice_get_within terms.nodes term.0 node h.node)) in
-      (has_value_at I terms.nodes term.0 node env (Truth true) h.node below).back (
-        integers fact.numerals,
-        numerals_have h.args fact.numerals env h.numerals,
-        sym (true_at h.pred (integers fact.numerals) (slice_get_within preds h.pred (fact.name, length fact.numerals) h.named)),
-      )
+      application I (length preds) terms.nodes arena true_at term.0 h.pred h.args env h.node (slice_get_within preds h.pred (fact.name, length fact.numerals) h.named)
 
   facts_hold : (preds : List (List ℕ × ℕ)) (number : ℕ) (asserts : List Assertion) (commands : List Command)
       → ((pred : ℕ) (values : List Value) → pred < length preds → I pred values ≡ Truth true) → AreFacts preds terms number asserts commands

@@ -1,6 +1,7 @@
 -- What is told of a term by its node rests on what is told of the node's parts.
-use Rattle.std.proofs.Common.{◌≡◌, ℕ, zero, suc, ◌+◌, ◌<◌, List, [], ◌∷◌, ◌++◌, length, get_or, true, refl, ap, sym, ◌∙◌, subst, arith, length-append, map}
-use Rattle.std.proofs.lemmas.List.{get_or_append_left, get_or_push}
+use Rattle.std.proofs.Common.{◌≡◌, ℕ, zero, suc, ◌+◌, ◌<◌, ◌≤◌, List, [], ◌∷◌, ◌++◌, length, get_or, Bool, true, false, inl, inr, refl, ap, sym, ◌∙◌, subst, arith, length-append, map}
+use Rattle.std.proofs.lemmas.List.{get_or_append_left, get_or_past, get_or_push}
+use Rattle.std.proofs.lemmas.Bool.{cases_lt}
 use Rattle.std.proofs.lemmas.Option.{get_or_from_slice_get, slice_get_within}
 use Rattle.std.specs.Prelude.{slice_get, Some, None, nat_lt, Option, ℤ, option_map, if◌then◌else◌}
 use Rattle.std.specs.List.{list_all}
@@ -13,6 +14,7 @@ use Rattle.term_tree.specs.declared.node.Node.TheVariants.{Num, True, False, Var
 use Rattle.term_tree.specs.Arena.{is_below, has_parts_below}
 use Rattle.term_tree.specs.Constants.{node_constant, constant_of, is_arithmetic, applied, all_constant}
 use Rattle.term_tree.specs.Fold.{told_from, told_of}
+use Rattle.term_tree.specs.Head.{node_has_head, has_head}
 use Rattle.term_tree.specs.Sorts.{node_sort, sort_of, predicate_sort, operation_sort, sort_if, has_sort, is_sorted}
 use Rattle.term_tree.proofs.MeaningLemmas.{both_true, below_from}
 
@@ -56,6 +58,21 @@ module _ (X : Type 0) (none : X) (step : (ℕ → X) → Node → X) (rests : Re
       at_node [] nodes id id node (omega arith) (slice_get_within nodes id node is) (subst (λ (m : Node). has_parts_below id m ≡ true) (sym same) below)
       ∙ ap (λ (m : Node). step (told_of none step nodes) m) same
 
+told_length : (X : Type 0) (none : X) (step : (ℕ → X) → Node → X) (earlier : List X) (nodes : List Node) → length (told_from none step earlier nodes) ≡ length earlier + length nodes
+told_length X none step earlier [] = omega arith
+told_length X none step earlier (node ∷ nodes) =
+    let x : X = step (λ id. get_or earlier id none) node in told_length X none step (earlier ++ x ∷ []) nodes ∙ omega (arith, length-append earlier (x ∷ []))
+
+-- nothing is told of a term that isn't there
+told_past : (X : Type 0) (none : X) (step : (ℕ → X) → Node → X) (nodes : List Node) (id : ℕ) → length nodes ≤ id → told_of none step nodes id ≡ none
+told_past X none step nodes id past = get_or_past (told_from none step [] nodes) id none (omega (arith, told_length X none step [] nodes))
+
+heads_rest : (m : ℕ) (nodes : List Node) → RestsOnParts Bool (node_has_head m nodes)
+heads_rest m nodes p q n (Forall first sorts body) same below = same body.0 (below_from body.0 n below)
+heads_rest m nodes p q n (Op op args) same below = refl
+heads_rest m nodes p q n (Pred pred args) same below = refl
+heads_rest m nodes p q n _ same below = refl
+
 sorts_rest : (preds : List Declared) → RestsOnParts (Option Sort) (node_sort preds)
 sorts_rest preds p q n (Num k) same below = refl
 sorts_rest preds p q n True same below = refl
@@ -96,3 +113,16 @@ sort_at preds nodes id node is below = told_at (Option Sort) None (node_sort pre
 pub constant_at : (nodes : List Node) (id : ℕ) (node : Node) → slice_get nodes id ≡ Some node → has_parts_below id node ≡ true
     → constant_of nodes id ≡ node_constant (constant_of nodes) node
 constant_at nodes id node is below = told_at (Option ℤ) None node_constant constants_rest nodes id node is below
+
+-- whether a term ends in a predicate, by its node
+pub head_at : (n : ℕ) (nodes : List Node) (id : ℕ) (node : Node) → slice_get nodes id ≡ Some node → has_parts_below id node ≡ true
+    → has_head n nodes id ≡ node_has_head n nodes (has_head n nodes) node
+head_at n nodes id node is below = told_at Bool false (node_has_head n nodes) (heads_rest n nodes) nodes id node is below
+
+-- a term that ends in a predicate is there
+pub head_is_there : (n : ℕ) (nodes : List Node) (id : ℕ) → has_head n nodes id ≡ true → id < length nodes
+head_is_there n nodes id h = elim (cases_lt id (length nodes))
+    [ inl less ↦ less | inr past ↦ absurd (true_not_false (sym h ∙ told_past Bool false (node_has_head n nodes) nodes id past)) ]
+  where
+    true_not_false : true ≡ false → ⊥
+    true_not_false e = absurd (cc)

@@ -1,7 +1,6 @@
 -- Laws of values and truth: a term has at most one value, and interpretations that agree give the same.
-use Rattle.std.proofs.Common.{◌≡◌, ℕ, zero, suc, List, [], ◌∷◌, ◌++◌, length, Bool, true, false, refl, ap, sym, ◌∙◌, arith, length-append}
-use Rattle.std.specs.Prelude.{map, not, ◌||◌}
-use Rattle.std.proofs.Math.Bool.{or-true}
+use Rattle.std.proofs.Common.{◌≡◌, ℕ, zero, suc, List, [], ◌∷◌, ◌++◌, length, true, false, refl, sym, ◌∙◌, arith, length-append}
+use Rattle.std.specs.Prelude.{map, Option, Some, None}
 use Rattle.std.specs.List.{AllByRecursion}
 use Rattle.term_tree.specs.declared.sort.Sort.{Sort}
 use Rattle.term_tree.specs.declared.node.TermId.{TermId}
@@ -9,12 +8,11 @@ use Rattle.term_tree.specs.declared.node.Node.{Node}
 use Rattle.term_tree.specs.declared.node.Node.TheVariants.{Num, True, False, Var, LetVar, Pred, Op, Divisible, Let, Forall, Exists}
 use Rattle.term_tree.specs.declared.scalar.Value.{Value}
 use Rattle.term_tree.specs.declared.scalar.Value.TheVariants.{Int, Bool as Truth}
-use Rattle.term_tree.specs.Operators.{result_of, divides, integer, truth, implied}
+use Rattle.term_tree.specs.Operators.{result_of, divides, integer, first_of_all}
 use Rattle.term_tree.specs.Value.{Environment}
-use Rattle.term_tree.specs.Truth.{Interpretation, Meaning, HaveValues, HoldsForAll, HoldsForSome, bound_from, node_meaning, meaning_in, meanings_from, HasValue}
+use Rattle.term_tree.specs.Truth.{Interpretation, Meaning, AreKnown, Completes, Determines, HoldsForAll, HoldsForSome, bound_from, node_meaning, meaning_in, meanings_from, HasValue}
 use Rattle.term_tree.specs.Agreement.{AgreeEverywhere}
 use Rattle.term_tree.specs.Solution.{interpretation_of, DefinesEach, IsSolution}
-use Rattle.term_tree.specs.declared.node.OpKind.TheVariants.{Implies}
 use Rattle.term_tree.specs.declared.definition.Definition.{Definition}
 use Rattle.term_tree.specs.declared.script.Assertion.{Assertion}
 use Rattle.term_tree.specs.declared.script.Script.{Script}
@@ -26,15 +24,27 @@ Single m = (env : Environment) (v w : Value) → m env v → m env w → v ≡ w
 abbrev AllSingle : (ℕ → Meaning) → Type 0
 AllSingle part = (id : ℕ) → Single (part id)
 
-single_values : (part : ℕ → Meaning) (ids : List TermId) (env : Environment) (vs ws : List Value) → AllSingle part
-    → HaveValues part ids env vs → HaveValues part ids env ws → vs ≡ ws
-single_values part [] env [] [] single h k = refl
-single_values part [] env [] (w ∷ ws) single h k = absurd k
-single_values part [] env (v ∷ vs) ws single h k = absurd h
-single_values part (id ∷ ids) env [] ws single h k = absurd h
-single_values part (id ∷ ids) env (v ∷ vs) [] single h k = absurd k
-single_values part (id ∷ ids) env (v ∷ vs) (w ∷ ws) single h k =
-    ap (λ (x : Value). x ∷ vs) (single id.0 env v w h.0 k.0) ∙ ap (λ (xs : List Value). w ∷ xs) (single_values part ids env vs ws single h.1 k.1)
+-- two lists of what is known of the same terms are completed by one list of values
+common : (part : ℕ → Meaning) (ids : List TermId) (env : Environment) (a b : List (Option Value)) → AllSingle part
+    → AreKnown part ids env a → AreKnown part ids env b → (values : List Value) × Completes a values × Completes b values
+common part [] env [] [] single h k = ([], tt, tt)
+common part [] env [] (y ∷ b) single h k = absurd k
+common part [] env (x ∷ a) b single h k = absurd h
+common part (id ∷ ids) env [] b single h k = absurd h
+common part (id ∷ ids) env (x ∷ a) [] single h k = absurd k
+common part (id ∷ ids) env (None ∷ a) (None ∷ b) single h k =
+    let rest = common part ids env a b single h k in (Truth false ∷ rest.0, rest.1, rest.2)
+common part (id ∷ ids) env (None ∷ a) (Some w ∷ b) single h k =
+    let rest = common part ids env a b single h k.1 in (w ∷ rest.0, rest.1, (refl, rest.2))
+common part (id ∷ ids) env (Some v ∷ a) (None ∷ b) single h k =
+    let rest = common part ids env a b single h.1 k in (v ∷ rest.0, (refl, rest.1), rest.2)
+common part (id ∷ ids) env (Some v ∷ a) (Some w ∷ b) single h k =
+    let rest = common part ids env a b single h.1 k.1 in (v ∷ rest.0, (refl, rest.1), (single id.0 env v w h.0 k.0, rest.2))
+
+single_determined : (part : ℕ → Meaning) (ids : List TermId) (result : List Value → Value) (env : Environment) (v w : Value) → AllSingle part
+    → Determines part ids result env v → Determines part ids result env w → v ≡ w
+single_determined part ids result env v w single h k =
+    let both = common part ids env h.0 k.0 single h.1 k.1 in h.2 both.0 both.1 ∙ sym (k.2 both.0 both.2)
 
 pub differ : {A : Type 0} → Truth true ≡ Truth false → A
 differ h = absurd (cc)
@@ -65,10 +75,10 @@ single_node I part True single env v w h k = h ∙ sym k
 single_node I part False single env v w h k = h ∙ sym k
 single_node I part (Var binder sort) single env v w h k = h ∙ sym k
 single_node I part (LetVar bound) single env v w h k = single bound.0 env v w h k
-single_node I part (Pred pred args) single env v w h k = h.2 ∙ ap (I pred) (single_values part args env h.0 k.0 single h.1 k.1) ∙ sym k.2
-single_node I part (Op op args) single env v w h k = h.2 ∙ ap (result_of op) (single_values part args env h.0 k.0 single h.1 k.1) ∙ sym k.2
+single_node I part (Pred pred args) single env v w h k = single_determined part args (I pred) env v w single h k
+single_node I part (Op op args) single env v w h k = single_determined part args (result_of op) env v w single h k
 single_node I part (Divisible by arg) single env v w h k =
-    h.2 ∙ ap (λ (x : Value). Truth (divides by (integer x))) (single arg.0 env h.0 k.0 h.1 k.1) ∙ sym k.2
+    single_determined part (arg ∷ []) (λ values. Truth (divides by (first_of_all (map integer values)))) env v w single h k
 single_node I part (Let bound body) single env v w h k = single body.0 env v w h k
 single_node I part (Forall first sorts body) single env v w h k = single_for_all (part body.0) first sorts env v w (single body.0) h k
 single_node I part (Exists first sorts body) single env v w h k = single_for_some (part body.0) first sorts env v w (single body.0) h k
@@ -93,11 +103,16 @@ one_value I nodes id env v w h k = single_from I [] nodes (λ i e x y p q. absur
 abbrev Gives : (ℕ → Meaning) → (ℕ → Meaning) → Type 0
 Gives p q = (id : ℕ) (env : Environment) (v : Value) → p id env v → q id env v
 
-given_values : (p q : ℕ → Meaning) (ids : List TermId) (env : Environment) (values : List Value) → Gives p q → HaveValues p ids env values → HaveValues q ids env values
-given_values p q [] env [] gives h = tt
-given_values p q [] env (v ∷ values) gives h = absurd h
-given_values p q (id ∷ ids) env [] gives h = absurd h
-given_values p q (id ∷ ids) env (v ∷ values) gives h = (gives id.0 env v h.0, given_values p q ids env values gives h.1)
+given_known : (p q : ℕ → Meaning) (ids : List TermId) (env : Environment) (known : List (Option Value)) → Gives p q → AreKnown p ids env known → AreKnown q ids env known
+given_known p q [] env [] gives h = tt
+given_known p q [] env (k ∷ known) gives h = absurd h
+given_known p q (id ∷ ids) env [] gives h = absurd h
+given_known p q (id ∷ ids) env (None ∷ known) gives h = given_known p q ids env known gives h
+given_known p q (id ∷ ids) env (Some v ∷ known) gives h = (gives id.0 env v h.0, given_known p q ids env known gives h.1)
+
+given_determined : (p q : ℕ → Meaning) (ids : List TermId) (f g : List Value → Value) (env : Environment) (v : Value) → ((values : List Value) → f values ≡ g values) → Gives p q
+    → Determines p ids f env v → Determines q ids g env v
+given_determined p q ids f g env v same gives h = (h.0, given_known p q ids env h.0 gives h.1, λ values completes. h.2 values completes ∙ same values)
 
 given_for_all : (p q : Meaning) (first : ℕ) (sorts : List Sort) (env : Environment) (v : Value) → ((e : Environment) (w : Value) → p e w → q e w)
     → HoldsForAll p first sorts env v → HoldsForAll q first sorts env v
@@ -118,9 +133,10 @@ given_node I J p q True env v same gives h = h
 given_node I J p q False env v same gives h = h
 given_node I J p q (Var binder sort) env v same gives h = h
 given_node I J p q (LetVar bound) env v same gives h = gives bound.0 env v h
-given_node I J p q (Pred pred args) env v same gives h = (h.0, given_values p q args env h.0 gives h.1, h.2 ∙ same pred h.0)
-given_node I J p q (Op op args) env v same gives h = (h.0, given_values p q args env h.0 gives h.1, h.2)
-given_node I J p q (Divisible by arg) env v same gives h = (h.0, gives arg.0 env h.0 h.1, h.2)
+given_node I J p q (Pred pred args) env v same gives h = given_determined p q args (I pred) (J pred) env v (same pred) gives h
+given_node I J p q (Op op args) env v same gives h = given_determined p q args (result_of op) (result_of op) env v (λ values. refl) gives h
+given_node I J p q (Divisible by arg) env v same gives h =
+    let f = λ (values : List Value). Truth (divides by (first_of_all (map integer values))) in given_determined p q (arg ∷ []) f f env v (λ values. refl) gives h
 given_node I J p q (Let bound body) env v same gives h = gives body.0 env v h
 given_node I J p q (Forall first sorts body) env v same gives h = given_for_all (p body.0) (q body.0) first sorts env v (gives body.0) h
 given_node I J p q (Exists first sorts body) env v same gives h = given_for_some (p body.0) (q body.0) first sorts env v (gives body.0) h
@@ -161,24 +177,3 @@ still_solution script ds es agree defines solution = record {
   defined = defines;
   satisfied = all_same_under (interpretation_of ds) (interpretation_of es) script script.asserts agree solution.satisfied;
 }
-
--- what all of a list have, and the last
-pub have_last : (part : ℕ → Meaning) (ids : List TermId) (last : TermId) (env : Environment) (values : List Value) (v : Value)
-    → HaveValues part ids env values → part last.0 env v → HaveValues part (ids ++ last ∷ []) env (values ++ v ∷ [])
-have_last part [] last env [] v h k = (k, tt)
-have_last part [] last env (w ∷ values) v h k = absurd h
-have_last part (id ∷ ids) last env [] v h k = absurd h
-have_last part (id ∷ ids) last env (w ∷ values) v h k = (h.0, have_last part ids last env values v h.1 k)
-
-implied_more : (bs : List Bool) → implied (bs ++ true ∷ []) ≡ true
-implied_more [] = refl
-implied_more (b ∷ []) = or-true (not b)
-implied_more (b ∷ d ∷ bs) = ap (λ (x : Bool). not b || x) (implied_more (d ∷ bs)) ∙ or-true (not b)
-
-truths_last : (values : List Value) → map truth (values ++ Truth true ∷ []) ≡ map truth values ++ true ∷ []
-truths_last [] = refl
-truths_last (v ∷ values) = ap (λ (bs : List Bool). truth v ∷ bs) (truths_last values)
-
--- an implication whose last part is true is true
-pub implied_last : (values : List Value) → result_of Implies (values ++ Truth true ∷ []) ≡ Truth true
-implied_last values = ap (λ (bs : List Bool). Truth (implied bs)) (truths_last values) ∙ ap Truth (implied_more (map truth values))

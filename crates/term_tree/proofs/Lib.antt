@@ -1,6 +1,7 @@
 pub mod DivisionLemmas
 pub mod EvaluationLemmas
 pub mod FoldLemmas
+pub mod HeadLemmas
 pub mod LawLemmas
 pub mod MeaningLemmas
 pub mod OperatorLemmas

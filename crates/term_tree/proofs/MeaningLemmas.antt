@@ -1,8 +1,8 @@
 -- In an arena a term means what its node means over its parts.
-use Rattle.std.proofs.Common.{◌≡◌, ℕ, zero, suc, ◌+◌, ◌<◌, List, [], ◌∷◌, ◌++◌, length, get_or, Bool, true, false, ◌&&◌, refl, sym, subst, arith, length-append}
+use Rattle.std.proofs.Common.{◌≡◌, ℕ, zero, suc, ◌+◌, ◌<◌, List, [], ◌∷◌, ◌++◌, length, get_or, Bool, true, false, ◌&&◌, refl, ap, sym, subst, arith, length-append}
 use Rattle.std.proofs.lemmas.Bool.Decides.{nat_tests}
 use Rattle.std.proofs.lemmas.Option.{get_or_from_slice_get, slice_get_within}
-use Rattle.std.specs.Prelude.{slice_get, Some, nat_lt}
+use Rattle.std.specs.Prelude.{slice_get, Option, Some, None, nat_lt, map}
 use Rattle.std.specs.List.{list_all}
 use Rattle.term_tree.specs.declared.sort.Sort.{Sort}
 use Rattle.term_tree.specs.declared.node.TermId.{TermId}
@@ -11,8 +11,9 @@ use Rattle.term_tree.specs.declared.node.Node.TheVariants.{Num, True, False, Var
 use Rattle.term_tree.specs.declared.scalar.Value.{Value}
 use Rattle.term_tree.specs.declared.scalar.Value.TheVariants.{Int, Bool as Truth}
 use Rattle.term_tree.specs.Arena.{is_below, has_parts_below}
+use Rattle.term_tree.specs.Operators.{result_of, divides, integer, first_of_all}
 use Rattle.term_tree.specs.Value.{Environment}
-use Rattle.term_tree.specs.Truth.{Interpretation, Meaning, HaveValues, HoldsForAll, HoldsForSome, bound_from, node_meaning, meaning_in, meanings_from, HasValue}
+use Rattle.term_tree.specs.Truth.{Interpretation, Meaning, AreKnown, Determines, HoldsForAll, HoldsForSome, bound_from, node_meaning, meaning_in, meanings_from, HasValue}
 
 pub both_true : (a b : Bool) → (a && b) ≡ true → (a ≡ true) × (b ≡ true)
 both_true true b h = (refl, h)
@@ -25,14 +26,19 @@ below_from k n h = grind (arith, nat_tests)
 abbrev Implies : (ℕ → Meaning) → (ℕ → Meaning) → ℕ → Type 0
 Implies p q n = (c : ℕ) → c < n → (env : Environment) (v : Value) → p c env v → q c env v
 
-more_values : (p q : ℕ → Meaning) (n : ℕ) (ids : List TermId) (env : Environment) (values : List Value) → Implies p q n
-    → list_all (is_below n) ids ≡ true → HaveValues p ids env values → HaveValues q ids env values
-more_values p q n [] env [] more below h = tt
-more_values p q n [] env (v ∷ values) more below h = absurd h
-more_values p q n (id ∷ ids) env [] more below h = absurd h
-more_values p q n (id ∷ ids) env (v ∷ values) more below h =
+more_known : (p q : ℕ → Meaning) (n : ℕ) (ids : List TermId) (env : Environment) (known : List (Option Value)) → Implies p q n
+    → list_all (is_below n) ids ≡ true → AreKnown p ids env known → AreKnown q ids env known
+more_known p q n [] env [] more below h = tt
+more_known p q n [] env (k ∷ known) more below h = absurd h
+more_known p q n (id ∷ ids) env [] more below h = absurd h
+more_known p q n (id ∷ ids) env (None ∷ known) more below h = more_known p q n ids env known more (both_true (nat_lt id.0 n) (list_all (is_below n) ids) below).1 h
+more_known p q n (id ∷ ids) env (Some v ∷ known) more below h =
     let both = both_true (nat_lt id.0 n) (list_all (is_below n) ids) below in
-    (more id.0 (below_from id.0 n both.0) env v h.0, more_values p q n ids env values more both.1 h.1)
+    (more id.0 (below_from id.0 n both.0) env v h.0, more_known p q n ids env known more both.1 h.1)
+
+more_determined : (p q : ℕ → Meaning) (n : ℕ) (ids : List TermId) (result : List Value → Value) (env : Environment) (v : Value) → Implies p q n
+    → list_all (is_below n) ids ≡ true → Determines p ids result env v → Determines q ids result env v
+more_determined p q n ids result env v more below h = (h.0, more_known p q n ids env h.0 more below h.1, h.2)
 
 for_all : (p q : Meaning) (first : ℕ) (sorts : List Sort) (env : Environment) (v : Value) → ((e : Environment) (w : Value) → p e w → q e w)
     → HoldsForAll p first sorts env v → HoldsForAll q first sorts env v
@@ -54,9 +60,10 @@ more_parts I p q n True env v more below h = h
 more_parts I p q n False env v more below h = h
 more_parts I p q n (Var binder sort) env v more below h = h
 more_parts I p q n (LetVar bound) env v more below h = more bound.0 (below_from bound.0 n below) env v h
-more_parts I p q n (Pred pred args) env v more below h = (h.0, more_values p q n args env h.0 more below h.1, h.2)
-more_parts I p q n (Op op args) env v more below h = (h.0, more_values p q n args env h.0 more below h.1, h.2)
-more_parts I p q n (Divisible by arg) env v more below h = (h.0, more arg.0 (below_from arg.0 n below) env h.0 h.1, h.2)
+more_parts I p q n (Pred pred args) env v more below h = more_determined p q n args (I pred) env v more below h
+more_parts I p q n (Op op args) env v more below h = more_determined p q n args (result_of op) env v more below h
+more_parts I p q n (Divisible by arg) env v more below h =
+    more_determined p q n (arg ∷ []) (λ values. Truth (divides by (first_of_all (map integer values)))) env v more (ap (λ (b : Bool). b && true) below) h
 more_parts I p q n (Let bound body) env v more below h =
     let both = both_true (list_all (is_below n) bound) (nat_lt body.0 n) below in more body.0 (below_from body.0 n both.1) env v h
 more_parts I p q n (Forall first sorts body) env v more below h = for_all (p body.0) (q body.0) first sorts env v (more body.0 (below_from body.0 n below)) h

@@ -10,14 +10,16 @@ use Rattle.term_tree.specs.declared.node.TermId.{TermId}
 use Rattle.term_tree.specs.declared.node.Node.{Node}
 use Rattle.term_tree.specs.declared.node.Node.TheVariants.{Num, True, False, Var, LetVar, Pred, Op, Divisible, Let, Forall, Exists}
 use Rattle.term_tree.specs.declared.scalar.Value.{Value}
+use Rattle.term_tree.specs.declared.scalar.Value.TheVariants.{Bool as Truth}
+use Rattle.term_tree.specs.Operators.{result_of, divides, integer, first_of_all}
 use Rattle.term_tree.specs.Arena.{IsArena, is_below, has_parts_below}
 use Rattle.term_tree.specs.Subterms.{is_among, is_part, IsSubterm, itself, inside, is_plain, IsPlain}
 use Rattle.term_tree.specs.Value.{Environment, value_of, node_worth}
-use Rattle.term_tree.specs.Truth.{Interpretation, HaveValues, node_meaning, HasValue}
+use Rattle.term_tree.specs.Truth.{Interpretation, AreKnown, Completes, Determines, node_meaning, HasValue}
 use Rattle.term_tree.proofs.MeaningLemmas.{both_true, below_from, has_value_at}
 use Rattle.term_tree.proofs.ValueLemmas.{value_at}
 
-eqb_self : (k : ℕ) → (k == k) ≡ true
+pub eqb_self : (k : ℕ) → (k == k) ≡ true
 eqb_self k = grind (arith, nat_tests)
 
 -- in an arena the parts of a node stand before it
@@ -35,12 +37,29 @@ through nodes top node part _ is has (inside low n s at h) = inside low n (throu
 abbrev Valued : Interpretation → List Node → Environment → List TermId → Type 0
 Valued I nodes env ids = (part : ℕ) → is_among part ids ≡ true → HasValue I nodes part env (value_of nodes part env)
 
-valued_values : (I : Interpretation) (nodes : List Node) (env : Environment) (ids : List TermId) → Valued I nodes env ids
-    → HaveValues (HasValue I nodes) ids env (map (λ arg. value_of nodes arg.0 env) ids)
-valued_values I nodes env [] all = tt
-valued_values I nodes env (id ∷ ids) all =
+valued_known : (I : Interpretation) (nodes : List Node) (env : Environment) (ids : List TermId) → Valued I nodes env ids
+    → AreKnown (HasValue I nodes) ids env (map (λ (v : Value). Some v) (map (λ arg. value_of nodes arg.0 env) ids))
+valued_known I nodes env [] all = tt
+valued_known I nodes env (id ∷ ids) all =
     let first : is_among id.0 (id ∷ ids) ≡ true = ap (λ (b : Bool). b || is_among id.0 ids) (eqb_self id.0) in
-    (all id.0 first, valued_values I nodes env ids (λ part h. all part (ap (λ (b : Bool). (id.0 == part) || b) h ∙ or-true (id.0 == part))))
+    (all id.0 first, valued_known I nodes env ids (λ part h. all part (ap (λ (b : Bool). (id.0 == part) || b) h ∙ or-true (id.0 == part))))
+
+-- where all values are known, no others agree
+one_completion : (vs ws : List Value) → Completes (map (λ (v : Value). Some v) vs) ws → ws ≡ vs
+one_completion [] [] h = refl
+one_completion [] (w ∷ ws) h = absurd h
+one_completion (v ∷ vs) [] h = absurd h
+one_completion (v ∷ vs) (w ∷ ws) h = ap (λ (x : Value). x ∷ ws) h.0 ∙ ap (λ (xs : List Value). v ∷ xs) (one_completion vs ws h.1)
+
+valued_result : (I : Interpretation) (nodes : List Node) (env : Environment) (ids : List TermId) (result : List Value → Value) → Valued I nodes env ids
+    → Determines (HasValue I nodes) ids result env (result (map (λ arg. value_of nodes arg.0 env) ids))
+valued_result I nodes env ids result all =
+    let vs : List Value = map (λ arg. value_of nodes arg.0 env) ids in
+    (map (λ (v : Value). Some v) vs, valued_known I nodes env ids all, λ values completes. ap result (sym (one_completion vs values completes)))
+
+either_false : (a : Bool) → (a || false) ≡ true → a ≡ true
+either_false true h = refl
+either_false false h = absurd (cc)
 
 valued_node : (I : Interpretation) (nodes : List Node) (env : Environment) (node : Node) → is_plain node ≡ true
     → ((part : ℕ) → is_part part node ≡ true → HasValue I nodes part env (value_of nodes part env))
@@ -51,8 +70,9 @@ valued_node I nodes env False plain all = refl
 valued_node I nodes env (Var binder sort) plain all = refl
 valued_node I nodes env (LetVar bound) plain all = all bound.0 (eqb_self bound.0)
 valued_node I nodes env (Pred pred args) plain all = absurd (cc)
-valued_node I nodes env (Op op args) plain all = (map (λ arg. value_of nodes arg.0 env) args, valued_values I nodes env args all, refl)
-valued_node I nodes env (Divisible by arg) plain all = (value_of nodes arg.0 env, all arg.0 (eqb_self arg.0), refl)
+valued_node I nodes env (Op op args) plain all = valued_result I nodes env args (result_of op) all
+valued_node I nodes env (Divisible by arg) plain all =
+    valued_result I nodes env (arg ∷ []) (λ values. Truth (divides by (first_of_all (map integer values)))) (λ part h. all part (either_false (arg.0 == part) h))
 valued_node I nodes env (Let bound body) plain all = all body.0 (ap (λ (b : Bool). is_among body.0 bound || b) (eqb_self body.0) ∙ or-true (is_among body.0 bound))
 valued_node I nodes env (Forall first sorts body) plain all = absurd (cc)
 valued_node I nodes env (Exists first sorts body) plain all = absurd (cc)

@@ -1,5 +1,5 @@
 -- Interpretations that can't be told apart, and examples that laws speak of.
-use Rattle.std.specs.Prelude.{◌≡◌, ℕ, pos, List, [], ◌∷◌, true}
+use Rattle.std.specs.Prelude.{◌≡◌, ◌<◌, ℕ, pos, List, [], ◌∷◌, true}
 use Rattle.term_tree.specs.declared.sort.Sort.TheVariants.{Int as IntSort}
 use Rattle.term_tree.specs.declared.node.OpKind.TheVariants.{Ge}
 use Rattle.term_tree.specs.declared.node.Node.{Node}
@@ -11,6 +11,10 @@ use Rattle.term_tree.specs.Truth.{Interpretation}
 -- the two give every predicate the same value everywhere
 abbrev pub AgreeEverywhere : Interpretation → Interpretation → Type 0
 AgreeEverywhere I J = (pred : ℕ) (values : List Value) → I pred values ≡ J pred values
+
+-- each predicate below n has the value true everywhere
+abbrev pub IsTrueBelow : ℕ → Interpretation → Type 0
+IsTrueBelow n I = (pred : ℕ) (values : List Value) → pred < n → I pred values ≡ Truth true
 
 -- every predicate is true everywhere
 abbrev pub all_true : Interpretation

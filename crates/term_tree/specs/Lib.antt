@@ -3,6 +3,7 @@ pub mod Arena
 pub mod Constants
 pub mod Division
 pub mod Fold
+pub mod Head
 pub mod Kind
 pub mod Known
 pub mod Legal

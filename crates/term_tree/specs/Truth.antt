@@ -1,7 +1,9 @@
 -- When a term has a value under definitions of the predicates (SMT-LIB 2.6, section 5.3): a relation by cases on the
 -- term. A quantifier ranges over all integers or both truth values, wherever it stands. That a universal statement is
--- true or false cannot be decided in general, so a term need not be known to have a value; it never has two.
-use Rattle.std.specs.Prelude.{◌≡◌, ℕ, zero, suc, ◌-◌, List, [], ◌∷◌, ◌++◌, true, false, nat_lt, if◌then◌else◌, slice_index_or}
+-- true or false cannot be decided in general, so a term need not be known to have a value; it never has two. So an
+-- operation must not wait for the values of all its arguments: an implication whose last argument is true is true, whatever
+-- is known of the others. Where all arguments have values the rule is the standard's.
+use Rattle.std.specs.Prelude.{◌≡◌, ℕ, zero, suc, ◌-◌, List, [], ◌∷◌, ◌++◌, map, true, false, nat_lt, if◌then◌else◌, slice_index_or, Option, Some, None}
 use Rattle.term_tree.specs.declared.sort.Sort.{Sort}
 use Rattle.term_tree.specs.declared.sort.Sort.TheVariants.{Int as IntSort, Bool as BoolSort}
 use Rattle.term_tree.specs.declared.node.TermId.{TermId}
@@ -9,7 +11,7 @@ use Rattle.term_tree.specs.declared.node.Node.{Node}
 use Rattle.term_tree.specs.declared.node.Node.TheVariants.{Num, True, False, Var, LetVar, Pred, Op, Divisible, Let, Forall, Exists}
 use Rattle.term_tree.specs.declared.scalar.Value.{Value}
 use Rattle.term_tree.specs.declared.scalar.Value.TheVariants.{Int, Bool as Truth}
-use Rattle.term_tree.specs.Operators.{result_of, divides, integer}
+use Rattle.term_tree.specs.Operators.{result_of, divides, integer, first_of_all}
 use Rattle.term_tree.specs.Value.{Environment}
 
 -- what each predicate gives for a list of arguments
@@ -37,12 +39,25 @@ HaveSorts (s ∷ sorts) [] = ⊥
 abbrev pub bound_from : ℕ → List Value → Environment → Environment
 bound_from first values env k = if nat_lt k first then env k else slice_index_or values (k - first) (env k)
 
--- the terms have these values, in order
-abbrev pub HaveValues : (ℕ → Meaning) → List TermId → Environment → List Value → Type 0
-HaveValues part [] env [] = Unit {0}
-HaveValues part (id ∷ ids) env (v ∷ values) = part id.0 env v × HaveValues part ids env values
-HaveValues part [] env (v ∷ values) = ⊥
-HaveValues part (id ∷ ids) env [] = ⊥
+-- what is known of terms, in order: a value that the term has, or nothing
+abbrev pub AreKnown : (ℕ → Meaning) → List TermId → Environment → List (Option Value) → Type 0
+AreKnown part [] env [] = Unit {0}
+AreKnown part (id ∷ ids) env (Some v ∷ known) = part id.0 env v × AreKnown part ids env known
+AreKnown part (id ∷ ids) env (None ∷ known) = AreKnown part ids env known
+AreKnown part [] env (k ∷ known) = ⊥
+AreKnown part (id ∷ ids) env [] = ⊥
+
+-- values that agree with what is known
+abbrev pub Completes : List (Option Value) → List Value → Type 0
+Completes [] [] = Unit {0}
+Completes (Some v ∷ known) (w ∷ values) = (w ≡ v) × Completes known values
+Completes (None ∷ known) (w ∷ values) = Completes known values
+Completes [] (w ∷ values) = ⊥
+Completes (k ∷ known) [] = ⊥
+
+-- what is known of the arguments decides the result: it is this one at all values that agree
+abbrev pub Determines : (ℕ → Meaning) → List TermId → (List Value → Value) → Meaning
+Determines part args result env v = (known : List (Option Value)) × AreKnown part args env known × ((values : List Value) → Completes known values → v ≡ result values)
 
 -- true where the body is true at every value, false where it is false at one
 abbrev pub HoldsForAll : Meaning → ℕ → List Sort → Environment → Value → Type 0
@@ -63,9 +78,9 @@ node_meaning I part True env v = v ≡ Truth true
 node_meaning I part False env v = v ≡ Truth false
 node_meaning I part (Var binder sort) env v = v ≡ env binder
 node_meaning I part (LetVar bound) env v = part bound.0 env v
-node_meaning I part (Pred pred args) env v = (values : List Value) × HaveValues part args env values × (v ≡ I pred values)
-node_meaning I part (Op op args) env v = (values : List Value) × HaveValues part args env values × (v ≡ result_of op values)
-node_meaning I part (Divisible by arg) env v = (value : Value) × part arg.0 env value × (v ≡ Truth (divides by (integer value)))
+node_meaning I part (Pred pred args) env v = Determines part args (I pred) env v
+node_meaning I part (Op op args) env v = Determines part args (result_of op) env v
+node_meaning I part (Divisible by arg) env v = Determines part (arg ∷ []) (λ values. Truth (divides by (first_of_all (map integer values)))) env v
 node_meaning I part (Let bound body) env v = part body.0 env v
 node_meaning I part (Forall first sorts body) env v = HoldsForAll (part body.0) first sorts env v
 node_meaning I part (Exists first sorts body) env v = HoldsForSome (part body.0) first sorts env v

@@ -1,4 +1,4 @@
-ghost use Rattle.std.specs.Prelude.{◌≡◌, ◌↔◌, ◌<◌, ◌++◌, [], ◌∷◌, ℕ, ℤ, pos, List, length, slice_get, Some, true, false};
+ghost use Rattle.std.specs.Prelude.{◌≡◌, ◌↔◌, ◌<◌, ◌++◌, [], ◌∷◌, ℕ, ℤ, pos, List, length, slice_get, Some, IsTrue, true, false};
 ghost use Rattle.term_tree.specs.declared.definition.Definition.{Definition};
 ghost use Rattle.term_tree.specs.declared.script.Script.{Script};
 ghost use Rattle.term_tree.specs.declared.node.OpKind.TheVariants.{Implies, Div, Mod};
@@ -9,8 +9,9 @@ ghost use Rattle.term_tree.specs.declared.node.Node.{Node};
 ghost use Rattle.term_tree.specs.declared.scalar.Value.{Value};
 ghost use Rattle.term_tree.specs.Arena.{IsArena};
 ghost use Rattle.term_tree.specs.Value.{Environment, node_worth, value_of};
-ghost use Rattle.term_tree.specs.Truth.{Interpretation, HasValue, HaveValues, node_meaning};
-ghost use Rattle.term_tree.specs.Agreement.{AgreeEverywhere, all_true, all_positive};
+ghost use Rattle.term_tree.specs.Truth.{Interpretation, HasValue, node_meaning};
+ghost use Rattle.term_tree.specs.Agreement.{AgreeEverywhere, IsTrueBelow, all_true, all_positive};
+ghost use Rattle.term_tree.specs.Head.{has_head, node_has_head};
 ghost use Rattle.term_tree.specs.Division.{IsDivision};
 ghost use Rattle.term_tree.specs.Operators.{result_of};
 ghost use Rattle.term_tree.specs.Solution.{DefinesEach, IsSolution, interpretation_of};
@@ -62,13 +63,25 @@ pub fn not_all_are_positive()
     ensures false_ { (I : Interpretation) (env : Environment) → HasValue I all_positive 3 env (Truth false) }
 {}
 
-/// Where every predicate is defined as `true`, an implication that ends in a predicate is true, if
-/// its other parts and the arguments have values.
+/// Where every predicate is defined as `true`, an implication that ends in a predicate is true,
+/// whatever is known of its other parts.
 pub fn heads_are_true_under_true()
-    ensures { (nodes : List Node) (id pred : ℕ) (parts args : List TermId) (head : TermId) (env : Environment) (values arguments : List Value) →
+    ensures { (nodes : List Node) (id pred : ℕ) (parts args : List TermId) (head : TermId) (env : Environment) →
         IsArena nodes → slice_get nodes id ≡ Some (Op Implies (parts ++ head ∷ [])) → slice_get nodes head.0 ≡ Some (Pred pred args) →
-        HaveValues (HasValue all_true nodes) parts env values → HaveValues (HasValue all_true nodes) args env arguments →
         HasValue all_true nodes id env (Truth true) }
+{}
+
+/// A term that ends in a predicate below n is true where each of these is true everywhere.
+pub fn headed_terms_are_true()
+    ensures { (I : Interpretation) (n : ℕ) (nodes : List Node) (id : ℕ) (env : Environment) →
+        IsArena nodes → IsTrueBelow n I → IsTrue (has_head n nodes id) → HasValue I nodes id env (Truth true) }
+{}
+
+/// The law of a node for terms that end in a predicate.
+pub fn head_of_nodes()
+    ensures { (n : ℕ) (nodes : List Node) (id : ℕ) (node : Node) →
+        IsArena nodes → slice_get nodes id ≡ Some node →
+        has_head n nodes id ≡ node_has_head n nodes (has_head n nodes) node }
 {}
 
 /// A solution stays one when each definition is replaced by one that has the same value everywhere.

@@ -23,9 +23,9 @@ mod tests;
 pub use definition::Definition;
 pub use evaluation::{ValueStop, value};
 pub use laws::{
-    at_most_one_value, constant_of_nodes, heads_are_true_under_true, meaning_of_nodes,
-    not_all_are_positive, one_division, same_values_same_solution, sort_of_nodes,
-    value_without_predicates, worth_of_nodes,
+    at_most_one_value, constant_of_nodes, head_of_nodes, headed_terms_are_true,
+    heads_are_true_under_true, meaning_of_nodes, not_all_are_positive, one_division,
+    same_values_same_solution, sort_of_nodes, value_without_predicates, worth_of_nodes,
 };
 pub use node::{Node, OpKind, TermId};
 pub use refusal::{Checked, Kind, Refusal};

@@ -61,9 +61,10 @@ impl Terms {
         self.nodes.len()
     }
 
-    /// That each node stands after its parts, for a proof that needs it of all nodes.
+    /// That each node stands after its parts and has an offset, for a proof that needs it of all nodes.
     pub fn is_arena(&self)
-        ensures { IsArena self.now.nodes }
+        ensures arena { IsArena self.now.nodes }
+        ensures offsets { length self.now.offsets ≡ length self.now.nodes }
     {
         let _ = &self.nodes;
     }

@@ -10,6 +10,6 @@ returns-in-Some c = (stopped c.args.read.now c.in_ok-checked.checked c.in-Some.r
 pub returns : goal.returns
 returns c =
     let checked = c.in_ok-checked.ensures in
-    answer_is c.args.read.now checked.commands c.in_ok-checked.checked.script c.in_ok-text-in-None.text.items c.is_arena.ensures
+    answer_is c.args.read.now checked.commands c.in_ok-checked.checked.script c.in_ok-text-in-None.text.items c.is_arena.ensures.arena
     (finished c.args.read.now c.in_ok-checked.checked c.in-None.is checked) checked.script
     (c.in_ok-text-in-None.ensures ∙ ap (λ (preds : List Pred). sat_text (map (λ p. (p, codes "true")) preds)) c.as_slice.ensures)
