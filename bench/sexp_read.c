@@ -1,5 +1,6 @@
-// Reads one kind of text of about 16 MiB, five times, and counts its brackets by a plain loop of the
-// same language. Prints both speeds, their ratio and the peak of memory per byte of text.
+// Reads one kind of text of about 16 MiB, five times, and counts its brackets by two plain loops of the
+// same language: one that counts those that are open, a byte at a time, and one that counts them all,
+// many bytes at once. Prints the speeds, their ratios and the peak of memory per byte of text.
 #include <stdint.h>
 #include <stdio.h>
 #include <stdlib.h>
@@ -9,6 +10,7 @@
 
 int64_t sexp_read_trees(const uint8_t *text, size_t length);
 uint64_t sexp_read_brackets(const uint8_t *text, size_t length);
+uint64_t sexp_read_depth(const uint8_t *text, size_t length);
 
 static const size_t SIZE = 16u << 20;
 static const int ROUNDS = 5;
@@ -48,14 +50,17 @@ int main(int count, char **words) {
     const char *kind = count > 1 ? words[1] : "commands";
     uint8_t *text = malloc(SIZE);
     fill(text, kind);
-    double plain = 1e9, read = 1e9;
-    uint64_t brackets = 0;
+    double scalar = 1e9, vector = 1e9, read = 1e9;
+    uint64_t brackets = 0, depth = 0;
     int64_t trees = 0;
     for (int i = 0; i < ROUNDS; i++) {
         double start = now();
+        depth = sexp_read_depth(text, SIZE);
+        double middle = now();
         brackets = sexp_read_brackets(text, SIZE);
-        double took = now() - start;
-        if (took < plain) plain = took;
+        double end = now();
+        if (middle - start < scalar) scalar = middle - start;
+        if (end - middle < vector) vector = end - middle;
     }
     long before = peak();
     for (int i = 0; i < ROUNDS; i++) {
@@ -64,7 +69,7 @@ int main(int count, char **words) {
         double took = now() - start;
         if (took < read) read = took;
     }
-    printf("%-9s %9lld trees %9llu brackets  loop %7.1f MB/s  reader %7.1f MB/s  ratio %5.2f  memory %5.1f bytes a byte\n", kind,
-        (long long)trees, (unsigned long long)brackets, SIZE / plain / 1e6, SIZE / read / 1e6, read / plain, (double)(peak() - before) / SIZE);
+    printf("%-9s %8lld trees %9llu brackets %5llu deep  reader %6.1f MB/s  scalar loop %6.1f MB/s, ratio %5.2f  vector loop %6.1f MB/s, ratio %5.2f  memory %4.1f bytes a byte\n", kind,
+        (long long)trees, (unsigned long long)brackets, (unsigned long long)depth, SIZE / read / 1e6, SIZE / scalar / 1e6, read / scalar, SIZE / vector / 1e6, read / vector, (double)(peak() - before) / SIZE);
     return trees < 0;
 }

@@ -28,3 +28,22 @@ pub extern "C" fn sexp_read_brackets(text: &[u8]) -> u64 {
     }
     brackets
 }
+
+/// How many brackets are open at most. Each turn of the loop rests on the one before it, so it stays a
+/// loop of one byte at a time.
+#[unsafe(no_mangle)]
+pub extern "C" fn sexp_read_depth(text: &[u8]) -> u64 {
+    let mut opened: u64 = 0;
+    let mut most: u64 = 0;
+    for byte in text {
+        if *byte == b'(' {
+            opened = opened.wrapping_add(1);
+            if opened > most {
+                most = opened;
+            }
+        } else if *byte == b')' {
+            opened = opened.saturating_sub(1);
+        }
+    }
+    most
+}

@@ -1,8 +1,6 @@
-pub mod BookLemmas
-pub mod CheckLemmas
+pub mod HeadLemmas
 pub mod LawLemmas
-pub mod NameLemmas
-pub mod ParseLemmas
-pub mod SoundLemmas
-pub mod TermLemmas
-pub mod TokenLemmas
+pub mod RuleLemmas
+pub mod ScriptLemmas
+pub mod StateLemmas
+pub mod WeightLemmas

@@ -1,8 +1,4 @@
-pub mod Book
-pub mod Command
-pub mod Facts
-pub mod Laws
-pub mod Parse
-pub mod Reading
-pub mod Tokens
-pub mod Words
+pub mod Commands
+pub mod Progress
+pub mod Scripts
+pub mod State

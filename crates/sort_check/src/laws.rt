@@ -1,10 +1,9 @@
-//! What holds of scripts of facts and of their refusals, proved of the definitions alone.
+//! Laws of scripts and refusals, each the contract of a function that does nothing.
 
 ghost use Rattle.std.specs.Prelude.{◌≡◌, ℕ, List};
 ghost use Rattle.term_tree.specs.declared.refusal.Refusal.{Refusal};
-ghost use Rattle.sort_check.specs.Command.{Command};
-ghost use Rattle.sort_check.specs.Facts.{IsScript, IsRefused};
-ghost use Rattle.sort_check.specs.Laws.{IsScriptOrRefused};
+ghost use Rattle.sort_check.specs.Commands.{Command};
+ghost use Rattle.sort_check.specs.Scripts.{IsScript, IsRefused, IsScriptOrRefused};
 
 /// Every text is a script of some commands, or has a refusal.
 pub fn script_or_refused()
@@ -12,7 +11,7 @@ pub fn script_or_refused()
 {}
 
 /// No text is both.
-pub fn not_both()
+pub fn no_script_is_refused()
     ensures { (text : List ℕ) (commands : List Command) (refusal : Refusal) → IsScript text commands → IsRefused text refusal → ⊥ }
 {}
 

@@ -1,13 +1,14 @@
-//! From bytes to scripts: which texts are scripts, and the refusal of every other text.
+//! From trees to scripts: which texts are scripts, which script each spells, and the refusal of every
+//! other text.
 #![tactic(auto)]
 
-mod book;
-mod commands;
-mod facts;
-pub mod laws;
-mod names;
-mod numerals;
-mod reserved;
-mod tokens;
+mod declaration;
+mod heads;
+mod laws;
+mod rules;
+mod script;
+mod state;
+mod trees;
 
-pub use facts::check_facts;
+pub use laws::{no_script_is_refused, one_refusal, one_script, script_or_refused};
+pub use script::check_script;

@@ -1,5 +1,0 @@
-use Rattle.sort_check.proofs.LawLemmas.{both_law}
-use Rattle.sort_check.proofs.laws.not_both.Goals as goal
-
-pub returns : goal.returns
-returns c = both_law

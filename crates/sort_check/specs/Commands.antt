@@ -1,0 +1,263 @@
+-- The commands of a script (SMT-LIB 2.6, section 3.9, as scripts of constrained Horn clauses use them), and whether a tree is one
+-- after the commands before it, or which rule it breaks first. Inside a command its form comes first, then its order, then the
+-- names, sorts and counts of a declaration from left to right, then the term of an assertion.
+--   (set-logic HORN)                       once, before the first declaration, assertion or check-sat
+--   (set-info :k) (set-info :k tree)       anywhere, without effect; set-option the same
+--   (declare-fun name (sort ..) Bool)      before check-sat
+--   (declare-const name Bool)              the same without arguments
+--   (assert term)                          before check-sat
+--   (check-sat)                            once, after set-logic
+--   (get-model)                            after check-sat
+--   (exit)                                 ends the script
+use Rattle.std.specs.Prelude.{ℕ, List, [], ◌∷◌, length, map, take, Bool, true, false, not, ◌&&◌, ◌||◌, nat_lt, Option, None, Some, Result, Ok, Err, if◌then◌else◌, codes}
+use Rattle.std.specs.List.{list_any, list_all, flat_map}
+use Rattle.std.specs.Str.{bytes_eq}
+use Rattle.sexp_read.specs.declared.tree.LeafKind.TheVariants.{Keyword}
+use Rattle.sexp_read.specs.declared.tree.Tree.{Tree, Leaf, List', items-the_row-Tree}
+use Rattle.sexp_read.specs.Leaves.{symbol_bytes}
+use Rattle.term_tree.specs.declared.sort.Sort.{Sort}
+use Rattle.term_tree.specs.declared.sort.Sort.TheVariants.{Int as IntSort, Bool as BoolSort}
+use Rattle.term_tree.specs.declared.script.Pred.{Pred}
+use Rattle.term_tree.specs.declared.node.OpKind.{OpKind}
+use Rattle.term_tree.specs.declared.node.OpKind.TheVariants.{Implies}
+use Rattle.term_tree.specs.declared.refusal.Kind.TheVariants.{CommandForm, Order, Logic, UnknownSort, Redeclared, SortMismatch, Count, Unbuilt}
+use Rattle.term_check.specs.declared.part.Part.{Part}
+use Rattle.term_check.specs.declared.part.Fault.{Fault}
+use Rattle.term_check.specs.Operators.{operator_named}
+use Rattle.term_check.specs.Rules.{fault, unless, or_else, same_sort}
+use Rattle.term_check.specs.Term.{Term, predicate, operation, universal, Terms, none, more}
+use Rattle.term_check.specs.Spelling.{Spelled, ◌>>=◌, is_word, is_symbol, is_some, name_of, name_or_none, sort_named, sort_or_bool, start_of, pred_from, spelled}
+use Rattle.term_check.specs.Reading.{scope_of}
+
+-- An assertion has the offset of its command.
+pub data Command : Type 0 where
+  SetLogic : Command
+  Inform : Command
+  Declare : Pred → Command
+  Assert : ℕ → Term → Command
+  CheckSat : Command
+  GetModel : Command
+  Exit : Command
+
+-- What the commands so far say.
+
+abbrev pub is_set_logic : Command → Bool
+is_set_logic SetLogic = true
+is_set_logic _ = false
+
+abbrev pub is_inform : Command → Bool
+is_inform Inform = true
+is_inform _ = false
+
+abbrev pub is_check_sat : Command → Bool
+is_check_sat CheckSat = true
+is_check_sat _ = false
+
+abbrev pub is_exit : Command → Bool
+is_exit Exit = true
+is_exit _ = false
+
+abbrev pub declares : Command → List Pred
+declares (Declare pred) = pred ∷ []
+declares _ = []
+
+-- the predicates that commands declare, in order
+abbrev pub declared : List Command → List Pred
+declared commands = flat_map declares commands
+
+abbrev pub asserts : Command → List Term
+asserts (Assert at term) = term ∷ []
+asserts _ = []
+
+-- the terms that they assert, in order
+abbrev pub asserted : List Command → List Term
+asserted commands = flat_map asserts commands
+
+-- Rules that several commands share.
+
+abbrev pub order_fault : ℕ → Bool → Option Fault
+order_fault start may = if may then None else Some (fault Order start)
+
+abbrev pub form_fault : Tree → Bool → Option Fault
+form_fault tree has = if has then None else Some (fault CommandForm (start_of tree))
+
+abbrev pub count_fault : ℕ → Bool → Option Fault
+count_fault start within = if within then None else Some (fault Count start)
+
+-- (set-logic HORN); silent: there were no other commands than set-info and set-option
+
+abbrev pub logic_fault : List ℕ → Tree → Option Fault
+logic_fault text name = if is_symbol text name (codes "HORN") then None else Some (fault Logic (start_of name))
+
+abbrev pub set_logic_fault : List ℕ → Bool → ℕ → List Tree → Option Fault
+set_logic_fault text silent start (name ∷ []) = or_else (form_fault name (is_some (symbol_bytes text name))) (or_else (order_fault start silent) (logic_fault text name))
+set_logic_fault text silent start _ = Some (fault CommandForm start)
+
+-- (set-info :k), (set-info :k tree), and set-option
+
+abbrev pub is_keyword : Tree → Bool
+is_keyword (Leaf Keyword start end) = true
+is_keyword _ = false
+
+abbrev pub is_information : List Tree → Bool
+is_information (key ∷ []) = is_keyword key
+is_information (key ∷ value ∷ []) = is_keyword key
+is_information _ = false
+
+abbrev pub inform_fault : ℕ → List Tree → Option Fault
+inform_fault start parts = if is_information parts then None else Some (fault CommandForm start)
+
+-- (declare-fun name (sort ..) Bool); may: there was no check-sat
+
+abbrev pub most_arguments : ℕ
+most_arguments = 256
+
+abbrev pub most_predicates : ℕ
+most_predicates = 4096
+
+-- a name of the theories Core and Ints
+abbrev pub is_theory_name : List ℕ → Bool
+is_theory_name name = bytes_eq name (codes "true") || bytes_eq name (codes "false") || is_some (operator_named name)
+
+abbrev pub taken_fault : List Pred → ℕ → List ℕ → Option Fault
+taken_fault preds start name = if is_theory_name name || is_some (pred_from 0 name preds) then Some (fault Redeclared start) else None
+
+abbrev pub sort_fault : List ℕ → Tree → Option Fault
+sort_fault text sort = if is_some (sort_named text sort) then None else Some (fault UnknownSort (start_of sort))
+
+-- the first that is no sort
+abbrev pub sorts_fault : List ℕ → List Tree → Option Fault
+sorts_fault text [] = None
+sorts_fault text (sort ∷ sorts) = or_else (sort_fault text sort) (sorts_fault text sorts)
+
+abbrev pub truth_fault : Tree → Option Sort → Option Fault
+truth_fault result (Some BoolSort) = None
+truth_fault result (Some IntSort) = Some (fault SortMismatch (start_of result))
+truth_fault result None = Some (fault UnknownSort (start_of result))
+
+-- a predicate's result is Bool
+abbrev pub result_fault : List ℕ → Tree → Option Fault
+result_fault text result = truth_fault result (sort_named text result)
+
+-- The sorts past the 256th are not looked at: they are too many.
+abbrev pub signature_fault : List ℕ → List Pred → ℕ → List Tree → Tree → Option Fault
+signature_fault text preds start sorts result =
+    or_else (sorts_fault text (take most_arguments sorts)) (or_else (count_fault start (not (nat_lt most_arguments (length sorts))))
+    (or_else (result_fault text result) (count_fault start (nat_lt (length preds) most_predicates))))
+
+abbrev pub declaration_fault : List ℕ → Bool → List Pred → ℕ → Tree → List Tree → Tree → Option Fault
+declaration_fault text may preds start name sorts result =
+    or_else (form_fault name (is_some (name_of text name))) (or_else (order_fault start may)
+    (or_else (taken_fault preds (start_of name) (name_or_none (name_of text name))) (signature_fault text preds start sorts result)))
+
+abbrev pub sorts_named : List ℕ → List Tree → List Sort
+sorts_named text sorts = map (λ sort. sort_or_bool (sort_named text sort)) sorts
+
+abbrev pub predicate_named : List ℕ → Tree → List Tree → Pred
+predicate_named text name sorts = record { name = record { bytes = name_or_none (name_of text name) }; args = sorts_named text sorts }
+
+abbrev pub declaration : List ℕ → List Command → ℕ → Tree → List Tree → Tree → Result Command Fault
+declaration text before start name sorts result =
+    unless (declaration_fault text (not (list_any is_check_sat before)) (declared before) start name sorts result) (Ok (Declare (predicate_named text name sorts)))
+
+abbrev pub declare_listed : List ℕ → List Command → ℕ → Tree → Tree → Tree → Result Command Fault
+declare_listed text before start name (List' shape row from to) result = declaration text before start name (items-the_row-Tree _ row) result
+declare_listed text before start name (Leaf kind from to) result = Err (fault CommandForm start)
+
+abbrev pub declare_function : List ℕ → List Command → ℕ → List Tree → Result Command Fault
+declare_function text before start (name ∷ sorts ∷ result ∷ []) = declare_listed text before start name sorts result
+declare_function text before start _ = Err (fault CommandForm start)
+
+abbrev pub declare_constant : List ℕ → List Command → ℕ → List Tree → Result Command Fault
+declare_constant text before start (name ∷ result ∷ []) = declaration text before start name [] result
+declare_constant text before start _ = Err (fault CommandForm start)
+
+-- (assert term)
+
+abbrev pub most_assertions : ℕ
+most_assertions = 65536
+
+abbrev pub is_implication : OpKind → Bool
+is_implication Implies = true
+is_implication _ = false
+
+abbrev pub is_predicate : Term → Bool
+is_predicate (predicate at number args) = true
+is_predicate _ = false
+
+abbrev pub ends_in_predicate : Terms → Bool
+ends_in_predicate none = false
+ends_in_predicate (more term none) = is_predicate term
+ends_in_predicate (more term (more next terms)) = ends_in_predicate (more next terms)
+
+-- a predicate, (=> t .. t predicate), or one of these under universal quantifiers
+abbrev pub has_head : Term → Bool
+has_head (predicate at number args) = true
+has_head (operation at op args) = is_implication op && ends_in_predicate args
+has_head (universal at first sorts body) = has_head body
+has_head _ = false
+
+abbrev pub assert_fault : Bool → ℕ → ℕ → Option Fault
+assert_fault may count start = or_else (order_fault start may) (count_fault start (nat_lt count most_assertions))
+
+-- Other clauses than those with a head are not answered yet.
+abbrev pub clause_fault : ℕ → Part → Bool → Option Fault
+clause_fault start part headed = if same_sort part.sort BoolSort then (if headed then None else Some (fault Unbuilt start)) else Some (fault SortMismatch part.start)
+
+abbrev pub assertion : ℕ → Spelled → Result Command Fault
+assertion start s = unless (clause_fault start s.part (has_head s.term)) (Ok (Assert start s.term))
+
+abbrev pub assert_term : List ℕ → List Command → ℕ → List Tree → Result Command Fault
+assert_term text before start (term ∷ []) =
+    unless (assert_fault (not (list_any is_check_sat before)) (length (asserted before)) start) (spelled text (scope_of (declared before) [] true) 0 term >>= assertion start)
+assert_term text before start _ = Err (fault CommandForm start)
+
+-- (check-sat), (get-model), (exit)
+
+abbrev pub alone_fault : ℕ → Bool → List Tree → Option Fault
+alone_fault start may [] = order_fault start may
+alone_fault start may (part ∷ parts) = Some (fault CommandForm start)
+
+-- The commands, each behind its word.
+
+abbrev pub set_logic : List ℕ → List Command → ℕ → List Tree → Result Command Fault
+set_logic text before start parts = unless (set_logic_fault text (list_all is_inform before) start parts) (Ok SetLogic)
+
+abbrev pub inform : ℕ → List Tree → Result Command Fault
+inform start parts = unless (inform_fault start parts) (Ok Inform)
+
+abbrev pub check_sat : List Command → ℕ → List Tree → Result Command Fault
+check_sat before start parts = unless (alone_fault start (list_any is_set_logic before && not (list_any is_check_sat before)) parts) (Ok CheckSat)
+
+abbrev pub get_model : List Command → ℕ → List Tree → Result Command Fault
+get_model before start parts = unless (alone_fault start (list_any is_check_sat before) parts) (Ok GetModel)
+
+abbrev pub exit : ℕ → List Tree → Result Command Fault
+exit start parts = unless (alone_fault start true parts) (Ok Exit)
+
+-- those without names and terms
+abbrev pub plain : List ℕ → List Command → ℕ → Tree → List Tree → Result Command Fault
+plain text before start word parts =
+    if is_word text word (codes "set-logic") then set_logic text before start parts
+    else if is_word text word (codes "set-info") then inform start parts
+    else if is_word text word (codes "set-option") then inform start parts
+    else if is_word text word (codes "check-sat") then check_sat before start parts
+    else if is_word text word (codes "get-model") then get_model before start parts
+    else if is_word text word (codes "exit") then exit start parts
+    else Err (fault CommandForm start)
+
+abbrev pub worded : List ℕ → List Command → ℕ → Tree → List Tree → Result Command Fault
+worded text before start word parts =
+    if is_word text word (codes "assert") then assert_term text before start parts
+    else if is_word text word (codes "declare-fun") then declare_function text before start parts
+    else if is_word text word (codes "declare-const") then declare_constant text before start parts
+    else plain text before start word parts
+
+abbrev pub listed : List ℕ → List Command → ℕ → List Tree → Result Command Fault
+listed text before start [] = Err (fault CommandForm start)
+listed text before start (word ∷ parts) = worded text before start word parts
+
+-- the command that a tree spells after these
+abbrev pub command : List ℕ → List Command → Tree → Result Command Fault
+command text before (Leaf kind start end) = Err (fault CommandForm start)
+command text before (List' shape row start end) = listed text before start (items-the_row-Tree _ row)

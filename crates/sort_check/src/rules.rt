@@ -1,0 +1,136 @@
+//! The rules of commands without names and terms.
+
+ghost use Rattle.std.specs.Prelude.{◌≡◌};
+ghost use Rattle.term_check.specs.Rules.{fault};
+ghost use Rattle.sort_check.specs.Commands.{order_fault, form_fault, count_fault, logic_fault, set_logic_fault, is_information, inform_fault, alone_fault, assert_fault, clause_fault};
+
+use crate::trees::{is_keyword, is_symbol, start_of};
+use sexp_read::{Tree, symbol_bytes};
+use term_check::{Fault, Part};
+use term_tree::{Kind, Sort};
+
+pub fn fault(kind: Kind, offset: u32) -> Fault
+    ensures { result ≡ fault kind offset }
+{
+    Fault { kind, offset }
+}
+
+pub fn order_fault(start: u32, may: bool) -> Option<Fault>
+    ensures { result ≡ order_fault start may }
+{
+    if may {
+        None
+    } else {
+        Some(fault(Kind::Order, start))
+    }
+}
+
+pub fn form_fault(tree: &Tree, has: bool) -> Option<Fault>
+    ensures { result ≡ form_fault tree.now has }
+{
+    if has {
+        None
+    } else {
+        Some(fault(Kind::CommandForm, start_of(tree)))
+    }
+}
+
+pub fn count_fault(start: u32, within: bool) -> Option<Fault>
+    ensures { result ≡ count_fault start within }
+{
+    if within {
+        None
+    } else {
+        Some(fault(Kind::Count, start))
+    }
+}
+
+fn logic_fault(text: &[u8], name: &Tree) -> Option<Fault>
+    ensures { result ≡ logic_fault text.now name.now }
+{
+    if is_symbol(text, name, b"HORN") {
+        None
+    } else {
+        Some(fault(Kind::Logic, start_of(name)))
+    }
+}
+
+/// What is wrong with a `set-logic`; silent says that there were no other commands than `set-info`
+/// and `set-option`.
+pub fn set_logic_fault(text: &[u8], silent: bool, start: u32, parts: &[Tree]) -> Option<Fault>
+    ensures { result ≡ set_logic_fault text.now silent start parts.now }
+{
+    match parts {
+        [name] => {
+            if let Some(fault) = form_fault(name, symbol_bytes(text, name).is_some()) {
+                return Some(fault);
+            }
+            if let Some(fault) = order_fault(start, silent) {
+                return Some(fault);
+            }
+            logic_fault(text, name)
+        }
+        _ => Some(fault(Kind::CommandForm, start)),
+    }
+}
+
+fn is_information(parts: &[Tree]) -> bool
+    ensures { result ≡ is_information parts.now }
+{
+    match parts {
+        [key] => is_keyword(key),
+        [key, _] => is_keyword(key),
+        _ => false,
+    }
+}
+
+/// What is wrong with a `set-info` or `set-option`.
+pub fn inform_fault(start: u32, parts: &[Tree]) -> Option<Fault>
+    ensures { result ≡ inform_fault start parts.now }
+{
+    if is_information(parts) {
+        None
+    } else {
+        Some(fault(Kind::CommandForm, start))
+    }
+}
+
+/// What is wrong with a command that is its word alone.
+pub fn alone_fault(start: u32, may: bool, parts: &[Tree]) -> Option<Fault>
+    ensures { result ≡ alone_fault start may parts.now }
+{
+    match parts {
+        [] => order_fault(start, may),
+        _ => Some(fault(Kind::CommandForm, start)),
+    }
+}
+
+/// How many assertions there may be.
+const MOST_ASSERTIONS: usize = 65536;
+
+/// What is wrong with an assertion behind so many others before its term is looked at; may says that
+/// there was no `check-sat`.
+pub fn assert_fault(may: bool, count: usize, start: u32) -> Option<Fault>
+    ensures { result ≡ assert_fault may count start }
+{
+    if let Some(fault) = order_fault(start, may) {
+        return Some(fault);
+    }
+    count_fault(start, count < MOST_ASSERTIONS)
+}
+
+/// What is wrong with an asserted term. Other clauses than those with a head are not answered yet.
+pub fn clause_fault(start: u32, part: Part, headed: bool) -> Option<Fault>
+    ensures { result ≡ clause_fault start part headed }
+{
+    match part.sort {
+        Sort::Int => Some(fault(Kind::SortMismatch, part.start)),
+        Sort::Bool => {
+            if headed {
+                None
+            } else {
+                Some(fault(Kind::Unbuilt, start))
+            }
+        }
+    }
+}
