@@ -1,10 +1,15 @@
 -- How names, numbers and values are printed (SMT-LIB 2.6, section 3.1, "Symbols" and "Numerals").
 use Rattle.std.specs.Prelude.{ℕ, List, [], ◌∷◌, ◌++◌, Bool, true, false, not, ◌&&◌, if◌then◌else◌, ℤ, pos, nat_abs, int_lt, codes, decimal}
 use Rattle.std.specs.List.{list_all, flat_map}
-use Rattle.base.specs.Bytes.{is_symbol_byte}
-use Rattle.sort_check.specs.Words.{is_among, reserved_words, is_simple}
+use Rattle.base.specs.Bytes.{is_digit, is_symbol_byte}
+use Rattle.term_check.specs.Words.{is_among, reserved_words}
 use Rattle.term_tree.specs.declared.scalar.Value.{Value}
 use Rattle.term_tree.specs.declared.scalar.Value.TheVariants.{Int, Bool as Truth}
+
+-- one byte or more, of which the first is no digit
+abbrev pub is_simple : List ℕ → Bool
+is_simple [] = false
+is_simple (byte ∷ bytes) = not (is_digit byte)
 
 -- a simple symbol: symbol bytes that don't begin with a digit, and no reserved word
 unfoldable pub is_bare : List ℕ → Bool

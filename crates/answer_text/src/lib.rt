@@ -8,7 +8,6 @@ mod lines;
 mod model;
 mod names;
 mod pieces;
-mod reserved;
 mod term;
 #[cfg(test)]
 mod tests;
@@ -16,4 +15,5 @@ mod write;
 
 pub use answer::{Answer, Line, UnknownCause};
 pub use lines::{error_line, level_line, memory_line, usage_line};
+pub use term::push_parameter_name;
 pub use write::write_answer;

@@ -3,11 +3,10 @@
 ghost use Rattle.std.specs.Prelude.{◌≡◌, ◌++◌, OnOk};
 ghost use Rattle.std.specs.List.{list_all};
 ghost use Rattle.base.specs.Bytes.{is_symbol_byte};
-ghost use Rattle.sort_check.specs.Words.{is_simple};
-ghost use Rattle.answer_text.specs.Names.{is_bare, name_text};
+ghost use Rattle.answer_text.specs.Names.{is_simple, is_bare, name_text};
 
-use crate::reserved::is_reserved;
 use base::{Memory, is_digit, is_symbol_byte};
+use term_check::is_reserved;
 
 fn is_simple(name: &[u8]) -> bool
     ensures { result ≡ is_simple name.now }

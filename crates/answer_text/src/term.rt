@@ -35,6 +35,7 @@ fn operator_word(op: OpKind) -> &'static [u8]
     }
 }
 
+/// The name of the parameter of that number: `x0`, `x1` and so on.
 pub fn push_parameter_name(out: &mut Vec<u8>, number: u64) -> Result<(), Memory>
     ensures { OnOk result (out.new.items ≡ out.old.items ++ parameter_name number) }
 {
