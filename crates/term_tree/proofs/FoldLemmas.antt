@@ -64,7 +64,7 @@ told_length X none step earlier (node ∷ nodes) =
     let x : X = step (λ id. get_or earlier id none) node in told_length X none step (earlier ++ x ∷ []) nodes ∙ omega (arith, length-append earlier (x ∷ []))
 
 -- nothing is told of a term that isn't there
-told_past : (X : Type 0) (none : X) (step : (ℕ → X) → Node → X) (nodes : List Node) (id : ℕ) → length nodes ≤ id → told_of none step nodes id ≡ none
+pub told_past : (X : Type 0) (none : X) (step : (ℕ → X) → Node → X) (nodes : List Node) (id : ℕ) → length nodes ≤ id → told_of none step nodes id ≡ none
 told_past X none step nodes id past = get_or_past (told_from none step [] nodes) id none (omega (arith, told_length X none step [] nodes))
 
 heads_rest : (m : ℕ) (nodes : List Node) → RestsOnParts Bool (node_has_head m nodes)

@@ -1,10 +1,14 @@
+pub mod CompareLemmas
 pub mod DivisionLemmas
+pub mod EachLemmas
 pub mod EvaluationLemmas
 pub mod FoldLemmas
 pub mod HeadLemmas
 pub mod LawLemmas
 pub mod MeaningLemmas
 pub mod OperatorLemmas
+pub mod PairLemmas
 pub mod PlainLemmas
+pub mod SameLemmas
 pub mod ValueLemmas
 pub mod WalkLemmas

@@ -40,13 +40,13 @@ more_determined : (p q : ℕ → Meaning) (n : ℕ) (ids : List TermId) (result 
     → list_all (is_below n) ids ≡ true → Determines p ids result env v → Determines q ids result env v
 more_determined p q n ids result env v more below h = (h.0, more_known p q n ids env h.0 more below h.1, h.2)
 
-for_all : (p q : Meaning) (first : ℕ) (sorts : List Sort) (env : Environment) (v : Value) → ((e : Environment) (w : Value) → p e w → q e w)
+pub for_all : (p q : Meaning) (first : ℕ) (sorts : List Sort) (env : Environment) (v : Value) → ((e : Environment) (w : Value) → p e w → q e w)
     → HoldsForAll p first sorts env v → HoldsForAll q first sorts env v
 for_all p q first sorts env (Int n) more h = h
 for_all p q first sorts env (Truth true) more h = λ values have. more (bound_from first values env) (Truth true) (h values have)
 for_all p q first sorts env (Truth false) more h = (h.0, h.1, more (bound_from first h.0 env) (Truth false) h.2)
 
-for_some : (p q : Meaning) (first : ℕ) (sorts : List Sort) (env : Environment) (v : Value) → ((e : Environment) (w : Value) → p e w → q e w)
+pub for_some : (p q : Meaning) (first : ℕ) (sorts : List Sort) (env : Environment) (v : Value) → ((e : Environment) (w : Value) → p e w → q e w)
     → HoldsForSome p first sorts env v → HoldsForSome q first sorts env v
 for_some p q first sorts env (Int n) more h = h
 for_some p q first sorts env (Truth false) more h = λ values have. more (bound_from first values env) (Truth false) (h values have)

@@ -86,7 +86,7 @@ among_below part n (id ∷ ids) below has =
     other : (k part : ℕ) (ids : List TermId) → (k ≡ part → ⊥) → ((k == part) || is_among part ids) ≡ true → is_among part ids ≡ true
     other k part ids ne h = grind (arith, nat_tests)
 
-same_number : (k part : ℕ) → (k == part) ≡ true → k ≡ part
+pub same_number : (k part : ℕ) → (k == part) ≡ true → k ≡ part
 same_number k part h = grind (arith, nat_tests)
 
 -- the parts of a node are below where its arena has them

@@ -8,7 +8,9 @@ pub mod Kind
 pub mod Known
 pub mod Legal
 pub mod Operators
+pub mod Pairs
 pub mod Relations
+pub mod Same
 pub mod Solution
 pub mod Sorts
 pub mod Subterms

@@ -1,4 +1,4 @@
-ghost use Rattle.std.specs.Prelude.{◌≡◌, ◌↔◌, ◌<◌, ◌++◌, [], ◌∷◌, ℕ, ℤ, pos, List, length, slice_get, Some, IsTrue, true, false};
+ghost use Rattle.std.specs.Prelude.{◌≡◌, ◌↔◌, ◌<◌, ◌++◌, ◌&&◌, [], ◌∷◌, ℕ, ℤ, pos, List, length, slice_get, Some, IsTrue, true, false};
 ghost use Rattle.term_tree.specs.declared.definition.Definition.{Definition};
 ghost use Rattle.term_tree.specs.declared.script.Script.{Script};
 ghost use Rattle.term_tree.specs.declared.node.OpKind.TheVariants.{Implies, Div, Mod};
@@ -11,6 +11,8 @@ ghost use Rattle.term_tree.specs.Arena.{IsArena};
 ghost use Rattle.term_tree.specs.Value.{Environment, node_worth, value_of};
 ghost use Rattle.term_tree.specs.Truth.{Interpretation, HasValue, node_meaning};
 ghost use Rattle.term_tree.specs.Agreement.{AgreeEverywhere, IsTrueBelow, all_true, all_positive};
+ghost use Rattle.term_tree.specs.Legal.{Scope, is_scoped, node_is_scoped, next_variable, node_numbers};
+ghost use Rattle.term_tree.specs.Same.{is_alike, is_same_tree, parts_of, same_parts};
 ghost use Rattle.term_tree.specs.Head.{has_head, node_has_head};
 ghost use Rattle.term_tree.specs.Division.{IsDivision};
 ghost use Rattle.term_tree.specs.Operators.{result_of};
@@ -103,4 +105,37 @@ pub fn constant_of_nodes()
     ensures { (nodes : List Node) (id : ℕ) (node : Node) →
         IsArena nodes → slice_get nodes id ≡ Some node →
         constant_of nodes id ≡ node_constant (constant_of nodes) node }
+{}
+
+/// The law of a node for bound names.
+pub fn scoped_of_nodes()
+    ensures { (nodes : List Node) (id : ℕ) (node : Node) (scope : Scope) →
+        IsArena nodes → slice_get nodes id ≡ Some node →
+        is_scoped nodes id scope ≡ node_is_scoped (is_scoped nodes) node scope }
+{}
+
+/// The law of a node for the numbers of variables.
+pub fn numbered_of_nodes()
+    ensures { (nodes : List Node) (id : ℕ) (node : Node) (next : ℕ) →
+        IsArena nodes → slice_get nodes id ≡ Some node →
+        next_variable nodes id next ≡ node_numbers (next_variable nodes) node next }
+{}
+
+/// The law of nodes for equality of trees: alike, and with equal parts in order.
+pub fn same_tree_of_nodes()
+    ensures { (nodes others : List Node) (id other : ℕ) (node partner : Node) →
+        IsArena nodes → slice_get nodes id ≡ Some node → slice_get others other ≡ Some partner →
+        is_same_tree nodes id others other ≡
+        (is_alike node partner && same_parts (λ i j. is_same_tree nodes i others j) (parts_of node) (parts_of partner)) }
+{}
+
+/// Terms that are equal as trees have the same value in every environment, and the same values under
+/// all definitions.
+pub fn same_tree_same_value()
+    ensures value { (nodes others : List Node) (id other : ℕ) (env : Environment) →
+        IsArena nodes → IsArena others → IsTrue (is_same_tree nodes id others other) →
+        value_of nodes id env ≡ value_of others other env }
+    ensures meaning { (I : Interpretation) (nodes others : List Node) (id other : ℕ) (env : Environment) (v : Value) →
+        IsArena nodes → IsArena others → IsTrue (is_same_tree nodes id others other) →
+        (HasValue I nodes id env v ↔ HasValue I others other env v) }
 {}
