@@ -8,5 +8,5 @@ loop-at-preserved c = (
   omega (arith, c.loop-at-test.true),
   c.loop-at.invariant.1,
   λ test. all_put test (keys c.args.pairs.now) (keys c.loop-at.pairs) (keys c.put_pair.new.pairs) c.args.lefts.now c.args.rights.now c.loop-at.at
-      (record { 0 = 0 }) (record { 0 = 0 }) c.loop-at-test.true (omega (arith, c.loop-at-test.true, c.loop-at.invariant.1)) (c.loop-at.invariant.2 test) (c.in_ok-put_pair.ensures test),
+      (record { 0 = 0 }) (record { 0 = 0 }) (omega (arith, c.loop-at-test.true)) (omega (arith, c.loop-at-test.true, c.loop-at.invariant.1)) (c.loop-at.invariant.2 test) (c.in_ok-put_pair.ensures test),
 )
