@@ -1,3 +1,4 @@
+; A relation of facts: which pairs are reached.
 (set-logic HORN)
 (declare-fun reached (Int Int) Bool)
 (assert (reached 0 0))

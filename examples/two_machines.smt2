@@ -1,3 +1,4 @@
+; Facts of two machines; declarations may stand between them.
 (set-logic HORN)
 
 (declare-fun first_state (Int) Bool)
@@ -8,5 +9,6 @@
 (assert (second_state 0 0 9223372036854775807))
 (assert (first_state 8))
 
+; A predicate without a fact is defined too.
 (declare-fun unused! (Int) Bool)
 (check-sat)

@@ -1,2 +1,3 @@
-pub mod FactLemmas
+pub mod AnswerLemmas
+pub mod ModelLemmas
 pub mod PlanLemmas

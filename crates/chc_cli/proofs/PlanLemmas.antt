@@ -1,32 +1,26 @@
 -- What is planned for the bytes that were read is planned for those of the source.
-use Rattle.std.proofs.Common.{◌≡◌, ℕ, ◌+◌, ◌<◌, ◌≤◌, ◌^◌, List, [], ◌++◌, length, refl, ap, sym, ◌∙◌, subst, arith, length-append}
+use Rattle.std.proofs.Common.{◌≡◌, ℕ, ◌+◌, ◌<◌, ◌^◌, List, [], ◌++◌, length, sym, subst, arith, length-append}
 use Rattle.std.specs.Prelude.{Some, None, IfSome, MatchOption, ◌≢◌}
-use Rattle.std.specs.Option.{option_map}
 use Rattle.std.specs.declared.option.Option.{Option}
 use Rattle.outside_io.specs.Bytes.{TakesCount}
 use Rattle.term_tree.specs.declared.refusal.Refusal.{Refusal}
-use Rattle.term_tree.specs.declared.refusal.Kind.TheVariants.{TooLong, NoCheckSat, Unbuilt}
-use Rattle.sort_check.specs.Command.{Command}
-use Rattle.sort_check.specs.Facts.{IsScript, IsRefused}
-use Rattle.sort_check.specs.Facts.IsRefused.{too_long, no_check_sat, unbuilt}
+use Rattle.term_tree.specs.declared.refusal.Kind.TheVariants.{TooLong}
+use Rattle.sort_check.specs.Commands.{Command}
+use Rattle.sort_check.specs.Scripts.{IsScript, IsRefused}
 use Rattle.chc_cli.specs.declared.plan.Plan.{Plan}
 use Rattle.chc_cli.specs.declared.plan.Plan.TheVariants.{Answered, Refused, ReadFault, OutOfMemory}
 use Rattle.chc_cli.specs.Headline.{IsSatAnswer, RefusesInput, ReadsInput}
 use Rattle.chc_cli.specs.Plans.{IsPlan}
 use Rattle.chc_cli.specs.declared.answer.Answer.{Answer}
 use Rattle.chc_cli.specs.Answers.{IsAnswerTo}
-use Rattle.chc_cli.specs.Texts.{error_text}
+use Rattle.answer_text.specs.Lines.{error_text}
 
-not_too_long : (bytes : List ℕ) (refusal : Refusal) → length bytes ≤ 2 ^ 24 → IsRefused bytes refusal → refusal.kind ≡ TooLong → ⊥
-not_too_long bytes refusal short (too_long more is) kind = omega arith
-not_too_long bytes refusal short (no_check_sat commands le begin none is) kind = let e = ap (λ r. r.kind) is in cc
-not_too_long bytes refusal short (unbuilt commands next rest le begin none is) kind = let e = ap (λ r. r.kind) is in cc
-
--- bytes that aren't too many, and their refusal
-refuses : (bytes : List ℕ) (refusal : Refusal) → length bytes ≤ 2 ^ 24 → IsRefused bytes refusal → RefusesInput (Some bytes) bytes refusal × ReadsInput (Some bytes) bytes refusal
-refuses bytes refusal short h = (
-  record { input = h; bytes = λ other. h },
-  record { whole = λ other. refl; none = λ kind. absurd (not_too_long bytes refusal short h kind) },
+-- the bytes that are told of a refusal: all, or none where they are too many
+pub refuses : (bytes told : List ℕ) (refusal : Refusal) → IsRefused bytes refusal → (refusal.kind ≢ TooLong → told ≡ bytes) → (refusal.kind ≡ TooLong → told ≡ [])
+    → RefusesInput (Some bytes) told refusal × ReadsInput (Some bytes) told refusal
+refuses bytes told refusal h whole none = (
+  record { input = h; bytes = λ other. subst (λ (b : List ℕ). IsRefused b refusal) (sym (whole other)) h },
+  record { whole = whole; none = none },
 )
 
 -- the bytes that were read are all that the source had, where it tells them
@@ -44,13 +38,12 @@ of_too_long old (Some rest) limit plan is h told untold =
     subst (λ (left : Option (List ℕ)). IsPlan left plan) (sym h.2) (told (h.0 ++ rest) (omega (arith, h.1, length-append h.0 rest)))
 
 -- the plan for bytes that are refused
-pub refused_plan : (read bytes : List ℕ) (answer : Answer) (refusal : Refusal) → bytes ≡ read → length bytes ≤ 2 ^ 24 → answer.refusal ≡ Some refusal → IsAnswerTo bytes answer
-    → RefusesInput (Some read) read refusal × ReadsInput (Some read) read refusal × (answer.text.items ≡ error_text refusal)
-refused_plan read bytes answer refusal same short is h =
+pub refused_plan : (read bytes told : List ℕ) (answer : Answer) (refusal : Refusal) → bytes ≡ read → (refusal.kind ≢ TooLong → told ≡ read) → (refusal.kind ≡ TooLong → told ≡ [])
+    → answer.refusal ≡ Some refusal → IsAnswerTo bytes answer → RefusesInput (Some read) told refusal × ReadsInput (Some read) told refusal × (answer.text.items ≡ error_text refusal)
+refused_plan read bytes told answer refusal same whole none is h =
     let both : IsRefused bytes refusal × (answer.text.items ≡ error_text refusal) =
     subst (λ (r : Option Refusal). MatchOption r (IsSatAnswer bytes answer.text.items) (λ x. IsRefused bytes x × (answer.text.items ≡ error_text x))) is h in
-    let refused : IsRefused read refusal = subst (λ (b : List ℕ). IsRefused b refusal) same both.0 in
-    let parts = refuses read refusal (subst (λ (b : List ℕ). length b ≤ 2 ^ 24) same short) refused in
+    let parts = refuses read told refusal (subst (λ (b : List ℕ). IsRefused b refusal) same both.0) whole none in
     (parts.0, parts.1, both.1)
 
 module _ (not_both : (text : List ℕ) (commands : List Command) (refusal : Refusal) → IsScript text commands → IsRefused text refusal → ⊥) where

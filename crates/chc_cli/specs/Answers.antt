@@ -1,9 +1,9 @@
 -- What is to be written for an input.
 use Rattle.std.specs.Prelude.{◌≡◌, ℕ, List, MatchOption}
-use Rattle.sort_check.specs.Facts.{IsRefused}
+use Rattle.sort_check.specs.Scripts.{IsRefused}
 use Rattle.chc_cli.specs.declared.answer.Answer.{Answer}
 use Rattle.chc_cli.specs.Headline.{IsSatAnswer}
-use Rattle.chc_cli.specs.Texts.{error_text}
+use Rattle.answer_text.specs.Lines.{error_text}
 
 -- a sat answer to the bytes, or the line of their refusal
 abbrev pub IsAnswerTo : List ℕ → Answer → Type 0

@@ -1,5 +1,5 @@
 -- What the program's top call promises.
-use Rattle.std.specs.Prelude.{◌≡◌, ℕ, ◌≤◌, ◌<◌, ◌^◌, List, [], ◌∷◌, length, take, Bool, IfSome, codes, true, false, ◌≢◌}
+use Rattle.std.specs.Prelude.{◌≡◌, ℕ, ◌<◌, List, [], ◌∷◌, length, take, Bool, IfSome, codes, true, false, ◌≢◌}
 use Rattle.std.specs.declared.option.Option.{Option}
 use Rattle.std.specs.Str.{bytes_eq}
 use Rattle.outside_io.specs.Bytes.{Appends}
@@ -8,16 +8,18 @@ use Rattle.term_tree.specs.declared.definition.Definition.{Definition}
 use Rattle.term_tree.specs.declared.refusal.Refusal.{Refusal}
 use Rattle.term_tree.specs.declared.refusal.Kind.TheVariants.{TooLong}
 use Rattle.term_tree.specs.Solution.{IsSolution}
-use Rattle.sort_check.specs.Command.{Command}
-use Rattle.sort_check.specs.Facts.{IsScript, IsScriptOf, IsRefused}
-use Rattle.chc_cli.specs.Texts.{IsSatText, error_text, usage_text, memory_text}
+use Rattle.sort_check.specs.Commands.{Command}
+use Rattle.sort_check.specs.Scripts.{IsScript, IsScriptOf, IsRefused}
+use Rattle.answer_text.specs.declared.answer.Answer.TheVariants.{Sat}
+use Rattle.answer_text.specs.Lines.{error_text, usage_text, memory_text}
+use Rattle.answer_text.specs.Printable.{IsAnswerText}
 
 -- the words after the program's name are `solve` alone
 abbrev pub is_solve : List (List ℕ) → Bool
 is_solve (word ∷ []) = bytes_eq word (codes "solve")
 is_solve _ = false
 
--- the bytes are a script, and the text is an answer to it: definitions under which every assertion is true
+-- the bytes are a script, and the text is the printed form of definitions under which every assertion is true
 pub record IsSatAnswer (bytes : List ℕ) (text : List ℕ) : Type 0 where
   pub commands : List Command
   pub script : Script
@@ -25,7 +27,7 @@ pub record IsSatAnswer (bytes : List ℕ) (text : List ℕ) : Type 0 where
   pub is_script : IsScript bytes commands
   pub spelled : IsScriptOf commands script
   pub solution : IsSolution script definitions
-  pub answer : IsSatText script.preds definitions text
+  pub answer : IsAnswerText script.preds (Sat definitions) text
 
 -- The refusal is that of the bytes left in the source. Where it isn't that they are too many, they are those read.
 pub record RefusesInput (left : Option (List ℕ)) (read : List ℕ) (refusal : Refusal) : Type 0 where

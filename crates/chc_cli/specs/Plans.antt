@@ -4,7 +4,7 @@ use Rattle.std.specs.declared.option.Option.{Option}
 use Rattle.chc_cli.specs.declared.plan.Plan.{Plan}
 use Rattle.chc_cli.specs.declared.plan.Plan.TheVariants.{Answered, Refused, ReadFault, OutOfMemory}
 use Rattle.chc_cli.specs.Headline.{IsSatAnswer, RefusesInput, ReadsInput}
-use Rattle.chc_cli.specs.Texts.{error_text}
+use Rattle.answer_text.specs.Lines.{error_text}
 
 abbrev pub IsPlan : Option (List ℕ) → Plan → Type 0
 IsPlan left (Answered read text) = IsSatAnswer read.items text.items × IfSome left (λ bytes. read.items ≡ bytes)

@@ -1,9 +1,12 @@
 ghost use Rattle.std.specs.Prelude.{◌≤◌, ◌^◌, length, IfOk};
 ghost use Rattle.chc_cli.specs.Answers.{IsAnswerTo};
 
-use crate::texts::{error_line, sat_with_true};
+use crate::lines::refusal_line;
+use crate::model::all_true;
+use answer_text::{Answer as Printed, write_answer};
 use base::Memory;
-use sort_check::check_facts;
+use sexp_read::read_commands;
+use sort_check::{assertions_have_heads, check_script, few_predicates};
 use std::alloc::Global;
 use term_tree::Refusal;
 
@@ -14,15 +17,17 @@ pub struct Answer {
     pub text: Vec<u8>,
 }
 
-/// What is to be written for the bytes of an input that isn't too long.
+/// What is to be written for the bytes of an input that isn't too long. A script whose assertions all
+/// end in a predicate is satisfied where every predicate is `true`.
 pub fn answer_to(alloc: Global, read: &[u8]) -> Result<Answer, Memory>
     requires { length read.now ≤ 2 ^ 24 }
     ensures { IfOk result (IsAnswerTo read.now) }
 {
-    let checked = check_facts(alloc, read)?;
+    let trees = read_commands(alloc, read)?;
+    let checked = check_script(alloc, read, &trees)?;
     match checked.stop {
         Some(refusal) => {
-            let text = error_line(alloc, &refusal)?;
+            let text = refusal_line(alloc, &refusal)?;
             Ok(Answer {
                 refusal: Some(refusal),
                 text,
@@ -30,7 +35,10 @@ pub fn answer_to(alloc: Global, read: &[u8]) -> Result<Answer, Memory>
         }
         None => {
             checked.script.terms.is_arena();
-            let text = sat_with_true(alloc, checked.script.preds.as_slice())?;
+            few_predicates();
+            assertions_have_heads();
+            let definitions = all_true(alloc, checked.script.preds.as_slice())?;
+            let text = write_answer(alloc, &checked.script, &Printed::Sat(definitions))?;
             Ok(Answer {
                 refusal: None,
                 text,

@@ -2,9 +2,10 @@
 #![tactic(auto)]
 
 mod answer;
+mod lines;
+mod model;
 mod plan;
 mod run;
-mod texts;
 mod words;
 
 pub use run::{Report, chc_run};

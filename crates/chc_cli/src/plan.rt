@@ -1,10 +1,11 @@
-ghost use Rattle.std.specs.Prelude.{◌≡◌, ◌≤◌, ◌<◌, ◌^◌, List, ℕ, length, vec_len, Some, None, true, false, if◌then◌else◌};
+ghost use Rattle.std.specs.Prelude.{◌≡◌, ◌≢◌, [], ◌≤◌, ◌<◌, ◌^◌, List, ℕ, length, vec_len, Some, None, true, false, if◌then◌else◌};
 ghost use Rattle.outside_io.specs.Counts.{counted};
 ghost use Rattle.outside_io.specs.declared.turn.Turn.TheVariants.{Fault};
+ghost use Rattle.term_tree.specs.declared.refusal.Kind.TheVariants.{TooLong};
 ghost use Rattle.chc_cli.specs.Plans.{IsPlan, is_fault};
 
 use crate::answer::answer_to;
-use crate::texts::error_line;
+use crate::lines::refusal_line;
 use outside_io::{ReadStop, Source, read_all};
 use std::alloc::Global;
 use term_tree::{Kind, Refusal};
@@ -59,12 +60,23 @@ fn plan_of(alloc: Global, read: Vec<u8>) -> Plan
                 text: answer.text,
             },
             Some(refusal) => Plan::Refused {
-                read,
+                read: told(alloc, read, &refusal),
                 refusal,
                 line: answer.text,
             },
         },
         Err(_) => Plan::OutOfMemory { read },
+    }
+}
+
+/// The bytes that are told of an input with this refusal: none where they are too many.
+fn told(alloc: Global, read: Vec<u8>, refusal: &Refusal) -> Vec<u8>
+    ensures whole { refusal.now.kind ≢ TooLong → result.items ≡ read.items }
+    ensures none { refusal.now.kind ≡ TooLong → result.items ≡ [] }
+{
+    match refusal.kind {
+        Kind::TooLong => Vec::new(alloc),
+        _ => read,
     }
 }
 
@@ -80,7 +92,7 @@ fn plan_of_too_long(alloc: Global) -> Plan
         command: 0,
     };
     let read = Vec::new(alloc);
-    match error_line(alloc, &refusal) {
+    match refusal_line(alloc, &refusal) {
         Ok(line) => Plan::Refused {
             read,
             refusal,

@@ -4,16 +4,16 @@ ghost use Rattle.outside_io.specs.Bytes.{Appends};
 ghost use Rattle.outside_io.specs.Counts.{counted};
 ghost use Rattle.outside_io.specs.declared.turn.Turn.TheVariants.{Fault};
 ghost use Rattle.term_tree.specs.declared.refusal.Refusal.{Refusal};
-ghost use Rattle.sort_check.specs.Command.{Command};
-ghost use Rattle.sort_check.specs.Facts.{IsScript, IsRefused};
+ghost use Rattle.sort_check.specs.Commands.{Command};
+ghost use Rattle.sort_check.specs.Scripts.{IsScript, IsRefused};
 ghost use Rattle.chc_cli.specs.Headline.{is_solve, Answers, Refuses, ReadsInput, WritesPart};
-ghost use Rattle.chc_cli.specs.Texts.{usage_text, memory_text};
+ghost use Rattle.answer_text.specs.Lines.{usage_text, memory_text};
 
 use crate::plan::{Plan, plan_for};
-use crate::texts::{memory_line, usage_line};
 use crate::words::is_solve;
+use answer_text::{memory_line, usage_line};
 use outside_io::{Sink, Source, write_all};
-use sort_check::laws::not_both;
+use sort_check::no_script_is_refused;
 use std::alloc::Global;
 use term_tree::Refusal;
 
@@ -94,7 +94,7 @@ pub fn chc_run<S: Source, K: Sink>(
             refusal: None,
         };
     }
-    not_both();
+    no_script_is_refused();
     match plan_for(alloc, source) {
         Plan::Answered { read, text } => {
             let status = match write_all(sink, text.as_slice()) {

@@ -3,122 +3,59 @@ use std::alloc::Global;
 use std::process::Abort;
 use std::test::Fail;
 
-#[derive(Clone, Copy)]
-struct Case {
-    name: &'static str,
-    input: &'static [u8],
-    status: u8,
-    output: &'static [u8],
-}
+/// What a case shows, its script, and the definitions of its answer.
+const SAT: &str = "\
+    no predicate§(set-logic HORN)(check-sat)§¶\
+    one fact§(set-logic HORN)(declare-fun p (Int) Bool)(assert (p 0))(check-sat)§(define-fun p ((x0 Int)) Bool true)\n¶\
+    the greatest numeral§(set-logic HORN)(declare-fun p (Int) Bool)(assert (p 9223372036854775807))(check-sat)§(define-fun p ((x0 Int)) Bool true)\n¶\
+    a fact and a rule§(set-logic HORN)(declare-fun p (Int) Bool)(assert (p 0))(assert (forall ((x Int)) (=> (and (p x) (< x 10)) (p (+ x 1)))))(check-sat)§(define-fun p ((x0 Int)) Bool true)\n¶\
+    two predicates laid out at will§ ( set-logic\tHORN )\r\n(declare-fun edge(Int Int)Bool)(assert(edge 1 20))\n(declare-fun <-a.b (Int) Bool)(assert (<-a.b 7))(assert (edge 20 1))(check-sat)\n§(define-fun edge ((x0 Int) (x1 Int)) Bool true)\n(define-fun <-a.b ((x0 Int)) Bool true)\n¶\
+    comments between and inside commands§; a script\n(set-logic HORN)(declare-fun p ; (Real)\n (Int) Bool);)\n(check-sat); the end§(define-fun p ((x0 Int)) Bool true)\n¶\
+    Bool arguments and none§(set-logic HORN)(declare-fun q () Bool)(declare-fun r (Bool Int) Bool)(assert q)(assert (=> q (r true (- 2))))(check-sat)§(define-fun q () Bool true)\n(define-fun r ((x0 Bool) (x1 Int)) Bool true)\n¶\
+    a constant as a predicate without arguments§(set-logic HORN)(declare-const q Bool)(assert q)(check-sat)§(define-fun q () Bool true)\n¶\
+    quoted names, which stand between bars only where they must§(set-logic HORN)(declare-fun |p| (Int) Bool)(declare-fun |a b| () Bool)(declare-fun |let| () Bool)(declare-fun |1a| () Bool)(declare-fun || () Bool)(assert (=> |a b| |let| (|p| 1)))(assert (p 2))(check-sat)§(define-fun p ((x0 Int)) Bool true)\n(define-fun |a b| () Bool true)\n(define-fun |let| () Bool true)\n(define-fun |1a| () Bool true)\n(define-fun || () Bool true)\n¶\
+    informations and options before the logic and after the question§(set-info :status sat)(set-option :produce-models true)(set-logic HORN)(set-info :source \"a \"\"quoted\"\" text\")(check-sat)(set-info :notes (1 (a |b c|) 2.5))§¶\
+    a model that is asked for§(set-logic HORN)(declare-fun p (Int) Bool)(check-sat)(get-model)(get-model)(exit)§(define-fun p ((x0 Int)) Bool true)\n¶\
+    what follows the exit§(set-logic HORN)(check-sat)(exit))))§¶\
+    every operator in a body§(set-logic HORN)(declare-fun p (Int) Bool)(assert (forall ((x Int) (b Bool)) (=> (and b (or b (not b)) (xor b b true)) (=> b b) (= x 1 2) (distinct x 1 2) (ite b (<= x 1 2) (< x 1)) (>= (+ x 1) (- x)) (> (* 2 x) (abs (- x 1))) (= (div x 2) (mod x (- 2))) ((_ divisible 3) x) (exists ((y Int)) (= y x)) (let ((z x) (x b)) (and x (p z))) (p x))))(check-sat)§(define-fun p ((x0 Int)) Bool true)\n¶\
+    a head under quantifiers inside one another§(set-logic HORN)(declare-fun p (Int) Bool)(assert (forall ((x Int)) (forall ((x Int) (y Bool)) (=> y (p x)))))(check-sat)§(define-fun p ((x0 Int)) Bool true)\n";
 
-/// Runs a case, and asserts its status, its output, and what the report tells.
-fn check(rt: &impl Abort, alloc: Global, case: &Case) -> Result<(), Fail> {
-    let run = run(alloc, &["solve"], case.input)?;
-    assert_eq!(rt; run.report.status, case.status, "status of {}", case.name);
-    assert_eq!(rt; run.held.as_slice(), case.output, "output of {}", case.name);
+/// Runs a script, and asserts that it is answered with these definitions.
+fn check_sat(
+    rt: &impl Abort,
+    alloc: Global,
+    shows: &str,
+    script: &str,
+    definitions: &str,
+) -> Result<(), Fail> {
+    let run = run(alloc, &["solve"], script.as_bytes())?;
+    let answer = format!(in alloc; "sat\n(\n{definitions})\n")?;
+    assert_eq!(rt; run.report.status, 0, "status of {shows}");
+    assert_eq!(rt; run.held.as_slice(), answer.as_bytes(), "output of {shows}");
     assert_eq!(rt;
         run.report.read.as_slice(),
-        case.input,
-        "bytes read of {}",
-        case.name
+        script.as_bytes(),
+        "bytes read of {shows}"
     );
-    assert_eq!(rt;
-        run.report.refusal.is_some(),
-        case.status == 1,
-        "refusal of {}",
-        case.name
-    );
+    assert!(rt; run.report.refusal.is_none(), "refusal of {shows}");
     Ok(())
 }
 
 #[test]
-fn scripts_of_facts_are_sat_with_true(rt: HostRuntime) -> Result<(), Fail> {
-    let cases = [
-        Case {
-            name: "no predicate",
-            input: b"(set-logic HORN)(check-sat)",
-            status: 0,
-            output: b"sat\n(\n)\n",
-        },
-        Case {
-            name: "one fact",
-            input: b"(set-logic HORN)(declare-fun p (Int) Bool)(assert (p 0))(check-sat)",
-            status: 0,
-            output: b"sat\n(\n(define-fun p ((x0 Int)) Bool true)\n)\n",
-        },
-        Case {
-            name: "the greatest numeral",
-            input: b"(set-logic HORN)(declare-fun p (Int) Bool)(assert (p 9223372036854775807))(check-sat)",
-            status: 0,
-            output: b"sat\n(\n(define-fun p ((x0 Int)) Bool true)\n)\n",
-        },
-        Case {
-            name: "two predicates laid out at will",
-            input: b" ( set-logic\tHORN )\r\n(declare-fun edge(Int Int)Bool)(assert(edge 1 20))\n(declare-fun <-a.b (Int) Bool)(assert (<-a.b 7))(assert (edge 20 1))(check-sat)\n",
-            status: 0,
-            output: b"sat\n(\n(define-fun edge ((x0 Int) (x1 Int)) Bool true)\n(define-fun <-a.b ((x0 Int)) Bool true)\n)\n",
-        },
-    ];
-    for case in cases.iter() {
-        check(&rt, rt.alloc(), case)?;
+fn scripts_whose_assertions_have_heads_are_sat_with_true(rt: HostRuntime) -> Result<(), Fail> {
+    let mut tried: usize = 0;
+    for case in SAT.split('¶') {
+        let mut parts = case.split('§');
+        let (Some(shows), Some(script), Some(definitions)) = (
+            parts.next(),
+            parts.next(),
+            parts.next(),
+        ) else {
+            break;
+        };
+        check_sat(&rt, rt.alloc(), shows, script, definitions)?;
+        tried = tried.saturating_add(1);
     }
-    Ok(())
-}
-
-#[test]
-fn other_texts_are_refused_at_their_place(rt: HostRuntime) -> Result<(), Fail> {
-    let cases = [
-        Case {
-            name: "nothing",
-            input: b"",
-            status: 1,
-            output: b"(error \"kind 18 NoCheckSat at byte 0 after 0 commands\")\n",
-        },
-        Case {
-            name: "no check-sat, and white space at the end",
-            input: b"(set-logic HORN)(declare-fun p (Int) Bool) \n",
-            status: 1,
-            output: b"(error \"kind 18 NoCheckSat at byte 44 after 2 commands\")\n",
-        },
-        Case {
-            name: "another assertion",
-            input: b"(set-logic HORN)(assert false)(check-sat)",
-            status: 1,
-            output: b"(error \"kind 19 Unbuilt at byte 16 after 1 commands\")\n",
-        },
-        Case {
-            name: "a numeral past the greatest",
-            input: b"(set-logic HORN)(declare-fun p (Int) Bool)(assert (p 9223372036854775808))(check-sat)",
-            status: 1,
-            output: b"(error \"kind 19 Unbuilt at byte 42 after 2 commands\")\n",
-        },
-        Case {
-            name: "a name declared twice",
-            input: b"(set-logic HORN)(declare-fun p (Int) Bool)\n(declare-fun p (Int) Bool)(check-sat)",
-            status: 1,
-            output: b"(error \"kind 19 Unbuilt at byte 43 after 2 commands\")\n",
-        },
-        Case {
-            name: "a byte behind check-sat",
-            input: b"(set-logic HORN)(check-sat) ;",
-            status: 1,
-            output: b"(error \"kind 19 Unbuilt at byte 28 after 2 commands\")\n",
-        },
-        Case {
-            name: "a command that isn't closed",
-            input: b"(set-logic HORN)(check-sat",
-            status: 1,
-            output: b"(error \"kind 19 Unbuilt at byte 16 after 1 commands\")\n",
-        },
-        Case {
-            name: "a byte that is no token, first of all",
-            input: b"\xff(set-logic HORN)(check-sat)",
-            status: 1,
-            output: b"(error \"kind 19 Unbuilt at byte 0 after 0 commands\")\n",
-        },
-    ];
-    for case in cases.iter() {
-        check(&rt, rt.alloc(), case)?;
-    }
+    assert_eq!(rt; tried, 14);
     Ok(())
 }

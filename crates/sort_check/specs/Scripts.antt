@@ -1,11 +1,12 @@
 -- Which texts are scripts, which script each spells, and the one refusal of every other text (SMT-LIB 2.6, section 3.9).
-use Rattle.std.specs.Prelude.{◌≡◌, ℕ, ◌+◌, ◌<◌, ◌≤◌, ◌^◌, List, [], ◌∷◌, ◌++◌, length, Option, None, Some, Result, Ok, Err, if◌then◌else◌, ◌⊎◌}
+use Rattle.std.specs.Prelude.{◌≡◌, ℕ, ◌+◌, ◌<◌, ◌≤◌, ◌^◌, List, [], ◌∷◌, ◌++◌, length, Option, None, Some, Result, Ok, Err, if◌then◌else◌, ◌⊎◌, IsTrue}
 use Rattle.std.specs.List.{list_any}
 use Rattle.sexp_read.specs.declared.tree.Tree.{Tree}
 use Rattle.sexp_read.specs.declared.tree.TextStop.{TextStop}
 use Rattle.sexp_read.specs.declared.tree.TextStop.TheVariants.{BadByte as BadByteStop, Unclosed as UnclosedStop, Deep as DeepStop}
 use Rattle.sexp_read.specs.Trees.{IsReading}
 use Rattle.term_tree.specs.Arena.{Arena}
+use Rattle.term_tree.specs.Head.{has_head}
 use Rattle.term_tree.specs.declared.script.Assertion.{Assertion}
 use Rattle.term_tree.specs.declared.script.Script.{Script}
 use Rattle.term_tree.specs.declared.refusal.Refusal.{Refusal}
@@ -80,6 +81,11 @@ AreAsserted terms number assertions (Exit ∷ commands) = AreAsserted terms (num
 pub record IsScriptOf (commands : List Command) (script : Script) : Type 0 where
   pub preds : script.preds ≡ declared commands
   pub asserts : AreAsserted script.terms 0 script.asserts commands
+
+-- the assertion ends in a declared predicate: it is an application of one, an implication whose last part is one, or one of these
+-- under universal quantifiers
+abbrev pub HasHead : Script → Assertion → Type 0
+HasHead script assertion = IsTrue (has_head (length script.preds) script.terms.nodes assertion.term.0)
 
 -- of a text with these trees and this fault: what its legal commands spell, and the refusal behind them
 pub record IsChecked (text : List ℕ) (trees : List Tree) (stop : Option TextStop) (checked : Checked) : Type 0 where

@@ -1,9 +1,12 @@
 //! Laws of scripts and refusals, each the contract of a function that does nothing.
 
-ghost use Rattle.std.specs.Prelude.{◌≡◌, ℕ, List};
+ghost use Rattle.std.specs.Prelude.{◌≡◌, ◌≤◌, ℕ, List, length};
+ghost use Rattle.std.specs.List.{AllByRecursion};
+ghost use Rattle.term_tree.specs.Arena.{IsArena};
+ghost use Rattle.term_tree.specs.declared.script.Script.{Script};
 ghost use Rattle.term_tree.specs.declared.refusal.Refusal.{Refusal};
-ghost use Rattle.sort_check.specs.Commands.{Command};
-ghost use Rattle.sort_check.specs.Scripts.{IsScript, IsRefused, IsScriptOrRefused};
+ghost use Rattle.sort_check.specs.Commands.{Command, declared, most_predicates};
+ghost use Rattle.sort_check.specs.Scripts.{IsScript, IsScriptOf, IsRefused, IsScriptOrRefused, HasHead};
 
 /// Every text is a script of some commands, or has a refusal.
 pub fn script_or_refused()
@@ -18,6 +21,17 @@ pub fn no_script_is_refused()
 /// A script has one list of commands.
 pub fn one_script()
     ensures { (text : List ℕ) (commands others : List Command) → IsScript text commands → IsScript text others → commands ≡ others }
+{}
+
+/// A script declares at most 4,096 predicates.
+pub fn few_predicates()
+    ensures { (text : List ℕ) (commands : List Command) → IsScript text commands → length (declared commands) ≤ most_predicates }
+{}
+
+/// Every assertion of a script ends in a declared predicate, in every arena that has its terms.
+pub fn assertions_have_heads()
+    ensures { (text : List ℕ) (commands : List Command) (script : Script) →
+        IsArena script.terms.nodes → IsScript text commands → IsScriptOf commands script → AllByRecursion (HasHead script) script.asserts }
 {}
 
 /// A text has at most one refusal.

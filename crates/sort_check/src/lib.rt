@@ -10,5 +10,8 @@ mod script;
 mod state;
 mod trees;
 
-pub use laws::{no_script_is_refused, one_refusal, one_script, script_or_refused};
+pub use laws::{
+    assertions_have_heads, few_predicates, no_script_is_refused, one_refusal, one_script,
+    script_or_refused,
+};
 pub use script::check_script;

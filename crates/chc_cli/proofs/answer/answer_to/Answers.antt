@@ -1,15 +1,30 @@
-use Rattle.std.proofs.Common.{List, ap, ◌∙◌, map, codes}
-use Rattle.term_tree.specs.declared.script.Pred.{Pred}
-use Rattle.chc_cli.specs.Texts.{sat_text}
-use Rattle.chc_cli.proofs.FactLemmas.{stopped, finished, answer_is}
+use Rattle.std.proofs.Common.{List, length, subst, ap, ◌∙◌, arith}
+use Rattle.term_tree.specs.declared.definition.Definition.{Definition}
+use Rattle.answer_text.specs.declared.answer.Answer.TheVariants.{Sat}
+use Rattle.answer_text.specs.Printable.{IsPrintable, IsAnswerText}
+use Rattle.chc_cli.specs.Model.{true_definitions}
+use Rattle.chc_cli.proofs.AnswerLemmas.{stopped, finished, answered}
 use Rattle.chc_cli.proofs.answer.answer_to.Goals as goal
 
 pub returns-in-Some : goal.returns-in-Some
-returns-in-Some c = (stopped c.args.read.now c.in_ok-checked.checked c.in-Some.refusal c.in-Some.is c.in_ok-checked.ensures, c.in_ok-text-in-Some.ensures)
+returns-in-Some c =
+    let trees = c.in_ok-trees.trees in
+    (stopped c.args.read.now trees.trees trees.stop c.in_ok-checked.checked c.in-Some.refusal c.requires c.in_ok-trees.ensures c.in-Some.is c.in_ok-checked.ensures, c.in_ok-text-in-Some.ensures)
 
 pub returns : goal.returns
 returns c =
-    let checked = c.in_ok-checked.ensures in
-    answer_is c.args.read.now checked.commands c.in_ok-checked.checked.script c.in_ok-text-in-None.text.items c.is_arena.ensures.arena
-    (finished c.args.read.now c.in_ok-checked.checked c.in-None.is checked) checked.script
-    (c.in_ok-text-in-None.ensures ∙ ap (λ (preds : List Pred). sat_text (map (λ p. (p, codes "true")) preds)) c.as_slice.ensures)
+    let trees = c.in_ok-trees.trees in
+    let checked = c.in_ok-checked.checked in
+    let script = checked.script in
+    let spelled = c.in_ok-checked.ensures in
+    let is_script = finished c.args.read.now trees.trees trees.stop checked c.requires c.in_ok-trees.ensures c.in-None.is spelled in
+    answered c.args.read.now spelled.commands script c.in_ok-text-in-None.text.items c.is_arena.ensures.arena is_script spelled.script
+    (c.assertions_have_heads.ensures c.args.read.now spelled.commands script c.is_arena.ensures.arena is_script spelled.script)
+    (subst (λ (d : List Definition). IsPrintable script.preds (Sat d) → IsAnswerText script.preds (Sat d) c.in_ok-text-in-None.text.items) (c.in_ok-definitions-in-None.ensures ∙ ap (true_definitions 0) c.as_slice.ensures) c.in_ok-text-in-None.ensures.spelling)
+
+pub all_true-requires : goal.all_true-requires
+all_true-requires c =
+    let trees = c.in_ok-trees.trees in
+    let spelled = c.in_ok-checked.ensures in
+    let is_script = finished c.args.read.now trees.trees trees.stop c.in_ok-checked.checked c.requires c.in_ok-trees.ensures c.in-None.is spelled in
+    omega (arith, c.few_predicates.ensures c.args.read.now spelled.commands is_script, ap length spelled.script.preds, ap length c.as_slice.ensures)

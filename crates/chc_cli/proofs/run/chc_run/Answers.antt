@@ -1,4 +1,4 @@
-use Rattle.std.proofs.Common.{ap, arith, rules, length, ◌∙◌}
+use Rattle.std.proofs.Common.{ap, arith, rules, length}
 use Rattle.chc_cli.specs.Headline.IsMeant.{error}
 use Rattle.chc_cli.proofs.PlanLemmas.{answered_only, refused_only}
 use Rattle.chc_cli.proofs.run.chc_run.Goals as goal
@@ -6,11 +6,11 @@ use Rattle.chc_cli.proofs.run.chc_run.Goals as goal
 pub returns-in-Answered-clause-refuses_others : goal.returns-in-Answered-clause-refuses_others
 returns-in-Answered-clause-refuses_others g c =
     let plan = c.in-Answered.ensures.plan in
-    answered_only c.not_both.ensures (g.S.Source.left c.args.source.now) c.in-Answered.read.items c.in-Answered.text.items _ plan.0 plan.1
+    answered_only c.no_script_is_refused.ensures (g.S.Source.left c.args.source.now) c.in-Answered.read.items c.in-Answered.text.items _ plan.0 plan.1
 
 pub returns-in-Ok-write_all-2-clause-answers_scripts : goal.returns-in-Ok-write_all-2-clause-answers_scripts
 returns-in-Ok-write_all-2-clause-answers_scripts g c =
-    refused_only c.not_both.ensures (g.S.Source.left c.args.source.now) c.in-Refused.read.items c.in-Refused.refusal 1 c.in-Refused.ensures.plan.0
+    refused_only c.no_script_is_refused.ensures (g.S.Source.left c.args.source.now) c.in-Refused.read.items c.in-Refused.refusal 1 c.in-Refused.ensures.plan.0
 
 pub returns-in-Ok-write_all-2-clause-refused : goal.returns-in-Ok-write_all-2-clause-refused
 returns-in-Ok-write_all-2-clause-refused g c =

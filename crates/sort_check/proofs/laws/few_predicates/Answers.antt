@@ -1,0 +1,5 @@
+use Rattle.sort_check.proofs.LegalLemmas.{few_law}
+use Rattle.sort_check.proofs.laws.few_predicates.Goals as goal
+
+pub returns : goal.returns
+returns c = few_law

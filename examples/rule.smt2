@@ -1,5 +1,0 @@
-(set-logic HORN)
-(declare-fun reached (Int) Bool)
-(assert (reached 0))
-(assert (forall ((x Int)) (=> (reached x) (reached (+ x 1)))))
-(check-sat)
