@@ -7,7 +7,8 @@ use Rattle.sexp_read.specs.declared.tree.Tree.{Tree, Leaf, List', items-the_row-
 use Rattle.sexp_read.specs.declared.tree.TextStop.{TextStop}
 use Rattle.term_tree.specs.declared.refusal.Refusal.{Refusal}
 use Rattle.term_tree.specs.declared.script.Pred.{Pred}
-use Rattle.term_tree.specs.declared.sort.Sort.TheVariants.{Bool as BoolSort}
+use Rattle.term_tree.specs.declared.sort.Sort.{Sort}
+use Rattle.term_tree.specs.declared.sort.Sort.TheVariants.{Int as IntSort, Bool as BoolSort}
 use Rattle.term_check.specs.declared.part.Part.{Part}
 use Rattle.term_check.specs.declared.part.Fault.{Fault}
 use Rattle.term_tree.specs.declared.refusal.Kind.TheVariants.{Unbuilt, SortMismatch}
@@ -27,6 +28,7 @@ pub record IsSpelt (text : List ℕ) (preds : List Pred) (term : Term) : Type 0 
   pub spelling : Spelled
   pub is : spelled text (scope_of preds [] true) 0 tree ≡ Ok spelling
   pub same : spelling.term ≡ term
+  pub sorted : spelling.part.sort ≡ BoolSort
   pub headed : has_head term ≡ true
 
 -- a command may stand after these
@@ -54,6 +56,13 @@ choose false x y d h f g = g h
 
 broken : {A : Type 0} (f : Fault) (d : Command) → (let r : Result Command Fault = Err f in r) ≡ Ok d → A
 broken f d h = absurd (cc)
+
+bool_by : (sort : Sort) (start : ℕ) (part : Part) (headed : Bool) → (if same_sort sort BoolSort then (if headed then None else Some (fault Unbuilt start)) else Some (fault SortMismatch part.start)) ≡ None → sort ≡ BoolSort
+bool_by IntSort start part headed h = absurd (cc)
+bool_by BoolSort start part headed h = refl
+
+bool_is : (start : ℕ) (part : Part) (headed : Bool) → clause_fault start part headed ≡ None → part.sort ≡ BoolSort
+bool_is start part headed h = bool_by part.sort start part headed h
 
 clause_is : (start : ℕ) (part : Part) (b headed : Bool) → (if b then (if headed then None else Some (fault Unbuilt start)) else Some (fault SortMismatch part.start)) ≡ None → headed ≡ true
 clause_is start part true true h = refl
@@ -89,7 +98,7 @@ module _ (text : List ℕ) (before : List Command) where
   assertion_next : (start : ℕ) (tree : Tree) (s : Spelled) (d : Command) → spelled text (scope_of (declared before) [] true) 0 tree ≡ Ok s → assertion start s ≡ Ok d → IsNext text before d
   assertion_next start tree s d is h =
       let both = let_by (clause_fault start s.part (has_head s.term)) (Assert start s.term) d h in
-      subst (IsNext text before) both.1 (record { tree = tree; spelling = s; is = is; same = refl; headed = clause_is start s.part (same_sort s.part.sort BoolSort) (has_head s.term) both.0 })
+      subst (IsNext text before) both.1 (record { tree = tree; spelling = s; is = is; same = refl; sorted = bool_is start s.part (has_head s.term) both.0; headed = clause_is start s.part (same_sort s.part.sort BoolSort) (has_head s.term) both.0 })
 
   term_next : (start : ℕ) (parts : List Tree) (d : Command) → assert_term text before start parts ≡ Ok d → IsNext text before d
   term_next start [] d h = absurd (cc)

@@ -1,4 +1,6 @@
+pub mod AssertedLemmas
 pub mod ClauseLemmas
+pub mod GrowthLemmas
 pub mod HeadLemmas
 pub mod LawLemmas
 pub mod LegalLemmas

@@ -7,6 +7,8 @@ use Rattle.sexp_read.specs.declared.tree.TextStop.TheVariants.{BadByte as BadByt
 use Rattle.sexp_read.specs.Trees.{IsReading}
 use Rattle.term_tree.specs.Arena.{Arena}
 use Rattle.term_tree.specs.Head.{has_head}
+use Rattle.term_tree.specs.Legal.{IsLegal}
+use Rattle.term_tree.specs.declared.sort.Sort.TheVariants.{Bool as BoolSort}
 use Rattle.term_tree.specs.declared.script.Assertion.{Assertion}
 use Rattle.term_tree.specs.declared.script.Script.{Script}
 use Rattle.term_tree.specs.declared.refusal.Refusal.{Refusal}
@@ -86,6 +88,10 @@ pub record IsScriptOf (commands : List Command) (script : Script) : Type 0 where
 -- under universal quantifiers
 abbrev pub HasHead : Script → Assertion → Type 0
 HasHead script assertion = IsTrue (has_head (length script.preds) script.terms.nodes assertion.term.0)
+
+-- the assertion is a legal closed Bool term over the declared predicates
+abbrev pub IsLegalAssertion : Script → Assertion → Type 0
+IsLegalAssertion script assertion = IsLegal script.preds script.terms.nodes [] BoolSort assertion.term.0
 
 -- of a text with these trees and this fault: what its legal commands spell, and the refusal behind them
 pub record IsChecked (text : List ℕ) (trees : List Tree) (stop : Option TextStop) (checked : Checked) : Type 0 where

@@ -1,12 +1,15 @@
 //! Laws of scripts and refusals, each the contract of a function that does nothing.
 
-ghost use Rattle.std.specs.Prelude.{◌≡◌, ◌≤◌, ℕ, List, length};
+ghost use Rattle.std.specs.Prelude.{◌≡◌, ◌≤◌, ℕ, List, length, Option};
+ghost use Rattle.sexp_read.specs.declared.tree.Tree.{Tree};
+ghost use Rattle.sexp_read.specs.declared.tree.TextStop.{TextStop};
+ghost use Rattle.term_tree.specs.declared.refusal.Checked.{Checked};
 ghost use Rattle.std.specs.List.{AllByRecursion};
 ghost use Rattle.term_tree.specs.Arena.{IsArena};
 ghost use Rattle.term_tree.specs.declared.script.Script.{Script};
 ghost use Rattle.term_tree.specs.declared.refusal.Refusal.{Refusal};
 ghost use Rattle.sort_check.specs.Commands.{Command, declared, most_predicates};
-ghost use Rattle.sort_check.specs.Scripts.{IsScript, IsScriptOf, IsRefused, IsScriptOrRefused, HasHead};
+ghost use Rattle.sort_check.specs.Scripts.{IsScript, IsScriptOf, IsRefused, IsScriptOrRefused, IsChecked, IsLegalAssertion, HasHead};
 
 /// Every text is a script of some commands, or has a refusal.
 pub fn script_or_refused()
@@ -37,4 +40,11 @@ pub fn assertions_have_heads()
 /// A text has at most one refusal.
 pub fn one_refusal()
     ensures { (text : List ℕ) (refusal other : Refusal) → IsRefused text refusal → IsRefused text other → refusal ≡ other }
+{}
+
+/// Every assertion among the legal commands of a text is a legal closed term of sort Bool over the
+/// declared predicates.
+pub fn assertions_are_legal()
+    ensures { (text : List ℕ) (trees : List Tree) (stop : Option TextStop) (checked : Checked) →
+        IsArena checked.script.terms.nodes → IsChecked text trees stop checked → AllByRecursion (IsLegalAssertion checked.script) checked.script.asserts }
 {}
