@@ -24,6 +24,8 @@ mod scope;
 mod seen;
 mod signature;
 mod stop;
+#[cfg(test)]
+mod tests;
 mod values;
 mod words;
 
