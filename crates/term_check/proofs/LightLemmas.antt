@@ -1,6 +1,6 @@
 -- Trees of a text have no more nodes than the text has bytes.
-use Rattle.std.proofs.Common.{◌≡◌, ◌<◌, ◌≤◌, ◌+◌, ℕ, List, [], ◌∷◌, length, ap, subst, arith}
-use Rattle.std.specs.Prelude.{Option, Some, suc, zero, slice_get}
+use Rattle.std.proofs.Common.{◌≡◌, ◌<◌, ◌≤◌, ◌+◌, ℕ, List, [], ◌∷◌, length, get_or, true, sym, ap, ◌∙◌, subst, arith}
+use Rattle.std.specs.Prelude.{Option, Some, suc, zero, slice_get, nat_lt}
 use Rattle.sexp_read.specs.declared.tree.Tree.{Tree}
 use Rattle.sexp_read.specs.declared.tree.Tree.TheViews.{List as ListTree}
 use Rattle.sexp_read.specs.declared.tree.TextStop.{TextStop}
@@ -41,3 +41,10 @@ reading_light text trees stop h i tree is =
 
 pub item_lighter : (items : List Tree) (start end i : ℕ) (tree : Tree) → slice_get items i ≡ Some tree → weight tree < weight (ListTree items start end)
 item_lighter items start end i tree is = let w = weight-List items start end in let h = weighs_less items i tree is in omega (arith, w, h)
+
+first_there : (trees : List Tree) (tree : Tree) → nat_lt 0 (length trees) ≡ true → tree ≡ get_or trees 0 tree → slice_get trees 0 ≡ Some tree
+first_there [] tree h is = absurd (cc)
+first_there (t ∷ ts) tree h is = ap Some (sym is)
+
+pub first_light : (text : List ℕ) (trees seen : List Tree) (stop : Option TextStop) (tree : Tree) → IsReading text trees stop → seen ≡ trees → nat_lt 0 (length seen) ≡ true → tree ≡ get_or seen 0 tree → weight tree ≤ length text
+first_light text trees seen stop tree h same some is = reading_light text trees stop h 0 tree (ap (λ ts. slice_get ts 0) (sym same) ∙ first_there seen tree some is)

@@ -4,9 +4,7 @@
 
 ghost use Rattle.std.specs.Prelude.{◌<◌, ◌^◌, length};
 
-use crate::{
-    Fault, FormulaStop, Signature, TermStop, check_formula, check_term, trees_are_light,
-};
+use crate::{Fault, FormulaStop, Signature, TermStop, check_formula, check_term, trees_are_light};
 use base::{Items, Memory};
 use sexp_read::read_commands;
 use std::alloc::Global;
@@ -66,11 +64,11 @@ fn shown_node(alloc: Global, node: &Node) -> Result<String, Memory> {
 
 fn shown_nodes(alloc: Global, terms: &Terms) -> Result<String, Memory> {
     let mut shown = String::new(alloc);
-    let mut id: u32 = 0;
-    while (id as usize) < terms.len() && id < 1000 {
-        let node = shown_node(alloc, terms.node(TermId(id)))?;
-        shown.push_str(&format!(in alloc; "{node} ")?)?;
-        id += 1;
+    for id in 0..1000u32 {
+        if (id as usize) < terms.len() {
+            let node = shown_node(alloc, terms.node(TermId(id)))?;
+            shown.push_str(&format!(in alloc; "{node} ")?)?;
+        }
     }
     Ok(shown)
 }
@@ -88,7 +86,12 @@ fn named(alloc: Global, text: &[u8], sorts: &[Sort]) -> Result<Pred, Memory> {
     })
 }
 
-fn declare(alloc: Global, signature: &mut Signature, text: &[u8], sorts: &[Sort]) -> Result<(), Memory> {
+fn declare(
+    alloc: Global,
+    signature: &mut Signature,
+    text: &[u8],
+    sorts: &[Sort],
+) -> Result<(), Memory> {
     let pred = named(alloc, text, sorts)?;
     if signature.len() < 100 && signature.number_of(pred.name.bytes.as_slice()).is_none() {
         signature.declare(pred)?;
@@ -235,7 +238,11 @@ fn distinct_has_64_terms_at_most(rt: HostRuntime) -> Result<(), Fail> {
     for (count, expected) in [(1, "Arity 0 "), (65, "Count 0 "), (200, "Count 0 ")] {
         let text = repeated(alloc, b"(distinct", b" 1", count, b")")?;
         assert!(rt; text.len() < 10000);
-        assert_eq!(rt; read(alloc, &text, &signature)?.as_str(), expected, "{count}");
+        assert_eq!(rt;
+            read(alloc, &text, &signature)?.as_str(),
+            expected,
+            "{count}"
+        );
     }
     let text = repeated(alloc, b"(distinct", b" 1", 64, b")")?;
     assert!(rt; text.len() < 10000);
@@ -247,14 +254,28 @@ fn distinct_has_64_terms_at_most(rt: HostRuntime) -> Result<(), Fail> {
 fn terms_may_be_deep(rt: HostRuntime) -> Result<(), Fail> {
     let alloc = rt.alloc();
     let signature = declared(alloc)?;
-    let front = repeated(alloc, b"", b"(let ((x true)) (and ", 990, b"zz")?;
-    let text = repeated(alloc, &front, b"))", 990, b"")?;
-    assert!(rt; text.len() < 100000);
-    assert_eq!(rt; read(alloc, &text, &signature)?.as_str(), "UnknownSymbol 20790 ");
     let front = repeated(alloc, b"", b"(not ", 1900, b"true")?;
     let text = repeated(alloc, &front, b")", 1900, b"")?;
     assert!(rt; text.len() < 100000);
-    assert!(rt; read(alloc, &text, &signature)?.as_str().starts_with("t Not,0 "));
+    assert!(rt;
+        read(alloc, &text, &signature)?
+            .as_str()
+            .starts_with("t Not,0 ")
+    );
+    Ok(())
+}
+
+#[test]
+fn binders_may_be_deep(rt: HostRuntime) -> Result<(), Fail> {
+    let alloc = rt.alloc();
+    let signature = declared(alloc)?;
+    let front = repeated(alloc, b"", b"(let ((x true)) (and ", 950, b"zz")?;
+    let text = repeated(alloc, &front, b"))", 950, b"")?;
+    assert!(rt; text.len() < 100000);
+    assert_eq!(rt;
+        read(alloc, &text, &signature)?.as_str(),
+        "UnknownSymbol 19950 "
+    );
     Ok(())
 }
 
@@ -283,7 +304,11 @@ fn formula(alloc: Global, text: &[u8]) -> Result<String, Memory>
 #[test]
 fn formulas_have_parameters_alone(rt: HostRuntime) -> Result<(), Fail> {
     let table = [
-        ("parameters by number", "(or y (< x 3))", "b1 x0 3 Lt,1,2 Or,0,3 "),
+        (
+            "parameters by number",
+            "(or y (< x 3))",
+            "b1 x0 3 Lt,1,2 Or,0,3 ",
+        ),
         ("no truth", "x", "0"),
         ("a predicate", "(not (p 1))", "6"),
         ("a quantifier", "(and y (forall ((z zz)) true))", "7"),
