@@ -10,6 +10,7 @@ pub mod LegalityLemmas
 pub mod LightLemmas
 pub mod NameLemmas
 pub mod NodeLemmas
+pub mod NumberLemmas
 pub mod OutcomeLemmas
 pub mod ReadingLemmas
 pub mod RuleLemmas

@@ -1,27 +1,31 @@
 ghost use Rattle.std.specs.Prelude.{◌≡◌, ◌+◌, ◌<◌, ◌^◌, ◌++◌, [], ◌∷◌, length, None, OnOk, OnErr};
 ghost use Rattle.term_check.specs.Spelling.{pred_from};
 
-use crate::names::pred_named;
 use base::{Items, Memory};
+use indexmap::IndexMap;
 use std::alloc::Global;
 use std::marker::Model;
 use term_tree::Pred;
 
-/// The declared predicates, numbered from 0 in their order. Their names differ.
+/// The declared predicates, numbered from 0 in their order, each found by its name. Their names
+/// differ.
 #[derive(Drop)]
 pub struct Signature {
+    alloc: Global,
     preds: Vec<Pred>,
+    numbers: IndexMap<Vec<u8>, u32>,
 }
 
 impl Model for Signature {
-    ghost use Rattle.std.specs.Prelude.{List, ◌<◌, ◌^◌, vec_len};
+    ghost use Rattle.std.specs.Prelude.{List, ◌≡◌, ◌<◌, ◌^◌, vec_len, map};
     ghost use Rattle.term_tree.specs.declared.script.Pred.{Pred as APred};
+    ghost use Rattle.term_check.specs.Numbers.{numbered};
 
     ghost Value = { List APred };
 
     ghost view = { λ s. s.preds.items };
 
-    ghost invariant = { λ s. vec_len s.preds < 2 ^ 32 };
+    ghost invariant = { λ s. (vec_len s.preds < 2 ^ 32) × (map (λ e. (e.0.items, e.1)) s.numbers.entries ≡ numbered 0 s.preds.items) };
 }
 
 impl Signature {
@@ -30,7 +34,9 @@ impl Signature {
         ensures { result ≡ [] }
     {
         Signature {
+            alloc,
             preds: Vec::new(alloc),
+            numbers: IndexMap::new(alloc),
         }
     }
 
@@ -53,7 +59,10 @@ impl Signature {
     pub fn number_of(&self, name: &[u8]) -> Option<u32>
         ensures { result ≡ pred_from 0 name.now self.now }
     {
-        pred_named(name, self.preds.as_slice())
+        match self.numbers.get(name) {
+            Some(number) => Some(*number),
+            None => None,
+        }
     }
 
     /// Declares a predicate whose name is new.
@@ -63,7 +72,11 @@ impl Signature {
         ensures declared { OnOk result (self.new ≡ self.old ++ pred ∷ []) }
         ensures unchanged { OnErr result (self.new ≡ self.old) }
     {
-        self.preds.push(pred)?;
+        let name = Vec::from_slice(self.alloc, pred.name.bytes.as_slice())?;
+        self.preds.reserve(1)?;
+        let number = self.preds.len() as u32;
+        self.numbers.insert(name, number)?;
+        self.preds.push(pred).unwrap();
         Ok(())
     }
 
