@@ -5,5 +5,6 @@ pub mod SoundLemmas
 pub mod TreeLemmas
 pub mod SumLemmas
 pub mod EndLemmas
-pub mod JudgeLemmas
 pub mod RoomLemmas
+pub mod WalkLemmas
+pub mod CopyLemmas

@@ -4,7 +4,7 @@ use Rattle.std.specs.Prelude.{ℤ, pos, nat_abs, nat_le, nat_lt, neg_ℤ, ◌+�
 use Rattle.std.specs.Int.{int_div_euclid, int_signum}
 use Rattle.std.proofs.Math.IntN.{zero-*ℤ}
 use Rattle.std.specs.List.{list_all, remove}
-use Rattle.std.proofs.lemmas.Bool.{leb-true, eqb-true}
+use Rattle.std.proofs.lemmas.Bool.{leb-true, ltb-true, ltb-false, eqb-true}
 use Rattle.std.proofs.lemmas.Bool.Decides.{nat_tests}
 use Rattle.std.proofs.lemmas.Int.{ints}
 use Rattle.std.proofs.lemmas.List.{drop_more, take_more, get_or-map}
@@ -14,7 +14,7 @@ use Rattle.lin_atoms.specs.Algebra.{added, term_on, with_term, collected, scaled
 use Rattle.lin_atoms.specs.Linear.{Linear, are_ordered, is_small}
 use Rattle.lin_atoms.specs.declared.lit.Lit.{Lit}
 use Rattle.farkas_proof.specs.Combination.{are_multipliers, combined, is_multiplier, linear_at, rounded}
-use Rattle.lin_atoms.proofs.LinearLemmas.{both_true}
+use Rattle.lin_atoms.proofs.LinearLemmas.{both_true, length_at}
 use Rattle.lin_atoms.proofs.TermLemmas.{collected-ordered, collected-same, ordered, ordered-cons, ordered-weaker, term_on-whole, with_term-behind, with_term-front, with_term-same}
 use Rattle.lin_atoms.proofs.MergeLemmas.{scaled-drop}
 use Rattle.farkas_proof.specs.Sum.{are_counted, seen, standing}
@@ -43,6 +43,23 @@ place-more ts i v a d h less told =
     let x : ℕ × ℤ = ((get_or ts i d).0, (get_or ts i d).1.value) in
     told ∙ ap (λ (us : List (ℕ × ℤ)). take i (seen ts) ++ with_term v a us) (rest-at ts i d h) ∙ ap (λ (us : List (ℕ × ℤ)). take i (seen ts) ++ us) (with_term-behind v a x (drop (i + 1) (seen ts)) less)
     ∙ sym (append_assoc (take i (seen ts)) (x ∷ []) (with_term v a (drop (i + 1) (seen ts)))) ∙ ap (λ (us : List (ℕ × ℤ)). us ++ with_term v a (drop (i + 1) (seen ts))) (sym (front-at ts i d h))
+
+-- the terms before one that isn't above the variable stay before it
+before-some : (ts : List (ℕ × ℤ)) (from i v : ℕ) (a : ℤ) → are_ordered from ts ≡ true → i < length ts → (get_or ts i (0, pos 0)).0 ≤ v → with_term v a ts ≡ take i ts ++ with_term v a (drop i ts)
+before-some [] from i v a o h le = absurd (omega arith)
+before-some (t ∷ ts) from zero v a o h le = refl
+before-some (t ∷ ts) from (suc i) v a o h le =
+    let here : i < length ts = omega arith in
+    let rest : are_ordered (t.0 + 1) ts ≡ true = (both_true (nat_lt 0 (nat_abs t.1)) _ (both_true (nat_le from t.0) _ o).1).1 in
+    let above : t.0 + 1 + i ≤ (get_or ts i (0, pos 0)).0 = length_at (t.0 + 1) ts i (0, pos 0) here rest in
+    let less : t.0 < v = omega arith in
+    with_term-behind v a t ts less ∙ ap (λ (us : List (ℕ × ℤ)). t ∷ us) (before-some ts (t.0 + 1) i v a rest here le)
+
+pub place-before : (ts : List (ℕ × Total)) (i v : ℕ) (a : ℤ) (d : ℕ × Total) → are_ordered 0 (seen ts) ≡ true → i < length ts → (get_or ts i d).0 ≤ v → with_term v a (seen ts) ≡ take i (seen ts) ++ with_term v a (drop i (seen ts))
+place-before ts i v a d o h le =
+    let within : i < length (seen ts) = omega (arith, length-seen ts) in
+    let same : (get_or (seen ts) i (0, pos 0)).0 ≡ (get_or ts i d).0 = ap (λ (t : ℕ × ℤ). t.0) (seen-at ts i d h) in
+    before-some (seen ts) 0 i v a o within (omega (arith, same, le))
 
 pub place-met : (ts : List (ℕ × Total)) (i v : ℕ) (a : ℤ) (d : ℕ × Total) → i < length ts → (get_or ts i d).0 ≡ v → with_term v a (seen ts) ≡ take i (seen ts) ++ with_term v a (drop i (seen ts))
     → with_term v a (seen ts) ≡ take i (seen ts) ++ term_on v (a +ℤ (get_or (seen ts) i (0, pos 0)).1) (drop (i + 1) (seen ts))
@@ -73,6 +90,19 @@ pub place-end : (ts : List (ℕ × Total)) (i v : ℕ) (a : ℤ) → length ts �
 place-end ts i v a h told =
     let none : drop i (seen ts) ≡ [] = drop-end (seen ts) i (omega (arith, length-seen ts)) in
     told ∙ ap (λ (us : List (ℕ × ℤ)). take i (seen ts) ++ with_term v a us) none ∙ ap (λ (us : List (ℕ × ℤ)). take i (seen ts) ++ term_on v a us) (sym none)
+
+-- the term belongs before one that is above it, or at the end
+place-last : (ts : List (ℕ × Total)) (i v : ℕ) (a : ℤ) (b : Bool) → nat_lt i (length ts) ≡ b → ((d : ℕ × Total) → i < length ts → v < (get_or ts i d).0)
+    → with_term v a (seen ts) ≡ take i (seen ts) ++ with_term v a (drop i (seen ts)) → with_term v a (seen ts) ≡ take i (seen ts) ++ term_on v a (drop i (seen ts))
+place-last ts i v a true is behind told =
+    let lt : i < length ts = ltb-true i (length ts) is in
+    let d : ℕ × Total = (0, record { value = pos 0; added = 0 }) in
+    place-free ts i v a d lt (behind d lt) told
+place-last ts i v a false is behind told = place-end ts i v a (ltb-false i (length ts) is) told
+
+pub place-found : (ts : List (ℕ × Total)) (i v : ℕ) (a : ℤ) → ((d : ℕ × Total) → i < length ts → v < (get_or ts i d).0)
+    → with_term v a (seen ts) ≡ take i (seen ts) ++ with_term v a (drop i (seen ts)) → with_term v a (seen ts) ≡ take i (seen ts) ++ term_on v a (drop i (seen ts))
+place-found ts i v a behind told = place-last ts i v a (nat_lt i (length ts)) refl behind told
 
 seen-set : (ts : List (ℕ × Total)) (i : ℕ) (e : ℕ × Total) → i < length ts → seen (set ts i e) ≡ take i (seen ts) ++ (e.0, e.1.value) ∷ drop (i + 1) (seen ts)
 seen-set [] i e h = absurd (omega arith)

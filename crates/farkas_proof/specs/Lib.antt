@@ -4,3 +4,5 @@ pub mod Refutation
 pub mod Sum
 pub mod Tells
 pub mod Kept
+pub mod Walk
+pub mod Copying

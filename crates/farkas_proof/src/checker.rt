@@ -2,33 +2,13 @@ ghost use Rattle.std.specs.Prelude.{◌≡◌, ℕ, true, IfOk, OnOk, IsErrOf};
 ghost use Rattle.lin_atoms.specs.Denial.{lit_fits};
 ghost use Rattle.farkas_proof.specs.Kept.{form_of, proof_of};
 ghost use Rattle.farkas_proof.specs.Refutation.{Illegal, Wide, is_refutation, is_sound, judged};
-ghost use Rattle.farkas_proof.specs.Tells.{Tells};
 
-use crate::ends::form_end;
-use crate::flatten::flattened;
-use crate::judge::{judge, push_copies};
 use crate::refuted::Refuted;
 use crate::stop::CheckStop;
 use crate::tree::Refutation;
+use crate::walk::judge;
 use lin_atoms::Form;
 use std::alloc::Global;
-
-/// What is found in the tree, from the flattened form on.
-fn judge_form(alloc: Global, form: &Form, proof: &Refutation) -> Result<u32, CheckStop>
-    ensures { Tells (judged lit_fits form.now proof.now) result }
-{
-    let flat = flattened(alloc, form)?;
-    let mut lits = Vec::new(alloc);
-    push_copies(alloc, &mut lits, flat.lits.as_slice())?;
-    judge(
-        alloc,
-        form_end(form),
-        proof,
-        &mut lits,
-        flat.cases.as_slice(),
-        0,
-    )
-}
 
 /// Checks a tree from anyone as a proof that no integer point satisfies the form. `Refuted` comes
 /// exactly where each node is legal and derives no literal that is too wide; otherwise the first
@@ -41,7 +21,7 @@ pub fn check(alloc: Global, form: &Form, proof: &Refutation) -> Result<Refuted, 
     ensures no_proof { (n : ℕ) → IsErrOf result (CheckStop.NoProof n) → judged lit_fits form.now proof.now ≡ Illegal n }
     ensures sum_wide { (n : ℕ) → IsErrOf result (CheckStop.SumWide n) → judged lit_fits form.now proof.now ≡ Wide n }
 {
-    match judge_form(alloc, form, proof) {
+    match judge(alloc, form, proof) {
         Ok(_) => {
             let form = form.copy(alloc)?;
             let proof = proof.copy(alloc)?;

@@ -1,6 +1,9 @@
-ghost use Rattle.std.specs.Prelude.{◌≡◌, ◌++◌, IfOk, OnOk};
+ghost use Rattle.std.specs.Prelude.{◌≡◌, ◌++◌, ◌∷◌, [], IfOk, OnOk, pos};
 ghost use Rattle.std.specs.List.{flat_map};
 ghost use Rattle.farkas_proof.specs.Flatten.{disjunctions, literals};
+ghost use Rattle.farkas_proof.specs.Walk.{opened};
+ghost use Rattle.lin_atoms.specs.Linear.{of_constant};
+ghost use Rattle.lin_atoms.specs.declared.lit.Lit.TheVariants.{Le};
 
 use base::{Copied, Items, Memory};
 use lin_atoms::{Form, Lin, Lit};
@@ -18,50 +21,90 @@ pub fn flattened(alloc: Global, form: &Form) -> Result<Flat, Memory>
     ensures lits { IfOk result (λ flat. flat.lits ≡ literals form.now) }
     ensures cases { IfOk result (λ flat. flat.cases ≡ disjunctions form.now) }
 {
-    let mut flat = Flat {
-        lits: Items::new(alloc),
-        cases: Items::new(alloc),
-    };
-    flatten_into(alloc, form, &mut flat)?;
-    Ok(flat)
+    let mut lits = Vec::new(alloc);
+    push_literals(alloc, form, &mut lits)?;
+    let mut lent = Vec::new(alloc);
+    push_disjunctions(form, &mut lent)?;
+    let cases = copies(alloc, lent.as_slice())?;
+    Ok(Flat {
+        lits: Items::from_vec(lits),
+        cases,
+    })
 }
 
-#[cycle(flatten)]
-fn flatten_into(alloc: Global, form: &Form, flat: &mut Flat) -> Result<(), Memory>
-    ensures lits { OnOk result (flat.new.lits ≡ flat.old.lits ++ literals form.now) }
-    ensures cases { OnOk result (flat.new.cases ≡ flat.old.cases ++ disjunctions form.now) }
+/// Copies of the disjunctions.
+fn copies(alloc: Global, lent: &[&Items<Form>]) -> Result<Items<Items<Form>>, Memory>
+    ensures { IfOk result (λ copied. copied ≡ opened lent.now) }
+{
+    let mut copied = Items::new(alloc);
+    for parts in lent {
+        copied.push(parts.copy(alloc)?)?;
+    }
+    Ok(copied)
+}
+
+/// Puts copies of the literals of a form after the others.
+#[cycle(literals)]
+pub(crate) fn push_literals(alloc: Global, form: &Form, lits: &mut Vec<Lit>) -> Result<(), Memory>
+    ensures { OnOk result (lits.new.items ≡ lits.old.items ++ literals form.now) }
 {
     match form {
         Form::True => Ok(()),
-        Form::False => push_false(alloc, flat),
+        Form::False => push_false(alloc, lits),
         Form::Lit(lit) => {
-            flat.lits.push(lit.copy(alloc)?)?;
+            lits.push(lit.copy(alloc)?)?;
             Ok(())
         }
-        Form::And(parts) => flatten_all_into(alloc, parts.as_slice(), flat),
-        Form::Or(parts) => {
-            flat.cases.push(parts.copy(alloc)?)?;
-            Ok(())
-        }
+        Form::And(parts) => push_all_literals(alloc, parts.as_slice(), lits),
+        Form::Or(_) => Ok(()),
     }
 }
 
-#[cycle(flatten)]
-fn flatten_all_into(alloc: Global, parts: &[Form], flat: &mut Flat) -> Result<(), Memory>
-    ensures lits { OnOk result (flat.new.lits ≡ flat.old.lits ++ flat_map literals parts.now) }
-    ensures cases { OnOk result (flat.new.cases ≡ flat.old.cases ++ flat_map disjunctions parts.now) }
+#[cycle(literals)]
+fn push_all_literals(alloc: Global, parts: &[Form], lits: &mut Vec<Lit>) -> Result<(), Memory>
+    ensures { OnOk result (lits.new.items ≡ lits.old.items ++ flat_map literals parts.now) }
 {
     for part in parts {
-        flatten_into(alloc, part, flat)?;
+        push_literals(alloc, part, lits)?;
     }
     Ok(())
 }
 
 /// `False` is the literal `1 <= 0`.
-fn push_false(alloc: Global, flat: &mut Flat) -> Result<(), Memory>
-    ensures lits { OnOk result (flat.new.lits ≡ flat.old.lits ++ literals Form.False) }
-    ensures cases { OnOk result (flat.new.cases ≡ flat.old.cases) }
+fn push_false(alloc: Global, lits: &mut Vec<Lit>) -> Result<(), Memory>
+    ensures { OnOk result (lits.new.items ≡ lits.old.items ++ Le (of_constant (pos 1)) ∷ []) }
 {
-    flat.lits.push(Lit::Le(Lin::of_constant(alloc, 1)))?;
+    lits.push(Lit::Le(Lin::of_constant(alloc, 1)))?;
+    Ok(())
+}
+
+/// Puts the open disjunctions of a form after the others.
+#[cycle(disjunctions)]
+pub(crate) fn push_disjunctions<'a>(
+    form: &'a Form,
+    cases: &mut Vec<&'a Items<Form>>,
+) -> Result<(), Memory>
+    ensures { OnOk result (opened cases.new.items ≡ opened cases.old.items ++ disjunctions form.now) }
+{
+    match form {
+        Form::And(parts) => push_all_disjunctions(parts.as_slice(), cases),
+        Form::Or(parts) => {
+            cases.push(parts)?;
+            Ok(())
+        }
+        _ => Ok(()),
+    }
+}
+
+#[cycle(disjunctions)]
+fn push_all_disjunctions<'a>(
+    parts: &'a [Form],
+    cases: &mut Vec<&'a Items<Form>>,
+) -> Result<(), Memory>
+    ensures { OnOk result (opened cases.new.items ≡ opened cases.old.items ++ flat_map disjunctions parts.now) }
+{
+    for part in parts {
+        push_disjunctions(part, cases)?;
+    }
     Ok(())
 }

@@ -3,9 +3,9 @@
 #![tactic(auto)]
 
 mod checker;
+mod copying;
 mod ends;
 mod flatten;
-mod judge;
 mod laws;
 mod nodes;
 mod quotient;
@@ -14,6 +14,7 @@ mod rounding;
 mod stop;
 mod sum;
 mod tree;
+mod walk;
 
 pub use checker::check;
 pub use flatten::{Flat, flattened};
@@ -21,3 +22,8 @@ pub use laws::refuted_forms_have_no_point;
 pub use refuted::Refuted;
 pub use stop::CheckStop;
 pub use tree::Refutation;
+
+#[cfg(test)]
+mod chain_tests;
+#[cfg(test)]
+mod tests;

@@ -25,18 +25,24 @@ pub(crate) struct Sum {
 
 /// Where the variable's term stands, or else the place before which a term of it belongs.
 fn place(terms: &[(u32, Accumulator)], variable: u32) -> Result<usize, usize>
+    requires { are_ordered 0 (seen terms.now) ≡ true }
     ensures met { IfOk result (λ at. (at < length terms.now) × ((slice_index_or (seen terms.now) at (0, pos 0)).0 ≡ variable) × ((a : ℤ) → with_term variable a (seen terms.now) ≡ take at (seen terms.now) ++ term_on variable (a +ℤ (slice_index_or (seen terms.now) at (0, pos 0)).1) (drop (at + 1) (seen terms.now)))) }
     ensures free { IfErr result (λ at. (at ≤ length terms.now) × ((a : ℤ) → with_term variable a (seen terms.now) ≡ take at (seen terms.now) ++ term_on variable a (drop at (seen terms.now)))) }
 {
-    for (i, term) in terms.iter().enumerate() {
-        if term.0 == variable {
-            return Ok(i);
+    let (mut low, mut high) = (0, terms.len());
+    while low < high {
+        let middle = low + (high - low) / 2;
+        let there = terms[middle].0;
+        if there == variable {
+            return Ok(middle);
         }
-        if term.0 > variable {
-            return Err(i);
+        if there < variable {
+            low = middle + 1;
+        } else {
+            high = middle;
         }
     }
-    Err(terms.len())
+    Err(low)
 }
 
 /// Adds a product.
@@ -84,6 +90,7 @@ fn add_product(
     a: i64,
 ) -> Result<(), Memory>
     requires room { products < 2 ^ 32 }
+    requires ordered { are_ordered 0 (seen terms.old.items) ≡ true }
     requires counted { are_counted products terms.old.items ≡ true }
     ensures value { OnOk result (seen terms.new.items ≡ with_term variable (k *ℤ a) (seen terms.old.items)) }
     ensures counted { OnOk result (are_counted (products + 1) terms.new.items ≡ true) }

@@ -1,12 +1,13 @@
 ghost use Rattle.std.specs.Prelude.{◌≡◌, IfOk};
 
+use crate::copying::copied;
 use base::{Boxed, Copied, Items, Memory, Same};
 use lin_atoms::Lin;
 use std::alloc::Global;
 
 /// A proof that literals and open disjunctions have no common integer point. Each node speaks of
 /// the literals, by their numbers, that stand where it stands.
-#[derive(Debug, Drop)]
+#[derive(Debug)]
 pub enum Refutation {
     /// A combination of literals that is a number above 0, and so not at most 0 (Farkas).
     Leaf {
@@ -34,6 +35,44 @@ pub enum Refutation {
         lit: u32,
         sub: Boxed<Refutation>,
     },
+}
+
+/// Frees a chain of nodes by a loop, however long it is.
+impl Drop for Refutation {
+    fn drop(mut self) {
+        loop {
+            match self {
+                Refutation::Leaf { multipliers: _ } => return,
+                Refutation::Round {
+                    multipliers: _,
+                    divisor: _,
+                    sub,
+                } => self = sub.into_inner(),
+                Refutation::Split {
+                    lin: _,
+                    below,
+                    above,
+                } => {
+                    let low = below.into_inner();
+                    let high = above.into_inner();
+                    if low.is_chain() {
+                        self = high;
+                    } else {
+                        self = low;
+                    }
+                }
+                Refutation::Cases { which: _, mut subs } => {
+                    let last = subs.pop();
+                    drop(subs);
+                    match last {
+                        Some(sub) => self = sub,
+                        None => return,
+                    }
+                }
+                Refutation::Quotient { lit: _, sub } => self = sub.into_inner(),
+            }
+        }
+    }
 }
 
 impl Same for Refutation {
@@ -78,57 +117,25 @@ impl Same for Refutation {
 }
 
 impl Refutation {
-    /// An equal tree.
-    #[cycle(copy)]
-    pub fn copy(&self, alloc: Global) -> Result<Refutation, Memory>
-        ensures { IfOk result (λ copied. copied ≡ self.now) }
-    {
-        match self {
-            Refutation::Leaf { multipliers } => Ok(Refutation::Leaf {
-                multipliers: multipliers.copy(alloc)?,
-            }),
-            Refutation::Round {
-                multipliers,
-                divisor,
-                sub,
-            } => {
-                let sub = Boxed::new(alloc, sub.get().copy(alloc)?)?;
-                Ok(Refutation::Round {
-                    multipliers: multipliers.copy(alloc)?,
-                    divisor: *divisor,
-                    sub,
-                })
-            }
-            Refutation::Split { lin, below, above } => {
-                let below = Boxed::new(alloc, below.get().copy(alloc)?)?;
-                let above = Boxed::new(alloc, above.get().copy(alloc)?)?;
-                Ok(Refutation::Split {
-                    lin: lin.copy(alloc)?,
-                    below,
-                    above,
-                })
-            }
-            Refutation::Cases { which, subs } => Ok(Refutation::Cases {
-                which: *which,
-                subs: copy_all(alloc, subs.as_slice())?,
-            }),
-            Refutation::Quotient { lit, sub } => {
-                let sub = Boxed::new(alloc, sub.get().copy(alloc)?)?;
-                Ok(Refutation::Quotient { lit: *lit, sub })
+    /// Whether no node has more than one sub.
+    fn is_chain(&self) -> bool {
+        let mut tree = self;
+        loop {
+            match tree {
+                Refutation::Leaf { .. } => return true,
+                Refutation::Round { sub, .. } => tree = sub.get(),
+                Refutation::Quotient { sub, .. } => tree = sub.get(),
+                _ => return false,
             }
         }
     }
-}
 
-#[cycle(copy)]
-fn copy_all(alloc: Global, subs: &[Refutation]) -> Result<Items<Refutation>, Memory>
-    ensures { IfOk result (λ copied. copied ≡ subs.now) }
-{
-    let mut copied = Items::new(alloc);
-    for sub in subs {
-        copied.push(sub.copy(alloc)?)?;
+    /// An equal tree.
+    pub fn copy(&self, alloc: Global) -> Result<Refutation, Memory>
+        ensures { IfOk result (λ copied. copied ≡ self.now) }
+    {
+        copied(alloc, self)
     }
-    Ok(copied)
 }
 
 /// Hands the method on, so that lists and boxes of trees are copied too.

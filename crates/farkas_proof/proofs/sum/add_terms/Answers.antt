@@ -4,7 +4,7 @@ use Rattle.std.specs.Int.{w64}
 use Rattle.std.proofs.lemmas.Int.{ints, to_z-of_z}
 use Rattle.lin_atoms.specs.Algebra.{collected, scaled_terms, with_term}
 use Rattle.farkas_proof.specs.Sum.{are_counted, seen}
-use Rattle.farkas_proof.proofs.SumLemmas.{scaled-none, scaled-step}
+use Rattle.farkas_proof.proofs.SumLemmas.{ordered-made, scaled-none, scaled-step}
 use Rattle.farkas_proof.proofs.sum.add_terms.Goals as goal
 
 pub loop-left-init : goal.loop-left-init
@@ -37,3 +37,9 @@ loop-left-preserved c =
       more = omega (arith, c.loop-left.invariant.more);
       place = omega (arith, c.loop-left.invariant.place);
     }
+
+pub add_product-requires-clause-ordered : goal.add_product-requires-clause-ordered
+add_product-requires-clause-ordered c =
+    let k_fits : FitsSigned w64 c.args.k = c.ranges.k in
+    let before = simp to_z-of_z at c.loop-left.invariant.value in
+    ordered-made (seen c.loop-left.terms.items) (scaled_terms c.args.k (drop c.loop-left.left c.args.added.now) ++ seen c.args.terms.now.items) before

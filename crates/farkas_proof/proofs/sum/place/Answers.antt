@@ -1,25 +1,46 @@
-use Rattle.std.proofs.Common.{ap, ℕ, sym, ◌≡◌, ◌∙◌, arith, ◌<◌, get_or, length, rules}
-use Rattle.std.specs.Prelude.{ℤ, pos}
+use Rattle.std.proofs.Common.{◌≡◌, ◌<◌, ◌≤◌, ◌+◌, ◌-◌, ◌/◌, ◌∙◌, ℕ, ap, arith, get_or, length}
+use Rattle.std.specs.Prelude.{ℤ}
 use Rattle.lin_atoms.specs.Accumulator.{Total}
-use Rattle.farkas_proof.specs.Sum.{seen}
-use Rattle.farkas_proof.proofs.SumLemmas.{place-end, place-free, place-met, place-more, seen-at}
+use Rattle.farkas_proof.proofs.SumLemmas.{place-before, place-found, place-met, place-more, seen-at}
 use Rattle.farkas_proof.proofs.sum.place.Goals as goal
 
-pub loop-i-preserved : goal.loop-i-preserved
-loop-i-preserved c =
-    let same = ap (λ (t : ℕ × Total). t.0) c.index-terms-i.is in
-    λ a. place-more c.args.terms.now c.loop-i.i c.args.variable a c.index-terms-i.result c.loop-i-test.true (omega arith) (c.loop-i.invariant a)
+pub returns-then-there-variable-clause-met : goal.returns-then-there-variable-clause-met
+returns-then-there-variable-clause-met c =
+    let ts = c.args.terms.now in
+    let i = c.loop-low.low + (c.loop-low.high - c.loop-low.low) / 2 in
+    let item = c.index-terms-middle.result in
+    let v = c.args.variable in
+    let same = ap (λ (t : ℕ × Total). t.0) c.index-terms-middle.is in
+    let within = c.loop-low.invariant.length in
+    let h : i < length ts = omega arith in
+    let is : (get_or ts i item).0 ≡ v = omega arith in
+    let le : (get_or ts i item).0 ≤ v = omega arith in
+    (h, ap (λ (t : ℕ × ℤ). t.0) (seen-at ts i item h) ∙ is, λ a. place-met ts i v a item h is (place-before ts i v a item c.requires h le))
 
-pub returns-then-term-variable-2-clause-free : goal.returns-then-term-variable-2-clause-free
-returns-then-term-variable-2-clause-free c =
-    let same = ap (λ (t : ℕ × Total). t.0) c.index-terms-i.is in
-    (omega arith, λ a. place-free c.args.terms.now c.loop-i.i c.args.variable a c.index-terms-i.result c.loop-i-test.true (omega arith) (c.loop-i.invariant a))
+pub loop-low-preserved-then-there-variable-2 : goal.loop-low-preserved-then-there-variable-2
+loop-low-preserved-then-there-variable-2 c =
+    let ts = c.args.terms.now in
+    let i = c.loop-low.low + (c.loop-low.high - c.loop-low.low) / 2 in
+    let item = c.index-terms-middle.result in
+    let v = c.args.variable in
+    let same = ap (λ (t : ℕ × Total). t.0) c.index-terms-middle.is in
+    let within = c.loop-low.invariant.length in
+    let h : i < length ts = omega arith in
+    let less : (get_or ts i item).0 < v = omega arith in
+    let le : (get_or ts i item).0 ≤ v = omega arith in
+    record {
+      before = λ a. place-more ts i v a item h less (place-before ts i v a item c.requires h le);
+      behind = c.loop-low.invariant.behind;
+      within = omega arith;
+      length = within;
+    }
 
-pub returns-then-term-variable-clause-met : goal.returns-then-term-variable-clause-met
-returns-then-term-variable-clause-met c =
-    let same = ap (λ (t : ℕ × Total). t.0) c.index-terms-i.is in
-    let is : (get_or c.args.terms.now c.loop-i.i c.index-terms-i.result).0 ≡ c.args.variable = omega arith in (
-      c.loop-i-test.true,
-      ap (λ (t : ℕ × ℤ). t.0) (seen-at c.args.terms.now c.loop-i.i c.index-terms-i.result c.loop-i-test.true) ∙ is,
-      λ a. place-met c.args.terms.now c.loop-i.i c.args.variable a c.index-terms-i.result c.loop-i-test.true is (c.loop-i.invariant a),
-    )
+pub returns-clause-free : goal.returns-clause-free
+returns-clause-free c =
+    let ts = c.args.terms.now in
+    let low = c.loop-low.low in
+    let within = c.loop-low.invariant.within in
+    let bound = c.loop-low.invariant.length in
+    let high : c.loop-low.high ≡ low = omega arith in
+    let behind = rw high at c.loop-low.invariant.behind in
+    (omega arith, λ a. place-found ts low c.args.variable a behind (c.loop-low.invariant.before a))

@@ -1,0 +1,87 @@
+-- What waits in a walk through a tree, and what is found in it.
+use Rattle.std.specs.Prelude.{◌≡◌, ℕ, ◌+◌, List, [], ◌∷◌, ◌++◌, map, take, drop, Result, Ok, Err}
+use Rattle.std.specs.List.{sum_by}
+use Rattle.std.specs.Borrow.{Bor}
+use Rattle.lin_atoms.specs.Denial.{lit_fits}
+use Rattle.lin_atoms.specs.declared.form.Form.{Form}
+use Rattle.farkas_proof.specs.Flatten.{disjunctions, literals}
+use Rattle.farkas_proof.specs.Refutation.{Finding, Sound, Illegal, Wide, Judge, followed_by, judged_at}
+use Rattle.farkas_proof.specs.declared.stop.CheckStop.{CheckStop}
+use Rattle.farkas_proof.specs.declared.stop.CheckStop.TheVariants.{Memory as OutOfMemory, NoProof, SumWide}
+use Rattle.farkas_proof.specs.declared.tree.Refutation.{Refutation}
+use Rattle.farkas_proof.specs.declared.tree.Refutation.TheOpen.{Refutation-F}
+use Rattle.farkas_proof.specs.declared.tree.Refutation.TheFolds.{fold-Refutation}
+use Rattle.farkas_proof.specs.declared.walk.Work.{Work}
+use Rattle.farkas_proof.specs.declared.walk.Work.TheVariants.{Tree, Part, Forget, Reopen}
+use Rattle.farkas_proof.specs.declared.walk.Walk.{Walk}
+
+-- open disjunctions that are lent, as lists of their parts
+abbrev pub opened : List (Bor (List Form)) → List (List Form)
+opened cases = map (λ parts. parts.now) cases
+
+-- the disjunctions with those of a part in place of the one that was split
+abbrev pub replaced : List (List Form) → ℕ → Form → List (List Form)
+replaced cases which part = take which cases ++ (disjunctions part ++ drop (which + 1) cases)
+
+-- what waits next, and then the rest, from the literals and disjunctions where the walk stands
+abbrev pub work_step : ℕ → Work → Judge → Judge
+work_step end (Tree tree derived) rest lits cases at = followed_by (judged_at lit_fits end tree.now (lits ++ derived.items) cases at) (rest lits cases)
+work_step end (Part tree part which) rest lits cases at = followed_by (judged_at lit_fits end tree.now (lits ++ literals part.now) (replaced cases which part.now) at) (rest lits cases)
+work_step end (Forget depth) rest lits cases at = rest (take depth lits) cases at
+work_step end (Reopen outside) rest lits cases at = rest lits (opened outside.items) at
+
+abbrev pub nothing_left : Judge
+nothing_left lits cases at = Sound at
+
+-- all that waits, the last first
+abbrev pub left_over : ℕ → Judge → List Work → Judge
+left_over end rest [] = rest
+left_over end rest (work ∷ works) = left_over end (work_step end work rest) works
+
+abbrev pub left_to : ℕ → List Work → Judge
+left_to end works = left_over end nothing_left works
+
+-- what is found in all that waits, from the number of the next node on
+abbrev pub after : Walk → ℕ → Finding
+after walk = left_to walk.end walk.work.items walk.lits.items (opened walk.cases.items)
+
+abbrev pub found : Walk → Finding
+found walk = after walk walk.at
+
+-- what is found where something is to be done before all that waits
+abbrev pub begun : Walk → Work → Finding
+begun walk work = work_step walk.end work (left_to walk.end walk.work.items) walk.lits.items (opened walk.cases.items) walk.at
+
+-- a turn keeps what is found, or stops at it, unless memory runs out
+abbrev pub Leads : Finding → Finding → Result Unit CheckStop → Type 0
+Leads before now (Ok _) = before ≡ now
+Leads before now (Err OutOfMemory) = Unit {0}
+Leads before now (Err (NoProof node)) = before ≡ Illegal node
+Leads before now (Err (SumWide node)) = before ≡ Wide node
+
+-- a bound on the turns that a tree takes
+abbrev pub sizes : List ℕ → ℕ
+sizes [] = 0
+sizes (n ∷ ns) = n + 1 + sizes ns
+
+abbrev pub size_step : Refutation-F ℕ → ℕ
+size_step (Refutation-F.Leaf ms) = 2
+size_step (Refutation-F.Round ms d sub) = sub + 2
+size_step (Refutation-F.Split lin below above) = below + above + 2
+size_step (Refutation-F.Cases which subs) = sizes subs + 2
+size_step (Refutation-F.Quotient lit sub) = sub + 2
+
+abbrev pub size : Refutation → ℕ
+size = fold-Refutation ℕ size_step
+
+abbrev pub weight_of : Work → ℕ
+weight_of (Tree tree derived) = size tree.now
+weight_of (Part tree part which) = size tree.now + 1
+weight_of (Forget depth) = 1
+weight_of (Reopen outside) = 1
+
+abbrev pub weights : List Work → ℕ
+weights works = sum_by weight_of works
+
+abbrev pub weight : Walk → ℕ
+weight walk = weights walk.work.items

@@ -1,0 +1,369 @@
+//! The walk through a tree, node by node in preorder, with a stack of what waits.
+
+ghost use Rattle.std.specs.Prelude.{◌≡◌, ℕ, ◌+◌, ◌<◌, ◌≤◌, ◌++◌, ◌∷◌, [], ◌&&◌, List, IfOk, OnOk, IfSome, IsSome, IsNone, int_le, length, map, pos, slice_index_or, true, false};
+ghost use Rattle.lin_atoms.specs.Denial.{lit_fits};
+ghost use Rattle.lin_atoms.specs.declared.lit.Lit.TheVariants.{Le};
+ghost use Rattle.farkas_proof.specs.Combination.{are_multipliers, combined, is_above_zero, is_divided_by, one_minus, rounded};
+ghost use Rattle.farkas_proof.specs.Refutation.{Sound, checked, each_part, followed_by, has_parts, has_quotient, judged, judged_at, new_variable, quotient_at};
+ghost use Rattle.farkas_proof.specs.Tells.{Tells};
+ghost use Rattle.lin_atoms.specs.declared.form.Form.{Form};
+ghost use Rattle.lin_atoms.specs.declared.lit.Lit.{Lit};
+ghost use Rattle.farkas_proof.specs.Flatten.{literals};
+ghost use Rattle.farkas_proof.specs.Walk.{Leads, after, begun, found, left_to, opened, replaced, size, sizes, weight, weight_of, weights};
+ghost use Rattle.std.specs.List.{list_all};
+
+use crate::ends::form_end;
+use crate::flatten::{push_disjunctions, push_literals};
+use crate::nodes::{above, leaf, next, round};
+use crate::quotient::named;
+use crate::stop::CheckStop;
+use crate::tree::Refutation;
+use base::{Copied, Items, Memory};
+use lin_atoms::{Form, Lin, Lit};
+use std::alloc::Global;
+use std::mem;
+
+/// What waits in a walk.
+#[derive(Drop)]
+pub(crate) enum Work<'a> {
+    /// A tree, and the literals that its node derives.
+    Tree {
+        tree: &'a Refutation,
+        derived: Vec<Lit>,
+    },
+    /// A tree for one part of the open disjunction of that number.
+    Part {
+        tree: &'a Refutation,
+        part: &'a Form,
+        which: u32,
+    },
+    /// No more than so many literals are known again.
+    Forget {
+        depth: usize,
+    },
+    /// These are the open disjunctions again.
+    Reopen {
+        cases: Vec<&'a Items<Form>>,
+    },
+}
+
+/// A walk, and where it stands.
+#[derive(Drop)]
+pub(crate) struct Walk<'a> {
+    alloc: Global,
+    /// Above the variables of the form.
+    end: u64,
+    lits: Vec<Lit>,
+    cases: Vec<&'a Items<Form>>,
+    /// What waits, the next at the end.
+    work: Vec<Work<'a>>,
+    /// The number of the next node.
+    at: u32,
+}
+
+/// What is found in a tree for a form.
+pub(crate) fn judge(alloc: Global, form: &Form, tree: &Refutation) -> Result<u32, CheckStop>
+    ensures { Tells (judged lit_fits form.now tree.now) result }
+{
+    let mut walk = begin(alloc, form, tree)?;
+    while let Some(work) = walk.work.pop() {
+        match walk.turn(work) {
+            Ok(()) => {}
+            Err(stop) => return Err(stop),
+        }
+    }
+    Ok(walk.at)
+}
+
+/// A walk through the tree, from the flattened form on.
+fn begin<'a>(alloc: Global, form: &'a Form, tree: &'a Refutation) -> Result<Walk<'a>, Memory>
+    ensures { IfOk result (λ walk. found walk ≡ judged lit_fits form.now tree.now) }
+{
+    let mut lits = Vec::new(alloc);
+    push_literals(alloc, form, &mut lits)?;
+    let mut cases = Vec::new(alloc);
+    push_disjunctions(form, &mut cases)?;
+    let derived = Vec::new(alloc);
+    let mut work = Vec::new(alloc);
+    work.push(Work::Tree { tree, derived })?;
+    Ok(Walk {
+        alloc,
+        end: form_end(form),
+        lits,
+        cases,
+        work,
+        at: 0,
+    })
+}
+
+/// Something more waits.
+fn put<'a>(waiting: &mut Vec<Work<'a>>, work: Work<'a>) -> Result<(), Memory>
+    ensures { OnOk result (waiting.new.items ≡ waiting.old.items ++ work.entry ∷ []) }
+{
+    waiting.push(work)?;
+    Ok(())
+}
+
+/// Puts literals after the others.
+fn put_all(lits: &mut Vec<Lit>, more: Vec<Lit>) -> Result<(), Memory>
+    ensures { OnOk result (lits.new.items ≡ lits.old.items ++ more.items) }
+{
+    let mut more = more;
+    lits.append(&mut more)?;
+    Ok(())
+}
+
+/// One literal.
+fn one(alloc: Global, lit: Lit) -> Result<Vec<Lit>, Memory>
+    ensures { IfOk result (λ made. made.items ≡ lit ∷ []) }
+{
+    let mut made = Vec::with_capacity(alloc, 1)?;
+    made.push(lit)?;
+    Ok(made)
+}
+
+/// The parts of the open disjunction of that number, if there are so many.
+fn parts_of<'a>(cases: &[&'a Items<Form>], which: u32, count: usize) -> Option<&'a [Form]>
+    ensures some { IfSome result (λ parts. (parts.now ≡ slice_index_or (opened cases.now) which []) × (length parts.now ≡ count)) }
+    ensures legal { IsSome result → has_parts (opened cases.now) which count ≡ true }
+    ensures none { IsNone result → has_parts (opened cases.now) which count ≡ false }
+{
+    match cases.get(which as usize) {
+        Some(parts) => {
+            if parts.len() == count {
+                Some(parts.as_slice())
+            } else {
+                None
+            }
+        }
+        None => None,
+    }
+}
+
+/// Each part waits with its tree, the first before the others.
+fn push_parts<'a>(
+    work: &mut Vec<Work<'a>>,
+    parts: &'a [Form],
+    subs: &'a [Refutation],
+    which: u32,
+) -> Result<(), Memory>
+    requires { length parts.now ≡ length subs.now }
+    ensures after { OnOk result ((end : ℕ) (lits : List Lit) (cases : List (List Form)) (next : ℕ) → left_to end work.new.items lits cases next ≡ followed_by (each_part (map (judged_at lit_fits end) subs.now) parts.now which lits cases next) (left_to end work.old.items lits cases)) }
+    ensures weight { OnOk result (weights work.new.items ≡ weights work.old.items + sizes (map size subs.now)) }
+{
+    let mut left = subs.len();
+    while left > 0 {
+        left -= 1;
+        let (tree, part) = (&subs[left], &parts[left]);
+        work.push(Work::Part { tree, part, which })?;
+    }
+    Ok(())
+}
+
+/// The disjunctions with those of a part in place of the one that was split.
+fn replaced<'a>(
+    alloc: Global,
+    cases: &[&'a Items<Form>],
+    which: u32,
+    part: &'a Form,
+) -> Result<Vec<&'a Items<Form>>, Memory>
+    ensures { IfOk result (λ made. opened made.items ≡ replaced (opened cases.now) which part.now) }
+{
+    let before = (which as usize).min(cases.len());
+    let behind = (which as usize + 1).min(cases.len());
+    let mut made = Vec::new(alloc);
+    made.extend_from_slice(&cases[..before])?;
+    push_disjunctions(part, &mut made)?;
+    made.extend_from_slice(&cases[behind..])?;
+    Ok(made)
+}
+
+/// Copies of the literals.
+fn copies(alloc: Global, lits: &[Lit]) -> Result<Vec<Lit>, Memory>
+    ensures { IfOk result (λ made. made.items ≡ lits.now) }
+{
+    let mut made = Vec::with_capacity(alloc, lits.len())?;
+    for lit in lits {
+        made.push(lit.copy(alloc)?)?;
+    }
+    Ok(made)
+}
+
+impl<'a> Walk<'a> {
+    /// Does what waited first.
+    fn turn(&mut self, work: Work<'a>) -> Result<(), CheckStop>
+        ensures leads { Leads (begun self.old work.entry) (found self.new) result }
+        ensures less { OnOk result (weight self.new < weight self.old + weight_of work.entry) }
+    {
+        match work {
+            Work::Tree { tree, derived } => self.judge_with(tree, derived),
+            Work::Part { tree, part, which } => self.judge_part(tree, part, which),
+            Work::Forget { depth } => {
+                self.lits.truncate(depth);
+                Ok(())
+            }
+            Work::Reopen { cases } => {
+                self.cases = cases;
+                Ok(())
+            }
+        }
+    }
+
+    /// A tree, with more literals.
+    fn judge_with(&mut self, tree: &'a Refutation, derived: Vec<Lit>) -> Result<(), CheckStop>
+        ensures leads { Leads (followed_by (judged_at lit_fits self.old.end tree.now (self.old.lits.items ++ derived.items) (opened self.old.cases.items) self.old.at) (after self.old)) (found self.new) result }
+        ensures less { OnOk result (weight self.new < weight self.old + size tree.now) }
+    {
+        let depth = self.lits.len();
+        put(&mut self.work, Work::Forget { depth })?;
+        put_all(&mut self.lits, derived)?;
+        self.judge_node(tree)
+    }
+
+    /// A tree for a part of an open disjunction.
+    fn judge_part(
+        &mut self,
+        tree: &'a Refutation,
+        part: &'a Form,
+        which: u32,
+    ) -> Result<(), CheckStop>
+        ensures leads { Leads (followed_by (judged_at lit_fits self.old.end tree.now (self.old.lits.items ++ literals part.now) (replaced (opened self.old.cases.items) which part.now) self.old.at) (after self.old)) (found self.new) result }
+        ensures less { OnOk result (weight self.new < weight self.old + (size tree.now + 1)) }
+    {
+        let cases = replaced(self.alloc, self.cases.as_slice(), which, part)?;
+        let mut derived = Vec::new(self.alloc);
+        push_literals(self.alloc, part, &mut derived)?;
+        let outside = mem::replace(&mut self.cases, cases);
+        put(&mut self.work, Work::Reopen { cases: outside })?;
+        self.judge_with(tree, derived)
+    }
+
+    /// The node of a tree, and what waits then.
+    fn judge_node(&mut self, tree: &'a Refutation) -> Result<(), CheckStop>
+        ensures leads { Leads (followed_by (judged_at lit_fits self.old.end tree.now self.old.lits.items (opened self.old.cases.items) self.old.at) (after self.old)) (found self.new) result }
+        ensures less { OnOk result (weight self.new + 2 ≤ weight self.old + size tree.now) }
+    {
+        match tree {
+            Refutation::Leaf { multipliers } => self.judge_leaf(multipliers.as_slice()),
+            Refutation::Round {
+                multipliers,
+                divisor,
+                sub,
+            } => self.judge_round(multipliers.as_slice(), *divisor, sub.get()),
+            Refutation::Split { lin, below, above } => {
+                self.judge_split(lin, below.get(), above.get())
+            }
+            Refutation::Cases { which, subs } => self.judge_cases(*which, subs.as_slice()),
+            Refutation::Quotient { lit, sub } => self.judge_quotient(*lit, sub.get()),
+        }
+    }
+
+    fn judge_leaf(&mut self, multipliers: &[(u32, i64)]) -> Result<(), CheckStop>
+        ensures leads { Leads (followed_by (checked (are_multipliers self.old.lits.items multipliers.now && is_above_zero (combined self.old.lits.items multipliers.now)) true self.old.at (Sound (self.old.at + 1))) (after self.old)) (found self.new) result }
+        ensures less { OnOk result (weight self.new ≡ weight self.old) }
+    {
+        match leaf(self.alloc, self.lits.as_slice(), multipliers, self.at) {
+            Ok(at) => {
+                self.at = at;
+                Ok(())
+            }
+            Err(stop) => Err(stop),
+        }
+    }
+
+    fn judge_round(
+        &mut self,
+        multipliers: &[(u32, i64)],
+        divisor: i64,
+        sub: &'a Refutation,
+    ) -> Result<(), CheckStop>
+        ensures leads { Leads (followed_by (checked (are_multipliers self.old.lits.items multipliers.now && (int_le (pos 1) divisor && is_divided_by divisor (combined self.old.lits.items multipliers.now))) (lit_fits (Le (rounded divisor (combined self.old.lits.items multipliers.now)))) self.old.at (judged_at lit_fits self.old.end sub.now (self.old.lits.items ++ Le (rounded divisor (combined self.old.lits.items multipliers.now)) ∷ []) (opened self.old.cases.items) (self.old.at + 1))) (after self.old)) (found self.new) result }
+        ensures less { OnOk result (weight self.new ≡ weight self.old + size sub.now) }
+    {
+        match round(
+            self.alloc,
+            self.lits.as_slice(),
+            multipliers,
+            divisor,
+            self.at,
+        ) {
+            Ok(derived) => {
+                let derived = one(self.alloc, derived)?;
+                self.go_on(sub, derived)?;
+                Ok(())
+            }
+            Err(stop) => Err(stop),
+        }
+    }
+
+    fn judge_split(
+        &mut self,
+        lin: &Lin,
+        low_sub: &'a Refutation,
+        high_sub: &'a Refutation,
+    ) -> Result<(), CheckStop>
+        ensures leads { Leads (followed_by (checked true (lit_fits (Le lin.now) && lit_fits (Le (one_minus lin.now))) self.old.at (followed_by (judged_at lit_fits self.old.end low_sub.now (self.old.lits.items ++ Le lin.now ∷ []) (opened self.old.cases.items) (self.old.at + 1)) (judged_at lit_fits self.old.end high_sub.now (self.old.lits.items ++ Le (one_minus lin.now) ∷ []) (opened self.old.cases.items)))) (after self.old)) (found self.new) result }
+        ensures less { OnOk result (weight self.new ≡ weight self.old + (size low_sub.now + size high_sub.now)) }
+    {
+        match above(self.alloc, lin, self.at) {
+            Ok(high) => {
+                let low = one(self.alloc, Lit::Le(lin.copy(self.alloc)?))?;
+                let high = one(self.alloc, high)?;
+                self.wait(high_sub, high)?;
+                self.go_on(low_sub, low)?;
+                Ok(())
+            }
+            Err(stop) => Err(stop),
+        }
+    }
+
+    fn judge_cases(&mut self, which: u32, subs: &'a [Refutation]) -> Result<(), CheckStop>
+        ensures leads { Leads (followed_by (checked (has_parts (opened self.old.cases.items) which (length subs.now)) true self.old.at (each_part (map (judged_at lit_fits self.old.end) subs.now) (slice_index_or (opened self.old.cases.items) which []) which self.old.lits.items (opened self.old.cases.items) (self.old.at + 1))) (after self.old)) (found self.new) result }
+        ensures less { OnOk result (weight self.new ≡ weight self.old + sizes (map size subs.now)) }
+    {
+        match parts_of(self.cases.as_slice(), which, subs.len()) {
+            Some(parts) => {
+                self.at = next(self.at)?;
+                push_parts(&mut self.work, parts, subs, which)?;
+                Ok(())
+            }
+            None => Err(CheckStop::NoProof { node: self.at }),
+        }
+    }
+
+    fn judge_quotient(&mut self, lit: u32, sub: &'a Refutation) -> Result<(), CheckStop>
+        ensures leads { Leads (followed_by (checked (has_quotient self.old.lits.items lit (new_variable self.old.end self.old.lits.items)) (list_all lit_fits (quotient_at self.old.lits.items lit (new_variable self.old.end self.old.lits.items))) self.old.at (judged_at lit_fits self.old.end sub.now (self.old.lits.items ++ quotient_at self.old.lits.items lit (new_variable self.old.end self.old.lits.items)) (opened self.old.cases.items) (self.old.at + 1))) (after self.old)) (found self.new) result }
+        ensures less { OnOk result (weight self.new ≡ weight self.old + size sub.now) }
+    {
+        match named(self.alloc, self.lits.as_slice(), lit, self.end, self.at) {
+            Ok(derived) => {
+                let derived = copies(self.alloc, derived.as_slice())?;
+                self.go_on(sub, derived)?;
+                Ok(())
+            }
+            Err(stop) => Err(stop),
+        }
+    }
+
+    /// A tree waits, before all that waits already.
+    fn wait(&mut self, tree: &'a Refutation, derived: Vec<Lit>) -> Result<(), Memory>
+        ensures after { OnOk result ((next : ℕ) → after self.new next ≡ followed_by (judged_at lit_fits self.old.end tree.now (self.old.lits.items ++ derived.items) (opened self.old.cases.items) next) (after self.old)) }
+        ensures weight { OnOk result (weight self.new ≡ weight self.old + size tree.now) }
+        ensures end { self.new.end ≡ self.old.end }
+        ensures lits { self.new.lits ≡ self.old.lits }
+        ensures cases { self.new.cases ≡ self.old.cases }
+        ensures at { self.new.at ≡ self.old.at }
+    {
+        self.work.push(Work::Tree { tree, derived })?;
+        Ok(())
+    }
+
+    /// The next node is that of the tree, which stands on more literals.
+    fn go_on(&mut self, tree: &'a Refutation, derived: Vec<Lit>) -> Result<(), Memory>
+        ensures found { OnOk result (found self.new ≡ followed_by (judged_at lit_fits self.old.end tree.now (self.old.lits.items ++ derived.items) (opened self.old.cases.items) (self.old.at + 1)) (after self.old)) }
+        ensures weight { OnOk result (weight self.new ≡ weight self.old + size tree.now) }
+    {
+        self.at = next(self.at)?;
+        self.wait(tree, derived)
+    }
+}
