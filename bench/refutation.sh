@@ -1,0 +1,10 @@
+#!/bin/sh
+# Measures the checker of refutations against a walk that only counts their nodes, in one run.
+set -e
+top=$(cd "$(dirname "$0")/.." && pwd)
+kit=$(dirname "$(dirname "$(readlink -f "$(command -v rt)")")")
+(cd "$top/crates/farkas_proof_c" && rt lib >/dev/null)
+work=$(mktemp -d)
+trap 'rm -rf "$work"' EXIT
+cc -O2 -o "$work/refutation" "$top/bench/refutation.c" "$top/crates/farkas_proof_c/out/libfarkas_proof_c.a" "$kit/c/liblibc_c.a" "$kit/c/libos_c.a"
+"$work/refutation"
