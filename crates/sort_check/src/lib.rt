@@ -11,7 +11,7 @@ mod state;
 mod trees;
 
 pub use laws::{
-    assertions_are_legal, assertions_have_heads, few_predicates, no_script_is_refused, one_refusal, one_script,
-    script_or_refused,
+    assertions_are_legal, assertions_have_heads, few_predicates, no_script_is_refused, one_refusal,
+    one_script, script_or_refused,
 };
 pub use script::check_script;
