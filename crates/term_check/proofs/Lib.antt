@@ -8,6 +8,7 @@ pub mod KnownLemmas
 pub mod LeafLemmas
 pub mod LegalityLemmas
 pub mod LightLemmas
+pub mod MeaningLemmas
 pub mod NameLemmas
 pub mod NodeLemmas
 pub mod NumberLemmas

@@ -1,6 +1,7 @@
 pub mod Formula
 pub mod Known
 pub mod Legality
+pub mod Meanings
 pub mod Numbers
 pub mod Operators
 pub mod Reading

@@ -99,7 +99,7 @@ pub fn check_formula(
 {
     let signature = Signature::new(alloc);
     let mut bindings = Bindings::new(alloc);
-    bindings.bind_params(alloc, 0, params)?;
+    bindings.bind_params(0, params)?;
     let mut reader = Reader::new(alloc, text, &signature, bindings, false);
     let mut terms = Terms::new(alloc);
     let read = read_term(&mut reader, params.len() as u32, tree, &mut terms);

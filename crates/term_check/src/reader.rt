@@ -111,8 +111,7 @@ impl<'a> Reader<'a> {
         requires { first + length items.now < 2 ^ 32 }
         ensures { OnOk result (self.new ≡ below_quantifier self.old first items.now) }
     {
-        self.bindings
-            .bind_variables(self.alloc, self.text, first, items)
+        self.bindings.bind_variables(self.text, first, items)
     }
 
     /// Binds the names of a `let` to its terms.
@@ -126,8 +125,7 @@ impl<'a> Reader<'a> {
         ensures { OnOk result (self.new ≡ below_let self.old items.now parts.now ids.now) }
     {
         let first = self.lets.len() as u32;
-        self.bindings
-            .bind_lets(self.alloc, self.text, first, items, parts)?;
+        self.bindings.bind_lets(self.text, first, items, parts)?;
         self.lets.extend_from_slice(ids)?;
         Ok(())
     }

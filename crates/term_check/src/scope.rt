@@ -16,9 +16,17 @@ pub enum Bound {
     },
 }
 
-/// A bound name.
+/// A bound name, as contracts see it.
 #[derive(Drop)]
 pub struct Named {
     pub name: Name,
     pub bound: Bound,
+}
+
+/// A bound name, with what it stands for outside of its binder.
+#[derive(Drop)]
+pub struct Binding {
+    pub name: Vec<u8>,
+    pub bound: Bound,
+    pub outside: Option<Bound>,
 }

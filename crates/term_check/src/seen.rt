@@ -1,14 +1,15 @@
-ghost use Rattle.std.specs.Prelude.{◌≡◌, ◌++◌, [], ◌∷◌, map, OnOk};
+ghost use Rattle.std.specs.Prelude.{◌≡◌, ◌++◌, [], ◌∷◌, false, OnOk};
 ghost use Rattle.term_check.specs.Words.{is_among};
 
 use base::Memory;
+use indexmap::IndexSet;
 use std::alloc::Global;
 use std::marker::Model;
 
-/// The names that stand in a binder before, in their order.
+/// The names that stand in a binder before, in their order, each found by its hash.
 #[derive(Drop)]
 pub struct Seen {
-    names: Vec<Vec<u8>>,
+    names: IndexSet<Vec<u8>>,
 }
 
 impl Model for Seen {
@@ -16,18 +17,7 @@ impl Model for Seen {
 
     ghost Value = { List (List ℕ) };
 
-    ghost view = { λ s. map (λ name. name.items) s.names.items };
-}
-
-fn are_among(names: &[Vec<u8>], name: &[u8]) -> bool
-    ensures { result ≡ is_among (map (λ name. name.items) names.now) name.now }
-{
-    for seen in names {
-        if name == seen.as_slice() {
-            return true;
-        }
-    }
-    false
+    ghost view = { λ s. map (λ name. name.items) s.names.keys };
 }
 
 impl Seen {
@@ -35,7 +25,7 @@ impl Seen {
         ensures { result ≡ [] }
     {
         Seen {
-            names: Vec::new(alloc),
+            names: IndexSet::new(alloc),
         }
     }
 
@@ -43,14 +33,16 @@ impl Seen {
     pub fn has(&self, name: &[u8]) -> bool
         ensures { result ≡ is_among self.now name.now }
     {
-        are_among(self.names.as_slice(), name)
+        self.names.contains(name)
     }
 
+    /// Adds a name that is new.
     pub fn add(&mut self, alloc: Global, name: &[u8]) -> Result<(), Memory>
+        requires { is_among self.old name.now ≡ false }
         ensures { OnOk result (self.new ≡ self.old ++ name.now ∷ []) }
     {
         let name = Vec::from_slice(alloc, name)?;
-        self.names.push(name)?;
+        self.names.insert(name)?;
         Ok(())
     }
 }

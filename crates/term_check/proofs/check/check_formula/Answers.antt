@@ -18,3 +18,9 @@ returns-clause-bad c = λ offset stop.
     let is = reader_is c.new-reader.result c.args.text.now c.new-signature.result c.bind_params.new.self c.new-bindings.result c.args.params.now c.new-reader.ensures c.new-signature.ensures c.in_ok-bind_params.ensures c.new-bindings.ensures in
     let told = subst (λ (k : Known). Tells k.lets (spelled k.text k.scope (length c.args.params.now) c.args.tree.now) c.read_term-read.new.terms c.read_term-read.result) is c.read_term-read.ensures.told in
     no_formula _ c.read_term-read.new.terms c.in-Err.stop offset (c.in-Err.ensures c.read_term-read.new.terms _ told) stop
+
+pub returns-in-Ok-clause-formula : goal.returns-in-Ok-clause-formula
+returns-in-Ok-clause-formula c =
+    let is = reader_is c.new-reader.result c.args.text.now c.new-signature.result c.bind_params.new.self c.new-bindings.result c.args.params.now c.new-reader.ensures c.new-signature.ensures c.in_ok-bind_params.ensures c.new-bindings.ensures in
+    let told = subst (λ (k : Known). Tells k.lets (spelled k.text k.scope (length c.args.params.now) c.args.tree.now) c.read_term-read.new.terms c.read_term-read.result) is c.read_term-read.ensures.told in
+    c.in-Ok.ensures c.read_term-read.new.terms _ told
