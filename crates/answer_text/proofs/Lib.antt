@@ -1,1 +1,4 @@
 pub mod TermLemmas
+pub mod PlaceLemmas
+pub mod DefinitionLemmas
+pub mod WeightLemmas

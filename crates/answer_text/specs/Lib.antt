@@ -4,3 +4,6 @@ pub mod Names
 pub mod Printable
 pub mod Terms
 pub mod Lemmas
+pub mod Reading
+pub mod Read
+pub mod Places

@@ -1,6 +1,5 @@
 -- How terms are printed: a function by cases on the node, over the texts of its parts (SMT-LIB 2.6, section 3.6).
 use Rattle.std.specs.Prelude.{ℕ, List, [], ◌∷◌, ◌++◌, ℤ, codes, decimal, slice_index_or}
-use Rattle.term_tree.specs.declared.node.TermId.{TermId}
 use Rattle.term_tree.specs.declared.node.OpKind.{OpKind}
 use Rattle.term_tree.specs.declared.node.OpKind.TheVariants.{Not, And, Or, Xor, Implies, Eq, Distinct, Ite, Add, Mul, Sub, Abs, Div, Mod, Le, Lt, Ge, Gt}
 use Rattle.term_tree.specs.declared.node.Node.{Node}

@@ -3,17 +3,27 @@
 #![tactic(auto)]
 
 mod answer;
+mod declared;
+mod definitions;
 mod derivation;
 mod lines;
 mod model;
 mod names;
+mod parameters;
 mod pieces;
+mod read;
+mod steps;
+mod stop;
 mod term;
 #[cfg(test)]
 mod tests;
+mod trees;
+mod values;
 mod write;
 
 pub use answer::{Answer, Line, UnknownCause};
 pub use lines::{error_line, level_line, memory_line, usage_line};
+pub use read::read_answer;
+pub use stop::AnswerStop;
 pub use term::push_parameter_name;
 pub use write::write_answer;

@@ -1,4 +1,4 @@
-use Rattle.std.proofs.Common.{◌++◌, ap, ◌∙◌, sym, append-nil, arith}
+use Rattle.std.proofs.Common.{sym, append-nil, arith}
 use Rattle.answer_text.proofs.TermLemmas.{text_past}
 use Rattle.answer_text.proofs.model.push_body.Goals as goal
 

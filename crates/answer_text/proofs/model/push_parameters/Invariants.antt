@@ -1,4 +1,4 @@
-use Rattle.std.proofs.Common.{◌≡◌, ◌+◌, ◌++◌, codes, drop}
+use Rattle.std.proofs.Common.{◌≡◌, ◌+◌, ◌++◌, drop}
 use Rattle.std.specs.List.{enumerate_from}
 use Rattle.answer_text.specs.Names.{after_spaces}
 use Rattle.answer_text.specs.Answers.{parameter_text, parameters_text}

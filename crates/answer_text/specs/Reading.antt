@@ -1,0 +1,273 @@
+-- Which answer a text spells over the declared predicates, or where its first fault is. A text is read as trees (SMT-LIB 2.6, section
+-- 3.2), so it may be laid out at will and have comments. A model is the answer of get-model (section 4.2.6), with one definition
+-- for each predicate; a derivation is this program's own.
+--   sat ((define-fun name ((name sort) ..) Bool term) ..)
+--   unsat (derivation (step number assertion (value ..) (premise ..) conclusion) ..)
+-- Faults come from left to right, that of a tree before those of its parts.
+use Rattle.std.specs.Prelude.{ℕ, ◌+◌, List, [], ◌∷◌, ◌++◌, length, map, Bool, true, false, not, ◌&&◌, nat_eq, Option, None, Some, Result, Ok, Err, if◌then◌else◌, codes, pos, neg_ℤ}
+use Rattle.std.specs.List.{list_any}
+use Rattle.sexp_read.specs.declared.tree.Tree.{Tree, Leaf, List', items-the_row-Tree}
+use Rattle.sexp_read.specs.declared.tree.TextStop.{TextStop}
+use Rattle.sexp_read.specs.declared.tree.TextStop.TheVariants.{BadByte, Unclosed, Deep}
+use Rattle.sexp_read.specs.Leaves.{numeral_value}
+use Rattle.term_tree.specs.declared.sort.Sort.{Sort}
+use Rattle.term_tree.specs.declared.sort.Sort.TheVariants.{Bool as BoolSort}
+use Rattle.term_tree.specs.declared.scalar.Value.{Value}
+use Rattle.term_tree.specs.declared.scalar.Value.TheVariants.{Int, Bool as Truth}
+use Rattle.term_tree.specs.declared.script.Name.{Name}
+use Rattle.term_tree.specs.declared.script.Pred.{Pred}
+use Rattle.term_check.specs.Words.{is_among}
+use Rattle.term_check.specs.Rules.{same_sort}
+use Rattle.term_check.specs.Spelling.{is_word, is_symbol, name_of, sort_named, start_of, pred_from, sorts_of}
+use Rattle.term_check.specs.Term.{Term}
+use Rattle.term_check.specs.Formula.{formula}
+use Rattle.answer_text.specs.declared.answer.Line.{Line}
+
+-- What is read, or the offset of the first fault.
+
+infixl 20 ◌>>=◌
+abbrev pub ◌>>=◌ : {A B : Type 0} → Result A ℕ → (A → Result B ℕ) → Result B ℕ
+Ok a >>= f = f a
+Err offset >>= f = Err offset
+
+-- a rule that is broken at an offset, else what the later rules give
+abbrev pub provided : {A : Type 0} → Bool → ℕ → Result A ℕ → Result A ℕ
+provided true offset later = later
+provided false offset later = Err offset
+
+-- what a tree says, else where it starts
+abbrev pub said_by : {A : Type 0} → Tree → Option A → Result A ℕ
+said_by tree (Some a) = Ok a
+said_by tree None = Err (start_of tree)
+
+-- the trees of a list, else where the tree starts
+abbrev pub in_list : {A : Type 0} → (List Tree → Result A ℕ) → Tree → Result A ℕ
+in_list read (Leaf kind start end) = Err start
+in_list read (List' shape row start end) = read (items-the_row-Tree _ row)
+
+-- each tree in order, behind what those so far gave
+abbrev pub each : {A : Type 0} → (Tree → Result A ℕ) → List A → List Tree → Result (List A) ℕ
+each read before [] = Ok before
+each read before (tree ∷ trees) = read tree >>= λ a. each read (before ++ a ∷ []) trees
+
+-- Numbers and values: a numeral below 2 ^ 63, or the negation of one that isn't 0.
+
+abbrev pub number : List ℕ → Tree → Result ℕ ℕ
+number text tree = said_by tree (numeral_value text tree)
+
+abbrev pub integer : Option ℕ → Option Value
+integer None = None
+integer (Some n) = Some (Int (pos n))
+
+abbrev pub negated : Option ℕ → Option Value
+negated None = None
+negated (Some n) = if nat_eq n 0 then None else Some (Int (neg_ℤ (pos n)))
+
+abbrev pub negation : List ℕ → List Tree → Option Value
+negation text (minus ∷ n ∷ []) = if is_symbol text minus (codes "-") then negated (numeral_value text n) else None
+negation text _ = None
+
+abbrev pub plain_value : List ℕ → Tree → Option Value
+plain_value text tree =
+    if is_symbol text tree (codes "true") then Some (Truth true)
+    else if is_symbol text tree (codes "false") then Some (Truth false)
+    else integer (numeral_value text tree)
+
+abbrev pub value_of : List ℕ → Tree → Option Value
+value_of text (Leaf kind start end) = plain_value text (Leaf kind start end)
+value_of text (List' shape row start end) = negation text (items-the_row-Tree _ row)
+
+abbrev pub value : List ℕ → Tree → Result Value ℕ
+value text tree = said_by tree (value_of text tree)
+
+-- Predicates.
+
+abbrev pub declared_by : List Pred → Option (List ℕ) → Option ℕ
+declared_by preds None = None
+declared_by preds (Some name) = pred_from 0 name preds
+
+-- the number of the predicate that a tree names
+abbrev pub pred : List ℕ → List Pred → Tree → Result ℕ ℕ
+pred text preds tree = said_by tree (declared_by preds (name_of text tree))
+
+abbrev pub arity : List Pred → ℕ → ℕ
+arity preds number = length (sorts_of preds number)
+
+-- Conclusions: false, the name of a predicate without arguments, or (name value ..) with a value for each argument.
+
+abbrev pub bare : List Pred → Option ℕ → Option (ℕ × List Value)
+bare preds None = None
+bare preds (Some number) = if nat_eq (arity preds number) 0 then Some (number, []) else None
+
+abbrev pub with_values : List Pred → ℕ → ℕ → Bool
+with_values preds number n = not (nat_eq n 0) && nat_eq n (arity preds number)
+
+abbrev pub applied : List ℕ → List Pred → ℕ → List Tree → Result (ℕ × List Value) ℕ
+applied text preds start [] = Err start
+applied text preds start (name ∷ args) =
+    pred text preds name >>= λ number. provided (with_values preds number (length args)) start (each (value text) [] args >>= λ values. Ok (number, values))
+
+abbrev pub atom : List ℕ → List Pred → Tree → Result (ℕ × List Value) ℕ
+atom text preds (Leaf kind start end) = said_by (Leaf kind start end) (bare preds (declared_by preds (name_of text (Leaf kind start end))))
+atom text preds (List' shape row start end) = applied text preds start (items-the_row-Tree _ row)
+
+abbrev pub conclusion : List ℕ → List Pred → Tree → Result (Option (ℕ × List Value)) ℕ
+conclusion text preds tree = if is_symbol text tree (codes "false") then Ok None else (atom text preds tree >>= λ head. Ok (Some head))
+
+-- Steps.
+
+abbrev pub step_of : List ℕ → List Pred → ℕ → List Tree → Result Line ℕ
+step_of text preds start (word ∷ place ∷ assertion ∷ values ∷ premises ∷ head ∷ []) =
+    provided (is_symbol text word (codes "step")) start (number text place >>= λ k. number text assertion >>= λ a.
+    in_list (each (value text) []) values >>= λ vs. in_list (each (number text) []) premises >>= λ ps. conclusion text preds head >>= λ h.
+    Ok (record { number = k; assertion = a; values = vs; premises = ps; head = h }))
+step_of text preds start _ = Err start
+
+abbrev pub step : List ℕ → List Pred → Tree → Result Line ℕ
+step text preds (Leaf kind start end) = Err start
+step text preds (List' shape row start end) = step_of text preds start (items-the_row-Tree _ row)
+
+-- Definitions.
+
+pub record Defined : Type 0 where
+  pub pred : ℕ
+  pub params : List (Name × Sort)
+  pub body : Term
+
+abbrev pub is_sort : Option Sort → Sort → Bool
+is_sort None sort = false
+is_sort (Some named) sort = same_sort named sort
+
+-- Parameters: a name each, which differ, and the sorts of the predicate's arguments.
+
+abbrev pub has_sort : List ℕ → Tree → Sort → Bool
+has_sort text tree sort = is_sort (sort_named text tree) sort
+
+abbrev pub is_new : List (Name × Sort) → List ℕ → Bool
+is_new before name = not (is_among (map (λ p. p.0.bytes) before) name)
+
+abbrev pub parameter_of : List ℕ → List (Name × Sort) → Sort → ℕ → List Tree → Result (Name × Sort) ℕ
+parameter_of text before sort start (name ∷ word ∷ []) =
+    said_by name (name_of text name) >>= λ bytes. provided (is_new before bytes) (start_of name) (provided (has_sort text word sort) (start_of word) (Ok (record { bytes = bytes }, sort)))
+parameter_of text before sort start _ = Err start
+
+abbrev pub parameter : List ℕ → List (Name × Sort) → Sort → Tree → Result (Name × Sort) ℕ
+parameter text before sort (Leaf kind start end) = Err start
+parameter text before sort (List' shape row start end) = parameter_of text before sort start (items-the_row-Tree _ row)
+
+abbrev pub parameters_from : List ℕ → List (Name × Sort) → List Tree → List Sort → Result (List (Name × Sort)) ℕ
+parameters_from text before [] sorts = Ok before
+parameters_from text before (tree ∷ trees) (sort ∷ sorts) = parameter text before sort tree >>= λ p. parameters_from text (before ++ p ∷ []) trees sorts
+parameters_from text before (tree ∷ trees) [] = Ok before
+
+abbrev pub parameters_of : List ℕ → List Sort → ℕ → List Tree → Result (List (Name × Sort)) ℕ
+parameters_of text sorts start trees = provided (nat_eq (length trees) (length sorts)) start (parameters_from text [] trees sorts)
+
+abbrev pub parameters : List ℕ → List Sort → Tree → Result (List (Name × Sort)) ℕ
+parameters text sorts (Leaf kind start end) = Err start
+parameters text sorts (List' shape row start end) = parameters_of text sorts start (items-the_row-Tree _ row)
+
+-- the parameters and the term of a definition of that predicate
+abbrev pub defined : List ℕ → List Pred → ℕ → Tree → Tree → Tree → Result Defined ℕ
+defined text preds number params sort term =
+    parameters text (sorts_of preds number) params >>= λ ps. provided (has_sort text sort BoolSort) (start_of sort) (
+    formula text ps term >>= λ body. Ok (record { pred = number; params = ps; body = body }))
+
+abbrev pub is_defined : List Defined → ℕ → Bool
+is_defined before number = list_any (λ d. nat_eq d.pred number) before
+
+-- one more definition, of a predicate that has none among those so far
+abbrev pub definition_by : List ℕ → List Pred → List Defined → ℕ → Tree → Tree → Tree → Tree → Result Defined ℕ
+definition_by text preds before start name params sort term =
+    pred text preds name >>= λ number. provided (not (is_defined before number)) start (defined text preds number params sort term)
+
+abbrev pub definition_of : List ℕ → List Pred → List Defined → ℕ → List Tree → Result Defined ℕ
+definition_of text preds before start (word ∷ name ∷ params ∷ sort ∷ term ∷ []) =
+    provided (is_word text word (codes "define-fun")) start (definition_by text preds before start name params sort term)
+definition_of text preds before start _ = Err start
+
+abbrev pub definition : List ℕ → List Pred → List Defined → Tree → Result Defined ℕ
+definition text preds before (Leaf kind start end) = Err start
+definition text preds before (List' shape row start end) = definition_of text preds before start (items-the_row-Tree _ row)
+
+abbrev pub definitions_from : List ℕ → List Pred → List Defined → List Tree → Result (List Defined) ℕ
+definitions_from text preds before [] = Ok before
+definitions_from text preds before (tree ∷ trees) = definition text preds before tree >>= λ d. definitions_from text preds (before ++ d ∷ []) trees
+
+-- the definition of the predicate of that number
+abbrev pub definition_for : ℕ → List Defined → Option Defined
+definition_for number [] = None
+definition_for number (d ∷ ds) = if nat_eq d.pred number then Some d else definition_for number ds
+
+abbrev pub and_then : Option Defined → Option (List Defined) → Option (List Defined)
+and_then (Some d) (Some ds) = Some (d ∷ ds)
+and_then _ _ = None
+
+-- those of the predicates, in order, of which the first has this number
+abbrev pub in_order : List Defined → ℕ → List Pred → Option (List Defined)
+in_order ds number [] = Some []
+in_order ds number (p ∷ preds) = and_then (definition_for number ds) (in_order ds (number + 1) preds)
+
+-- Answers.
+
+pub data Reply : Type 0 where
+  model : List Defined → Reply
+  refutation : List Line → Reply
+
+abbrev pub complete : ℕ → Option (List Defined) → Result Reply ℕ
+complete start None = Err start
+complete start (Some ds) = Ok (model ds)
+
+-- each declared predicate is defined; where a definition is missing, the list is wrong
+abbrev pub model_listed : List ℕ → List Pred → ℕ → List Tree → Result Reply ℕ
+model_listed text preds start trees = definitions_from text preds [] trees >>= λ ds. complete start (in_order ds 0 preds)
+
+abbrev pub model_of : List ℕ → List Pred → Tree → Result Reply ℕ
+model_of text preds (Leaf kind start end) = Err start
+model_of text preds (List' shape row start end) = model_listed text preds start (items-the_row-Tree _ row)
+
+abbrev pub derivation_of : List ℕ → List Pred → ℕ → List Tree → Result (List Line) ℕ
+derivation_of text preds start [] = Err start
+derivation_of text preds start (word ∷ steps) = provided (is_symbol text word (codes "derivation")) start (each (step text preds) [] steps)
+
+abbrev pub derivation : List ℕ → List Pred → Tree → Result (List Line) ℕ
+derivation text preds (Leaf kind start end) = Err start
+derivation text preds (List' shape row start end) = derivation_of text preds start (items-the_row-Tree _ row)
+
+-- sat or unsat; any other tree claims nothing that can be checked
+abbrev pub claim : List ℕ → Tree → Option Bool
+claim text tree = if is_symbol text tree (codes "sat") then Some true else if is_symbol text tree (codes "unsat") then Some false else None
+
+abbrev pub evidence : List ℕ → List Pred → Bool → Tree → Result Reply ℕ
+evidence text preds true tree = model_of text preds tree
+evidence text preds false tree = derivation text preds tree >>= λ lines. Ok (refutation lines)
+
+-- where the text has no more trees: its fault, or its end
+abbrev pub end_of : List ℕ → Option TextStop → ℕ
+end_of text None = length text
+end_of text (Some (BadByte offset)) = offset
+end_of text (Some (Unclosed offset)) = offset
+end_of text (Some (Deep offset)) = offset
+
+-- a rule that is broken there, if any, else what is read
+abbrev pub unless_at : {A : Type 0} → Option ℕ → A → Result A ℕ
+unless_at None a = Ok a
+unless_at (Some offset) a = Err offset
+
+abbrev pub fault_of : List ℕ → Option TextStop → Option ℕ
+fault_of text None = None
+fault_of text (Some stop) = Some (end_of text (Some stop))
+
+-- what stands behind the two trees, where there should be nothing
+abbrev pub behind : List ℕ → Option TextStop → List Tree → Option ℕ
+behind text stop [] = fault_of text stop
+behind text stop (tree ∷ trees) = Some (start_of tree)
+
+abbrev pub answer_behind : List ℕ → Option TextStop → List Pred → Bool → List Tree → Result Reply ℕ
+answer_behind text stop preds sat [] = Err (end_of text stop)
+answer_behind text stop preds sat (tree ∷ trees) = evidence text preds sat tree >>= unless_at (behind text stop trees)
+
+-- the answer that the trees of a text spell
+abbrev pub reply : List ℕ → Option TextStop → List Pred → List Tree → Result Reply ℕ
+reply text stop preds [] = Err (end_of text stop)
+reply text stop preds (tree ∷ trees) = said_by tree (claim text tree) >>= λ sat. answer_behind text stop preds sat trees

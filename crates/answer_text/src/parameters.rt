@@ -1,0 +1,135 @@
+//! The parameters of a definition that is read.
+
+ghost use Rattle.std.specs.Prelude.{◌≡◌, ◌≤◌, length, map, [], IfOk};
+ghost use Rattle.term_check.specs.Weight.{weight};
+ghost use Rattle.answer_text.specs.Reading.{is_new, parameter_of, parameter, parameters_from, parameters_of, parameters};
+ghost use Rattle.answer_text.specs.Read.{Gives};
+
+use crate::stop::{AnswerStop, bad_at};
+use crate::trees::{has_sort, name_of, start_of};
+use base::{Copied, Items, Memory};
+use sexp_read::Tree;
+use std::alloc::Global;
+use term_tree::{Name, Sort};
+
+fn is_new(before: &[(Name, Sort)], name: &[u8]) -> bool
+    ensures { result ≡ is_new before.now name.now }
+{
+    for (param, _) in before {
+        if name == param.bytes.as_slice() {
+            return false;
+        }
+    }
+    true
+}
+
+fn parameter_of(
+    alloc: Global,
+    text: &[u8],
+    before: &[(Name, Sort)],
+    sort: Sort,
+    start: u32,
+    trees: &[Tree],
+) -> Result<(Name, Sort), AnswerStop>
+    ensures { Gives (parameter_of text.now before.now sort start trees.now) result }
+{
+    match trees {
+        [name, word] => match name_of(text, name) {
+            Some(bytes) => {
+                if !is_new(before, bytes) {
+                    return Err(bad_at(start_of(name)));
+                }
+                if !has_sort(text, word, sort) {
+                    return Err(bad_at(start_of(word)));
+                }
+                let bytes = Items::from_slice(alloc, bytes)?;
+                Ok((Name { bytes }, sort))
+            }
+            None => Err(bad_at(start_of(name))),
+        },
+        _ => Err(bad_at(start)),
+    }
+}
+
+fn parameter(
+    alloc: Global,
+    text: &[u8],
+    before: &[(Name, Sort)],
+    sort: Sort,
+    tree: &Tree,
+) -> Result<(Name, Sort), AnswerStop>
+    ensures { Gives (parameter text.now before.now sort tree.now) result }
+{
+    match tree {
+        Tree::Leaf { start, .. } => Err(bad_at(*start)),
+        Tree::List { items, start, .. } => {
+            parameter_of(alloc, text, before, sort, *start, items.as_slice())
+        }
+    }
+}
+
+fn parameters_from(
+    alloc: Global,
+    text: &[u8],
+    trees: &[Tree],
+    sorts: &[Sort],
+) -> Result<Items<(Name, Sort)>, AnswerStop>
+    requires { length trees.now ≡ length sorts.now }
+    ensures params { Gives (parameters_from text.now [] trees.now sorts.now) result }
+    ensures count { IfOk result (λ params. length params ≡ length trees.now) }
+{
+    let mut params: Vec<(Name, Sort)> = Vec::with_capacity(alloc, trees.len())?;
+    let mut i = 0;
+    while i < trees.len() {
+        let param = parameter(alloc, text, params.as_slice(), sorts[i], &trees[i])?;
+        params.push(param)?;
+        i += 1;
+    }
+    Ok(Items::from_vec(params))
+}
+
+fn parameters_of(
+    alloc: Global,
+    text: &[u8],
+    sorts: &[Sort],
+    start: u32,
+    trees: &[Tree],
+) -> Result<Items<(Name, Sort)>, AnswerStop>
+    ensures params { Gives (parameters_of text.now sorts.now start trees.now) result }
+    ensures count { IfOk result (λ params. length params ≡ length trees.now) }
+{
+    if trees.len() != sorts.len() {
+        return Err(bad_at(start));
+    }
+    parameters_from(alloc, text, trees, sorts)
+}
+
+/// The parameters of a predicate with arguments of these sorts.
+pub fn parameters(
+    alloc: Global,
+    text: &[u8],
+    sorts: &[Sort],
+    tree: &Tree,
+) -> Result<Items<(Name, Sort)>, AnswerStop>
+    ensures params { Gives (parameters text.now sorts.now tree.now) result }
+    ensures count { IfOk result (λ params. length params ≤ weight tree.now) }
+{
+    match tree {
+        Tree::Leaf { start, .. } => Err(bad_at(*start)),
+        Tree::List { items, start, .. } => {
+            let params = parameters_of(alloc, text, sorts, *start, items.as_slice())?;
+            Ok(params)
+        }
+    }
+}
+
+/// Their names alone.
+pub fn names_of(alloc: Global, params: &[(Name, Sort)]) -> Result<Items<Name>, Memory>
+    ensures { IfOk result (λ names. names ≡ map (λ p. p.0) params.now) }
+{
+    let mut names = Vec::with_capacity(alloc, params.len())?;
+    for (name, _) in params {
+        names.push(name.copy(alloc)?)?;
+    }
+    Ok(Items::from_vec(names))
+}
