@@ -1,0 +1,6 @@
+pub mod CombineLemmas
+pub mod ContentLemmas
+pub mod EquationLemmas
+pub mod PivotLemmas
+pub mod QuotientLemmas
+pub mod ReadyLemmas

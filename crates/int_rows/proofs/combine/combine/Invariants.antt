@@ -1,0 +1,7 @@
+use Rattle.std.proofs.Common.{◌≡◌, ◌++◌, drop, take}
+use Rattle.int_rows.specs.Pivot.{combined, reduced}
+use Rattle.int_rows.proofs.combine.combine.Given as goal
+
+-- the entries so far are the combination's, those to come are the row's
+abbrev pub invariant-loop-i : goal.invariant-loop-i
+invariant-loop-i l = l.row ≡ take l.i (reduced l.divisor (combined l.p l.q l.fn.row l.other)) ++ drop l.i l.fn.row

@@ -1,0 +1,22 @@
+use Rattle.std.proofs.Common.{◌++◌, ◌∷◌, [], ◌+◌, ap, sym, ◌∙◌, map, take, List}
+use Rattle.std.specs.Prelude.{ℤ}
+use Rattle.std.proofs.lemmas.List.{map-append}
+use Rattle.lin_atoms.specs.Linear.{Linear, is_linear}
+use Rattle.int_rows.specs.Node.{equation, equations}
+use Rattle.int_rows.proofs.EquationLemmas.{all-more, equations-more}
+use Rattle.int_rows.proofs.equation.equations.Goals as goal
+
+pub loop-i-preserved : goal.loop-i-preserved
+loop-i-preserved c =
+    let lins : List Linear = c.args.lins.now in
+    let i = c.loop-i.i in
+    let d = c.index-lins-i.result in
+    let front = equations c.args.columns c.args.slack (take i lins) in
+    record {
+      made = ap (map (λ r. r.items)) c.in_ok-push.ensures.items
+          ∙ map-append (λ r. r.items) c.loop-i.rows.items (c.in_ok-row.row ∷ [])
+          ∙ ap (λ (rows : List (List ℤ)). rows ++ c.in_ok-row.row.items ∷ []) c.loop-i.invariant.made
+          ∙ ap (λ (row : List ℤ). front ++ row ∷ []) (c.in_ok-row.ensures ∙ ap (λ (lin : Linear). equation c.args.columns (c.args.slack + i) lin) c.index-lins-i.is)
+          ∙ sym (equations-more c.args.columns c.args.slack lins i d c.loop-i-test.true);
+      legal = all-more is_linear lins i d c.loop-i-test.true c.loop-i.invariant.legal (ap is_linear (sym c.index-lins-i.is) ∙ c.constant-constant.ensures.legal);
+    }

@@ -1,0 +1,6 @@
+pub mod Basis
+pub mod Node
+pub mod Pivot
+pub mod Ready
+pub mod Rows
+pub mod Table

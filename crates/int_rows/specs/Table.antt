@@ -1,0 +1,59 @@
+-- A simplex tableau: a row for each equation, solved for its basic variable (Dantzig, Linear Programming and Extensions, chapter 5).
+use Rattle.std.specs.Prelude.{◌≡◌, ℕ, ◌+◌, ◌<◌, ◌≤◌, List, [], map, ℤ, pos, neg_ℤ, ◌<ℤ◌, int_lt, true, length, Option, None, replicate, slice_index_or, slice_set, if◌then◌else◌}
+use Rattle.std.specs.List.{range_with_len}
+use Rattle.lin_atoms.specs.Linear.{Linear}
+use Rattle.int_rows.specs.Node.{equations}
+use Rattle.int_rows.specs.Pivot.{eliminated}
+use Rattle.int_rows.specs.Rows.{are_small, entry, is_primitive}
+
+-- the variables that are no slacks, the rows, the basic variable of each row, and the bounds of all variables
+pub record Table : Type 0 where
+  pub variables : ℕ
+  pub rows : List (List ℤ)
+  pub basic : List ℕ
+  pub lower : List (Option ℤ)
+  pub upper : List (Option ℤ)
+
+-- the variables and a slack for each row
+abbrev pub width : Table → ℕ
+width t = t.variables + length t.rows
+
+abbrev pub row_at : List (List ℤ) → ℕ → List ℤ
+row_at rows i = slice_index_or rows i []
+
+abbrev pub basic_at : List ℕ → ℕ → ℕ
+basic_at basic i = slice_index_or basic i 0
+
+-- a row is primitive, positive in its own basic variable and 0 in the others
+pub record IsSolved (columns : ℕ) (basic : List ℕ) (i : ℕ) (row : List ℤ) : Type 0 where
+  pub width : length row ≡ columns
+  pub small : are_small row ≡ true
+  pub primitive : is_primitive row ≡ true
+  pub positive : pos 0 <ℤ entry row (basic_at basic i)
+  pub zero : (j : ℕ) → j < length basic → (j ≡ i → ⊥) → entry row (basic_at basic j) ≡ pos 0
+
+pub record IsTable (t : Table) : Type 0 where
+  pub basics : length t.basic ≡ length t.rows
+  pub within : (i : ℕ) → i < length t.basic → basic_at t.basic i < width t
+  pub solved : (i : ℕ) → i < length t.rows → IsSolved (width t) t.basic i (row_at t.rows i)
+  pub lowers : length t.lower ≡ width t
+  pub uppers : length t.upper ≡ width t
+  pub few : length t.rows ≤ 1024
+
+-- before the first pivot: each slack is basic in its own row, and there are no bounds
+abbrev pub first_table : ℕ → List Linear → Table
+first_table variables lins = record {
+  variables = variables;
+  rows = equations (variables + length lins) variables lins;
+  basic = range_with_len variables (length lins);
+  lower = replicate (variables + length lins) None;
+  upper = replicate (variables + length lins) None;
+}
+
+-- a row with a positive entry in the column
+abbrev pub facing : ℕ → List ℤ → List ℤ
+facing column row = if int_lt (entry row column) (pos 0) then map neg_ℤ row else row
+
+-- the rows after a pivot: the column is 0 in all but one, which is positive there
+abbrev pub pivoted : ℕ → ℕ → List (List ℤ) → List (List ℤ)
+pivoted i column rows = slice_set (map (eliminated column (row_at rows i)) rows) i (facing column (row_at rows i))

@@ -1,0 +1,109 @@
+//! A combination of two rows, entry by entry.
+
+ghost use Rattle.std.specs.Prelude.{◌≡◌, ◌<◌, ◌≤◌, ◌^◌, ◌-ℤ◌, ◌*ℤ◌, ◌<ℤ◌, length, nat_abs, pos, true, IfSome, IsNone};
+ghost use Rattle.std.specs.Int.{int_div_euclid};
+ghost use Rattle.std.specs.List.{Contains};
+ghost use Rattle.int_rows.specs.Rows.{are_small, content};
+ghost use Rattle.int_rows.specs.Pivot.{combined, reduced};
+
+use lin_atoms::gcd;
+
+/// The exact product.
+fn product(a: i64, b: i64) -> i128
+    requires first { nat_abs a < 2 ^ 63 }
+    requires second { nat_abs b < 2 ^ 63 }
+    ensures value { result ≡ a *ℤ b }
+    ensures bound { nat_abs result < 2 ^ 126 }
+{
+    i128::from(a) * i128::from(b)
+}
+
+/// `p * x - q * y`.
+fn combination(p: i64, x: i64, q: i64, y: i64) -> i128
+    requires p { nat_abs p < 2 ^ 63 }
+    requires x { nat_abs x < 2 ^ 63 }
+    requires q { nat_abs q < 2 ^ 63 }
+    requires y { nat_abs y < 2 ^ 63 }
+    ensures value { result ≡ p *ℤ x -ℤ q *ℤ y }
+    ensures bound { nat_abs result < 2 ^ 127 }
+{
+    product(p, x) - product(q, y)
+}
+
+/// `p * x - q * y`, divided and rounded down.
+fn quotient(p: i64, x: i64, q: i64, y: i64, divisor: i128) -> i128
+    requires p { nat_abs p < 2 ^ 63 }
+    requires x { nat_abs x < 2 ^ 63 }
+    requires q { nat_abs q < 2 ^ 63 }
+    requires y { nat_abs y < 2 ^ 63 }
+    requires divisor { pos 0 <ℤ divisor }
+    ensures { result ≡ int_div_euclid (p *ℤ x -ℤ q *ℤ y) divisor }
+{
+    combination(p, x, q, y).div_euclid(divisor)
+}
+
+/// A number that has room.
+fn narrow(n: i128) -> i64
+    requires { nat_abs n < 2 ^ 63 }
+    ensures { result ≡ n }
+{
+    n as i64
+}
+
+/// The greatest common divisor of the entries of a combination. It ends early at 1.
+pub(crate) fn combined_content(p: i64, row: &[i64], q: i64, other: &[i64]) -> u128
+    requires p { nat_abs p < 2 ^ 63 }
+    requires q { nat_abs q < 2 ^ 63 }
+    requires row { are_small row.now ≡ true }
+    requires other { are_small other.now ≡ true }
+    requires same { length row.now ≡ length other.now }
+    ensures is { result ≡ content (combined p q row.now other.now) }
+    ensures bound { result < 2 ^ 127 }
+{
+    let mut divisor: u128 = 0;
+    for (i, x) in row.iter().enumerate() {
+        if divisor == 1 {
+            return 1;
+        }
+        let entry = combination(p, *x, q, other[i]);
+        divisor = gcd(divisor, entry.unsigned_abs());
+    }
+    divisor
+}
+
+/// The first entry of a combination that has no room after it is divided.
+pub(crate) fn wide_entry(p: i64, row: &[i64], q: i64, other: &[i64], divisor: i128) -> Option<i128>
+    requires p { nat_abs p < 2 ^ 63 }
+    requires q { nat_abs q < 2 ^ 63 }
+    requires row { are_small row.now ≡ true }
+    requires other { are_small other.now ≡ true }
+    requires same { length row.now ≡ length other.now }
+    requires divisor { pos 0 <ℤ divisor }
+    ensures some { IfSome result (λ wide. Contains (reduced divisor (combined p q row.now other.now)) wide × (2 ^ 63 ≤ nat_abs wide)) }
+    ensures none { IsNone result → are_small (reduced divisor (combined p q row.now other.now)) ≡ true }
+{
+    for (i, x) in row.iter().enumerate() {
+        let entry = quotient(p, *x, q, other[i], divisor);
+        if entry.unsigned_abs() >= 1 << 63 {
+            return Some(entry);
+        }
+    }
+    None
+}
+
+/// The combination, divided, in place of the row.
+pub(crate) fn combine(p: i64, row: &mut [i64], q: i64, other: &[i64], divisor: i128)
+    requires p { nat_abs p < 2 ^ 63 }
+    requires q { nat_abs q < 2 ^ 63 }
+    requires row { are_small row.old ≡ true }
+    requires other { are_small other.now ≡ true }
+    requires same { length row.old ≡ length other.now }
+    requires divisor { pos 0 <ℤ divisor }
+    requires room { are_small (reduced divisor (combined p q row.old other.now)) ≡ true }
+    ensures { row.new ≡ reduced divisor (combined p q row.old other.now) }
+{
+    for i in 0..row.len() {
+        let entry = quotient(p, row[i], q, other[i], divisor);
+        row[i] = narrow(entry);
+    }
+}
