@@ -2,3 +2,4 @@ pub mod TermLemmas
 pub mod PlaceLemmas
 pub mod DefinitionLemmas
 pub mod WeightLemmas
+pub mod LawLemmas

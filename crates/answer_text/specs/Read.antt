@@ -1,5 +1,5 @@
 -- What an answer to the reading of a text tells.
-use Rattle.std.specs.Prelude.{◌≡◌, ℕ, List, [], ◌∷◌, map, Option, Result, Ok, Err}
+use Rattle.std.specs.Prelude.{◌≡◌, ℕ, List, [], ◌∷◌, map, Option, Result, Ok, Err, ◌⊎◌}
 use Rattle.sexp_read.specs.declared.tree.Tree.{Tree}
 use Rattle.sexp_read.specs.declared.tree.TextStop.{TextStop}
 use Rattle.sexp_read.specs.Trees.{IsReading}
@@ -51,6 +51,11 @@ pub record IsBad (preds : List Pred) (text : List ℕ) (offset : ℕ) : Type 0 w
   pub stop : Option TextStop
   pub reading : IsReading text trees stop
   pub broken : reply text stop preds trees ≡ Err offset
+
+-- the text claims something over the predicates, or has a first fault
+abbrev pub ClaimsOrIsBad : List Pred → List ℕ → Type 0
+ClaimsOrIsBad preds text =
+    ((claimed : Reply) × (trees : List Tree) × (stop : Option TextStop) × IsReading text trees stop × (reply text stop preds trees ≡ Ok claimed)) ⊎ ((offset : ℕ) × IsBad preds text offset)
 
 abbrev pub TellsReply : Result Reply ℕ → Result Answer AnswerStop → Type 0
 TellsReply outcome (Ok answer) = (r : Reply) × (outcome ≡ Ok r) × IsReply r answer

@@ -6,12 +6,15 @@ mod answer;
 mod declared;
 mod definitions;
 mod derivation;
+mod laws;
 mod lines;
 mod model;
 mod names;
 mod parameters;
 mod pieces;
 mod read;
+#[cfg(test)]
+mod read_tests;
 mod steps;
 mod stop;
 mod term;
@@ -22,6 +25,7 @@ mod values;
 mod write;
 
 pub use answer::{Answer, Line, UnknownCause};
+pub use laws::{every_text_claims_or_is_bad, no_answer_is_bad, one_derivation, one_fault};
 pub use lines::{error_line, level_line, memory_line, usage_line};
 pub use read::read_answer;
 pub use stop::AnswerStop;

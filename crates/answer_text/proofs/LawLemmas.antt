@@ -1,0 +1,55 @@
+-- A text has one reading, and so claims one thing or has one first fault.
+use Rattle.std.proofs.Common.{◌≡◌, ℕ, List, [], Bool, true, false, refl, sym, ap, ◌∙◌, inl, inr}
+use Rattle.std.specs.Prelude.{Option, Result, Ok, Err}
+use Rattle.sexp_read.specs.declared.tree.Tree.{Tree}
+use Rattle.sexp_read.specs.declared.tree.TextStop.{TextStop}
+use Rattle.sexp_read.specs.Trees.{IsReading}
+use Rattle.sexp_read.proofs.Exists.{has_reading}
+use Rattle.sexp_read.proofs.Machine.{one_reading}
+use Rattle.term_tree.specs.declared.script.Pred.{Pred}
+use Rattle.answer_text.specs.declared.answer.Line.{Line}
+use Rattle.answer_text.specs.declared.answer.Answer.{Answer}
+use Rattle.answer_text.specs.declared.answer.Answer.TheVariants.{Unsat}
+use Rattle.answer_text.specs.Reading.{Reply, reply}
+use Rattle.answer_text.specs.Reading.Reply.{model, refutation}
+use Rattle.answer_text.specs.Read.{IsReply, Spells, IsBad, ClaimsOrIsBad}
+
+same_reply : (preds : List Pred) (text : List ℕ) (trees others : List Tree) (stop other : Option TextStop) → IsReading text trees stop → IsReading text others other → reply text stop preds trees ≡ reply text other preds others
+same_reply preds text trees others stop other h k =
+    let same = one_reading text trees others stop other h k in
+    ap (λ (s : Option TextStop). reply text s preds trees) same.1 ∙ ap (λ (ts : List Tree). reply text other preds ts) same.0
+
+abbrev claims : Result Reply ℕ → Bool
+claims (Ok r) = true
+claims (Err offset) = false
+
+abbrev offset_of : Result Reply ℕ → ℕ
+offset_of (Ok r) = 0
+offset_of (Err offset) = offset
+
+abbrev lines_of : Result Reply ℕ → List Line
+lines_of (Ok (model ds)) = []
+lines_of (Ok (refutation lines)) = lines
+lines_of (Err offset) = []
+
+pub either_law : (preds : List Pred) (text : List ℕ) → ClaimsOrIsBad preds text
+either_law preds text = let r = has_reading text in by r.0 r.1 r.2 (reply text r.1 preds r.0) refl
+  where
+    by : (trees : List Tree) (stop : Option TextStop) → IsReading text trees stop → (outcome : Result Reply ℕ) → reply text stop preds trees ≡ outcome → ClaimsOrIsBad preds text
+    by trees stop reading (Ok r) is = inl (r, trees, stop, reading, is)
+    by trees stop reading (Err offset) is = inr (offset, record { trees = trees; stop = stop; reading = reading; broken = is })
+
+pub both_law : (preds : List Pred) (text : List ℕ) (answer : Answer) (offset : ℕ) → Spells preds text answer → IsBad preds text offset → ⊥
+both_law preds text answer offset s b =
+    let e : true ≡ false = ap claims (sym s.spelled ∙ same_reply preds text s.trees b.trees s.stop b.stop s.reading b.reading ∙ b.broken) in cc
+
+pub fault_law : (preds : List Pred) (text : List ℕ) (offset other : ℕ) → IsBad preds text offset → IsBad preds text other → offset ≡ other
+fault_law preds text offset other a b = ap offset_of (sym a.broken ∙ same_reply preds text a.trees b.trees a.stop b.stop a.reading b.reading ∙ b.broken)
+
+lines_are : (r : Reply) (lines : List Line) → IsReply r (Unsat lines) → lines ≡ lines_of (Ok r)
+lines_are (model ds) lines h = absurd h
+lines_are (refutation steps) lines h = h
+
+pub derivation_law : (preds : List Pred) (text : List ℕ) (lines others : List Line) → Spells preds text (Unsat lines) → Spells preds text (Unsat others) → lines ≡ others
+derivation_law preds text lines others s t =
+    lines_are s.claimed lines s.is ∙ ap lines_of (sym s.spelled ∙ same_reply preds text s.trees t.trees s.stop t.stop s.reading t.reading ∙ t.spelled) ∙ sym (lines_are t.claimed others t.is)
