@@ -10,9 +10,6 @@ use Rattle.base.proofs.IntLemmas.{+ℤ-*ℤ, *ℤ_assoc, *ℤ-+ℤ, neg_ℤ-*ℤ
 use Rattle.lin_atoms.specs.Dot.{dot}
 use Rattle.lin_atoms.proofs.RatioLemmas.{exact_quotient}
 use Rattle.int_rows.specs.Pivot.{combined, crossed, eliminated, reduced, turned}
-use Rattle.int_rows.specs.Basis.{IsBasicRow}
-use Rattle.int_rows.specs.Table.{IsTable, Table, basic_at, row_at, width}
-use Rattle.std.proofs.lemmas.List.{get_or_default}
 use Rattle.int_rows.specs.Rows.{Solves, content, entry, is_primitive}
 use Rattle.int_rows.proofs.CombineLemmas.{combined-at, length-combined, reduced-at}
 use Rattle.int_rows.proofs.EquationLemmas.{other-entry}
@@ -88,7 +85,7 @@ crossed-products column other row point same some =
     dot-reduced (content (crossed column row other)) (crossed column row other) point some (content-divides (crossed column row other) some)
     ∙ dot-combined (pos (nat_abs (entry other column))) (turned (entry other column) (entry row column)) row other point same
 
-some-magnitude : (a : ℤ) → (a ≡ pos 0 → ⊥) → 0 < nat_abs a
+pub some-magnitude : (a : ℤ) → (a ≡ pos 0 → ⊥) → 0 < nat_abs a
 some-magnitude (pos zero) h = absurd (h refl)
 some-magnitude (pos (suc n)) h = omega arith
 some-magnitude (negsuc n) h = omega arith
@@ -126,7 +123,7 @@ eliminated-solved column other row point same factor some solved = solved-cases 
 zero-quotient : (g : ℕ) → 0 < g → int_div_euclid (pos 0) (pos g) ≡ pos 0
 zero-quotient g some = ap pos (omega arith)
 
-crossed-entry : (column v : ℕ) (other row : List ℤ) → length row ≡ length other → v < length row → 0 < content (crossed column row other)
+pub crossed-entry : (column v : ℕ) (other row : List ℤ) → length row ≡ length other → v < length row → 0 < content (crossed column row other)
     → entry (Crossed column other row) v *ℤ pos (content (crossed column row other)) ≡ pos (nat_abs (entry other column)) *ℤ entry row v -ℤ turned (entry other column) (entry row column) *ℤ entry other v
 crossed-entry column v other row same h some =
     let p = pos (nat_abs (entry other column)) in
@@ -180,20 +177,3 @@ positive-cases column v other row false same h factor some none own =
 pub eliminated-positive : (column v : ℕ) (other row : List ℤ) → length row ≡ length other → v < length row → (entry other column ≡ pos 0 → ⊥) → 0 < content (crossed column row other) → entry other v ≡ pos 0 → pos 0 <ℤ entry row v
     → pos 0 <ℤ entry (eliminated column other row) v
 eliminated-positive column v other row same h factor some none own = positive-cases column v other row (nat_abs (entry row column) == 0) same h factor some none own
-
--- the rows of a tableau are those of its basis
-pub table-basic : (t : Table) → IsTable t → (i : ℕ) → i < length t.rows → IsBasicRow (width t) t.rows t.basic (basic_at t.basic i) (row_at t.rows i)
-table-basic t is i h =
-    let solved = is.solved i h in
-    let row = row_at t.rows i in
-    record {
-      width = solved.width;
-      follows = λ point all. all i [] h;
-      primitive = solved.primitive;
-      positive = solved.positive;
-      zero = λ other inside away.
-          let j = inside.0 in
-          let same : basic_at t.basic j ≡ other = get_or_default t.basic j 0 other inside.1 ∙ inside.2 in
-          let apart : j ≡ i → ⊥ = λ e. away (sym same ∙ ap (basic_at t.basic) e) in
-          ap (entry row) (sym same) ∙ solved.zero j inside.1 apart;
-    }

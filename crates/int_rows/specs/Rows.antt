@@ -1,5 +1,5 @@
 -- Rows of integers, one entry for each variable, as the homogeneous equations that they stand for (Schrijver, Theory of Linear and Integer Programming, sections 3.1 and 4.1).
-use Rattle.std.specs.Prelude.{◌≡◌, ℕ, zero, suc, List, [], ◌∷◌, ℤ, pos, nat_abs, max, Bool, ◌&&◌, ◌==◌, ◌%◌, slice_index_or, if◌then◌else◌}
+use Rattle.std.specs.Prelude.{◌≡◌, ◌<◌, ℕ, zero, suc, List, [], ◌∷◌, map, length, ℤ, pos, ◌*ℤ◌, nat_abs, max, Bool, ◌&&◌, ◌==◌, ◌%◌, slice_index_or, if◌then◌else◌}
 use Rattle.std.specs.List.{All, list_all}
 use Rattle.lin_atoms.specs.Dot.{dot}
 use Rattle.lin_atoms.specs.Linear.{is_small}
@@ -45,6 +45,10 @@ Solves point row = dot row point ≡ pos 0
 abbrev pub SolvesAll : List ℤ → List (List ℤ) → Type 0
 SolvesAll point rows = All (Solves point) rows
 
--- a row that follows from the rows: each solution of theirs solves it. These are the rows of which some positive multiple is an integer combination of the rows
-abbrev pub Follows : List (List ℤ) → List ℤ → Type 0
-Follows rows row = (point : List ℤ) → SolvesAll point rows → Solves point row
+-- a row that follows from the rows: a positive multiple of it is the sum of integer multiples of the rows, entry by entry
+pub record Follows (rows : List (List ℤ)) (row : List ℤ) : Type 0 where
+  pub multiple : ℕ
+  pub multipliers : List ℤ
+  pub positive : 0 < multiple
+  pub each : length multipliers ≡ length rows
+  pub combination : (v : ℕ) → pos multiple *ℤ entry row v ≡ dot multipliers (map (λ r. entry r v) rows)

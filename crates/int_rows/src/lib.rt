@@ -6,6 +6,7 @@ mod combine;
 mod content;
 mod eliminate;
 mod equation;
+mod follow_laws;
 mod laws;
 mod making;
 mod pivot_laws;
@@ -14,6 +15,9 @@ mod stop;
 mod tableau;
 
 pub use bounds::{Bounded, Ready};
+pub use follow_laws::{
+    elimination_keeps_what_follows, following_is_a_preorder, rows_that_follow_are_solved,
+};
 pub use laws::ready_keeps_points;
 pub use making::ready;
 pub use pivot_laws::{elimination_keeps_solutions, tableau_rows_are_basic};

@@ -1,4 +1,4 @@
-use Rattle.int_rows.proofs.PivotLemmas.{table-basic}
+use Rattle.int_rows.proofs.FollowLemmas.{table-basic}
 use Rattle.int_rows.proofs.pivot_laws.tableau_rows_are_basic.Goals as goal
 
 pub returns : goal.returns
