@@ -8,7 +8,6 @@ mod laws;
 mod rules;
 mod script;
 mod state;
-mod trees;
 
 pub use laws::{
     assertions_are_legal, assertions_have_heads, few_predicates, no_script_is_refused, one_refusal,

@@ -1,19 +1,11 @@
 //! The rules of commands without names and terms.
 
 ghost use Rattle.std.specs.Prelude.{◌≡◌};
-ghost use Rattle.term_check.specs.Rules.{fault};
-ghost use Rattle.sort_check.specs.Commands.{order_fault, form_fault, count_fault, logic_fault, set_logic_fault, is_information, inform_fault, alone_fault, assert_fault, clause_fault};
+ghost use Rattle.sort_check.specs.Commands.{order_fault, form_fault, count_fault, logic_fault, set_logic_fault, is_keyword, is_information, inform_fault, alone_fault, assert_fault, clause_fault};
 
-use crate::trees::{is_keyword, is_symbol, start_of};
-use sexp_read::{Tree, symbol_bytes};
-use term_check::{Fault, Part};
+use sexp_read::{LeafKind, Tree, symbol_bytes};
+use term_check::{Fault, Part, fault, is_symbol, start_of};
 use term_tree::{Kind, Sort};
-
-pub fn fault(kind: Kind, offset: u32) -> Fault
-    ensures { result ≡ fault kind offset }
-{
-    Fault { kind, offset }
-}
 
 pub fn order_fault(start: u32, may: bool) -> Option<Fault>
     ensures { result ≡ order_fault start may }
@@ -71,6 +63,18 @@ pub fn set_logic_fault(text: &[u8], silent: bool, start: u32, parts: &[Tree]) ->
             logic_fault(text, name)
         }
         _ => Some(fault(Kind::CommandForm, start)),
+    }
+}
+
+fn is_keyword(tree: &Tree) -> bool
+    ensures { result ≡ is_keyword tree.now }
+{
+    match tree {
+        Tree::Leaf { kind, .. } => match kind {
+            LeafKind::Keyword => true,
+            _ => false,
+        },
+        Tree::List { .. } => false,
     }
 }
 

@@ -6,12 +6,11 @@ ghost use Rattle.sort_check.specs.Commands.{Command};
 ghost use Rattle.sort_check.specs.Scripts.{IsChecked, stop_fault};
 ghost use Rattle.sort_check.specs.State.{IsState};
 
-use crate::rules::fault;
 use crate::state::State;
 use base::Memory;
 use sexp_read::{TextStop, Trees};
 use std::alloc::Global;
-use term_check::Fault;
+use term_check::{Fault, fault};
 use term_tree::{Checked, Kind};
 
 /// Why the commands are over where the text's trees are.

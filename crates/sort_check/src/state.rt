@@ -10,11 +10,11 @@ ghost use Rattle.sort_check.specs.State.{IsState, Took};
 
 use crate::declaration::{declaration_fault, predicate_named};
 use crate::heads::has_head;
-use crate::rules::{alone_fault, assert_fault, clause_fault, fault, inform_fault, set_logic_fault};
+use crate::rules::{alone_fault, assert_fault, clause_fault, inform_fault, set_logic_fault};
 use base::{Items, Memory};
 use sexp_read::{Tree, is_word};
 use std::alloc::Global;
-use term_check::{Fault, Found, Signature, TermStop, check_term};
+use term_check::{Fault, Found, Signature, TermStop, check_term, fault};
 use term_tree::{Assertion, Checked, Kind, Refusal, Script, Terms};
 
 /// The declared predicates, the assertions and their terms, and what decides which commands may

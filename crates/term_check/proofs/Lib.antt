@@ -3,6 +3,7 @@ pub mod AtomLemmas
 pub mod BinderLemmas
 pub mod ConstantLemmas
 pub mod CycleLemmas
+pub mod FewLemmas
 pub mod FormulaLemmas
 pub mod KnownLemmas
 pub mod LeafLemmas

@@ -10,4 +10,5 @@ pub mod Spelling
 pub mod TellsFormula
 pub mod Term
 pub mod Weight
+pub mod WordLengths
 pub mod Words

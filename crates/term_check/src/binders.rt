@@ -3,14 +3,13 @@
 ghost use Rattle.std.specs.Prelude.{◌≡◌, ◌<◌, [], length, nat_eq, IfOk};
 ghost use Rattle.std.specs.List.{list_all};
 ghost use Rattle.std.specs.Option.{option_copied};
-ghost use Rattle.term_check.specs.Spelling.{items_of, start_of, name_of, sort_named, name_in, name_start, sort_in, sort_start, name_or_none, sort_or_bool, names_fault, binder_fault, repeated_fault, let_names_fault, sort_name_fault, variables_fault, sorts_bound};
+ghost use Rattle.term_check.specs.Spelling.{items_of, name_in, name_start, sort_in, sort_start, name_or_none, sort_or_bool, names_fault, binder_fault, repeated_fault, let_names_fault, sort_name_fault, variables_fault, sorts_bound};
 
-use crate::heads::is_symbol;
 use crate::part::Fault;
 use crate::seen::Seen;
-use crate::words::is_reserved;
+use crate::trees::{name_of, sort_named, start_of};
 use base::{Items, Memory};
-use sexp_read::{LeafKind, Tree, symbol_bytes};
+use sexp_read::Tree;
 use std::alloc::Global;
 use term_tree::{Kind, Sort};
 
@@ -21,42 +20,6 @@ pub fn items_of(tree: &Tree) -> &[Tree]
     match tree {
         Tree::List { items, .. } => items.as_slice(),
         Tree::Leaf { .. } => &[],
-    }
-}
-
-fn start_of(tree: &Tree) -> u32
-    ensures { result ≡ start_of tree.now }
-{
-    match tree {
-        Tree::Leaf { start, .. } => *start,
-        Tree::List { start, .. } => *start,
-    }
-}
-
-fn name_of<'a>(text: &'a [u8], tree: &Tree) -> Option<&'a [u8]>
-    ensures { option_copied result ≡ name_of text.now tree.now }
-{
-    match tree {
-        Tree::Leaf { kind, .. } => match symbol_bytes(text, tree) {
-            Some(name) => match kind {
-                LeafKind::Symbol if is_reserved(name) => None,
-                _ => Some(name),
-            },
-            None => None,
-        },
-        Tree::List { .. } => None,
-    }
-}
-
-fn sort_named(text: &[u8], tree: &Tree) -> Option<Sort>
-    ensures { result ≡ sort_named text.now tree.now }
-{
-    if is_symbol(text, tree, b"Int") {
-        Some(Sort::Int)
-    } else if is_symbol(text, tree, b"Bool") {
-        Some(Sort::Bool)
-    } else {
-        None
     }
 }
 
@@ -152,7 +115,7 @@ pub fn binder_fault(text: &[u8], binder: &Tree) -> Option<Fault>
     }
 }
 
-fn repeated_fault(text: &[u8], seen: &Seen, item: &Tree) -> Option<Fault>
+fn repeated_fault<'a>(text: &[u8], seen: &Seen<'a>, item: &Tree) -> Option<Fault>
     ensures { result ≡ repeated_fault text.now seen.now item.now }
 {
     if seen.has(name_bound(text, item)) {
@@ -169,12 +132,12 @@ fn repeated_fault(text: &[u8], seen: &Seen, item: &Tree) -> Option<Fault>
 pub fn let_names_fault(alloc: Global, text: &[u8], items: &[Tree]) -> Result<Option<Fault>, Memory>
     ensures { IfOk result (λ fault. fault ≡ let_names_fault text.now [] items.now) }
 {
-    let mut seen = Seen::new(alloc);
+    let mut seen = Seen::with_room(alloc, items.len())?;
     for item in items {
         if let Some(fault) = repeated_fault(text, &seen, item) {
             return Ok(Some(fault));
         }
-        seen.add(alloc, name_bound(text, item))?;
+        seen.add(name_bound(text, item))?;
     }
     Ok(None)
 }
@@ -195,7 +158,7 @@ fn sort_name_fault(text: &[u8], item: &Tree) -> Option<Fault>
 pub fn variables_fault(alloc: Global, text: &[u8], items: &[Tree]) -> Result<Option<Fault>, Memory>
     ensures { IfOk result (λ fault. fault ≡ variables_fault text.now [] items.now) }
 {
-    let mut seen = Seen::new(alloc);
+    let mut seen = Seen::with_room(alloc, items.len())?;
     for item in items {
         if let Some(fault) = repeated_fault(text, &seen, item) {
             return Ok(Some(fault));
@@ -203,7 +166,7 @@ pub fn variables_fault(alloc: Global, text: &[u8], items: &[Tree]) -> Result<Opt
         if let Some(fault) = sort_name_fault(text, item) {
             return Ok(Some(fault));
         }
-        seen.add(alloc, name_bound(text, item))?;
+        seen.add(name_bound(text, item))?;
     }
     Ok(None)
 }

@@ -1,56 +1,61 @@
-ghost use Rattle.std.specs.Prelude.{◌≡◌, ◌+◌, ◌<◌, ◌^◌, ◌++◌, [], ◌∷◌, ◌-◌, length, take, OnOk};
+ghost use Rattle.std.specs.Prelude.{◌≡◌, ◌+◌, ◌<◌, ◌^◌, ◌++◌, [], ◌∷◌, length, take, map, OnOk};
 ghost use Rattle.term_check.specs.Formula.{params_from};
-ghost use Rattle.term_check.specs.Meanings.{named, joined};
+ghost use Rattle.term_check.specs.Meanings.{named, named_as};
 ghost use Rattle.term_check.specs.Spelling.{bound_to, variables_from, lets_from};
 
 use crate::binders::{name_bound, sort_bound};
+use crate::mapped::Mapped;
 use crate::part::Part;
-use crate::scope::{Binding, Bound};
+use crate::scope::{Bound, Meaning};
 use base::Memory;
-use indexmap::IndexMap;
 use sexp_read::Tree;
 use std::alloc::Global;
 use std::marker::Model;
 use term_tree::{Name, Sort};
 
-/// The names that are bound around a term, the innermost last, each found by its hash. A name that
-/// was left keeps its place in the map.
+/// How many names are found by comparing each.
+pub const FEW: usize = 16;
+
+/// The names that are bound around a term, the innermost last. The outermost ones are found by
+/// comparing each, and those after them by their hash.
 #[derive(Drop)]
-pub struct Bindings {
-    alloc: Global,
-    bindings: Vec<Binding>,
-    meanings: IndexMap<Vec<u8>, Option<Bound>>,
+pub struct Bindings<'a> {
+    few: Vec<Meaning<'a>>,
+    more: Mapped<'a>,
 }
 
-impl Model for Bindings {
-    ghost use Rattle.std.specs.Prelude.{List, [], map};
+impl<'a> Model for Bindings<'a> {
+    ghost use Rattle.std.specs.Prelude.{List, map, ◌++◌};
     ghost use Rattle.term_check.specs.declared.scope.Named.{Named as ANamed};
-    ghost use Rattle.term_check.specs.Meanings.{named_by, AreKept, AreMeanings};
+    ghost use Rattle.term_check.specs.Meanings.{named_as};
 
     ghost Value = { List ANamed };
 
-    ghost view = { λ b. map named_by b.bindings.items };
-
-    ghost invariant = { λ b. AreKept [] b.bindings.items × AreMeanings b.meanings.entries (map named_by b.bindings.items) };
+    ghost view = { λ b. map named_as b.few.items ++ b.more };
 }
 
-fn joined(meaning: Option<Option<Bound>>) -> Option<Bound>
-    ensures { result ≡ joined meaning }
+/// What the last of that name stands for.
+fn last_named<'a>(few: &[Meaning<'a>], name: &[u8]) -> Option<Bound>
+    ensures { result ≡ bound_to name.now (map named_as few.now) }
 {
-    match meaning {
-        Some(bound) => bound,
-        None => None,
+    let mut i = few.len();
+    while i > 0 {
+        let last = &few[i - 1];
+        if last.name == name {
+            return Some(last.bound);
+        }
+        i -= 1;
     }
+    None
 }
 
-impl Bindings {
-    pub fn new(alloc: Global) -> Bindings
+impl<'a> Bindings<'a> {
+    pub fn new(alloc: Global) -> Bindings<'a>
         ensures { result ≡ [] }
     {
         Bindings {
-            alloc,
-            bindings: Vec::new(alloc),
-            meanings: IndexMap::new(alloc),
+            few: Vec::new(alloc),
+            more: Mapped::new(alloc),
         }
     }
 
@@ -58,58 +63,65 @@ impl Bindings {
     pub fn bound_to(&self, name: &[u8]) -> Option<Bound>
         ensures { result ≡ bound_to name.now self.now }
     {
-        joined(self.meanings.get(name).copied())
+        if self.more.len() == 0 {
+            return last_named(self.few.as_slice(), name);
+        }
+        match self.more.bound_to(name) {
+            Some(bound) => Some(bound),
+            None => last_named(self.few.as_slice(), name),
+        }
     }
 
     /// How many names there are.
     pub fn len(&self) -> usize
         ensures { result ≡ length self.now }
     {
-        self.bindings.len()
+        self.few.len() + self.more.len()
     }
 
-    /// Binds one more name, inside of the others.
-    fn bind(&mut self, name: &[u8], bound: Bound) -> Result<(), Memory>
-        ensures { OnOk result (self.new ≡ self.old ++ named name.now bound ∷ []) }
+    /// Makes room for so many more names.
+    fn reserve(&mut self, count: usize) -> Result<(), Memory>
+        ensures { OnOk result (self.new ≡ self.old) }
     {
-        let key = Vec::from_slice(self.alloc, name)?;
-        let name = Vec::from_slice(self.alloc, name)?;
-        self.bindings.reserve(1)?;
-        let before = self.meanings.insert(key, Some(bound))?;
-        let outside = joined(before);
-        self.bindings
-            .push(Binding {
-                name,
-                bound,
-                outside,
-            })
-            .unwrap();
+        if count <= FEW {
+            self.few.reserve(count)?;
+        } else {
+            self.more.reserve(count)?;
+        }
         Ok(())
     }
 
-    /// Forgets the innermost name, which stands again for what it stood for outside.
-    fn leave_one(&mut self)
-        ensures { self.new ≡ take (length self.old - 1) self.old }
+    /// Binds one more name, inside of the others.
+    fn bind(&mut self, name: &'a [u8], bound: Bound) -> Result<(), Memory>
+        ensures { OnOk result (self.new ≡ self.old ++ named name.now bound ∷ []) }
     {
-        if let Some(Binding { name, outside, .. }) = self.bindings.pop() {
-            self.meanings.insert(name, outside).unwrap();
+        if self.few.len() < FEW && self.more.len() == 0 {
+            self.few.push(Meaning { name, bound })?;
+        } else {
+            self.more.bind(name, bound)?;
         }
+        Ok(())
     }
 
     /// Forgets the innermost names but for so many.
     pub fn leave(&mut self, count: usize)
         ensures { self.new ≡ take count self.old }
     {
-        while self.len() > count {
-            self.leave_one();
-        }
+        self.more.leave(count.saturating_sub(self.few.len()));
+        self.few.truncate(count);
     }
 
     /// Binds the variables of a quantifier, numbered from here on.
-    pub fn bind_variables(&mut self, text: &[u8], first: u32, items: &[Tree]) -> Result<(), Memory>
+    pub fn bind_variables(
+        &mut self,
+        text: &'a [u8],
+        first: u32,
+        items: &[Tree],
+    ) -> Result<(), Memory>
         requires { first + length items.now < 2 ^ 32 }
         ensures { OnOk result (self.new ≡ self.old ++ variables_from text.now first items.now) }
     {
+        self.reserve(items.len())?;
         let mut number = first;
         for item in items {
             let sort = sort_bound(text, item);
@@ -122,7 +134,7 @@ impl Bindings {
     /// Binds the names of a `let`, numbered from here on.
     pub fn bind_lets(
         &mut self,
-        text: &[u8],
+        text: &'a [u8],
         first: u32,
         items: &[Tree],
         parts: &[Part],
@@ -130,6 +142,7 @@ impl Bindings {
         requires { first + length parts.now < 2 ^ 32 }
         ensures { OnOk result (self.new ≡ self.old ++ lets_from text.now first items.now parts.now) }
     {
+        self.reserve(items.len())?;
         let mut number = first;
         let mut i = 0;
         while i < items.len() && i < parts.len() {
@@ -147,10 +160,11 @@ impl Bindings {
     }
 
     /// Binds parameters, as variables numbered from here on.
-    pub fn bind_params(&mut self, first: u32, params: &[(Name, Sort)]) -> Result<(), Memory>
+    pub fn bind_params(&mut self, first: u32, params: &'a [(Name, Sort)]) -> Result<(), Memory>
         requires { first + length params.now < 2 ^ 32 }
         ensures { OnOk result (self.new ≡ self.old ++ params_from first params.now) }
     {
+        self.reserve(params.len())?;
         let mut number = first;
         for (name, sort) in params {
             let bound = Bound::Variable {

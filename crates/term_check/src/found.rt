@@ -23,17 +23,17 @@ pub struct FoundAll {
 }
 
 impl FoundAll {
-    /// None yet, where the next variable has this number.
-    pub fn new(alloc: Global, next: u32) -> FoundAll
-        ensures ids { result.ids.items ≡ [] }
-        ensures parts { result.parts.items ≡ [] }
-        ensures next { result.next ≡ next }
+    /// None yet, with room for so many, where the next variable has this number.
+    pub fn with_room(alloc: Global, count: usize, next: u32) -> Result<FoundAll, Memory>
+        ensures ids { IfOk result (λ all. all.ids.items ≡ []) }
+        ensures parts { IfOk result (λ all. all.parts.items ≡ []) }
+        ensures next { IfOk result (λ all. all.next ≡ next) }
     {
-        FoundAll {
-            ids: Vec::new(alloc),
-            parts: Vec::new(alloc),
+        Ok(FoundAll {
+            ids: Vec::with_capacity(alloc, count)?,
+            parts: Vec::with_capacity(alloc, count)?,
             next,
-        }
+        })
     }
 }
 

@@ -1,39 +1,17 @@
 //! Heads of applications, and how many arguments they take.
 
 ghost use Rattle.std.specs.Prelude.{◌≡◌};
-ghost use Rattle.term_check.specs.Spelling.{is_numeral, is_word, is_symbol, is_divisible, list_head, head_of, unapplied_fault, declared_number_fault, head_fault};
+ghost use Rattle.term_check.specs.Spelling.{is_numeral, is_divisible, list_head, head_of, unapplied_fault, declared_number_fault, head_fault};
 
 use crate::head::Head;
 use crate::names::{sorts_of, symbol_head};
 use crate::part::Fault;
 use crate::rules::number_fault;
 use crate::signature::Signature;
+use crate::trees::{is_symbol, is_word};
 use crate::words::is_reserved;
 use sexp_read::{LeafKind, Tree, numeral_value, symbol_bytes};
 use term_tree::{Kind, Pred};
-
-/// Whether the tree is a symbol of these bytes, between bars or not.
-pub fn is_symbol(text: &[u8], tree: &Tree, name: &[u8]) -> bool
-    ensures { result ≡ is_symbol text.now tree.now name.now }
-{
-    match symbol_bytes(text, tree) {
-        Some(bytes) => bytes == name,
-        None => false,
-    }
-}
-
-/// Whether the tree is a symbol of these bytes without bars.
-pub fn is_word(text: &[u8], tree: &Tree, name: &[u8]) -> bool
-    ensures { result ≡ is_word text.now tree.now name.now }
-{
-    match tree {
-        Tree::Leaf { kind, .. } => match kind {
-            LeafKind::Symbol => is_symbol(text, tree, name),
-            _ => false,
-        },
-        Tree::List { .. } => false,
-    }
-}
 
 fn is_numeral(tree: &Tree) -> bool
     ensures { result ≡ is_numeral tree.now }

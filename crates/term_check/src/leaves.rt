@@ -8,18 +8,13 @@ use crate::atom::Atom;
 use crate::names::sorts_of;
 use crate::part::{Fault, Part};
 use crate::reader::Reader;
+use crate::rules::fault;
 use crate::scope::Bound;
 use crate::signature::Signature;
 use crate::values::narrow;
 use crate::words::is_reserved;
 use sexp_read::{LeafKind, Tree, numeral_value, symbol_bytes};
 use term_tree::{Kind, Pred, Sort};
-
-fn fault(kind: Kind, offset: u32) -> Fault
-    ensures { result ≡ record { kind = kind; offset = offset } }
-{
-    Fault { kind, offset }
-}
 
 fn bare_predicate(preds: &[Pred], start: u32, number: Option<u32>) -> Result<Atom, Fault>
     ensures { result ≡ bare_predicate preds.now start number }

@@ -13,6 +13,7 @@ mod heads;
 mod laws;
 mod leaves;
 mod legality;
+mod mapped;
 mod names;
 mod nodes;
 mod operators;
@@ -26,6 +27,7 @@ mod signature;
 mod stop;
 #[cfg(test)]
 mod tests;
+mod trees;
 mod values;
 mod words;
 
@@ -35,6 +37,8 @@ pub use laws::{items_are_lighter, terms_stay, trees_are_light};
 pub use legality::{found_terms_are_legal, spelled_formulas_are_legal, spelled_terms_are_legal};
 pub use operators::operator_named;
 pub use part::{Fault, Part};
+pub use rules::fault;
 pub use signature::Signature;
 pub use stop::TermStop;
+pub use trees::{is_symbol, name_of, sort_named, start_of};
 pub use words::is_reserved;

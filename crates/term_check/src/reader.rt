@@ -21,7 +21,7 @@ pub struct Reader<'a> {
     text: &'a [u8],
     signature: &'a Signature,
     quantifies: bool,
-    bindings: Bindings,
+    bindings: Bindings<'a>,
     lets: Vec<TermId>,
 }
 
@@ -39,10 +39,10 @@ impl<'a> Reader<'a> {
         alloc: Global,
         text: &'a [u8],
         signature: &'a Signature,
-        bindings: Bindings,
+        bindings: Bindings<'a>,
         quantifies: bool,
     ) -> Reader<'a>
-        ensures { result ≡ record { text = text.now; scope = scope_of signature.now bindings quantifies; lets = [] } }
+        ensures { result ≡ record { text = text.now; scope = scope_of signature.now bindings.entry quantifies; lets = [] } }
     {
         Reader {
             alloc,

@@ -13,9 +13,10 @@ ghost use Rattle.term_check.specs.Weight.{weight, weights};
 use crate::apply::{add_binding, add_quantifier, apply, read_leaf};
 use crate::binders::{binder_fault, items_of, let_names_fault, sorts_bound, variables_fault};
 use crate::found::{Found, FoundAll, with_next};
-use crate::heads::{head_fault, head_of, is_word};
+use crate::heads::{head_fault, head_of};
 use crate::reader::Reader;
 use crate::stop::{TermStop, bad_form};
+use crate::trees::is_word;
 use sexp_read::Tree;
 use term_tree::Terms;
 
@@ -118,7 +119,7 @@ fn read_arguments<'a>(
     ensures next { IfOk result (λ all. all.next ≤ next + weights args.now) }
     ensures count { IfOk result (λ all. length all.ids.items ≡ length args.now) }
 {
-    let mut all = FoundAll::new(reader.alloc(), next);
+    let mut all = FoundAll::with_room(reader.alloc(), args.len(), next)?;
     for arg in args {
         match read_next(reader, all, arg, terms) {
             Ok(more) => all = more,
@@ -195,7 +196,7 @@ fn read_bound<'a>(
     ensures next { IfOk result (λ all. all.next ≤ next + weights items.now) }
     ensures count { IfOk result (λ all. length all.ids.items ≤ length items.now) }
 {
-    let mut all = FoundAll::new(reader.alloc(), next);
+    let mut all = FoundAll::with_room(reader.alloc(), items.len(), next)?;
     for item in items {
         match read_item(reader, all, items_of(item), terms) {
             Ok(more) => all = more,

@@ -15,7 +15,8 @@ use term_tree::{Kind, OpKind, Sort};
 /// How many terms `distinct` may have.
 const MOST_DISTINCT: usize = 64;
 
-fn fault(kind: Kind, offset: u32) -> Fault
+/// The fault of that kind at an offset.
+pub fn fault(kind: Kind, offset: u32) -> Fault
     ensures { result ≡ fault kind offset }
 {
     Fault { kind, offset }

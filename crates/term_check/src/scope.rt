@@ -24,9 +24,16 @@ pub struct Named {
 }
 
 /// A bound name, with what it stands for outside of its binder.
-#[derive(Drop)]
-pub struct Binding {
-    pub name: Vec<u8>,
+#[derive(Clone, Copy)]
+pub struct Binding<'a> {
+    pub name: &'a [u8],
     pub bound: Bound,
     pub outside: Option<Bound>,
+}
+
+/// A bound name and what it stands for.
+#[derive(Clone, Copy)]
+pub struct Meaning<'a> {
+    pub name: &'a [u8],
+    pub bound: Bound,
 }

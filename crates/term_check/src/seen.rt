@@ -1,48 +1,68 @@
-ghost use Rattle.std.specs.Prelude.{◌≡◌, ◌++◌, [], ◌∷◌, false, OnOk};
+ghost use Rattle.std.specs.Prelude.{◌≡◌, ◌++◌, [], ◌∷◌, false, map, IfOk, OnOk};
 ghost use Rattle.term_check.specs.Words.{is_among};
 
+use crate::bindings::FEW;
 use base::Memory;
 use indexmap::IndexSet;
 use std::alloc::Global;
 use std::marker::Model;
 
-/// The names that stand in a binder before, in their order, each found by its hash.
+/// The names that stand in a binder before, in their order. The first ones are found by comparing
+/// each, and those after them by their hash.
 #[derive(Drop)]
-pub struct Seen {
-    names: IndexSet<Vec<u8>>,
+pub struct Seen<'a> {
+    few: Vec<&'a [u8]>,
+    more: IndexSet<&'a [u8]>,
 }
 
-impl Model for Seen {
-    ghost use Rattle.std.specs.Prelude.{List, ℕ, map};
+impl<'a> Model for Seen<'a> {
+    ghost use Rattle.std.specs.Prelude.{List, ℕ, map, ◌++◌};
 
     ghost Value = { List (List ℕ) };
 
-    ghost view = { λ s. map (λ name. name.items) s.names.keys };
+    ghost view = { λ s. map (λ name. name.now) s.few.items ++ map (λ name. name.now) s.more.keys };
 }
 
-impl Seen {
-    pub fn new(alloc: Global) -> Seen
-        ensures { result ≡ [] }
-    {
-        Seen {
-            names: IndexSet::new(alloc),
+/// Whether one of them is that name.
+fn has_name<'a>(few: &[&'a [u8]], name: &[u8]) -> bool
+    ensures { result ≡ is_among (map (λ one. one.now) few.now) name.now }
+{
+    for one in few {
+        if name == *one {
+            return true;
         }
+    }
+    false
+}
+
+impl<'a> Seen<'a> {
+    /// None yet, with room for so many.
+    pub fn with_room(alloc: Global, count: usize) -> Result<Seen<'a>, Memory>
+        ensures { IfOk result (λ seen. seen ≡ []) }
+    {
+        Ok(Seen {
+            few: Vec::with_capacity(alloc, count.min(FEW))?,
+            more: IndexSet::with_capacity(alloc, count.saturating_sub(FEW))?,
+        })
     }
 
     /// Whether the name is among them.
     pub fn has(&self, name: &[u8]) -> bool
         ensures { result ≡ is_among self.now name.now }
     {
-        self.names.contains(name)
+        has_name(self.few.as_slice(), name) || !self.more.is_empty() && self.more.contains(name)
     }
 
     /// Adds a name that is new.
-    pub fn add(&mut self, alloc: Global, name: &[u8]) -> Result<(), Memory>
+    pub fn add(&mut self, name: &'a [u8]) -> Result<(), Memory>
         requires { is_among self.old name.now ≡ false }
         ensures { OnOk result (self.new ≡ self.old ++ name.now ∷ []) }
     {
-        let name = Vec::from_slice(alloc, name)?;
-        self.names.insert(name)?;
+        if self.few.len() < FEW && self.more.is_empty() {
+            self.few.push(name)?;
+        } else {
+            self.more.insert(name)?;
+        }
         Ok(())
     }
 }

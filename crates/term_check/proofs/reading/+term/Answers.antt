@@ -27,11 +27,11 @@ read_application-returns-in-Ok-read_arguments-clause-keeps t c = keeps_then c.ar
 
 pub read_arguments-loop-arg-init : goal.read_arguments-loop-arg-init
 read_arguments-loop-arg-init t c = record {
-  told = (nothing_yet c.args.next, none_gathered c.args.reader.now.lets c.args.terms.now c.new-all.result.ids.items c.new-all.result.parts.items c.args.next c.new-all.result.next c.new-all.ensures.ids c.new-all.ensures.parts c.new-all.ensures.next, refl);
+  told = (nothing_yet c.args.next, none_gathered c.args.reader.now.lets c.args.terms.now c.in_ok-all.all.ids.items c.in_ok-all.all.parts.items c.args.next c.in_ok-all.all.next c.in_ok-all.ensures.ids c.in_ok-all.ensures.parts c.in_ok-all.ensures.next, refl);
   keeps = keeps_all c.args.terms.now;
   kept = refl;
-  room = let n = c.new-all.ensures.next in omega (arith, n);
-  count = ap (λ (xs : List TermId). length xs) c.new-all.ensures.ids;
+  room = let n = c.in_ok-all.ensures.next in omega (arith, n);
+  count = ap (λ (xs : List TermId). length xs) c.in_ok-all.ensures.ids;
 }
 
 pub read_arguments-loop-arg-preserved : goal.read_arguments-loop-arg-preserved
@@ -60,11 +60,11 @@ read_arguments-read_next-requires t c =
 
 pub read_bound-loop-item-init : goal.read_bound-loop-item-init
 read_bound-loop-item-init t c = record {
-  told = (nothing_yet c.args.next, none_gathered c.args.reader.now.lets c.args.terms.now c.new-all.result.ids.items c.new-all.result.parts.items c.args.next c.new-all.result.next c.new-all.ensures.ids c.new-all.ensures.parts c.new-all.ensures.next, refl);
+  told = (nothing_yet c.args.next, none_gathered c.args.reader.now.lets c.args.terms.now c.in_ok-all.all.ids.items c.in_ok-all.all.parts.items c.args.next c.in_ok-all.all.next c.in_ok-all.ensures.ids c.in_ok-all.ensures.parts c.in_ok-all.ensures.next, refl);
   keeps = keeps_all c.args.terms.now;
   kept = refl;
-  room = let n = c.new-all.ensures.next in omega (arith, n);
-  count = let none = ap (λ (xs : List TermId). length xs) c.new-all.ensures.ids in omega (arith, none);
+  room = let n = c.in_ok-all.ensures.next in omega (arith, n);
+  count = let none = ap (λ (xs : List TermId). length xs) c.in_ok-all.ensures.ids in omega (arith, none);
 }
 
 pub read_bound-loop-item-preserved : goal.read_bound-loop-item-preserved

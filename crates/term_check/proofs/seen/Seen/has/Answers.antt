@@ -1,7 +1,13 @@
-use Rattle.std.proofs.Common.{◌≡◌, List, ℕ, ap, ◌∙◌}
+use Rattle.std.proofs.Common.{◌≡◌, false, List, ℕ, map, sym, ap, ◌∙◌, Bor}
 use Rattle.term_check.specs.Words.{is_among}
+use Rattle.term_check.proofs.FewLemmas.{among_later}
 use Rattle.term_check.proofs.MeaningLemmas.{among_keys}
 use Rattle.term_check.proofs.seen.Seen.has.Goals as goal
 
-pub returns : goal.returns
-returns c = c.contains.ensures ∙ among_keys c.self.inside.names.keys c.args.name.now ∙ ap (λ (names : List (List ℕ)). is_among names c.args.name.now) c.self.view_is
+pub returns-then-not-is_empty : goal.returns-then-not-is_empty
+returns-then-not-is_empty c =
+    let lent : List (Bor (List ℕ)) → List (List ℕ) = map (λ one. one.now) in
+    let name = c.args.name.now in
+    let none : is_among (lent c.self.inside.few.items) name ≡ false = ap (λ xs. is_among (lent xs) name) (sym c.as_slice.ensures.value) ∙ sym c.has_name.ensures ∙ c.if-has_name.false in
+    c.contains.ensures ∙ among_keys c.self.inside.more.keys name ∙ sym (among_later (lent c.self.inside.few.items) (lent c.self.inside.more.keys) name none)
+    ∙ ap (λ (names : List (List ℕ)). is_among names name) c.self.view_is

@@ -1,4 +1,4 @@
-use Rattle.std.proofs.Common.{◌≡◌, ap, ◌∙◌, sym, ℕ, List}
+use Rattle.std.proofs.Common.{ap, ◌∙◌, List}
 use Rattle.term_tree.specs.declared.script.Pred.{Pred}
 use Rattle.term_check.specs.Spelling.{pred_from}
 use Rattle.term_check.proofs.NumberLemmas.{lookup_numbered}

@@ -2,11 +2,10 @@
 
 ghost use Rattle.std.specs.Prelude.{◌≡◌};
 ghost use Rattle.std.specs.Option.{option_copied};
-ghost use Rattle.term_check.specs.Spelling.{is_symbol, name_of, sort_named, start_of};
-ghost use Rattle.sort_check.specs.Commands.{is_keyword};
+ghost use Rattle.term_check.specs.Spelling.{is_symbol, is_word, name_of, sort_named, start_of};
 
+use crate::words::is_reserved;
 use sexp_read::{LeafKind, Tree, symbol_bytes};
-use term_check::is_reserved;
 use term_tree::Sort;
 
 /// Where the tree starts.
@@ -16,18 +15,6 @@ pub fn start_of(tree: &Tree) -> u32
     match tree {
         Tree::Leaf { start, .. } => *start,
         Tree::List { start, .. } => *start,
-    }
-}
-
-pub fn is_keyword(tree: &Tree) -> bool
-    ensures { result ≡ is_keyword tree.now }
-{
-    match tree {
-        Tree::Leaf { kind, .. } => match kind {
-            LeafKind::Keyword => true,
-            _ => false,
-        },
-        Tree::List { .. } => false,
     }
 }
 
@@ -41,22 +28,36 @@ pub fn is_symbol(text: &[u8], tree: &Tree, name: &[u8]) -> bool
     }
 }
 
+/// Whether the tree is a symbol of these bytes without bars.
+pub fn is_word(text: &[u8], tree: &Tree, name: &[u8]) -> bool
+    ensures { result ≡ is_word text.now tree.now name.now }
+{
+    match tree {
+        Tree::Leaf { kind, .. } => match kind {
+            LeafKind::Symbol => is_symbol(text, tree, name),
+            _ => false,
+        },
+        Tree::List { .. } => false,
+    }
+}
+
 /// The name that a symbol spells; a reserved word is a name between bars alone.
 pub fn name_of<'a>(text: &'a [u8], tree: &Tree) -> Option<&'a [u8]>
     ensures { option_copied result ≡ name_of text.now tree.now }
 {
-    match symbol_bytes(text, tree) {
-        Some(name) => match tree {
-            Tree::Leaf { kind, .. } => match kind {
+    match tree {
+        Tree::Leaf { kind, .. } => match symbol_bytes(text, tree) {
+            Some(name) => match kind {
                 LeafKind::Symbol if is_reserved(name) => None,
                 _ => Some(name),
             },
-            Tree::List { .. } => None,
+            None => None,
         },
-        None => None,
+        Tree::List { .. } => None,
     }
 }
 
+/// The sort that a symbol names.
 pub fn sort_named(text: &[u8], tree: &Tree) -> Option<Sort>
     ensures { result ≡ sort_named text.now tree.now }
 {

@@ -1,5 +1,5 @@
 use Rattle.std.proofs.Common.{◌≡◌, length, take}
-use Rattle.term_check.proofs.bindings.Bindings.leave.Given as goal
+use Rattle.term_check.proofs.mapped.Mapped.leave.Given as goal
 
 abbrev pub invariant-loop-self : goal.invariant-loop-self
 invariant-loop-self l = take l.count l.self ≡ take l.count l.fn.self
