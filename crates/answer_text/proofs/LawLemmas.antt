@@ -1,5 +1,5 @@
 -- A text has one reading, and so claims one thing or has one first fault.
-use Rattle.std.proofs.Common.{◌≡◌, ℕ, List, [], Bool, true, false, refl, sym, ap, ◌∙◌, inl, inr}
+use Rattle.std.proofs.Common.{◌≡◌, ℕ, List, [], Bool, true, false, refl, sym, ap, subst, ◌∙◌, inl, inr}
 use Rattle.std.specs.Prelude.{Option, Result, Ok, Err}
 use Rattle.sexp_read.specs.declared.tree.Tree.{Tree}
 use Rattle.sexp_read.specs.declared.tree.TextStop.{TextStop}
@@ -9,12 +9,12 @@ use Rattle.sexp_read.proofs.Machine.{one_reading}
 use Rattle.term_tree.specs.declared.script.Pred.{Pred}
 use Rattle.answer_text.specs.declared.answer.Line.{Line}
 use Rattle.answer_text.specs.declared.answer.Answer.{Answer}
-use Rattle.answer_text.specs.declared.answer.Answer.TheVariants.{Unsat}
+use Rattle.answer_text.specs.declared.answer.Answer.TheVariants.{Sat, Unsat, Unknown}
 use Rattle.answer_text.specs.Reading.{Reply, reply}
 use Rattle.answer_text.specs.Reading.Reply.{model, refutation}
 use Rattle.answer_text.specs.Read.{IsReply, Spells, IsBad, ClaimsOrIsBad}
 
-same_reply : (preds : List Pred) (text : List ℕ) (trees others : List Tree) (stop other : Option TextStop) → IsReading text trees stop → IsReading text others other → reply text stop preds trees ≡ reply text other preds others
+pub same_reply : (preds : List Pred) (text : List ℕ) (trees others : List Tree) (stop other : Option TextStop) → IsReading text trees stop → IsReading text others other → reply text stop preds trees ≡ reply text other preds others
 same_reply preds text trees others stop other h k =
     let same = one_reading text trees others stop other h k in
     ap (λ (s : Option TextStop). reply text s preds trees) same.1 ∙ ap (λ (ts : List Tree). reply text other preds ts) same.0
@@ -53,3 +53,22 @@ lines_are (refutation steps) lines h = h
 pub derivation_law : (preds : List Pred) (text : List ℕ) (lines others : List Line) → Spells preds text (Unsat lines) → Spells preds text (Unsat others) → lines ≡ others
 derivation_law preds text lines others s t =
     lines_are s.claimed lines s.is ∙ ap lines_of (sym s.spelled ∙ same_reply preds text s.trees t.trees s.stop t.stop s.reading t.reading ∙ t.spelled) ∙ sym (lines_are t.claimed others t.is)
+
+abbrev found_in : Result Reply ℕ → Reply
+found_in (Ok r) = r
+found_in (Err offset) = refutation []
+
+answer_is : (lines : List Line) (answer : Answer) → IsReply (refutation lines) answer → answer ≡ Unsat lines
+answer_is lines (Sat definitions) h = absurd h
+answer_is lines (Unsat steps) h = ap Unsat h
+answer_is lines (Unknown level cause) h = absurd h
+
+-- a text that spells a derivation spells no other answer
+pub alone_law : (preds : List Pred) (text : List ℕ) (lines : List Line) (answer : Answer) → Spells preds text (Unsat lines) → Spells preds text answer → answer ≡ Unsat lines
+alone_law preds text lines answer s t =
+    let same : s.claimed ≡ t.claimed = ap found_in (sym s.spelled ∙ same_reply preds text s.trees t.trees s.stop t.stop s.reading t.reading ∙ t.spelled) in
+    by s.claimed (subst (λ (r : Reply). IsReply r answer) (sym same) t.is) s.is
+  where
+    by : (r : Reply) → IsReply r answer → IsReply r (Unsat lines) → answer ≡ Unsat lines
+    by (model ds) h k = absurd k
+    by (refutation steps) h k = answer_is steps answer h ∙ ap Unsat (sym k)

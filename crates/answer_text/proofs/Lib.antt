@@ -3,3 +3,16 @@ pub mod PlaceLemmas
 pub mod DefinitionLemmas
 pub mod WeightLemmas
 pub mod LawLemmas
+pub mod PieceLemmas
+pub mod ShowLemmas
+pub mod SpellLemmas
+pub mod StepLemmas
+pub mod DecimalLemmas
+pub mod NameLemmas
+pub mod LikeLemmas
+pub mod OperatorLemmas
+pub mod TermShowLemmas
+pub mod DefiningLemmas
+pub mod ParameterLemmas
+pub mod ModelLemmas
+pub mod FoundLemmas

@@ -7,3 +7,4 @@ pub mod Lemmas
 pub mod Reading
 pub mod Read
 pub mod Places
+pub mod ReadBack

@@ -1,5 +1,5 @@
 -- What an answer to the reading of a text tells.
-use Rattle.std.specs.Prelude.{◌≡◌, ℕ, List, [], ◌∷◌, map, Option, Result, Ok, Err, ◌⊎◌}
+use Rattle.std.specs.Prelude.{◌≡◌, ℕ, List, [], ◌∷◌, ◌++◌, map, Option, Result, Ok, Err, ◌⊎◌}
 use Rattle.sexp_read.specs.declared.tree.Tree.{Tree}
 use Rattle.sexp_read.specs.declared.tree.TextStop.{TextStop}
 use Rattle.sexp_read.specs.Trees.{IsReading}
@@ -18,6 +18,12 @@ abbrev pub Gives : {A : Type 0} → Result A ℕ → Result A AnswerStop → Typ
 Gives outcome (Ok a) = outcome ≡ Ok a
 Gives outcome (Err OutOfMemory) = Unit {0}
 Gives outcome (Err (BadAnswer offset)) = outcome ≡ Err offset
+
+-- one more was added at the end, or exactly where the first fault is
+abbrev pub Adds : {A : Type 0} → Result A ℕ → List A → List A → Result (Unit {0}) AnswerStop → Type 0
+Adds {A} outcome old new (Ok done) = (a : A) × (outcome ≡ Ok a) × (new ≡ old ++ a ∷ [])
+Adds outcome old new (Err OutOfMemory) = Unit {0}
+Adds outcome old new (Err (BadAnswer offset)) = outcome ≡ Err offset
 
 -- the definition has the parameters, and the term in an arena of its own
 pub record IsDefinition (d : Defined) (definition : Definition) : Type 0 where

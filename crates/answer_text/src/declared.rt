@@ -1,34 +1,42 @@
-ghost use Rattle.std.specs.Prelude.{◌≡◌, ◌<◌, ◌^◌, length};
+ghost use Rattle.std.specs.Prelude.{◌≡◌, ◌<◌, ◌^◌, length, IfOk};
 ghost use Rattle.std.specs.Option.{IfSome};
 ghost use Rattle.term_check.specs.Spelling.{pred_from, sorts_of};
+ghost use Rattle.answer_text.specs.Places.{AreNumbers};
 ghost use Rattle.answer_text.specs.Reading.{arity};
 
+use base::Memory;
+use indexmap::IndexMap;
+use std::alloc::Global;
 use std::marker::Model;
 use term_tree::{Pred, Sort};
 
-/// The declared predicates, by number and by name.
+/// The declared predicates, by number, and each found by its name in time that doesn't grow with
+/// their number.
 #[derive(Drop)]
 pub struct Declared<'a> {
     preds: &'a [Pred],
+    numbers: IndexMap<&'a [u8], u32>,
 }
 
 impl<'a> Model for Declared<'a> {
     ghost use Rattle.std.specs.Prelude.{List, ◌<◌, ◌^◌, length};
     ghost use Rattle.term_tree.specs.declared.script.Pred.{Pred as APred};
+    ghost use Rattle.answer_text.specs.Places.{AreNumbers};
 
     ghost Value = { List APred };
 
     ghost view = { λ d. d.preds.now };
 
-    ghost invariant = { λ d. length d.preds.now < 2 ^ 32 };
+    ghost invariant = { λ d. (length d.preds.now < 2 ^ 32) × AreNumbers 0 d.preds.now d.numbers.entries };
 }
 
 impl<'a> Declared<'a> {
-    pub fn new(preds: &'a [Pred]) -> Declared<'a>
+    pub fn new(alloc: Global, preds: &'a [Pred]) -> Result<Declared<'a>, Memory>
         requires { length preds.now < 2 ^ 32 }
-        ensures { result ≡ preds.now }
+        ensures { IfOk result (λ declared. declared ≡ preds.now) }
     {
-        Declared { preds }
+        let numbers = numbers_of(alloc, preds)?;
+        Ok(Declared { preds, numbers })
     }
 
     /// How many predicates there are.
@@ -43,7 +51,10 @@ impl<'a> Declared<'a> {
         ensures number { result ≡ pred_from 0 name.now self.now }
         ensures within { IfSome result (λ number. number < length self.now) }
     {
-        pred_named(name, self.preds)
+        match self.numbers.get(name) {
+            Some(number) => Some(*number),
+            None => None,
+        }
     }
 
     /// The sorts of the arguments of the predicate of that number.
@@ -64,17 +75,16 @@ impl<'a> Declared<'a> {
     }
 }
 
-fn pred_named(name: &[u8], preds: &[Pred]) -> Option<u32>
+/// The numbers of the predicates by their names. The first of a name is the last that is put in.
+fn numbers_of<'a>(alloc: Global, preds: &'a [Pred]) -> Result<IndexMap<&'a [u8], u32>, Memory>
     requires { length preds.now < 2 ^ 32 }
-    ensures number { result ≡ pred_from 0 name.now preds.now }
-    ensures within { IfSome result (λ number. number < length preds.now) }
+    ensures { IfOk result (λ numbers. AreNumbers 0 preds.now numbers.entries) }
 {
-    let mut number: u32 = 0;
-    for pred in preds {
-        if pred.name.bytes.as_slice() == name {
-            return Some(number);
-        }
-        number += 1;
+    let mut numbers = IndexMap::with_capacity(alloc, preds.len())?;
+    let mut number = preds.len();
+    while number > 0 {
+        number -= 1;
+        numbers.insert(preds[number].name.bytes.as_slice(), number as u32)?;
     }
-    None
+    Ok(numbers)
 }

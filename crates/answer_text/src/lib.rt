@@ -6,6 +6,7 @@ mod answer;
 mod declared;
 mod definitions;
 mod derivation;
+mod found;
 mod laws;
 mod lines;
 mod model;
@@ -25,7 +26,10 @@ mod values;
 mod write;
 
 pub use answer::{Answer, Line, UnknownCause};
-pub use laws::{every_text_claims_or_is_bad, no_answer_is_bad, one_derivation, one_fault};
+pub use laws::{
+    every_text_claims_or_is_bad, no_answer_is_bad, one_derivation, one_fault,
+    printed_derivations_are_read_back, printed_models_are_read_back,
+};
 pub use lines::{error_line, level_line, memory_line, usage_line};
 pub use read::read_answer;
 pub use stop::AnswerStop;

@@ -2,9 +2,10 @@
 
 ghost use Rattle.std.specs.Prelude.{◌≡◌, ◌≤◌, length, map, [], IfOk};
 ghost use Rattle.term_check.specs.Weight.{weight};
-ghost use Rattle.answer_text.specs.Reading.{is_new, parameter_of, parameter, parameters_from, parameters_of, parameters};
-ghost use Rattle.answer_text.specs.Read.{Gives};
+ghost use Rattle.answer_text.specs.Reading.{parameter_of, parameter, parameters_from, parameters_of, parameters};
+ghost use Rattle.answer_text.specs.Read.{Gives, Adds};
 
+use crate::found::Found;
 use crate::stop::{AnswerStop, bad_at};
 use crate::trees::{has_sort, name_of, start_of};
 use base::{Copied, Items, Memory};
@@ -12,38 +13,27 @@ use sexp_read::Tree;
 use std::alloc::Global;
 use term_tree::{Name, Sort};
 
-fn is_new(before: &[(Name, Sort)], name: &[u8]) -> bool
-    ensures { result ≡ is_new before.now name.now }
-{
-    for (param, _) in before {
-        if name == param.bytes.as_slice() {
-            return false;
-        }
-    }
-    true
-}
-
-fn parameter_of(
+fn parameter_of<'a>(
     alloc: Global,
-    text: &[u8],
-    before: &[(Name, Sort)],
+    text: &'a [u8],
+    found: &mut Found<'a>,
     sort: Sort,
     start: u32,
     trees: &[Tree],
-) -> Result<(Name, Sort), AnswerStop>
-    ensures { Gives (parameter_of text.now before.now sort start trees.now) result }
+) -> Result<(), AnswerStop>
+    ensures { Adds (parameter_of text.now found.old sort start trees.now) found.old found.new result }
 {
     match trees {
         [name, word] => match name_of(text, name) {
             Some(bytes) => {
-                if !is_new(before, bytes) {
+                if !found.is_new(bytes) {
                     return Err(bad_at(start_of(name)));
                 }
                 if !has_sort(text, word, sort) {
                     return Err(bad_at(start_of(word)));
                 }
-                let bytes = Items::from_slice(alloc, bytes)?;
-                Ok((Name { bytes }, sort))
+                found.add(alloc, bytes, sort)?;
+                Ok(())
             }
             None => Err(bad_at(start_of(name))),
         },
@@ -51,19 +41,19 @@ fn parameter_of(
     }
 }
 
-fn parameter(
+fn parameter<'a>(
     alloc: Global,
-    text: &[u8],
-    before: &[(Name, Sort)],
+    text: &'a [u8],
+    found: &mut Found<'a>,
     sort: Sort,
     tree: &Tree,
-) -> Result<(Name, Sort), AnswerStop>
-    ensures { Gives (parameter text.now before.now sort tree.now) result }
+) -> Result<(), AnswerStop>
+    ensures { Adds (parameter text.now found.old sort tree.now) found.old found.new result }
 {
     match tree {
         Tree::Leaf { start, .. } => Err(bad_at(*start)),
         Tree::List { items, start, .. } => {
-            parameter_of(alloc, text, before, sort, *start, items.as_slice())
+            parameter_of(alloc, text, found, sort, *start, items.as_slice())
         }
     }
 }
@@ -78,14 +68,15 @@ fn parameters_from(
     ensures params { Gives (parameters_from text.now [] trees.now sorts.now) result }
     ensures count { IfOk result (λ params. length params ≡ length trees.now) }
 {
-    let mut params: Vec<(Name, Sort)> = Vec::with_capacity(alloc, trees.len())?;
+    let mut found = Found::new(alloc);
     let mut i = 0;
     while i < trees.len() {
-        let param = parameter(alloc, text, params.as_slice(), sorts[i], &trees[i])?;
-        params.push(param)?;
+        if let Err(stop) = parameter(alloc, text, &mut found, sorts[i], &trees[i]) {
+            return Err(stop);
+        }
         i += 1;
     }
-    Ok(Items::from_vec(params))
+    Ok(found.into_items())
 }
 
 fn parameters_of(

@@ -24,7 +24,7 @@ pub fn read_answer(alloc: Global, script: &Script, text: &[u8]) -> Result<Answer
     ensures bad { (offset : ℕ) → IsErrOf result (AnswerStop.BadAnswer offset) → IsBad script.now.preds text.now offset }
 {
     let read = read_commands(alloc, text)?;
-    let declared = Declared::new(script.preds.as_slice());
+    let declared = Declared::new(alloc, script.preds.as_slice())?;
     reply(alloc, text, &declared, &read)
 }
 

@@ -180,6 +180,25 @@ fn each_step_has_its_form(rt: HostRuntime) -> Result<(), Fail> {
 }
 
 #[test]
+fn a_name_that_is_no_simple_symbol_needs_bars(rt: HostRuntime) -> Result<(), Fail> {
+    let alloc = rt.alloc();
+    let preds: [(&[u8], &[Sort]); 4] = [(b"a b", &[]), (b"7up", &[]), (b"", &[]), (b"let", &[])];
+    let script = script(alloc, &preds)?;
+    let cases: [(&[u8], &[u8]); 8] = [
+        (b"unsat (derivation ", b"(step 1 1 () () a b))"),
+        (b"unsat (derivation (step 1 1 () () ", b"7up))"),
+        (b"unsat (derivation ", b"(step 1 1 () () ))"),
+        (b"unsat (derivation (step 1 1 () () ", b"let))"),
+        (b"sat (", b"(define-fun a b () Bool true))"),
+        (b"sat (", b"(define-fun () Bool true))"),
+        (b"sat ((define-fun ", b"let () Bool true))"),
+        (b"sat ((define-fun ", b"|a  b| () Bool true))"),
+    ];
+    expect_refused(&rt, alloc, &script, &cases)?;
+    Ok(())
+}
+
+#[test]
 fn what_was_printed_is_read_back(rt: HostRuntime) -> Result<(), Fail> {
     let alloc = rt.alloc();
     let preds: [(&[u8], &[Sort]); 5] = [

@@ -143,6 +143,22 @@ fn constants(alloc: Global, count: u32) -> Result<Answer, Memory> {
     Ok(Answer::Sat(Items::from_vec(definitions)))
 }
 
+/// Nothing holds of the one predicate.
+fn nothing(alloc: Global) -> Result<Answer, Memory> {
+    let mut terms = Terms::new(alloc);
+    let body = truth(&mut terms, false)?;
+    let params = Items::new(alloc);
+    let definition = Definition {
+        pred: 0,
+        params,
+        terms,
+        body,
+    };
+    let mut definitions = Vec::new(alloc);
+    definitions.push(definition)?;
+    Ok(Answer::Sat(Items::from_vec(definitions)))
+}
+
 /// The Bool argument less twice the Int argument is at most 5.
 fn bound(alloc: Global, terms: &mut Terms) -> Result<TermId, Memory> {
     let x0 = argument(terms, 0, Sort::Int)?;
@@ -195,6 +211,16 @@ fn expect(
     Ok(())
 }
 
+/// The step to the next number.
+fn next<'a>(values: &'a [Value], premises: &'a [u64], conclusion: &'a [Value]) -> Step<'a> {
+    Step {
+        assertion: 2,
+        values,
+        premises,
+        head: Some((0, conclusion)),
+    }
+}
+
 #[test]
 fn a_derivation_by_counting_up_is_printed_step_by_step(rt: HostRuntime) -> Result<(), Fail> {
     let alloc = rt.alloc();
@@ -205,23 +231,35 @@ fn a_derivation_by_counting_up_is_printed_step_by_step(rt: HostRuntime) -> Resul
             premises: &[],
             head: Some((0, &[Value::Int(0)])),
         },
-        Step {
-            assertion: 2,
-            values: &[Value::Int(0)],
-            premises: &[1],
-            head: Some((0, &[Value::Int(1)])),
-        },
+        next(&[Value::Int(0)], &[1], &[Value::Int(1)]),
+        next(&[Value::Int(1)], &[2], &[Value::Int(2)]),
+        next(&[Value::Int(2)], &[3], &[Value::Int(3)]),
         Step {
             assertion: 3,
             values: &[],
-            premises: &[2],
+            premises: &[4],
             head: None,
         },
     ];
     let answer = derivation(alloc, &steps)?;
     let text =
-        b"unsat\n(derivation\n(step 1 1 () () (p 0))\n(step 2 2 (0) (1) (p 1))\n(step 3 3 () (2) false)\n)\n";
+        b"unsat\n(derivation\n(step 1 1 () () (p 0))\n(step 2 2 (0) (1) (p 1))\n(step 3 2 (1) (2) (p 2))\n(step 4 2 (2) (3) (p 3))\n(step 5 3 () (4) false)\n)\n";
     expect(&rt, alloc, &[(b"p", &[Sort::Int])], &answer, text)?;
+    Ok(())
+}
+
+#[test]
+fn a_false_assertion_is_refuted_in_one_step(rt: HostRuntime) -> Result<(), Fail> {
+    let alloc = rt.alloc();
+    let steps = [Step {
+        assertion: 1,
+        values: &[],
+        premises: &[],
+        head: None,
+    }];
+    let answer = derivation(alloc, &steps)?;
+    let text = b"unsat\n(derivation\n(step 1 1 () () false)\n)\n";
+    expect(&rt, alloc, &[], &answer, text)?;
     Ok(())
 }
 
@@ -244,13 +282,13 @@ fn truth_values_and_negative_numbers_stand_in_steps(rt: HostRuntime) -> Result<(
         Step {
             assertion: 3,
             values: &[Value::Bool(true), Value::Int(-2)],
-            premises: &[2, 1],
+            premises: &[2],
             head: None,
         },
     ];
     let answer = derivation(alloc, &steps)?;
     let text =
-        b"unsat\n(derivation\n(step 1 1 () () q)\n(step 2 2 () (1) (r true (- 2)))\n(step 3 3 (true (- 2)) (2 1) false)\n)\n";
+        b"unsat\n(derivation\n(step 1 1 () () q)\n(step 2 2 () (1) (r true (- 2)))\n(step 3 3 (true (- 2)) (2) false)\n)\n";
     expect(
         &rt,
         alloc,
@@ -291,6 +329,15 @@ fn a_lemma_is_the_negation_of_a_cube_of_literals(rt: HostRuntime) -> Result<(), 
         &answer,
         text,
     )?;
+    Ok(())
+}
+
+#[test]
+fn a_predicate_without_clauses_is_false(rt: HostRuntime) -> Result<(), Fail> {
+    let alloc = rt.alloc();
+    let answer = nothing(alloc)?;
+    let text = b"sat\n(\n(define-fun p ((x0 Int)) Bool false)\n)\n";
+    expect(&rt, alloc, &[(b"p", &[Sort::Int])], &answer, text)?;
     Ok(())
 }
 
