@@ -1,15 +1,16 @@
 -- Equations of forms and slacks, entry by entry.
-use Rattle.std.proofs.Common.{eq-eqb, ◌≡◌, ℕ, suc, zero, List, [], ◌∷◌, ◌++◌, refl, ap, sym, ◌∙◌, arith, subst, ◌<◌, ◌≤◌, ◌+◌, ◌^◌, true, false, Bool, cond, ◌==◌, ◌&&◌, length, get_or, map, take}
-use Rattle.std.specs.Prelude.{ℤ, pos, neg_ℤ, ◌<ℤ◌, nat_abs, nat_lt, None}
+use Rattle.std.proofs.Common.{eq-eqb, ◌≡◌, ℕ, suc, zero, List, [], ◌∷◌, ◌++◌, refl, ap, sym, ◌∙◌, arith, subst, ◌<◌, ◌≤◌, ◌+◌, ◌^◌, true, false, Bool, cond, ◌==◌, ◌&&◌, length, get_or, map, replicate, take, ⊎_elim}
+use Rattle.std.specs.Prelude.{ℤ, pos, neg_ℤ, ◌<ℤ◌, nat_abs, nat_lt, Option, Some, None}
 use Rattle.std.specs.Int.{◌∣◌}
 use Rattle.std.specs.List.{list_all, range_with_len}
-use Rattle.std.proofs.lemmas.Bool.{eqb-true, ltb-true}
+use Rattle.std.proofs.lemmas.Bool.{cases_lt, eqb-true, ltb-true}
 use Rattle.std.proofs.lemmas.Int.{ints}
-use Rattle.std.proofs.lemmas.List.{length-map, length-replicate, length-take-le, map-id, take_more}
+use Rattle.std.proofs.lemmas.List.{get_or-replicate, get_or_past, length-map, length-replicate, length-take-le, map-id, take_more}
 use Rattle.std.proofs.lemmas.List.FromFn.{get_or-map-range_with_len, get_or-range_with_len, length-range_with_len, map-range_with_len_more}
 use Rattle.std.proofs.lemmas.List.Folds.{list_all-append}
 use Rattle.lin_atoms.specs.Linear.{Linear, are_ordered, are_small, is_linear, is_small, lin_is_below, of_constant}
 use Rattle.lin_atoms.proofs.LinearLemmas.{both_true}
+use Rattle.int_rows.specs.Basis.{bound}
 use Rattle.int_rows.specs.Node.{coefficient, equation, equations}
 use Rattle.int_rows.specs.Rows.{content}
 use Rattle.int_rows.specs.Table.{IsSolved, IsTable, first_table}
@@ -49,7 +50,7 @@ pub all-more : {X : Type 0} (p : X → Bool) (xs : List X) (i : ℕ) (d : X) →
 all-more p xs i d h front here =
     ap (list_all p) (take_more xs i d h) ∙ list_all-append p (take i xs) (get_or xs i d ∷ []) ∙ ap (λ b. b && (p (get_or xs i d) && true)) front ∙ ap (λ b. b && true) here
 
-all-at : {X : Type 0} (p : X → Bool) (xs : List X) (i : ℕ) (d : X) → i < length xs → list_all p xs ≡ true → p (get_or xs i d) ≡ true
+pub all-at : {X : Type 0} (p : X → Bool) (xs : List X) (i : ℕ) (d : X) → i < length xs → list_all p xs ≡ true → p (get_or xs i d) ≡ true
 all-at p [] i d h all = absurd (omega arith)
 all-at p (x ∷ xs) zero d h all = (both_true (p x) _ all).0
 all-at p (x ∷ xs) (suc i) d h all = all-at p xs i d (omega arith) (both_true (p x) _ all).1
@@ -123,6 +124,12 @@ equation-solved variables count i lin h small below =
           ap (λ w. get_or row w (pos 0)) (range-at variables count j 0 inside) ∙ at ∙ away ∙ ap neg_ℤ none;
     }
 
+no-bound : (n v : ℕ) → bound (replicate n None) v ≡ None
+no-bound n v = ⊎_elim (λ less. get_or-replicate n v None None less) (λ past. get_or_past (replicate n None) v None (omega (arith, past, length-replicate {A = Option ℤ} n None))) (cases_lt v n)
+
+none-some : (o : Option ℤ) (b : ℤ) → o ≡ None → o ≡ Some b → ⊥
+none-some o b none some = cc
+
 -- the first tableau
 pub first-solved : (variables : ℕ) (lins : List Linear) → list_all (lin_is_below variables) lins ≡ true → list_all is_linear lins ≡ true → length lins ≤ 1024 → IsTable (first_table variables lins)
 first-solved variables lins below legal few =
@@ -143,4 +150,6 @@ first-solved variables lins below legal few =
       lowers = length-replicate (variables + n) None ∙ ap (λ k. variables + k) (sym count);
       uppers = length-replicate (variables + n) None ∙ ap (λ k. variables + k) (sym count);
       few = omega (arith, count, few);
+      small_lower = λ v b some. absurd (none-some (bound (replicate (variables + n) None) v) b (no-bound (variables + n) v) some);
+      small_upper = λ v b some. absurd (none-some (bound (replicate (variables + n) None) v) b (no-bound (variables + n) v) some);
     }

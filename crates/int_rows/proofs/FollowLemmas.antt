@@ -1,5 +1,5 @@
 -- Rows that follow from rows: by multipliers, entry by entry.
-use Rattle.std.proofs.Common.{◌≡◌, ℕ, suc, zero, List, [], ◌∷◌, refl, ap, sym, ◌∙◌, arith, ◌<◌, ◌≤◌, ◌*◌, true, false, Bool, cond, ◌==◌, length, get_or, map, subst, ⊎_elim}
+use Rattle.std.proofs.Common.{◌≡◌, ℕ, suc, zero, List, [], ◌∷◌, refl, ap, sym, ◌∙◌, arith, ◌<◌, ◌≤◌, ◌*◌, true, false, Bool, cond, ◌==◌, length, get_or, map, ⊎_elim}
 use Rattle.std.specs.Prelude.{ℤ, pos, neg_ℤ, nat_abs, ◌+ℤ◌, ◌-ℤ◌, ◌*ℤ◌}
 use Rattle.std.specs.List.{All}
 use Rattle.std.proofs.Math.IntN.{*ℤ_comm, *ℤ-zero, zero-*ℤ}
@@ -140,7 +140,7 @@ at-length : (row : List ℤ) (v n : ℕ) → length row ≡ n → n ≤ v → en
 at-length row v n long past = get_or_past row v (pos 0) (omega (arith, long, past))
 
 -- the entries of a crossing, also past the end
-crossed-combination : (column v : ℕ) (other row : List ℤ) → length row ≡ length other → 0 < content (crossed column row other)
+pub crossed-combination : (column v : ℕ) (other row : List ℤ) → length row ≡ length other → 0 < content (crossed column row other)
     → pos (content (crossed column row other)) *ℤ entry (Crossed column other row) v ≡ pos (nat_abs (entry other column)) *ℤ entry row v -ℤ turned (entry other column) (entry row column) *ℤ entry other v
 crossed-combination column v other row same some =
     let p = pos (nat_abs (entry other column)) in

@@ -1,7 +1,10 @@
+pub mod BasisLemmas
 pub mod CombineLemmas
 pub mod ContentLemmas
 pub mod EquationLemmas
 pub mod FollowLemmas
 pub mod PivotLemmas
+pub mod PivotedLemmas
 pub mod QuotientLemmas
 pub mod ReadyLemmas
+pub mod SpaceLemmas

@@ -58,7 +58,7 @@ pub positive-product : (k : ℕ) (v : ℤ) → 0 < k → pos 0 <ℤ v → pos 0 
 positive-product k (pos n) some h = let le : 1 * n ≤ k * n = mul-le-mul_right n some in omega (arith, ints, le)
 positive-product k (negsuc n) some h = absurd (omega (arith, ints))
 
-lt-true : (a b : ℤ) → int_lt a b ≡ true → a <ℤ b
+pub lt-true : (a b : ℤ) → int_lt a b ≡ true → a <ℤ b
 lt-true a b h = grind (arith, ints)
 
 turned-step : (b : ℤ) (n : ℕ) → pos (suc n) *ℤ b ≡ neg_ℤ b *ℤ negsuc n

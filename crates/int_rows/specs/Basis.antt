@@ -48,6 +48,10 @@ pub record IsWideRow (columns : ℕ) (equations : List (List ℤ)) (basis : List
 abbrev pub is_in : List ℕ → ℕ → Bool
 is_in basis c = list_any (λ b. b == c) basis
 
+-- the columns of the list, in order of number
+abbrev pub in_order : ℕ → List ℕ → List ℕ
+in_order columns basis = filter (is_in basis) (range_with_len 0 columns)
+
 -- the columns that aren't in the list, in order of number
 abbrev pub outside : ℕ → List ℕ → List ℕ
 outside columns basis = filter (λ c. not (is_in basis c)) (range_with_len 0 columns)

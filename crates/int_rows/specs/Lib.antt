@@ -3,4 +3,5 @@ pub mod Node
 pub mod Pivot
 pub mod Ready
 pub mod Rows
+pub mod Space
 pub mod Table

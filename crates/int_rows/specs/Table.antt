@@ -1,9 +1,10 @@
 -- A simplex tableau: a row for each equation, solved for its basic variable (Dantzig, Linear Programming and Extensions, chapter 5).
-use Rattle.std.specs.Prelude.{◌≡◌, ℕ, ◌+◌, ◌<◌, ◌≤◌, List, [], map, ℤ, pos, neg_ℤ, ◌<ℤ◌, int_lt, true, length, Option, None, replicate, slice_index_or, slice_set, if◌then◌else◌}
-use Rattle.std.specs.List.{range_with_len}
+use Rattle.std.specs.Prelude.{◌≡◌, ℕ, ◌+◌, ◌^◌, ◌<◌, ◌≤◌, List, [], map, ℤ, pos, neg_ℤ, nat_abs, ◌<ℤ◌, int_lt, true, length, Option, Some, None, replicate, slice_index_or, slice_set, if◌then◌else◌}
+use Rattle.std.specs.List.{Contains, range_with_len}
 use Rattle.lin_atoms.specs.Linear.{Linear}
+use Rattle.int_rows.specs.Basis.{bound}
 use Rattle.int_rows.specs.Node.{equations}
-use Rattle.int_rows.specs.Pivot.{eliminated}
+use Rattle.int_rows.specs.Pivot.{CanCross, eliminated}
 use Rattle.int_rows.specs.Rows.{are_small, entry, is_primitive}
 
 -- the variables that are no slacks, the rows, the basic variable of each row, and the bounds of all variables
@@ -39,6 +40,8 @@ pub record IsTable (t : Table) : Type 0 where
   pub lowers : length t.lower ≡ width t
   pub uppers : length t.upper ≡ width t
   pub few : length t.rows ≤ 1024
+  pub small_lower : (v : ℕ) (b : ℤ) → bound t.lower v ≡ Some b → nat_abs b < 2 ^ 64
+  pub small_upper : (v : ℕ) (b : ℤ) → bound t.upper v ≡ Some b → nat_abs b < 2 ^ 64
 
 -- before the first pivot: each slack is basic in its own row, and there are no bounds
 abbrev pub first_table : ℕ → List Linear → Table
@@ -57,3 +60,16 @@ facing column row = if int_lt (entry row column) (pos 0) then map neg_ℤ row el
 -- the rows after a pivot: the column is 0 in all but one, which is positive there
 abbrev pub pivoted : ℕ → ℕ → List (List ℤ) → List (List ℤ)
 pivoted i column rows = slice_set (map (eliminated column (row_at rows i)) rows) i (facing column (row_at rows i))
+
+-- rows that can pivot: the row has room and the column, and each other row can be freed of the column by it
+pub record CanPivot (i column : ℕ) (rows : List (List ℤ)) : Type 0 where
+  pub within : i < length rows
+  pub small : are_small (row_at rows i) ≡ true
+  pub there : column < length (row_at rows i)
+  pub others : (j : ℕ) → j < length rows → (j ≡ i → ⊥) → CanCross column (row_at rows i) (row_at rows j)
+
+-- the row of this number has this entry, without room in the code
+pub record HasWide (rows : List (List ℤ)) (i : ℕ) (wide : ℤ) : Type 0 where
+  pub within : i < length rows
+  pub contains : Contains (row_at rows i) wide
+  pub is_wide : 2 ^ 63 ≤ nat_abs wide

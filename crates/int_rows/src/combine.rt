@@ -30,6 +30,34 @@ fn combination(p: i64, x: i64, q: i64, y: i64) -> i128
     product(p, x) - product(q, y)
 }
 
+/// The same, where most entries of the other row are 0 and p is mostly 1: what is left is then x.
+fn sparse_combination(p: i64, x: i64, q: i64, y: i64) -> i128
+    requires p { nat_abs p < 2 ^ 63 }
+    requires x { nat_abs x < 2 ^ 63 }
+    requires q { nat_abs q < 2 ^ 63 }
+    requires y { nat_abs y < 2 ^ 63 }
+    ensures value { result ≡ p *ℤ x -ℤ q *ℤ y }
+    ensures bound { nat_abs result < 2 ^ 127 }
+{
+    if y == 0 && p == 1 {
+        i128::from(x)
+    } else {
+        combination(p, x, q, y)
+    }
+}
+
+/// A number divided by a positive one and rounded down. Mostly that is 1, and nothing is divided.
+fn divided(n: i128, divisor: i128) -> i128
+    requires { pos 0 <ℤ divisor }
+    ensures { result ≡ int_div_euclid n divisor }
+{
+    if divisor == 1 {
+        n
+    } else {
+        n.div_euclid(divisor)
+    }
+}
+
 /// `p * x - q * y`, divided and rounded down.
 fn quotient(p: i64, x: i64, q: i64, y: i64, divisor: i128) -> i128
     requires p { nat_abs p < 2 ^ 63 }
@@ -39,7 +67,7 @@ fn quotient(p: i64, x: i64, q: i64, y: i64, divisor: i128) -> i128
     requires divisor { pos 0 <ℤ divisor }
     ensures { result ≡ int_div_euclid (p *ℤ x -ℤ q *ℤ y) divisor }
 {
-    combination(p, x, q, y).div_euclid(divisor)
+    divided(sparse_combination(p, x, q, y), divisor)
 }
 
 /// A number that has room.

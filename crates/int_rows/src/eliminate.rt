@@ -26,7 +26,7 @@ fn turned(a: i64, b: i64) -> i64
 }
 
 /// The entry of a row.
-fn entry(row: &[i64], column: usize) -> i64
+pub(crate) fn entry(row: &[i64], column: usize) -> i64
     requires small { are_small row.now ≡ true }
     requires within { column < length row.now }
     ensures is { result ≡ entry row.now column }

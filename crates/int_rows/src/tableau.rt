@@ -1,12 +1,14 @@
 ghost use Rattle.std.specs.Prelude.{◌≡◌, ◌+◌, ◌<◌, ◌≤◌, ◌^◌, ◌↔◌, ℕ, List, ℤ, length, nat_abs, pos, true, false, slice_set, IfOk, OnOk, IfErr, OnErr, IfSome, IsNone, IsErrOf, Some};
 ghost use Rattle.std.specs.List.{Contains, list_all};
 ghost use Rattle.lin_atoms.specs.Linear.{lin_is_below};
-ghost use Rattle.int_rows.specs.Basis.{bound};
+ghost use Rattle.int_rows.specs.Basis.{IsWideRow, bound, in_order};
 ghost use Rattle.int_rows.specs.Rows.{are_small, entry, SolvesAll};
-ghost use Rattle.int_rows.specs.Table.{basic_at, first_table, IsTable, pivoted, row_at, width};
+ghost use Rattle.int_rows.specs.Space.{SameSpace};
+ghost use Rattle.int_rows.specs.Table.{HasWide, IsTable, basic_at, first_table, pivoted, row_at, width};
 
 use crate::equation::{equations, no_bounds, numbers};
-use crate::stop::RowStop;
+use crate::pivoting::{first_wide, pivot_rows};
+use crate::stop::{RowStop, RowWide};
 use base::Memory;
 use lin_atoms::Lin;
 use std::alloc::Global;
@@ -24,8 +26,6 @@ pub struct Tableau {
     basic: Vec<usize>,
     lower: Vec<Option<i128>>,
     upper: Vec<Option<i128>>,
-    /// No row: a place for the row by which others are changed.
-    spare: Vec<i64>,
 }
 
 impl Model for Tableau {
@@ -79,6 +79,14 @@ impl Tableau {
         self.rows[row][variable]
     }
 
+    /// The entries of a row, in order of the variables' numbers.
+    pub fn row(&self, row: usize) -> &[i64]
+        requires { row < length self.now.rows }
+        ensures { result.now ≡ row_at self.now.rows row }
+    {
+        self.rows[row].as_slice()
+    }
+
     /// The lower bound of a variable.
     pub fn lower(&self, variable: usize) -> Option<i128>
         requires { variable < width self.now }
@@ -113,6 +121,28 @@ impl Tableau {
         self.upper[variable] = Some(bound);
     }
 
+    /// Solves a row for another variable, which becomes basic in it, and frees the other rows of
+    /// that variable. The rows span the same space. The tableau stays as it is where a row would
+    /// have an entry without room.
+    pub fn pivot(&mut self, row: usize, column: usize) -> Result<(), RowWide>
+        requires row { row < length self.old.rows }
+        requires column { column < width self.old }
+        requires entry { entry (row_at self.old.rows row) column ≡ pos 0 → ⊥ }
+        ensures pivoted { IfOk result (λ _. self.new ≡ record self.old { rows = pivoted row column self.old.rows; basic = slice_set self.old.basic row column }) }
+        ensures room { OnOk result (list_all are_small (pivoted row column self.old.rows) ≡ true) }
+        ensures wide { IfErr result (λ w. HasWide (pivoted row column self.old.rows) w.row w.entry) }
+        ensures evidence { IfErr result (λ w. IsWideRow (width self.old) self.old.rows (in_order (width self.old) (slice_set self.old.basic row column)) w.entry) }
+        ensures space { SameSpace self.old.rows self.new.rows }
+        ensures unchanged { OnErr result (self.new ≡ self.old) }
+    {
+        if let Some(wide) = first_wide(self.rows.as_slice(), row, column) {
+            return Err(wide);
+        }
+        pivot_rows(self.rows.as_mut_slice(), row, column);
+        self.basic[row] = column;
+        Ok(())
+    }
+
     /// The tableau of the forms without their constants. Form number i has one slack, the variable
     /// `variables` + i, and the slacks are the first basis.
     pub fn new(alloc: Global, lins: &[Lin], variables: usize) -> Result<Tableau, RowStop>
@@ -136,7 +166,6 @@ impl Tableau {
             basic,
             lower,
             upper,
-            spare: Vec::new(alloc),
         })
     }
 }
