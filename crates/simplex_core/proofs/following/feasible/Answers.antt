@@ -1,0 +1,18 @@
+use Rattle.std.proofs.Common.{refl}
+use Rattle.int_rows.proofs.SpaceLemmas.{same-reflexive}
+use Rattle.simplex_core.proofs.EndLemmas.{run-means}
+use Rattle.simplex_core.proofs.FollowingLemmas.{stopped}
+use Rattle.simplex_core.proofs.following.feasible.Goals as goal
+
+pub returns-in-Ok : goal.returns-in-Ok
+returns-in-Ok c =
+    let told = run-means c.args.t.now c.follow-answer.new.t c.follow-answer.result c.is_table.ensures c.in-Ok.ensures.few c.follow-answer.ensures in
+    record { run = c.follow-answer.ensures; means = told.0; space = told.1; bounds = told.2 }
+
+pub returns-in-Err : goal.returns-in-Err
+returns-in-Err c = record {
+  run = stopped c.args.t.now c.in-Err.stop;
+  means = tt;
+  space = same-reflexive c.args.t.now.rows;
+  bounds = record { variables = refl; lower = refl; upper = refl };
+}

@@ -1,0 +1,28 @@
+-- Where the columns of a simplex tableau with bounds stand (Dantzig, Linear Programming and Extensions, chapter 18), and lists of standings as numbers in base 4.
+use Rattle.std.specs.Prelude.{ℕ, zero, suc, ◌+◌, ◌*◌, ◌/◌, ◌%◌, List, [], ◌∷◌}
+use Rattle.simplex_core.specs.declared.standing.Standing.{Standing}
+use Rattle.simplex_core.specs.declared.standing.Standing.TheVariants.{Basic, AtLower, AtUpper, AtZero}
+
+-- the digit of a standing
+abbrev pub code : Standing → ℕ
+code Basic = 0
+code AtLower = 1
+code AtUpper = 2
+code AtZero = 3
+
+-- the standing of a digit
+abbrev pub of_code : ℕ → Standing
+of_code zero = Basic
+of_code (suc zero) = AtLower
+of_code (suc (suc zero)) = AtUpper
+of_code (suc (suc (suc n))) = AtZero
+
+-- the number of a list of standings, the digit of the first of them in its lowest place
+abbrev pub number : List Standing → ℕ
+number [] = 0
+number (s ∷ standings) = code s + 4 * number standings
+
+-- so many digits of a number, from the lowest on
+abbrev pub standings_of : ℕ → ℕ → List Standing
+standings_of zero word = []
+standings_of (suc n) word = of_code (word % 4) ∷ standings_of n (word / 4)
