@@ -2,7 +2,6 @@
 use Rattle.std.proofs.Common.{◌≡◌, ◌<◌, ◌≤◌, ◌+◌, ℕ, zero, suc, List, [], ◌∷◌, ◌++◌, map, drop, length, get_or, append_assoc, refl, ap, sym, ◌∙◌, arith, Bor, Some, None}
 use Rattle.std.specs.Prelude.{ℤ, slice_get}
 use Rattle.lin_atoms.specs.Linear.{Linear}
-use Rattle.std.specs.List.{sum_by}
 use Rattle.std.proofs.lemmas.List.{drop_all, drop_more, length-append}
 use Rattle.std.proofs.lemmas.List.Sums.{sum_by_push}
 use Rattle.farkas_proof.specs.Copying.{pending, pending_of, plug, plug_all}
@@ -35,10 +34,10 @@ went-less fs us f here sub got total u h g w =
     omega (arith, pushed, same, h, w)
 
 pub size-Round : (ms : List (ℕ × ℤ)) (d : ℤ) (sub here : Refutation) → here ≡ Round ms d sub → 1 + size sub ≤ size here
-size-Round ms d sub here h = let node : size here ≡ size sub + 2 = ap size (h ∙ sym (rolls-Round ms d sub)) ∙ fold-roll-Refutation ℕ size_step _ in omega (arith, node)
+size-Round ms d sub here h = let node : size here ≡ size sub + 3 = ap size (h ∙ sym (rolls-Round ms d sub)) ∙ fold-roll-Refutation ℕ size_step _ in omega (arith, node)
 
 pub size-Split : (lin : Linear) (b a here : Refutation) → here ≡ Split lin b a → (size a + 2) + size b ≤ size here
-size-Split lin b a here h = let node : size here ≡ size b + size a + 2 = ap size (h ∙ sym (rolls-Split lin b a)) ∙ fold-roll-Refutation ℕ size_step _ in omega (arith, node)
+size-Split lin b a here h = let node : size here ≡ size b + size a + 3 = ap size (h ∙ sym (rolls-Split lin b a)) ∙ fold-roll-Refutation ℕ size_step _ in omega (arith, node)
 
 pub size-Quotient : (lit : ℕ) (sub here : Refutation) → here ≡ Quotient lit sub → 1 + size sub ≤ size here
 size-Quotient lit sub here h = let node : size here ≡ size sub + 2 = ap size (h ∙ sym (rolls-Quotient lit sub)) ∙ fold-roll-Refutation ℕ size_step _ in omega (arith, node)

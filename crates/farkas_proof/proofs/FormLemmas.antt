@@ -1,12 +1,11 @@
 -- What a form that holds gives: its literals and its open disjunctions hold.
-use Rattle.std.proofs.Common.{◌≡◌, ◌≤◌, ◌<◌, ℕ, List, [], ◌∷◌, ◌++◌, map, Bool, true, false, ◌&&◌, refl, ap, sym, ◌∙◌, subst, arith}
-use Rattle.std.specs.Prelude.{ℤ, max, nat_lt}
+use Rattle.std.proofs.Common.{◌≡◌, ◌≤◌, ◌<◌, ℕ, List, [], ◌∷◌, map, Bool, true, ◌&&◌, refl, ap, sym, ◌∙◌, subst, arith}
+use Rattle.std.specs.Prelude.{ℤ, nat_lt}
 use Rattle.std.specs.List.{list_all, list_any, flat_map}
 use Rattle.std.proofs.Math.Bool.{and-true}
 use Rattle.std.proofs.lemmas.List.Folds.{list_all-append}
 use denote.Hole.Carrier.{roll}
 use Rattle.lin_atoms.specs.Denial.{linear_of}
-use Rattle.lin_atoms.specs.Linear.{of_constant}
 use Rattle.lin_atoms.specs.Truth.{below_step, is_below, lit_is_below, lit_truth, truth, truth_step}
 use Rattle.lin_atoms.specs.declared.lit.Lit.{Lit}
 use Rattle.lin_atoms.specs.declared.lit.Lit.TheVariants.{Le, Eq, Div, NDiv}

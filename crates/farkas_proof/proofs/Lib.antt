@@ -8,3 +8,14 @@ pub mod EndLemmas
 pub mod RoomLemmas
 pub mod WalkLemmas
 pub mod CopyLemmas
+pub mod NodeLemmas
+pub mod PairLemmas
+pub mod WideRowLemmas
+pub mod PinnedLemmas
+pub mod HalfLemmas
+pub mod FloorLemmas
+pub mod OneRowLemmas
+pub mod LoneLemmas
+pub mod ForestLemmas
+pub mod NothingLemmas
+pub mod KnownLemmas

@@ -1,6 +1,6 @@
 -- A point with the quotient as the value of a new variable.
-use Rattle.std.proofs.Common.{◌≡◌, ◌<◌, ◌≤◌, ◌+◌, ℕ, suc, zero, List, [], ◌∷◌, ◌++◌, refl, ap, sym, ◌∙◌, subst, arith, true, false, Bool, ◌==◌, nat_abs, ◌&&◌}
-use Rattle.std.specs.Prelude.{ℤ, pos, neg_ℤ, ◌+ℤ◌, ◌-ℤ◌, ◌*ℤ◌, ◌≤ℤ◌, ◌<ℤ◌, int_le, nat_lt, not, max}
+use Rattle.std.proofs.Common.{◌≡◌, ◌<◌, ◌≤◌, ℕ, suc, zero, List, [], ◌∷◌, refl, ap, sym, ◌∙◌, arith, true, false, Bool, ◌==◌, nat_abs, ◌&&◌}
+use Rattle.std.specs.Prelude.{ℤ, pos, neg_ℤ, ◌-ℤ◌, ◌*ℤ◌, ◌≤ℤ◌, ◌<ℤ◌, int_le, nat_lt, not}
 use Rattle.std.specs.Int.{int_div_euclid, int_rem_euclid}
 use Rattle.std.specs.List.{list_all, list_any}
 use Rattle.std.proofs.Math.IntN.{*ℤ_comm}
@@ -10,8 +10,8 @@ use Rattle.base.proofs.IntLemmas.{neg_ℤ-*ℤ}
 use Rattle.lin_atoms.specs.Accumulator.{is_multiple}
 use Rattle.lin_atoms.specs.Algebra.{plus}
 use Rattle.lin_atoms.specs.Denial.{linear_of}
-use Rattle.lin_atoms.specs.Linear.{Linear, lin_is_below, sum_at, value_at, variable_at}
-use Rattle.lin_atoms.specs.Truth.{is_below, lit_is_below, lit_truth, truth}
+use Rattle.lin_atoms.specs.Linear.{Linear, value_at, variable_at}
+use Rattle.lin_atoms.specs.Truth.{is_below, lit_truth, truth}
 use Rattle.lin_atoms.specs.declared.lit.Lit.{Lit}
 use Rattle.lin_atoms.specs.declared.lit.Lit.TheVariants.{Le, Eq, Div, NDiv}
 use Rattle.lin_atoms.specs.declared.form.Form.{Form}

@@ -1,25 +1,24 @@
 -- What is derived from true literals is true.
-use Rattle.std.proofs.Common.{◌≡◌, ◌<◌, ◌≤◌, ◌+◌, ◌*◌, ℕ, suc, zero, List, [], ◌∷◌, ◌++◌, refl, ap, sym, ◌∙◌, subst, arith, true, false, Bool, cond, ◌==◌, length, map, nat_abs, ◌&&◌}
-use Rattle.std.specs.Prelude.{ℤ, pos, negsuc, neg_ℤ, ◌+ℤ◌, ◌-ℤ◌, ◌*ℤ◌, ◌≤ℤ◌, ◌<ℤ◌, int_le, int_lt, nat_lt, slice_get, not, max}
+use Rattle.std.proofs.Common.{◌≡◌, ◌*◌, ℕ, suc, zero, List, [], ◌∷◌, ap, sym, ◌∙◌, subst, arith, true, false, ◌==◌, length, map, nat_abs}
+use Rattle.std.specs.Prelude.{ℤ, pos, negsuc, neg_ℤ, ◌+ℤ◌, ◌-ℤ◌, ◌*ℤ◌, ◌≤ℤ◌, ◌<ℤ◌, int_le, int_lt, slice_get}
 use Rattle.std.specs.Int.{int_div_euclid, int_rem_euclid}
 use Rattle.std.specs.List.{list_all}
 use Rattle.std.specs.Option.{option_map_or}
 use Rattle.std.proofs.Math.IntN.{*ℤ_comm, *ℤ-zero, zero-*ℤ}
 use Rattle.std.proofs.lemmas.Int.{ints}
-use Rattle.std.proofs.lemmas.Bool.{ltb-true, eqb-true}
-use Rattle.base.proofs.IntLemmas.{*ℤ_assoc, +ℤ-*ℤ, neg_ℤ-*ℤ}
+use Rattle.std.proofs.lemmas.Bool.{eqb-true}
+use Rattle.base.proofs.IntLemmas.{*ℤ_assoc, +ℤ-*ℤ}
 use Rattle.lin_atoms.specs.Accumulator.{is_multiple}
-use Rattle.lin_atoms.specs.Algebra.{added, negated, plus, scaled}
-use Rattle.lin_atoms.specs.Denial.{denial, linear_of}
-use Rattle.lin_atoms.specs.Linear.{Linear, of_constant, sum_at, value_at, variable_at}
+use Rattle.lin_atoms.specs.Algebra.{negated, plus, scaled}
+use Rattle.lin_atoms.specs.Denial.{linear_of}
+use Rattle.lin_atoms.specs.Linear.{Linear, sum_at, value_at, variable_at}
 use Rattle.lin_atoms.specs.Truth.{lit_truth}
 use Rattle.lin_atoms.specs.declared.lit.Lit.{Lit}
 use Rattle.lin_atoms.specs.declared.lit.Lit.TheVariants.{Le, Eq, Div, NDiv}
-use Rattle.lin_atoms.proofs.DivisionLemmas.{positive, quotient-rest, quotient-greatest, multiple_where, rest-below, rest-natural}
+use Rattle.lin_atoms.proofs.DivisionLemmas.{positive, quotient-rest, quotient-greatest, multiple_where}
 use Rattle.lin_atoms.proofs.LinearLemmas.{both_true}
 use Rattle.lin_atoms.proofs.ValueLemmas.{value_at-added, value_at-scaled, value_at-negated}
-use Rattle.lin_atoms.proofs.TermLemmas.{sum_at-++}
-use Rattle.farkas_proof.specs.Combination.{are_multipliers, combined, is_above_zero, is_divided_by, is_division, is_multiplier, less_multiple, linear_at, may_be_multiplied, one_minus, quotient, rounded}
+use Rattle.farkas_proof.specs.Combination.{are_multipliers, combined, is_above_zero, is_divided_by, is_multiplier, linear_at, may_be_multiplied, one_minus, rounded}
 
 pub le-true : (a b : ℤ) → int_le a b ≡ true → a ≤ℤ b
 le-true a b h = grind (arith, ints)

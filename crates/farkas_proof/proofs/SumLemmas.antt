@@ -1,22 +1,24 @@
 -- Terms of a sum in the making: a product is put in.
-use Rattle.std.proofs.Common.{◌≡◌, ◌<◌, ◌≤◌, ◌+◌, ℕ, suc, zero, List, [], ◌∷◌, ◌++◌, map, take, drop, set, length, get_or, refl, ap, sym, ◌∙◌, arith, true, false, Bool, cond, ◌&&◌, ◌==◌, append_assoc, eq-eqb}
+use Rattle.std.proofs.Common.{◌≡◌, ◌<◌, ◌≤◌, ◌+◌, ◌%◌, ℕ, suc, zero, List, [], ◌∷◌, ◌++◌, map, take, drop, set, length, get_or, refl, ap, sym, ◌∙◌, arith, true, false, Bool, cond, ◌&&◌, ◌==◌, append_assoc}
 use Rattle.std.specs.Prelude.{ℤ, pos, nat_abs, nat_le, nat_lt, neg_ℤ, ◌+ℤ◌, ◌*ℤ◌, ◌<ℤ◌}
 use Rattle.std.specs.Int.{int_div_euclid, int_signum}
 use Rattle.std.proofs.Math.IntN.{zero-*ℤ}
 use Rattle.std.specs.List.{list_all, remove}
 use Rattle.std.proofs.lemmas.Bool.{leb-true, ltb-true, ltb-false, eqb-true}
 use Rattle.std.proofs.lemmas.Bool.Decides.{nat_tests}
-use Rattle.std.proofs.lemmas.Int.{ints}
-use Rattle.std.proofs.lemmas.List.{drop_more, take_more, get_or-map}
+use Rattle.std.proofs.Math.Nat.{mul-mod_left}
+use Rattle.std.proofs.lemmas.Int.{ints, unsigned_abs-mul}
+use Rattle.std.proofs.lemmas.List.{append-nil, drop_more, take_more, get_or-map}
 use Rattle.lin_atoms.specs.Accumulator.{Total, is_multiple}
 use Rattle.farkas_proof.proofs.SoundLemmas.{divided}
 use Rattle.lin_atoms.specs.Algebra.{added, term_on, with_term, collected, scaled, scaled_terms}
 use Rattle.lin_atoms.specs.Linear.{Linear, are_ordered, is_small}
 use Rattle.lin_atoms.specs.declared.lit.Lit.{Lit}
 use Rattle.farkas_proof.specs.Combination.{are_multipliers, combined, is_multiplier, linear_at, rounded}
+use Rattle.lin_atoms.proofs.DivisionLemmas.{quotient_is}
 use Rattle.lin_atoms.proofs.LinearLemmas.{both_true, length_at}
-use Rattle.lin_atoms.proofs.TermLemmas.{collected-ordered, collected-same, ordered, ordered-cons, ordered-weaker, term_on-whole, with_term-behind, with_term-front, with_term-same}
-use Rattle.lin_atoms.proofs.MergeLemmas.{scaled-drop}
+use Rattle.lin_atoms.proofs.TermLemmas.{collected-ordered, collected-same, ordered, ordered-cons, term_on-whole, with_term-behind, with_term-same}
+use Rattle.lin_atoms.proofs.MergeLemmas.{scaled-drop, scaled-ordered}
 use Rattle.farkas_proof.specs.Sum.{are_counted, seen, standing}
 
 pub seen-at : (ts : List (ℕ × Total)) (i : ℕ) (d : ℕ × Total) → i < length ts → get_or (seen ts) i (0, pos 0) ≡ ((get_or ts i d).0, (get_or ts i d).1.value)
@@ -282,6 +284,20 @@ divided-more f (t ∷ ts) (suc i) d h =
 pub divided-rest : (f : ℕ × ℤ → ℕ × ℤ) (ts : List (ℕ × Total)) (i : ℕ) (d : ℕ × Total) → i < length ts → map f (seen (drop i ts)) ≡ f ((get_or ts i d).0, (get_or ts i d).1.value) ∷ map f (seen (drop (i + 1) ts))
 divided-rest f ts i d h = ap (λ (us : List (ℕ × Total)). map f (seen us)) (drop_more ts i d h)
 
+-- the term at the index is divided, so the rest decides
+pub divided-next : (d : ℤ) (ts : List (ℕ × Total)) (i : ℕ) (e : ℕ × Total) → i < length ts → is_multiple d (get_or ts i e).1.value ≡ true
+    → list_all (λ t. is_multiple d t.1) (seen (drop i ts)) ≡ list_all (λ t. is_multiple d t.1) (seen (drop (i + 1) ts))
+divided-next d ts i e h whole =
+    ap (λ (us : List (ℕ × Total)). list_all (λ t. is_multiple d t.1) (seen us)) (drop_more ts i e h) ∙ ap (λ b. b && list_all (λ t. is_multiple d t.1) (seen (drop (i + 1) ts))) whole
+
+-- a number that times the divisor makes the sum
+pub whole-is : (v q d : ℤ) → pos 0 <ℤ d → q *ℤ d ≡ v → (q ≡ int_div_euclid v d) × (is_multiple d v ≡ true)
+whole-is v q d some is =
+    let size : 0 < nat_abs d = omega (arith, ints) in
+    let none : q *ℤ d +ℤ pos 0 ≡ v = omega (arith, ints, is) in
+    let rest : nat_abs v % nat_abs d ≡ 0 = ap (λ z. nat_abs z % nat_abs d) (sym is) ∙ ap (λ k. k % nat_abs d) (unsigned_abs-mul q d) ∙ mul-mod_left (nat_abs q) (nat_abs d) in
+    (quotient_is v q d 0 some none size, ap (λ k. k == 0) rest)
+
 not_zero : (n : ℕ) → (n ≡ 0 → ⊥) → 0 < n
 not_zero n h = omega arith
 
@@ -311,3 +327,23 @@ pub form-is : (d : ℤ) (ts : List (ℕ × Total)) (n : Total) (terms : List (�
 unfolding made_of
 form-is d ts n terms k e f =
     ap (λ (us : List (ℕ × ℤ)). made_of us k) e ∙ ap (made_of (map (λ t. (t.0, int_div_euclid t.1 d)) (seen ts))) (f ∙ ap (λ z. neg_ℤ (int_div_euclid z d)) (sym (twice n.value)))
+
+-- a product behind terms
+seen-push : (ts : List (ℕ × Total)) (e : ℕ × Total) → seen (ts ++ e ∷ []) ≡ seen ts ++ (e.0, e.1.value) ∷ []
+seen-push [] e = refl
+seen-push (t ∷ ts) e = ap (λ (us : List (ℕ × ℤ)). (t.0, t.1.value) ∷ us) (seen-push ts e)
+
+pub counted-push : (n : ℕ) (ts : List (ℕ × Total)) (e : ℕ × Total) → e.1.added ≤ n → are_counted n ts ≡ true → are_counted n (ts ++ e ∷ []) ≡ true
+counted-push n [] e h t = count_more n e.1.added _ h refl
+counted-push n (x ∷ ts) e h t = let both = both_true (nat_le x.1.added n) _ t in ap (λ b. b && are_counted n (ts ++ e ∷ [])) both.0 ∙ counted-push n ts e h both.1
+
+pub product-put : (ts us : List (ℕ × Total)) (v : ℕ) (t : Total) (a : ℤ) → us ≡ ts ++ (v, t) ∷ [] → t.value ≡ a → 0 < nat_abs a → seen us ≡ seen ts ++ term_on v a []
+product-put ts us v t a u is some = ap seen u ∙ seen-push ts (v, t) ∙ ap (λ x. seen ts ++ (v, x) ∷ []) is ∙ ap (λ (xs : List (ℕ × ℤ)). seen ts ++ xs) (sym (term_on-whole v a [] some))
+
+pub product-none : (ts : List (ℕ × Total)) (v : ℕ) (a : ℤ) → nat_abs a ≡ 0 → seen ts ≡ seen ts ++ term_on v a []
+product-none ts v a none = sym (append-nil (seen ts)) ∙ ap (λ (xs : List (ℕ × ℤ)). seen ts ++ xs) (sym (term_on-none v a [] none))
+
+-- the first multiples, behind nothing
+pub first-sum : (k : ℤ) (ts us made : List (ℕ × ℤ)) → us ≡ [] → are_ordered 0 ts ≡ true → made ≡ scaled_terms k ts → made ≡ collected (scaled_terms k ts ++ us)
+first-sum k ts us made none is m =
+    m ∙ sym (collected-same 0 (scaled_terms k ts) (scaled-ordered k 0 ts is)) ∙ ap collected (sym (append-nil (scaled_terms k ts)) ∙ ap (λ (xs : List (ℕ × ℤ)). scaled_terms k ts ++ xs) (sym none))

@@ -1,6 +1,6 @@
 -- A sound tree leaves no point: by induction over the tree.
-use Rattle.std.proofs.Common.{◌≡◌, ◌<◌, ◌≤◌, ◌+◌, ◌-◌, ℕ, suc, zero, List, [], ◌∷◌, ◌++◌, map, take, drop, length, get_or, refl, ap, sym, ◌∙◌, subst, arith, true, false, Bool, ◌==◌, ◌&&◌, ◌||◌}
-use Rattle.std.specs.Prelude.{ℤ, pos, ◌≤ℤ◌, int_le, nat_lt, max, slice_get, slice_index_or}
+use Rattle.std.proofs.Common.{◌≡◌, ◌≤◌, ◌+◌, ℕ, suc, zero, List, [], ◌∷◌, ◌++◌, map, take, drop, length, refl, ap, sym, ◌∙◌, subst, arith, true, false, Bool, ◌&&◌, ◌||◌}
+use Rattle.std.specs.Prelude.{ℤ, pos, int_le, slice_get, slice_index_or}
 use Rattle.std.specs.List.{list_all, list_any}
 use Rattle.std.specs.Option.{option_map_or}
 use Rattle.std.proofs.lemmas.Bool.{eqb-true}
@@ -9,12 +9,12 @@ use Rattle.lin_atoms.specs.Denial.{linear_of}
 use Rattle.lin_atoms.specs.Linear.{value_at}
 use Rattle.lin_atoms.specs.Truth.{is_below, lit_truth, truth}
 use Rattle.lin_atoms.specs.declared.lit.Lit.{Lit}
-use Rattle.lin_atoms.specs.declared.lit.Lit.TheVariants.{Le, Eq, Div, NDiv}
+use Rattle.lin_atoms.specs.declared.lit.Lit.TheVariants.{Le}
 use Rattle.lin_atoms.specs.declared.form.Form.{Form}
 use Rattle.lin_atoms.proofs.LinearLemmas.{both_true}
 use Rattle.farkas_proof.specs.Combination.{are_multipliers, combined, is_above_zero, is_divided_by, is_division, lits_end, one_minus, quotient, rounded, terms_end}
 use Rattle.farkas_proof.specs.Flatten.{disjunctions, literals}
-use Rattle.farkas_proof.specs.Refutation.{Finding, Sound, Illegal, Wide, HasNoPoint, Judge, checked, each_part, followed_by, form_end, has_parts, has_quotient, is_refutation, is_sound, judge_step, judged, judged_at, new_variable, quotient_at}
+use Rattle.farkas_proof.specs.Refutation.{Finding, Sound, Illegal, Wide, HasNoPoint, Judge, checked, each_part, followed_by, form_end, has_parts, has_quotient, is_sound, judge_step, judged, judged_at, new_variable, quotient_at}
 use Rattle.farkas_proof.specs.declared.tree.Refutation.{Refutation, map-Refutation}
 use Rattle.farkas_proof.specs.declared.tree.Refutation.TheOpen.{Refutation-F}
 use Rattle.farkas_proof.specs.declared.tree.Refutation.TheViews.{roll-Refutation}

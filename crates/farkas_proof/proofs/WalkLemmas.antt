@@ -1,8 +1,7 @@
 -- What is found in what waits in a walk.
-use Rattle.std.proofs.Common.{◌≡◌, ◌<◌, ◌+◌, ◌-◌, min, append_assoc, Err, ℕ, zero, suc, List, [], ◌∷◌, ◌++◌, map, take, drop, length, get_or, refl, ap, sym, ◌∙◌, subst, arith, true, Bool, Bor, sum}
-use Rattle.std.specs.Prelude.{Result}
+use Rattle.std.proofs.Common.{◌≡◌, ◌<◌, ◌+◌, ◌-◌, min, append_assoc, Err, ℕ, zero, suc, List, [], ◌∷◌, ◌++◌, map, take, drop, length, get_or, refl, ap, sym, ◌∙◌, arith, true, Bool, Bor}
 use Rattle.std.proofs.Math.Seq.{take-append_seam, take-length}
-use Rattle.std.proofs.lemmas.List.{append-nil, drop_min, drop_more, length-drop, take_min}
+use Rattle.std.proofs.lemmas.List.{drop_min, drop_more, length-drop, take_min}
 use Rattle.std.proofs.lemmas.List.Sums.{sum_by_push}
 use Rattle.lin_atoms.specs.Denial.{lit_fits}
 use Rattle.lin_atoms.specs.Linear.{Linear}
@@ -18,7 +17,7 @@ use Rattle.farkas_proof.specs.declared.stop.CheckStop.TheVariants.{Memory as Out
 use Rattle.farkas_proof.specs.Walk.{Leads, left_over, left_to, nothing_left, opened, replaced, size, sizes, weights, weight_of, work_step}
 use Rattle.farkas_proof.specs.declared.tree.Refutation.{Refutation}
 use Rattle.farkas_proof.specs.declared.walk.Work.{Work}
-use Rattle.farkas_proof.specs.declared.walk.Work.TheVariants.{Tree, Part, Forget, Reopen}
+use Rattle.farkas_proof.specs.declared.walk.Work.TheVariants.{Part, Forget}
 
 pub opened-push : (cases : List (Bor (List Form))) (parts : Bor (List Form)) → opened (cases ++ parts ∷ []) ≡ opened cases ++ parts.now ∷ []
 opened-push [] parts = refl
@@ -71,17 +70,17 @@ with-part end which tree part ws us w lits more cases cs at u o m c =
     ∙ ap (λ (f : Finding). followed_by f (left_to end ws lits cases)) (same_judged tree end end (lits ++ more) (lits ++ literals part) cs (replaced cases which part) at at refl (ap (λ (xs : List Lit). lits ++ xs) m) c refl)
 
 -- both sides of a split
-pub split-leads : (end e : ℕ) (low high : Refutation) (lin : Linear) (lits l ls hs : List Lit) (cases c : List (List Form)) (at a : ℕ) (rest middle : ℕ → Finding) (room : Bool)
-    → room ≡ true → ls ≡ Le lin ∷ [] → hs ≡ Le (one_minus lin) ∷ [] → e ≡ end → l ≡ lits → c ≡ cases → a ≡ at
-    → ((next : ℕ) → middle next ≡ followed_by (judged_at lit_fits end high (lits ++ hs) cases next) rest)
+pub split-leads : (end e : ℕ) (low high : Refutation) (lin : Linear) (lits l : List Lit) (ls hs : Lit) (cases c : List (List Form)) (at a : ℕ) (rest middle : ℕ → Finding) (room : Bool)
+    → room ≡ true → ls ≡ Le lin → hs ≡ Le (one_minus lin) → e ≡ end → l ≡ lits → c ≡ cases → a ≡ at
+    → ((next : ℕ) → middle next ≡ followed_by (judged_at lit_fits end high (lits ++ hs ∷ []) cases next) rest)
     → followed_by (checked true room at (followed_by (judged_at lit_fits end low (lits ++ Le lin ∷ []) cases (at + 1)) (judged_at lit_fits end high (lits ++ Le (one_minus lin) ∷ []) cases))) rest
-    ≡ followed_by (judged_at lit_fits e low (l ++ ls) c (a + 1)) middle
+    ≡ followed_by (judged_at lit_fits e low (l ++ ls ∷ []) c (a + 1)) middle
 split-leads end e low high lin lits l ls hs cases c at a rest middle room r is ish p q s t m =
     let above : ℕ → Finding = judged_at lit_fits end high (lits ++ Le (one_minus lin) ∷ []) cases in
     let below : Finding = judged_at lit_fits end low (lits ++ Le lin ∷ []) cases (at + 1) in
     ap (λ b. followed_by (checked true b at (followed_by below above)) rest) r
-    ∙ followed-twice below above middle rest (λ n. m n ∙ ap (λ (xs : List Lit). followed_by (judged_at lit_fits end high (lits ++ xs) cases n) rest) ish)
-    ∙ ap (λ (f : Finding). followed_by f middle) (same_judged low end e (lits ++ Le lin ∷ []) (l ++ ls) cases c (at + 1) (a + 1) (sym p) (ap (λ (xs : List Lit). lits ++ xs) (sym is) ∙ ap (λ (xs : List Lit). xs ++ ls) (sym q)) (sym s) (ap (λ (n : ℕ). n + 1) (sym t)))
+    ∙ followed-twice below above middle rest (λ n. m n ∙ ap (λ (x : Lit). followed_by (judged_at lit_fits end high (lits ++ x ∷ []) cases n) rest) ish)
+    ∙ ap (λ (f : Finding). followed_by f middle) (same_judged low end e (lits ++ Le lin ∷ []) (l ++ ls ∷ []) cases c (at + 1) (a + 1) (sym p) (ap (λ (x : Lit). lits ++ x ∷ []) (sym is) ∙ ap (λ (xs : List Lit). xs ++ ls ∷ []) (sym q)) (sym s) (ap (λ (n : ℕ). n + 1) (sym t)))
 
 -- one part and its tree, before the others
 part-step : (end which : ℕ) (subs : List Refutation) (parts : List Form) (lits : List Lit) (cases : List (List Form)) (at i : ℕ) (sub : Refutation) (part : Form) → i < length subs → i < length parts → sub ≡ get_or subs i sub → part ≡ get_or parts i part

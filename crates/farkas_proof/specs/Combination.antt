@@ -1,5 +1,5 @@
 -- Sums of multiples of literals (Farkas), and what follows from them over the integers by rounding (Chvátal, Gomory).
-use Rattle.std.specs.Prelude.{ℕ, ◌+◌, ◌^◌, max, List, [], ◌∷◌, ◌++◌, map, ℤ, pos, ◌-ℤ◌, neg_ℤ, int_le, int_lt, nat_lt, Bool, true, false, ◌&&◌, slice_get, length, ◌==◌}
+use Rattle.std.specs.Prelude.{ℕ, ◌+◌, max, List, [], ◌∷◌, ◌++◌, map, ℤ, pos, ◌-ℤ◌, neg_ℤ, int_le, int_lt, nat_lt, Bool, true, false, ◌&&◌, slice_get, length, ◌==◌}
 use Rattle.std.specs.Int.{int_div_euclid}
 use Rattle.std.specs.List.{list_all}
 use Rattle.std.specs.Option.{option_map_or}

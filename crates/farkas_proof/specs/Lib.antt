@@ -1,4 +1,5 @@
 pub mod Combination
+pub mod Ends
 pub mod Flatten
 pub mod Refutation
 pub mod Sum
@@ -6,3 +7,7 @@ pub mod Tells
 pub mod Kept
 pub mod Walk
 pub mod Copying
+pub mod Split
+pub mod GivenUp
+pub mod KeptEvidence
+pub mod Instances

@@ -12,7 +12,7 @@ use Rattle.farkas_proof.specs.declared.tree.Refutation.{Refutation}
 use Rattle.farkas_proof.specs.declared.tree.Refutation.TheOpen.{Refutation-F}
 use Rattle.farkas_proof.specs.declared.tree.Refutation.TheFolds.{fold-Refutation}
 use Rattle.farkas_proof.specs.declared.walk.Work.{Work}
-use Rattle.farkas_proof.specs.declared.walk.Work.TheVariants.{Tree, Part, Forget, Reopen}
+use Rattle.farkas_proof.specs.declared.walk.Work.TheVariants.{Tree, Under, Node, Part, Forget, Reopen}
 use Rattle.farkas_proof.specs.declared.walk.Walk.{Walk}
 
 -- open disjunctions that are lent, as lists of their parts
@@ -26,6 +26,8 @@ replaced cases which part = take which cases ++ (disjunctions part ++ drop (whic
 -- what waits next, and then the rest, from the literals and disjunctions where the walk stands
 abbrev pub work_step : ℕ → Work → Judge → Judge
 work_step end (Tree tree derived) rest lits cases at = followed_by (judged_at lit_fits end tree.now (lits ++ derived.items) cases at) (rest lits cases)
+work_step end (Under tree lit) rest lits cases at = followed_by (judged_at lit_fits end tree.now (lits ++ lit ∷ []) cases at) (rest lits cases)
+work_step end (Node tree) rest lits cases at = followed_by (judged_at lit_fits end tree.now lits cases at) (rest lits cases)
 work_step end (Part tree part which) rest lits cases at = followed_by (judged_at lit_fits end tree.now (lits ++ literals part.now) (replaced cases which part.now) at) (rest lits cases)
 work_step end (Forget depth) rest lits cases at = rest (take depth lits) cases at
 work_step end (Reopen outside) rest lits cases at = rest lits (opened outside.items) at
@@ -43,14 +45,14 @@ left_to end works = left_over end nothing_left works
 
 -- what is found in all that waits, from the number of the next node on
 abbrev pub after : Walk → ℕ → Finding
-after walk = left_to walk.end walk.work.items walk.lits.items (opened walk.cases.items)
+after walk = left_to walk.end walk.work.items walk.lits (opened walk.cases.items)
 
 abbrev pub found : Walk → Finding
 found walk = after walk walk.at
 
 -- what is found where something is to be done before all that waits
 abbrev pub begun : Walk → Work → Finding
-begun walk work = work_step walk.end work (left_to walk.end walk.work.items) walk.lits.items (opened walk.cases.items) walk.at
+begun walk work = work_step walk.end work (left_to walk.end walk.work.items) walk.lits (opened walk.cases.items) walk.at
 
 -- a turn keeps what is found, or stops at it, unless memory runs out
 abbrev pub Leads : Finding → Finding → Result Unit CheckStop → Type 0
@@ -66,8 +68,8 @@ sizes (n ∷ ns) = n + 1 + sizes ns
 
 abbrev pub size_step : Refutation-F ℕ → ℕ
 size_step (Refutation-F.Leaf ms) = 2
-size_step (Refutation-F.Round ms d sub) = sub + 2
-size_step (Refutation-F.Split lin below above) = below + above + 2
+size_step (Refutation-F.Round ms d sub) = sub + 3
+size_step (Refutation-F.Split lin below above) = below + above + 3
 size_step (Refutation-F.Cases which subs) = sizes subs + 2
 size_step (Refutation-F.Quotient lit sub) = sub + 2
 
@@ -76,6 +78,8 @@ size = fold-Refutation ℕ size_step
 
 abbrev pub weight_of : Work → ℕ
 weight_of (Tree tree derived) = size tree.now
+weight_of (Under tree lit) = size tree.now
+weight_of (Node tree) = size tree.now
 weight_of (Part tree part which) = size tree.now + 1
 weight_of (Forget depth) = 1
 weight_of (Reopen outside) = 1

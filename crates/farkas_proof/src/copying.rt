@@ -83,7 +83,7 @@ fn descend<'a>(
     loop {
         match here {
             Refutation::Leaf { multipliers } => {
-                let multipliers = multipliers.copy(alloc)?;
+                let multipliers = Items::from_slice(alloc, multipliers.as_slice())?;
                 return Ok(Refutation::Leaf { multipliers });
             }
             Refutation::Round {
@@ -156,7 +156,7 @@ fn fill<'a>(
             divisor,
         } => {
             let sub = Boxed::new(alloc, tree)?;
-            let multipliers = multipliers.copy(alloc)?;
+            let multipliers = Items::from_slice(alloc, multipliers.as_slice())?;
             Ok(Next::Up(Refutation::Round {
                 multipliers,
                 divisor,

@@ -2,7 +2,7 @@
 
 ghost use Rattle.std.specs.Prelude.{◌≡◌, ◌≤◌, ◌^◌, map};
 ghost use Rattle.lin_atoms.specs.Denial.{linear_of};
-ghost use Rattle.farkas_proof.specs.Combination.{lits_end, terms_end};
+ghost use Rattle.farkas_proof.specs.Combination.{terms_end};
 ghost use Rattle.farkas_proof.specs.Refutation.{form_end, greatest_of};
 
 use lin_atoms::{Form, Lin, Lit};
@@ -29,24 +29,12 @@ pub(crate) fn linear_of(lit: &Lit) -> &Lin
     }
 }
 
-fn lit_end(lit: &Lit) -> u64
+pub(crate) fn lit_end(lit: &Lit) -> u64
     ensures is { result ≡ terms_end (linear_of lit.now).terms }
     ensures small { result ≤ 2 ^ 32 }
 {
     let lin = linear_of(lit);
     terms_end(lin.terms())
-}
-
-/// One more than the greatest variable of the literals, 0 where there is none.
-pub(crate) fn lits_end(lits: &[Lit]) -> u64
-    ensures is { result ≡ lits_end lits.now }
-    ensures small { result ≤ 2 ^ 32 }
-{
-    let mut end = 0;
-    for lit in lits {
-        end = end.max(lit_end(lit));
-    }
-    end
 }
 
 /// One more than the greatest variable of the form, 0 where there is none.

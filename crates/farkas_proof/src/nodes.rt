@@ -1,14 +1,16 @@
 //! What one node derives.
 
-ghost use Rattle.std.specs.Prelude.{◌≡◌, ◌+◌, ◌&&◌, IfOk, int_le, pos, true};
+ghost use Rattle.std.specs.Prelude.{◌≡◌, ◌+◌, ◌&&◌, ◌<ℤ◌, IfOk, int_le, pos, true};
+ghost use Rattle.lin_atoms.specs.Linear.{are_ordered};
 ghost use Rattle.lin_atoms.specs.declared.lit.Lit.TheVariants.{Le};
 ghost use Rattle.farkas_proof.specs.Combination.{are_multipliers, combined, is_above_zero, is_divided_by, one_minus, rounded};
 ghost use Rattle.farkas_proof.specs.Refutation.{Sound, checked};
+ghost use Rattle.farkas_proof.specs.Sum.{seen, standing};
 ghost use Rattle.farkas_proof.specs.Tells.{Derives, Tells};
 
-use crate::rounding::rounded;
+use crate::rounding::{rounded, rounded_from, wholes};
 use crate::stop::CheckStop;
-use crate::sum::{Sum, combined};
+use crate::sum::{Sum, combine};
 use base::Memory;
 use lin_atoms::{Lin, Lit};
 use std::alloc::Global;
@@ -24,30 +26,29 @@ pub(crate) fn next(at: u32) -> Result<u32, Memory>
     }
 }
 
-/// A leaf.
+/// A leaf. The sum is any, and is made anew.
 pub(crate) fn leaf(
-    alloc: Global,
+    sum: &mut Sum,
     lits: &[Lit],
     multipliers: &[(u32, i64)],
     at: u32,
 ) -> Result<u32, CheckStop>
     ensures { Tells (checked (are_multipliers lits.now multipliers.now && is_above_zero (combined lits.now multipliers.now)) true at (Sound (at + 1))) result }
 {
-    match combined(alloc, lits, multipliers)? {
-        Some(sum) => {
-            if sum.is_above_zero() {
-                Ok(next(at)?)
-            } else {
-                Err(CheckStop::NoProof { node: at })
-            }
-        }
-        None => Err(CheckStop::NoProof { node: at }),
+    if !combine(sum, lits, multipliers)? {
+        return Err(CheckStop::NoProof { node: at });
+    }
+    if sum.is_above_zero() {
+        Ok(next(at)?)
+    } else {
+        Err(CheckStop::NoProof { node: at })
     }
 }
 
-/// The literal that a rounding derives.
+/// The literal that a rounding derives. The sum is any, and is made anew.
 pub(crate) fn round(
     alloc: Global,
+    sum: &mut Sum,
     lits: &[Lit],
     multipliers: &[(u32, i64)],
     divisor: i64,
@@ -55,18 +56,43 @@ pub(crate) fn round(
 ) -> Result<Lit, CheckStop>
     ensures { Derives (are_multipliers lits.now multipliers.now && (int_le (pos 1) divisor && is_divided_by divisor (combined lits.now multipliers.now))) (Le (rounded divisor (combined lits.now multipliers.now))) at result }
 {
-    match combined(alloc, lits, multipliers)? {
-        Some(sum) => {
-            if divisor >= 1 && sum.is_divided_by(divisor) {
-                match rounded(alloc, &sum, divisor)? {
-                    Some(lin) => Ok(Lit::Le(lin)),
-                    None => Err(CheckStop::SumWide { node: at }),
-                }
-            } else {
-                Err(CheckStop::NoProof { node: at })
-            }
-        }
-        None => Err(CheckStop::NoProof { node: at }),
+    if !combine(sum, lits, multipliers)? {
+        return Err(CheckStop::NoProof { node: at });
+    }
+    if divisor >= 1 {
+        divided(alloc, sum, divisor, at)
+    } else {
+        Err(CheckStop::NoProof { node: at })
+    }
+}
+
+/// The literal that says of the divided sum that it is at most 0. Where all quotients are found in
+/// 64 bits, one division of each coefficient tells both whether it is divided and what it gives.
+fn divided(alloc: Global, sum: &Sum, divisor: i64, at: u32) -> Result<Lit, CheckStop>
+    requires positive { pos 0 <ℤ divisor }
+    requires ordered { are_ordered 0 (seen sum.now.terms.items) ≡ true }
+    ensures { Derives (is_divided_by divisor (standing sum.now.terms.items sum.now.negated)) (Le (rounded divisor (standing sum.now.terms.items sum.now.negated))) at result }
+{
+    match wholes(alloc, sum.terms.as_slice(), divisor)? {
+        Some(terms) => match rounded_from(terms, sum, divisor) {
+            Some(lin) => Ok(Lit::Le(lin)),
+            None => Err(CheckStop::SumWide { node: at }),
+        },
+        None => divided_wide(alloc, sum, divisor, at),
+    }
+}
+
+fn divided_wide(alloc: Global, sum: &Sum, divisor: i64, at: u32) -> Result<Lit, CheckStop>
+    requires positive { pos 0 <ℤ divisor }
+    requires ordered { are_ordered 0 (seen sum.now.terms.items) ≡ true }
+    ensures { Derives (is_divided_by divisor (standing sum.now.terms.items sum.now.negated)) (Le (rounded divisor (standing sum.now.terms.items sum.now.negated))) at result }
+{
+    if !sum.is_divided_by(divisor) {
+        return Err(CheckStop::NoProof { node: at });
+    }
+    match rounded(alloc, sum, divisor)? {
+        Some(lin) => Ok(Lit::Le(lin)),
+        None => Err(CheckStop::SumWide { node: at }),
     }
 }
 

@@ -10,7 +10,7 @@ ghost use Rattle.lin_atoms.specs.Denial.{linear_of, lit_fits};
 ghost use Rattle.lin_atoms.specs.Linear.{Linear, fits, is_linear};
 ghost use Rattle.farkas_proof.specs.Combination.{is_division, less_multiple, one_minus, quotient, terms_end};
 
-use crate::ends::lits_end;
+use crate::known::Known;
 use crate::stop::CheckStop;
 use base::{Items, Memory};
 use lin_atoms::{Divisor, Lin, Lit};
@@ -140,15 +140,15 @@ fn is_division(lit: &Lit) -> bool
 /// The literals of a node that names a quotient.
 pub(crate) fn named(
     alloc: Global,
-    lits: &[Lit],
+    lits: &Known,
     which: u32,
     end: u64,
     at: u32,
 ) -> Result<Items<Lit>, CheckStop>
     ensures { DerivesAll (has_quotient lits.now which (new_variable end lits.now)) (quotient_at lits.now which (new_variable end lits.now)) at result }
 {
-    let q = lits_end(lits).max(end);
-    match lits.get(which as usize) {
+    let q = lits.end().max(end);
+    match lits.as_slice().get(which as usize) {
         Some(lit) => named_of(alloc, lit, q, at),
         None => Err(CheckStop::NoProof { node: at }),
     }

@@ -1,9 +1,12 @@
 ghost use Rattle.std.specs.Prelude.{◌≡◌, ◌<ℤ◌, ◌<◌, ◌^◌, map, nat_abs, neg_ℤ, true, false, IfOk, IfSome, IsNone, IsSome, pos};
 ghost use Rattle.std.specs.Int.{int_div_euclid};
 ghost use Rattle.lin_atoms.specs.Linear.{are_ordered, are_small, fits, is_constant, is_small};
+ghost use Rattle.std.specs.List.{list_all};
+ghost use Rattle.lin_atoms.specs.Accumulator.{is_multiple};
 ghost use Rattle.farkas_proof.specs.Combination.{is_divided_by, rounded};
 ghost use Rattle.farkas_proof.specs.Sum.{seen, standing};
 
+use crate::division::{quotient, whole};
 use crate::sum::Sum;
 use base::Memory;
 use lin_atoms::{Accumulator, Lin, LinStop};
@@ -37,7 +40,7 @@ fn quotient_of(total: &Accumulator, divisor: i64) -> Option<i64>
     ensures small { IsSome result → is_small (int_div_euclid total.now.value divisor) ≡ true }
     ensures none { IsNone result → is_small (int_div_euclid total.now.value divisor) ≡ false }
 {
-    match total.quotient(divisor).to_i128() {
+    match quotient(total, divisor) {
         Some(n) => narrow(n),
         None => None,
     }
@@ -63,13 +66,33 @@ fn quotients(
     Ok(Some(made))
 }
 
+/// The quotients of the coefficients, where all are found to be whole and to have 64 bits.
+pub(crate) fn wholes(
+    alloc: Global,
+    terms: &[(u32, Accumulator)],
+    divisor: i64,
+) -> Result<Option<Vec<(u32, i64)>>, Memory>
+    requires { pos 0 <ℤ divisor }
+    ensures some { IfOk result (λ made. IfSome made (λ made. made.items ≡ map (λ t. (t.0, int_div_euclid t.1 divisor)) (seen terms.now))) }
+    ensures divided { IfOk result (λ made. IsSome made → list_all (λ t. is_multiple divisor t.1) (seen terms.now) ≡ true) }
+{
+    let mut made = Vec::with_capacity(alloc, terms.len())?;
+    for term in terms {
+        match whole(&term.1, divisor) {
+            Some(quotient) => made.push((term.0, quotient))?,
+            None => return Ok(None),
+        }
+    }
+    Ok(Some(made))
+}
+
 /// The constant divided and rounded up, given with the other sign, unless it has no room in a form.
 fn rounded_constant(negated: &Accumulator, divisor: i64) -> Option<i128>
     requires { pos 0 <ℤ divisor }
     ensures some { IfSome result (λ n. n ≡ neg_ℤ (int_div_euclid negated.now.value divisor)) }
     ensures none { IsNone result → is_constant (neg_ℤ (int_div_euclid negated.now.value divisor)) ≡ false }
 {
-    match negated.quotient(divisor).to_i128() {
+    match quotient(negated, divisor) {
         Some(n) => minus(n),
         None => None,
     }
@@ -85,12 +108,26 @@ pub(crate) fn rounded(alloc: Global, sum: &Sum, divisor: i64) -> Result<Option<L
     ensures within { IfOk result (λ made. IsSome made → fits (rounded divisor (standing sum.now.terms.items sum.now.negated)) ≡ true) }
     ensures none { IfOk result (λ made. IsNone made → fits (rounded divisor (standing sum.now.terms.items sum.now.negated)) ≡ false) }
 {
-    match rounded_constant(&sum.negated, divisor) {
-        Some(constant) => match quotients(alloc, sum.terms.as_slice(), divisor)? {
-            Some(terms) => Ok(form_of(terms, constant)),
-            None => Ok(None),
-        },
+    match quotients(alloc, sum.terms.as_slice(), divisor)? {
+        Some(terms) => Ok(rounded_from(terms, sum, divisor)),
         None => Ok(None),
+    }
+}
+
+/// The sum divided by a divisor of its coefficients, whose quotients are given, with the constant
+/// rounded up, unless a number has no room in a form.
+pub(crate) fn rounded_from(terms: Vec<(u32, i64)>, sum: &Sum, divisor: i64) -> Option<Lin>
+    requires positive { pos 0 <ℤ divisor }
+    requires quotients { terms.items ≡ map (λ t. (t.0, int_div_euclid t.1 divisor)) (seen sum.now.terms.items) }
+    requires divided { is_divided_by divisor (standing sum.now.terms.items sum.now.negated) ≡ true }
+    requires ordered { are_ordered 0 (seen sum.now.terms.items) ≡ true }
+    ensures some { IfSome result (λ lin. lin ≡ rounded divisor (standing sum.now.terms.items sum.now.negated)) }
+    ensures within { IsSome result → fits (rounded divisor (standing sum.now.terms.items sum.now.negated)) ≡ true }
+    ensures none { IsNone result → fits (rounded divisor (standing sum.now.terms.items sum.now.negated)) ≡ false }
+{
+    match rounded_constant(&sum.negated, divisor) {
+        Some(constant) => form_of(terms, constant),
+        None => None,
     }
 }
 

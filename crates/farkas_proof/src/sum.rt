@@ -1,4 +1,4 @@
-ghost use Rattle.std.specs.Prelude.{◌≡◌, ◌+◌, ◌<◌, ◌≤◌, ◌^◌, ◌++◌, ◌==◌, ◌+ℤ◌, ◌-ℤ◌, ◌*ℤ◌, ◌<ℤ◌, ℤ, take, drop, length, nat_abs, neg_ℤ, true, false, OnOk, IfOk, IfErr, IfSome, IsSome, IsNone, slice_index_or, pos};
+ghost use Rattle.std.specs.Prelude.{◌≡◌, ◌+◌, ◌<◌, ◌≤◌, ◌^◌, ◌++◌, [], ◌==◌, ◌+ℤ◌, ◌-ℤ◌, ◌*ℤ◌, ◌<ℤ◌, ℤ, take, drop, length, nat_abs, neg_ℤ, true, false, OnOk, IfOk, IfErr, IfSome, IsSome, IsNone, slice_index_or, pos};
 ghost use Rattle.lin_atoms.specs.Accumulator.{Total};
 ghost use Rattle.lin_atoms.specs.Algebra.{added, collected, scaled, scaled_terms, term_on, with_term};
 ghost use Rattle.lin_atoms.specs.Denial.{linear_of};
@@ -6,6 +6,7 @@ ghost use Rattle.lin_atoms.specs.Linear.{are_ordered, of_constant};
 ghost use Rattle.farkas_proof.specs.Combination.{are_multipliers, combined, is_above_zero, is_divided_by, is_multiplier, linear_at, may_be_multiplied};
 ghost use Rattle.farkas_proof.specs.Sum.{IsSum, are_counted, seen, standing};
 
+use crate::division::is_multiple;
 use base::Memory;
 use lin_atoms::{Accumulator, Lin, Lit};
 use std::alloc::Global;
@@ -65,14 +66,12 @@ fn add_negated(total: &mut Accumulator, k: i64, a: i128)
     total.add(-k, a);
 }
 
-/// A product by itself.
+/// A product by itself. It has 126 bits, so that it may be what the sum begins with.
 fn one_product(k: i64, a: i64) -> Accumulator
     ensures value { result.value ≡ k *ℤ a }
-    ensures added { result.added ≡ 1 }
+    ensures added { result.added ≡ 0 }
 {
-    let mut total = Accumulator::new(0);
-    add_to(&mut total, k, a);
-    total
+    Accumulator::new(i128::from(k) * i128::from(a))
 }
 
 fn is_zero(total: &Accumulator) -> bool
@@ -113,7 +112,63 @@ fn add_product(
     }
 }
 
-/// Adds multiples of terms, and says how many products there are then.
+/// Puts a product behind terms, unless it is 0.
+fn push_product(
+    terms: &mut Vec<(u32, Accumulator)>,
+    variable: u32,
+    k: i64,
+    a: i64,
+) -> Result<(), Memory>
+    requires { are_counted 1 terms.old.items ≡ true }
+    ensures value { OnOk result (seen terms.new.items ≡ seen terms.old.items ++ term_on variable (k *ℤ a) []) }
+    ensures counted { OnOk result (are_counted 1 terms.new.items ≡ true) }
+{
+    let total = one_product(k, a);
+    if !is_zero(&total) {
+        terms.push((variable, total))?;
+    }
+    Ok(())
+}
+
+/// Puts multiples of terms where there are none.
+fn put_terms(
+    terms: &mut Vec<(u32, Accumulator)>,
+    k: i64,
+    added: &[(u32, i64)],
+) -> Result<(), Memory>
+    requires { terms.old.items ≡ [] }
+    ensures value { OnOk result (seen terms.new.items ≡ scaled_terms k added.now) }
+    ensures counted { OnOk result (are_counted 1 terms.new.items ≡ true) }
+{
+    for (variable, coefficient) in added {
+        push_product(terms, *variable, k, *coefficient)?;
+    }
+    Ok(())
+}
+
+/// Adds multiples of terms to none, and bounds the products of a coefficient then.
+fn first_terms(
+    terms: &mut Vec<(u32, Accumulator)>,
+    products: u64,
+    k: i64,
+    added: &[(u32, i64)],
+) -> Result<u64, Memory>
+    requires empty { terms.old.items ≡ [] }
+    requires rising { are_ordered 0 added.now ≡ true }
+    requires within { products ≤ 2 ^ 32 }
+    ensures value { OnOk result (seen terms.new.items ≡ collected (scaled_terms k added.now ++ seen terms.old.items)) }
+    ensures counted { IfOk result (λ n. are_counted n terms.new.items ≡ true) }
+    ensures within { IfOk result (λ n. n ≤ 2 ^ 32) }
+    ensures more { IfOk result (λ n. products ≤ n) }
+{
+    if products == MOST_PRODUCTS {
+        return Err(Memory);
+    }
+    put_terms(terms, k, added)?;
+    Ok(products + 1)
+}
+
+/// Adds multiples of terms, and bounds the products of a coefficient then.
 fn add_terms(
     terms: &mut Vec<(u32, Accumulator)>,
     products: u64,
@@ -122,12 +177,16 @@ fn add_terms(
 ) -> Result<u64, Memory>
     requires ordered { are_ordered 0 (seen terms.old.items) ≡ true }
     requires counted { are_counted products terms.old.items ≡ true }
+    requires rising { are_ordered 0 added.now ≡ true }
     requires within { products ≤ 2 ^ 32 }
     ensures value { OnOk result (seen terms.new.items ≡ collected (scaled_terms k added.now ++ seen terms.old.items)) }
     ensures counted { IfOk result (λ n. are_counted n terms.new.items ≡ true) }
     ensures within { IfOk result (λ n. n ≤ 2 ^ 32) }
     ensures more { IfOk result (λ n. products ≤ n) }
 {
+    if terms.is_empty() {
+        return first_terms(terms, products, k, added);
+    }
     let mut counted = products;
     let mut left = added.len();
     while left > 0 {
@@ -153,6 +212,16 @@ impl Sum {
             negated: Accumulator::new(0),
             products: 0,
         }
+    }
+
+    /// Makes it the sum of no forms again, in the memory that it has.
+    fn clear(&mut self)
+        ensures value { standing self.new.terms.items self.new.negated ≡ of_constant (pos 0) }
+        ensures fine { IsSum self.new.terms.items self.new.negated self.new.products }
+    {
+        self.terms.clear();
+        self.negated = Accumulator::new(0);
+        self.products = 0;
     }
 
     /// Adds a multiple of a form.
@@ -184,7 +253,7 @@ impl Sum {
         ensures { result ≡ is_divided_by divisor (standing self.now.terms.items self.now.negated) }
     {
         for term in &self.terms {
-            if !term.1.is_multiple(divisor) {
+            if !is_multiple(&term.1, divisor) {
                 return false;
             }
         }
@@ -218,26 +287,25 @@ fn of_literal(lit: &Lit, k: i64) -> Option<&Lin>
     }
 }
 
-/// The sum of the multiples, if the multipliers are in order.
-pub(crate) fn combined(
-    alloc: Global,
+/// Makes a sum that of the multiples, where the multipliers are in order, and says whether they are.
+pub(crate) fn combine(
+    sum: &mut Sum,
     lits: &[Lit],
     multipliers: &[(u32, i64)],
-) -> Result<Option<Sum>, Memory>
-    ensures none { IfOk result (λ made. IsNone made → are_multipliers lits.now multipliers.now ≡ false) }
-    ensures some { IfOk result (λ made. IsSome made → are_multipliers lits.now multipliers.now ≡ true) }
-    ensures value { IfOk result (λ made. IfSome made (λ sum. standing sum.terms.items sum.negated ≡ combined lits.now multipliers.now)) }
-    ensures fine { IfOk result (λ made. IfSome made (λ sum. IsSum sum.terms.items sum.negated sum.products)) }
+) -> Result<bool, Memory>
+    ensures legal { IfOk result (λ legal. legal ≡ are_multipliers lits.now multipliers.now) }
+    ensures value { IfOk result (λ legal. legal ≡ true → standing sum.new.terms.items sum.new.negated ≡ combined lits.now multipliers.now) }
+    ensures fine { IfOk result (λ legal. legal ≡ true → IsSum sum.new.terms.items sum.new.negated sum.new.products) }
 {
-    let mut sum = Sum::nothing(alloc);
+    sum.clear();
     let mut left = multipliers.len();
     while left > 0 {
         left -= 1;
         let (which, k) = multipliers[left];
         match multiplied(lits, which, k) {
             Some(lin) => sum.add_multiple(k, lin)?,
-            None => return Ok(None),
+            None => return Ok(false),
         }
     }
-    Ok(Some(sum))
+    Ok(true)
 }

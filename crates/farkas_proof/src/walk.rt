@@ -14,9 +14,11 @@ ghost use Rattle.std.specs.List.{list_all};
 
 use crate::ends::form_end;
 use crate::flatten::{push_disjunctions, push_literals};
+use crate::known::Known;
 use crate::nodes::{above, leaf, next, round};
 use crate::quotient::named;
 use crate::stop::CheckStop;
+use crate::sum::Sum;
 use crate::tree::Refutation;
 use base::{Copied, Items, Memory};
 use lin_atoms::{Form, Lin, Lit};
@@ -30,6 +32,15 @@ pub(crate) enum Work<'a> {
     Tree {
         tree: &'a Refutation,
         derived: Vec<Lit>,
+    },
+    /// A tree, and the one literal that its node derives.
+    Under {
+        tree: &'a Refutation,
+        lit: Lit,
+    },
+    /// A tree, where the literals that its node derives are known already.
+    Node {
+        tree: &'a Refutation,
     },
     /// A tree for one part of the open disjunction of that number.
     Part {
@@ -53,12 +64,14 @@ pub(crate) struct Walk<'a> {
     alloc: Global,
     /// Above the variables of the form.
     end: u64,
-    lits: Vec<Lit>,
+    lits: Known,
     cases: Vec<&'a Items<Form>>,
     /// What waits, the next at the end.
     work: Vec<Work<'a>>,
     /// The number of the next node.
     at: u32,
+    /// Any sum, whose memory the nodes use in turn.
+    sum: Sum,
 }
 
 /// What is found in a tree for a form.
@@ -79,8 +92,10 @@ pub(crate) fn judge(alloc: Global, form: &Form, tree: &Refutation) -> Result<u32
 fn begin<'a>(alloc: Global, form: &'a Form, tree: &'a Refutation) -> Result<Walk<'a>, Memory>
     ensures { IfOk result (λ walk. found walk ≡ judged lit_fits form.now tree.now) }
 {
-    let mut lits = Vec::new(alloc);
-    push_literals(alloc, form, &mut lits)?;
+    let mut flat = Vec::new(alloc);
+    push_literals(alloc, form, &mut flat)?;
+    let mut lits = Known::nothing(alloc);
+    lits.push_all(flat)?;
     let mut cases = Vec::new(alloc);
     push_disjunctions(form, &mut cases)?;
     let derived = Vec::new(alloc);
@@ -93,6 +108,7 @@ fn begin<'a>(alloc: Global, form: &'a Form, tree: &'a Refutation) -> Result<Walk
         cases,
         work,
         at: 0,
+        sum: Sum::nothing(alloc),
     })
 }
 
@@ -102,24 +118,6 @@ fn put<'a>(waiting: &mut Vec<Work<'a>>, work: Work<'a>) -> Result<(), Memory>
 {
     waiting.push(work)?;
     Ok(())
-}
-
-/// Puts literals after the others.
-fn put_all(lits: &mut Vec<Lit>, more: Vec<Lit>) -> Result<(), Memory>
-    ensures { OnOk result (lits.new.items ≡ lits.old.items ++ more.items) }
-{
-    let mut more = more;
-    lits.append(&mut more)?;
-    Ok(())
-}
-
-/// One literal.
-fn one(alloc: Global, lit: Lit) -> Result<Vec<Lit>, Memory>
-    ensures { IfOk result (λ made. made.items ≡ lit ∷ []) }
-{
-    let mut made = Vec::with_capacity(alloc, 1)?;
-    made.push(lit)?;
-    Ok(made)
 }
 
 /// The parts of the open disjunction of that number, if there are so many.
@@ -197,6 +195,8 @@ impl<'a> Walk<'a> {
     {
         match work {
             Work::Tree { tree, derived } => self.judge_with(tree, derived),
+            Work::Under { tree, lit } => self.judge_under(tree, lit),
+            Work::Node { tree } => self.judge_node(tree),
             Work::Part { tree, part, which } => self.judge_part(tree, part, which),
             Work::Forget { depth } => {
                 self.lits.truncate(depth);
@@ -211,12 +211,23 @@ impl<'a> Walk<'a> {
 
     /// A tree, with more literals.
     fn judge_with(&mut self, tree: &'a Refutation, derived: Vec<Lit>) -> Result<(), CheckStop>
-        ensures leads { Leads (followed_by (judged_at lit_fits self.old.end tree.now (self.old.lits.items ++ derived.items) (opened self.old.cases.items) self.old.at) (after self.old)) (found self.new) result }
+        ensures leads { Leads (followed_by (judged_at lit_fits self.old.end tree.now (self.old.lits ++ derived.items) (opened self.old.cases.items) self.old.at) (after self.old)) (found self.new) result }
         ensures less { OnOk result (weight self.new < weight self.old + size tree.now) }
     {
         let depth = self.lits.len();
         put(&mut self.work, Work::Forget { depth })?;
-        put_all(&mut self.lits, derived)?;
+        self.lits.push_all(derived)?;
+        self.judge_node(tree)
+    }
+
+    /// A tree, with one more literal.
+    fn judge_under(&mut self, tree: &'a Refutation, lit: Lit) -> Result<(), CheckStop>
+        ensures leads { Leads (followed_by (judged_at lit_fits self.old.end tree.now (self.old.lits ++ lit ∷ []) (opened self.old.cases.items) self.old.at) (after self.old)) (found self.new) result }
+        ensures less { OnOk result (weight self.new < weight self.old + size tree.now) }
+    {
+        let depth = self.lits.len();
+        put(&mut self.work, Work::Forget { depth })?;
+        self.lits.push(lit)?;
         self.judge_node(tree)
     }
 
@@ -227,7 +238,7 @@ impl<'a> Walk<'a> {
         part: &'a Form,
         which: u32,
     ) -> Result<(), CheckStop>
-        ensures leads { Leads (followed_by (judged_at lit_fits self.old.end tree.now (self.old.lits.items ++ literals part.now) (replaced (opened self.old.cases.items) which part.now) self.old.at) (after self.old)) (found self.new) result }
+        ensures leads { Leads (followed_by (judged_at lit_fits self.old.end tree.now (self.old.lits ++ literals part.now) (replaced (opened self.old.cases.items) which part.now) self.old.at) (after self.old)) (found self.new) result }
         ensures less { OnOk result (weight self.new < weight self.old + (size tree.now + 1)) }
     {
         let cases = replaced(self.alloc, self.cases.as_slice(), which, part)?;
@@ -240,7 +251,7 @@ impl<'a> Walk<'a> {
 
     /// The node of a tree, and what waits then.
     fn judge_node(&mut self, tree: &'a Refutation) -> Result<(), CheckStop>
-        ensures leads { Leads (followed_by (judged_at lit_fits self.old.end tree.now self.old.lits.items (opened self.old.cases.items) self.old.at) (after self.old)) (found self.new) result }
+        ensures leads { Leads (followed_by (judged_at lit_fits self.old.end tree.now self.old.lits (opened self.old.cases.items) self.old.at) (after self.old)) (found self.new) result }
         ensures less { OnOk result (weight self.new + 2 ≤ weight self.old + size tree.now) }
     {
         match tree {
@@ -259,10 +270,10 @@ impl<'a> Walk<'a> {
     }
 
     fn judge_leaf(&mut self, multipliers: &[(u32, i64)]) -> Result<(), CheckStop>
-        ensures leads { Leads (followed_by (checked (are_multipliers self.old.lits.items multipliers.now && is_above_zero (combined self.old.lits.items multipliers.now)) true self.old.at (Sound (self.old.at + 1))) (after self.old)) (found self.new) result }
+        ensures leads { Leads (followed_by (checked (are_multipliers self.old.lits multipliers.now && is_above_zero (combined self.old.lits multipliers.now)) true self.old.at (Sound (self.old.at + 1))) (after self.old)) (found self.new) result }
         ensures less { OnOk result (weight self.new ≡ weight self.old) }
     {
-        match leaf(self.alloc, self.lits.as_slice(), multipliers, self.at) {
+        match leaf(&mut self.sum, self.lits.as_slice(), multipliers, self.at) {
             Ok(at) => {
                 self.at = at;
                 Ok(())
@@ -277,18 +288,18 @@ impl<'a> Walk<'a> {
         divisor: i64,
         sub: &'a Refutation,
     ) -> Result<(), CheckStop>
-        ensures leads { Leads (followed_by (checked (are_multipliers self.old.lits.items multipliers.now && (int_le (pos 1) divisor && is_divided_by divisor (combined self.old.lits.items multipliers.now))) (lit_fits (Le (rounded divisor (combined self.old.lits.items multipliers.now)))) self.old.at (judged_at lit_fits self.old.end sub.now (self.old.lits.items ++ Le (rounded divisor (combined self.old.lits.items multipliers.now)) ∷ []) (opened self.old.cases.items) (self.old.at + 1))) (after self.old)) (found self.new) result }
-        ensures less { OnOk result (weight self.new ≡ weight self.old + size sub.now) }
+        ensures leads { Leads (followed_by (checked (are_multipliers self.old.lits multipliers.now && (int_le (pos 1) divisor && is_divided_by divisor (combined self.old.lits multipliers.now))) (lit_fits (Le (rounded divisor (combined self.old.lits multipliers.now)))) self.old.at (judged_at lit_fits self.old.end sub.now (self.old.lits ++ Le (rounded divisor (combined self.old.lits multipliers.now)) ∷ []) (opened self.old.cases.items) (self.old.at + 1))) (after self.old)) (found self.new) result }
+        ensures less { OnOk result (weight self.new ≡ weight self.old + (size sub.now + 1)) }
     {
         match round(
             self.alloc,
+            &mut self.sum,
             self.lits.as_slice(),
             multipliers,
             divisor,
             self.at,
         ) {
             Ok(derived) => {
-                let derived = one(self.alloc, derived)?;
                 self.go_on(sub, derived)?;
                 Ok(())
             }
@@ -302,15 +313,14 @@ impl<'a> Walk<'a> {
         low_sub: &'a Refutation,
         high_sub: &'a Refutation,
     ) -> Result<(), CheckStop>
-        ensures leads { Leads (followed_by (checked true (lit_fits (Le lin.now) && lit_fits (Le (one_minus lin.now))) self.old.at (followed_by (judged_at lit_fits self.old.end low_sub.now (self.old.lits.items ++ Le lin.now ∷ []) (opened self.old.cases.items) (self.old.at + 1)) (judged_at lit_fits self.old.end high_sub.now (self.old.lits.items ++ Le (one_minus lin.now) ∷ []) (opened self.old.cases.items)))) (after self.old)) (found self.new) result }
-        ensures less { OnOk result (weight self.new ≡ weight self.old + (size low_sub.now + size high_sub.now)) }
+        ensures leads { Leads (followed_by (checked true (lit_fits (Le lin.now) && lit_fits (Le (one_minus lin.now))) self.old.at (followed_by (judged_at lit_fits self.old.end low_sub.now (self.old.lits ++ Le lin.now ∷ []) (opened self.old.cases.items) (self.old.at + 1)) (judged_at lit_fits self.old.end high_sub.now (self.old.lits ++ Le (one_minus lin.now) ∷ []) (opened self.old.cases.items)))) (after self.old)) (found self.new) result }
+        ensures less { OnOk result (weight self.new ≡ weight self.old + (size low_sub.now + size high_sub.now + 1)) }
     {
         match above(self.alloc, lin, self.at) {
             Ok(high) => {
-                let low = one(self.alloc, Lit::Le(lin.copy(self.alloc)?))?;
-                let high = one(self.alloc, high)?;
+                let low = lin.copy(self.alloc)?;
                 self.wait(high_sub, high)?;
-                self.go_on(low_sub, low)?;
+                self.go_on(low_sub, Lit::Le(low))?;
                 Ok(())
             }
             Err(stop) => Err(stop),
@@ -318,7 +328,7 @@ impl<'a> Walk<'a> {
     }
 
     fn judge_cases(&mut self, which: u32, subs: &'a [Refutation]) -> Result<(), CheckStop>
-        ensures leads { Leads (followed_by (checked (has_parts (opened self.old.cases.items) which (length subs.now)) true self.old.at (each_part (map (judged_at lit_fits self.old.end) subs.now) (slice_index_or (opened self.old.cases.items) which []) which self.old.lits.items (opened self.old.cases.items) (self.old.at + 1))) (after self.old)) (found self.new) result }
+        ensures leads { Leads (followed_by (checked (has_parts (opened self.old.cases.items) which (length subs.now)) true self.old.at (each_part (map (judged_at lit_fits self.old.end) subs.now) (slice_index_or (opened self.old.cases.items) which []) which self.old.lits (opened self.old.cases.items) (self.old.at + 1))) (after self.old)) (found self.new) result }
         ensures less { OnOk result (weight self.new ≡ weight self.old + sizes (map size subs.now)) }
     {
         match parts_of(self.cases.as_slice(), which, subs.len()) {
@@ -332,38 +342,52 @@ impl<'a> Walk<'a> {
     }
 
     fn judge_quotient(&mut self, lit: u32, sub: &'a Refutation) -> Result<(), CheckStop>
-        ensures leads { Leads (followed_by (checked (has_quotient self.old.lits.items lit (new_variable self.old.end self.old.lits.items)) (list_all lit_fits (quotient_at self.old.lits.items lit (new_variable self.old.end self.old.lits.items))) self.old.at (judged_at lit_fits self.old.end sub.now (self.old.lits.items ++ quotient_at self.old.lits.items lit (new_variable self.old.end self.old.lits.items)) (opened self.old.cases.items) (self.old.at + 1))) (after self.old)) (found self.new) result }
+        ensures leads { Leads (followed_by (checked (has_quotient self.old.lits lit (new_variable self.old.end self.old.lits)) (list_all lit_fits (quotient_at self.old.lits lit (new_variable self.old.end self.old.lits))) self.old.at (judged_at lit_fits self.old.end sub.now (self.old.lits ++ quotient_at self.old.lits lit (new_variable self.old.end self.old.lits)) (opened self.old.cases.items) (self.old.at + 1))) (after self.old)) (found self.new) result }
         ensures less { OnOk result (weight self.new ≡ weight self.old + size sub.now) }
     {
-        match named(self.alloc, self.lits.as_slice(), lit, self.end, self.at) {
+        match named(self.alloc, &self.lits, lit, self.end, self.at) {
             Ok(derived) => {
                 let derived = copies(self.alloc, derived.as_slice())?;
-                self.go_on(sub, derived)?;
+                self.go_on_with(sub, derived)?;
                 Ok(())
             }
             Err(stop) => Err(stop),
         }
     }
 
-    /// A tree waits, before all that waits already.
-    fn wait(&mut self, tree: &'a Refutation, derived: Vec<Lit>) -> Result<(), Memory>
-        ensures after { OnOk result ((next : ℕ) → after self.new next ≡ followed_by (judged_at lit_fits self.old.end tree.now (self.old.lits.items ++ derived.items) (opened self.old.cases.items) next) (after self.old)) }
+    /// A tree waits, which stands on one more literal, before all that waits already.
+    fn wait(&mut self, tree: &'a Refutation, lit: Lit) -> Result<(), Memory>
+        ensures after { OnOk result ((next : ℕ) → after self.new next ≡ followed_by (judged_at lit_fits self.old.end tree.now (self.old.lits ++ lit ∷ []) (opened self.old.cases.items) next) (after self.old)) }
         ensures weight { OnOk result (weight self.new ≡ weight self.old + size tree.now) }
         ensures end { self.new.end ≡ self.old.end }
         ensures lits { self.new.lits ≡ self.old.lits }
         ensures cases { self.new.cases ≡ self.old.cases }
         ensures at { self.new.at ≡ self.old.at }
     {
-        self.work.push(Work::Tree { tree, derived })?;
+        self.work.push(Work::Under { tree, lit })?;
+        Ok(())
+    }
+
+    /// The next node is that of the tree, which stands on one more literal.
+    fn go_on(&mut self, tree: &'a Refutation, lit: Lit) -> Result<(), Memory>
+        ensures found { OnOk result (found self.new ≡ followed_by (judged_at lit_fits self.old.end tree.now (self.old.lits ++ lit ∷ []) (opened self.old.cases.items) (self.old.at + 1)) (after self.old)) }
+        ensures weight { OnOk result (weight self.new ≡ weight self.old + (size tree.now + 1)) }
+    {
+        self.at = next(self.at)?;
+        let depth = self.lits.len();
+        put(&mut self.work, Work::Forget { depth })?;
+        self.lits.push(lit)?;
+        put(&mut self.work, Work::Node { tree })?;
         Ok(())
     }
 
     /// The next node is that of the tree, which stands on more literals.
-    fn go_on(&mut self, tree: &'a Refutation, derived: Vec<Lit>) -> Result<(), Memory>
-        ensures found { OnOk result (found self.new ≡ followed_by (judged_at lit_fits self.old.end tree.now (self.old.lits.items ++ derived.items) (opened self.old.cases.items) (self.old.at + 1)) (after self.old)) }
+    fn go_on_with(&mut self, tree: &'a Refutation, derived: Vec<Lit>) -> Result<(), Memory>
+        ensures found { OnOk result (found self.new ≡ followed_by (judged_at lit_fits self.old.end tree.now (self.old.lits ++ derived.items) (opened self.old.cases.items) (self.old.at + 1)) (after self.old)) }
         ensures weight { OnOk result (weight self.new ≡ weight self.old + size tree.now) }
     {
         self.at = next(self.at)?;
-        self.wait(tree, derived)
+        put(&mut self.work, Work::Tree { tree, derived })?;
+        Ok(())
     }
 }

@@ -1,9 +1,7 @@
-use Rattle.std.proofs.Common.{◌≡◌, ap, sym, ◌∙◌, true, subst}
-use Rattle.std.specs.Prelude.{ℤ, List, false}
+use Rattle.std.proofs.Common.{ap, ◌∙◌}
 use Rattle.lin_atoms.specs.Denial.{lit_fits}
 use Rattle.lin_atoms.specs.Truth.{truth}
-use Rattle.lin_atoms.specs.declared.form.Form.{Form}
-use Rattle.farkas_proof.specs.Refutation.{HasNoPoint, is_sound, judged}
+use Rattle.farkas_proof.specs.Refutation.{is_sound}
 use Rattle.farkas_proof.proofs.RoomLemmas.{legal_without}
 use Rattle.farkas_proof.proofs.TreeLemmas.{no_point}
 use Rattle.farkas_proof.proofs.checker.check.Goals as goal

@@ -1,4 +1,4 @@
-use Rattle.std.proofs.Common.{◌≡◌, ◌∙◌, arith, sym}
+use Rattle.std.proofs.Common.{◌∙◌, arith, sym}
 use Rattle.farkas_proof.proofs.CopyLemmas.{pending_push, plug_all_pushed}
 use Rattle.farkas_proof.proofs.copying.ascend.Goals as goal
 

@@ -1,4 +1,4 @@
-use Rattle.std.proofs.Common.{◌≡◌, ◌∙◌, ap, sym}
+use Rattle.std.proofs.Common.{◌∙◌, ap, sym}
 use Rattle.farkas_proof.specs.Copying.{plug, plug_all}
 use Rattle.farkas_proof.specs.declared.copying.Frame.{Frame}
 use Rattle.farkas_proof.specs.declared.copying.Frame.TheVariants.{Above}

@@ -1,4 +1,4 @@
-use Rattle.std.proofs.Common.{◌≡◌, sym}
+use Rattle.std.proofs.Common.{sym}
 use Rattle.farkas_proof.proofs.CopyLemmas.{cases-done, cases-more, cases-pending}
 use Rattle.farkas_proof.proofs.copying.fill_cases.Goals as goal
 

@@ -1,5 +1,4 @@
-use Rattle.std.proofs.Common.{◌≡◌, ◌++◌, ◌∷◌, [], List, ap, sym, ◌∙◌, rules, map, Bor}
-use Rattle.lin_atoms.specs.declared.form.Form.{Form}
+use Rattle.std.proofs.Common.{ap, sym, ◌∙◌}
 use Rattle.farkas_proof.specs.Walk.{opened}
 use Rattle.farkas_proof.proofs.FlattenLemmas.{disjunctions-And, disjunctions-Or}
 use Rattle.farkas_proof.proofs.WalkLemmas.{opened-push}

@@ -1,7 +1,7 @@
-use Rattle.std.proofs.Common.{◌≡◌, ◌<◌, ◌+◌, ◌++◌, ◌∷◌, [], ◌&&◌, ℕ, List, ap, sym, ◌∙◌, arith, map, take, drop, length, get_or, true, Bool, rules, FitsSigned, refl}
-use Rattle.std.specs.Prelude.{ℤ, pos}
+use Rattle.std.proofs.Common.{◌≡◌, ◌<◌, ◌+◌, ◌++◌, ◌∷◌, [], ◌&&◌, ℕ, List, ap, sym, ◌∙◌, map, take, drop, length, get_or, true, rules, FitsSigned, refl}
+use Rattle.std.specs.Prelude.{ℤ}
 use Rattle.std.specs.Int.{int_div_euclid, w64}
-use Rattle.std.proofs.lemmas.Int.{ints, to_z-of_z}
+use Rattle.std.proofs.lemmas.Int.{to_z-of_z}
 use Rattle.lin_atoms.specs.Accumulator.{Total}
 use Rattle.lin_atoms.specs.Linear.{are_small, is_small}
 use Rattle.farkas_proof.specs.Sum.{seen}

@@ -1,12 +1,12 @@
-use Rattle.std.proofs.Common.{◌≡◌, ◌<◌, ◌≤◌, ◌+◌, ◌==◌, ◌++◌, ◌∷◌, ℕ, ap, sym, ◌∙◌, arith, set, take, drop, length, get_or, rules, true, false, FitsSigned, get_or-set_same, eq-eqb}
-use Rattle.std.specs.Prelude.{ℤ, pos, nat_abs, ◌+ℤ◌, ◌*ℤ◌}
+use Rattle.std.proofs.Common.{◌≡◌, ◌<◌, ◌≤◌, ◌+◌, ◌==◌, ℕ, ap, sym, ◌∙◌, arith, set, rules, false, FitsSigned, get_or-set_same}
+use Rattle.std.specs.Prelude.{nat_abs, ◌*ℤ◌}
 use Rattle.std.specs.Int.{w64}
 use Rattle.std.proofs.lemmas.Bool.{eqb-true, eqb-false}
-use Rattle.std.proofs.lemmas.Int.{ints, to_z-of_z}
+use Rattle.std.proofs.lemmas.Int.{to_z-of_z}
 use Rattle.lin_atoms.specs.Accumulator.{Total}
 use Rattle.lin_atoms.specs.Algebra.{with_term}
 use Rattle.farkas_proof.specs.Sum.{are_counted, seen}
-use Rattle.farkas_proof.proofs.SumLemmas.{counted-at, counted-gone, counted-put, counted-set, counted-weaker, free-none, free-put, met-gone, met-set, removed, set-gone, stood}
+use Rattle.farkas_proof.proofs.SumLemmas.{counted-at, counted-gone, counted-put, counted-set, counted-weaker, free-put, met-gone, met-set, removed, set-gone, stood}
 use Rattle.farkas_proof.proofs.sum.add_product.Goals as goal
 
 pub returns-then-is_zero-clause-value : goal.returns-then-is_zero-clause-value

@@ -1,9 +1,9 @@
-use Rattle.std.proofs.Common.{◌≡◌, ◌<◌, ◌≤◌, ◌+◌, ◌-◌, ◌++◌, ℕ, ap, sym, ◌∙◌, arith, drop, length, get_or, rules, FitsSigned}
-use Rattle.std.specs.Prelude.{ℤ, pos, ◌*ℤ◌}
+use Rattle.std.proofs.Common.{◌≡◌, ◌<◌, ◌+◌, ◌-◌, ◌++◌, ap, sym, ◌∙◌, arith, drop, length, get_or, rules, FitsSigned}
+use Rattle.std.specs.Prelude.{pos}
 use Rattle.std.specs.Int.{w64}
-use Rattle.std.proofs.lemmas.Int.{ints, to_z-of_z}
-use Rattle.lin_atoms.specs.Algebra.{collected, scaled_terms, with_term}
-use Rattle.farkas_proof.specs.Sum.{are_counted, seen}
+use Rattle.std.proofs.lemmas.Int.{to_z-of_z}
+use Rattle.lin_atoms.specs.Algebra.{collected, scaled_terms}
+use Rattle.farkas_proof.specs.Sum.{seen}
 use Rattle.farkas_proof.proofs.SumLemmas.{ordered-made, scaled-none, scaled-step}
 use Rattle.farkas_proof.proofs.sum.add_terms.Goals as goal
 

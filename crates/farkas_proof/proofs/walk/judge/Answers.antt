@@ -1,18 +1,17 @@
-use Rattle.std.proofs.Common.{◌≡◌, ◌++◌, ◌∷◌, [], ◌∙◌, ap, sym, subst, Err, List}
+use Rattle.std.proofs.Common.{◌∙◌, sym, subst, Err}
 use Rattle.farkas_proof.specs.Refutation.{Finding}
 use Rattle.farkas_proof.specs.Tells.{Tells}
 use Rattle.farkas_proof.specs.Walk.{found, left_to, opened, work_step}
-use Rattle.farkas_proof.specs.declared.walk.Work.{Work}
 use Rattle.farkas_proof.proofs.WalkLemmas.{leads-err, left_to-push}
 use Rattle.farkas_proof.proofs.walk.judge.Goals as goal
 
 pub loop-work-preserved : goal.loop-work-preserved
 loop-work-preserved c =
     let walk = c.loop-work.walk in
-    sym c.in-Ok.ensures.leads ∙ sym (left_to-push walk.end c.pop.new.self.items walk.work.items c.in-Some.work walk.lits.items (opened walk.cases.items) walk.at c.in-Some.ensures.items) ∙ c.loop-work.invariant
+    sym c.in-Ok.ensures.leads ∙ sym (left_to-push walk.end c.pop.new.self.items walk.work.items c.in-Some.work walk.lits (opened walk.cases.items) walk.at c.in-Some.ensures.items) ∙ c.loop-work.invariant
 
 pub returns-in-Err : goal.returns-in-Err
 returns-in-Err c =
     let walk = c.loop-work.walk in
-    subst (λ (f : Finding). Tells f (Err c.in-Err.stop)) (sym (left_to-push walk.end c.pop.new.self.items walk.work.items c.in-Some.work walk.lits.items (opened walk.cases.items) walk.at c.in-Some.ensures.items) ∙ c.loop-work.invariant)
-    (leads-err (work_step walk.end c.in-Some.work (left_to walk.end c.pop.new.self.items) walk.lits.items (opened walk.cases.items) walk.at) (found c.turn.new.self) c.in-Err.stop c.in-Err.ensures.leads)
+    subst (λ (f : Finding). Tells f (Err c.in-Err.stop)) (sym (left_to-push walk.end c.pop.new.self.items walk.work.items c.in-Some.work walk.lits (opened walk.cases.items) walk.at c.in-Some.ensures.items) ∙ c.loop-work.invariant)
+    (leads-err (work_step walk.end c.in-Some.work (left_to walk.end c.pop.new.self.items) walk.lits (opened walk.cases.items) walk.at) (found c.turn.new.self) c.in-Err.stop c.in-Err.ensures.leads)

@@ -1,4 +1,4 @@
-use Rattle.std.proofs.Common.{◌≡◌, ◌++◌, ◌∙◌, ap, List, take}
+use Rattle.std.proofs.Common.{◌++◌, ◌∙◌, ap, List, take}
 use Rattle.farkas_proof.proofs.WalkLemmas.{replaced-is}
 use Rattle.farkas_proof.proofs.walk.replaced.Goals as goal
 

@@ -1,10 +1,10 @@
-use Rattle.std.proofs.Common.{arith, ap, sym, ◌∙◌, ◌≡◌, ◌+◌, ◌++◌, ◌≤◌, ◌<◌, ◌^◌, FitsSigned, rules}
-use Rattle.std.specs.Prelude.{ℤ, pos, neg_ℤ, ◌-ℤ◌, ◌+ℤ◌, ◌*ℤ◌, List, ℕ, nat_abs}
+use Rattle.std.proofs.Common.{arith, ap, ◌∙◌, ◌≡◌, ◌+◌, ◌++◌, ◌<◌, ◌^◌, FitsSigned, rules}
+use Rattle.std.specs.Prelude.{ℤ, neg_ℤ, ◌+ℤ◌, ◌*ℤ◌, List, ℕ, nat_abs}
 use Rattle.std.specs.Int.{w64, w128}
 use Rattle.std.proofs.lemmas.Int.{ints, to_z-of_z}
 use Rattle.lin_atoms.specs.Algebra.{collected, scaled_terms}
-use Rattle.lin_atoms.specs.Linear.{Linear, are_ordered}
-use Rattle.farkas_proof.specs.Sum.{IsSum, seen, standing}
+use Rattle.lin_atoms.specs.Linear.{Linear}
+use Rattle.farkas_proof.specs.Sum.{seen}
 use Rattle.farkas_proof.proofs.SumLemmas.{counted-weaker, negated-sum, ordered-made}
 use Rattle.farkas_proof.proofs.sum.Sum.add_multiple.Goals as goal
 

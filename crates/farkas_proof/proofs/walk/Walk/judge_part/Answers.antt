@@ -1,6 +1,5 @@
-use Rattle.std.proofs.Common.{◌≡◌, ◌++◌, ◌∙◌, ap, subst, List}
+use Rattle.std.proofs.Common.{◌++◌, ◌∙◌, ap, subst, List}
 use Rattle.lin_atoms.specs.declared.lit.Lit.{Lit}
-use Rattle.lin_atoms.specs.declared.form.Form.{Form}
 use Rattle.farkas_proof.specs.Flatten.{literals}
 use Rattle.farkas_proof.specs.Refutation.{Finding}
 use Rattle.farkas_proof.specs.Walk.{Leads, found, left_to, opened, replaced}
@@ -11,7 +10,7 @@ use Rattle.farkas_proof.proofs.walk.Walk.judge_part.Goals as goal
 pub returns-clause-leads : goal.returns-clause-leads
 returns-clause-leads c =
     let self = c.args.self.now in
-    let lits = self.lits.items in
+    let lits = self.lits in
     let cases = opened self.cases.items in
     let inside = opened c.replace-outside.new.dest.items in
     let is = ap (λ v. opened v.items) c.replace-outside.ensures.after ∙ c.in_ok-cases.ensures ∙ ap (λ (cs : List _). replaced (opened cs) c.args.which c.args.part.now) c.as_slice.ensures.value in

@@ -1,7 +1,6 @@
-use Rattle.std.proofs.Common.{◌≡◌, ◌++◌, ◌∷◌, [], ◌∙◌, ◌&&◌, ap, sym, true, rules, List, refl}
+use Rattle.std.proofs.Common.{◌≡◌, ◌∙◌, ◌&&◌, ap, sym, true, rules}
 use Rattle.lin_atoms.specs.Denial.{lit_fits}
 use Rattle.lin_atoms.specs.Linear.{Linear}
-use Rattle.lin_atoms.specs.declared.lit.Lit.{Lit}
 use Rattle.lin_atoms.specs.declared.lit.Lit.TheVariants.{Le}
 use Rattle.farkas_proof.specs.Combination.{one_minus}
 use Rattle.farkas_proof.specs.Walk.{after, opened}
@@ -15,9 +14,7 @@ returns-in_ok-go_on-in-Ok-clause-leads c =
     let known = c.in-Ok.ensures in
     let low : lit_fits (Le c.args.lin.now) ≡ true = search rules in
     let room : (lit_fits (Le c.args.lin.now) && lit_fits (Le (one_minus c.args.lin.now))) ≡ true = ap (λ b. b && lit_fits (Le (one_minus c.args.lin.now))) low ∙ known.1 in
-    let ls : c.in_ok-low-in-Ok.low.items ≡ Le c.args.lin.now ∷ [] = c.in_ok-low-in-Ok.ensures ∙ ap (λ (l : Linear). Le l ∷ []) c.in_ok-copy-in-Ok.ensures in
-    let hs : c.in_ok-high-in-Ok.high.items ≡ Le (one_minus c.args.lin.now) ∷ [] = c.in_ok-high-in-Ok.ensures ∙ ap (λ (l : Lit). l ∷ []) known.2 in
-    split-leads self.end then.end c.args.low_sub.now c.args.high_sub.now c.args.lin.now self.lits.items then.lits.items c.in_ok-low-in-Ok.low.items c.in_ok-high-in-Ok.high.items
+    split-leads self.end then.end c.args.low_sub.now c.args.high_sub.now c.args.lin.now self.lits then.lits (Le c.in_ok-low-in-Ok.low) c.in-Ok.high
     (opened self.cases.items) (opened then.cases.items) self.at then.at (after self) (after then) _
-    room ls hs c.wait.ensures.end (ap (λ v. v.items) c.wait.ensures.lits) (ap (λ v. opened v.items) c.wait.ensures.cases) c.wait.ensures.at c.in_ok-wait-in-Ok.ensures.after
+    room (ap (λ (l : Linear). Le l) c.in_ok-low-in-Ok.ensures) known.2 c.wait.ensures.end c.wait.ensures.lits (ap (λ v. opened v.items) c.wait.ensures.cases) c.wait.ensures.at c.in_ok-wait-in-Ok.ensures.after
     ∙ sym c.in_ok-go_on-in-Ok.ensures.found

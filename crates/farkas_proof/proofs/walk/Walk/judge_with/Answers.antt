@@ -1,4 +1,4 @@
-use Rattle.std.proofs.Common.{◌≡◌, subst, length, arith}
+use Rattle.std.proofs.Common.{subst}
 use Rattle.farkas_proof.specs.Refutation.{Finding}
 use Rattle.farkas_proof.specs.Walk.{Leads, found, opened}
 use Rattle.farkas_proof.proofs.WalkLemmas.{with-more}
@@ -7,7 +7,6 @@ use Rattle.farkas_proof.proofs.walk.Walk.judge_with.Goals as goal
 pub returns-clause-leads : goal.returns-clause-leads
 returns-clause-leads c =
     let self = c.args.self.now in
-    let depth : c.len-depth.result ≡ length self.lits.items = omega (arith, self.lits.ok.0, c.len-depth.ensures) in
     subst (λ (f : Finding). Leads f (found c.judge_node.new.self) c.judge_node.result)
-    (with-more self.end c.args.tree.now self.work.items c.put.new.waiting.items self.lits.items c.args.derived.items c.put_all.new.lits.items (opened self.cases.items) self.at c.len-depth.result c.in_ok-put.ensures c.in_ok-put_all.ensures depth)
+    (with-more self.end c.args.tree.now self.work.items c.put.new.waiting.items self.lits c.args.derived.items c.push_all.new.self (opened self.cases.items) self.at c.len-depth.result c.in_ok-put.ensures c.in_ok-push_all.ensures c.len-depth.ensures)
     c.judge_node.ensures.leads

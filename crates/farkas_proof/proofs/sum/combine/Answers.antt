@@ -1,13 +1,13 @@
-use Rattle.std.proofs.Common.{arith, ap, sym, ◌∙◌, ◌≡◌, ◌+◌, ◌-◌, ◌<◌, ◌++◌, drop, length, get_or, true, false, FitsSigned, rules}
-use Rattle.std.specs.Prelude.{ℤ, pos, List, ℕ}
+use Rattle.std.proofs.Common.{arith, ap, refl, sym, ◌∙◌, ◌≡◌, ◌+◌, ◌-◌, ◌<◌, drop, length, get_or, FitsSigned, rules}
+use Rattle.std.specs.Prelude.{pos}
 use Rattle.std.specs.Int.{w64}
-use Rattle.std.proofs.lemmas.Int.{ints, to_z-of_z}
+use Rattle.std.proofs.lemmas.Int.{to_z-of_z}
 use Rattle.lin_atoms.specs.Algebra.{added, scaled}
 use Rattle.lin_atoms.specs.Linear.{Linear}
-use Rattle.farkas_proof.specs.Combination.{are_multipliers, combined, is_multiplier, linear_at}
-use Rattle.farkas_proof.specs.Sum.{IsSum, standing}
+use Rattle.farkas_proof.specs.Combination.{are_multipliers, combined, linear_at}
+use Rattle.farkas_proof.specs.Sum.{standing}
 use Rattle.farkas_proof.proofs.SumLemmas.{combined-more, multipliers-fail, multipliers-more}
-use Rattle.farkas_proof.proofs.sum.combined.Goals as goal
+use Rattle.farkas_proof.proofs.sum.combine.Goals as goal
 
 pub loop-left-preserved : goal.loop-left-preserved
 loop-left-preserved c =
@@ -31,8 +31,8 @@ loop-left-preserved c =
       place = omega (arith, c.loop-left.invariant.place);
     }
 
-pub returns-in-None-clause-none : goal.returns-in-None-clause-none
-returns-in-None-clause-none c =
+pub returns-in-None-clause-legal : goal.returns-in-None-clause-legal
+returns-in-None-clause-legal c =
     let ms = c.args.multipliers.now in
     let left = c.loop-left.left in
     let k = (get_or ms (left - 1) (0, pos 0)).1 in
@@ -40,4 +40,4 @@ returns-in-None-clause-none c =
     let some : 0 < left = c.loop-left-test.true in
     let here : left - 1 < length ms = omega (arith, c.loop-left.invariant.place) in
     let known = simp to_z-of_z at c.in-None.ensures.none in
-    λ e. multipliers-fail c.args.lits.now ms (left - 1) (0, pos 0) here (known e)
+    sym (multipliers-fail c.args.lits.now ms (left - 1) (0, pos 0) here (known refl))

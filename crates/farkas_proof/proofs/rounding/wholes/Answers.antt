@@ -1,0 +1,29 @@
+use Rattle.std.proofs.Common.{◌≡◌, ◌<◌, ◌++◌, ◌∷◌, [], ℕ, List, ap, sym, ◌∙◌, map, take, length, get_or, true, rules, FitsSigned}
+use Rattle.std.specs.Prelude.{ℤ}
+use Rattle.std.specs.Int.{int_div_euclid, w64}
+use Rattle.std.proofs.lemmas.Int.{to_z-of_z}
+use Rattle.lin_atoms.specs.Accumulator.{Total, is_multiple}
+use Rattle.farkas_proof.specs.Sum.{seen}
+use Rattle.farkas_proof.proofs.SumLemmas.{divided-more, divided-next, whole-is}
+use Rattle.farkas_proof.proofs.rounding.wholes.Goals as goal
+
+pub loop-term-preserved : goal.loop-term-preserved
+loop-term-preserved c =
+    let d_fits : FitsSigned w64 c.args.divisor = c.ranges.divisor in
+    let q_fits : FitsSigned w64 c.in-Some.quotient = search rules in
+    let d = c.args.divisor in
+    let ts = c.args.terms.now in
+    let i = c.loop-term.term-index in
+    let item = c.term-item.result in
+    let f : ℕ × ℤ → ℕ × ℤ = λ t. (t.0, int_div_euclid t.1 d) in
+    let h : i < length ts = c.loop-term-test.true in
+    let is = whole-is item.1.value c.in-Some.quotient d c.requires (simp to_z-of_z at c.in-Some.ensures) in
+    let pushed = simp to_z-of_z at c.in_ok-push-in-Some.ensures.items in
+    let made = simp to_z-of_z at c.loop-term.invariant.made in
+    let told = simp to_z-of_z at c.loop-term.invariant.told in
+    let pair : (item.0, c.in-Some.quotient) ≡ f ((get_or ts i item).0, (get_or ts i item).1.value) = ap (λ q. (item.0, q)) is.0 ∙ ap (λ (t : ℕ × Total). (t.0, int_div_euclid t.1.value d)) c.term-item.is in
+    let whole : is_multiple d (get_or ts i item).1.value ≡ true = ap (λ (t : ℕ × Total). is_multiple d t.1.value) (sym c.term-item.is) ∙ is.1 in
+    simp to_z-of_z (record {
+      made = pushed ∙ ap (λ (us : List (ℕ × ℤ)). us ++ (item.0, c.in-Some.quotient) ∷ []) made ∙ ap (λ (e : ℕ × ℤ). map f (seen (take i ts)) ++ e ∷ []) pair ∙ sym (divided-more f ts i item h);
+      told = sym (divided-next d ts i item h whole) ∙ told;
+    })
