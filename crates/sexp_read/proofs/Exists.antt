@@ -69,12 +69,16 @@ found : (text : List ℕ) (n : ℕ) (opened : List ℕ) (at : ℕ) → length te
 found text zero opened at h = at_token text opened at (next_token text at) refl (next_ahead text at) (λ o after below past. absurd (omega arith))
 found text (suc n) opened at h = at_token text opened at (next_token text at) refl (next_ahead text at) (λ o after below past. found text n o after (omega arith))
 
-abbrev HasReading : List ℕ → Type 0
-HasReading text = (trees : List Tree) × (stop : Option TextStop) × IsReading text trees stop
+-- from an offset outside of all lists, the trees up to the text's first fault, and that fault
+abbrev pub HasRest : List ℕ → ℕ → Type 0
+HasRest text at = (trees : List Tree) × (stop : Option TextStop) × (mid : ℕ) × AreTrees text 0 at trees mid × Stops text [] mid stop
 
-whole : (text : List ℕ) → Found text [] 0 → HasReading text
-whole text (trees, mid, past, within, inl (close, h)) = (trees, Some (BadByte close), (mid, within, closes_nothing mid close h))
-whole text (trees, mid, past, within, inr (stop, s)) = (trees, stop, (mid, within, s))
+whole : (text : List ℕ) (at : ℕ) → Found text [] at → HasRest text at
+whole text at (trees, mid, past, within, inl (close, h)) = (trees, Some (BadByte close), mid, within, closes_nothing mid close h)
+whole text at (trees, mid, past, within, inr (stop, s)) = (trees, stop, mid, within, s)
+
+pub has_rest : (text : List ℕ) (at : ℕ) → HasRest text at
+has_rest text at = whole text at (found text (length text) [] at (omega arith))
 
 pub has_reading : (text : List ℕ) → (trees : List Tree) × (stop : Option TextStop) × IsReading text trees stop
-has_reading text = whole text (found text (length text) [] 0 (omega arith))
+has_reading text = has_rest text 0

@@ -116,15 +116,15 @@ mutual
       same_trees text s xs at s ((xs ++ tree ∷ []) ++ trees) (xs ++ tree ∷ trees) after (append_assoc xs (tree ∷ []) trees)
       (then_leads text s xs at s (xs ++ tree ∷ []) mid s ((xs ++ tree ∷ []) ++ trees) after (tree_leads text depth at tree mid h s xs e) (trees_lead text depth mid trees after rest s (xs ++ tree ∷ []) e))
 
-abbrev starts : Stack → List ℕ
+abbrev pub starts : Stack → List ℕ
 starts [] = []
 starts (o ∷ s) = o.0 ∷ starts s
 
-length_starts : (s : Stack) → length (starts s) ≡ length s
+pub length_starts : (s : Stack) → length (starts s) ≡ length s
 length_starts [] = refl
 length_starts (o ∷ s) = ap (λ n. suc n) (length_starts s)
 
-outer_is : (s : Stack) (start : ℕ) → outer s start ≡ outermost (starts s) start
+pub outer_is : (s : Stack) (start : ℕ) → outer s start ≡ outermost (starts s) start
 outer_is [] start = refl
 outer_is (o ∷ s) start = outer_is s o.0
 

@@ -1,5 +1,5 @@
--- The reader's stack as that of a run, and what each token does to it.
-use Rattle.std.proofs.Common.{ℕ, ◌≡◌, ◌+◌, ◌<◌, ◌≤◌, length, List, [], ◌∷◌, ◌++◌, Option, Some, cond, refl, ap, sym, ◌∙◌, subst, take, drop, arith, length-append, length-drop}
+-- The reader's stack as that of a run, and what each token says of the trees so far.
+use Rattle.std.proofs.Common.{ℕ, ◌≡◌, ◌+◌, ◌<◌, ◌≤◌, length, List, [], ◌∷◌, ◌++◌, Option, None, Some, refl, ap, sym, ◌∙◌, subst, take, drop, arith, length-append, length-drop}
 use Rattle.std.proofs.lemmas.List.{take_all, drop_all, take-append-le, drop-append-le, take-append-drop, length-take}
 use Rattle.sexp_read.specs.declared.tree.Tree.{Tree}
 use Rattle.sexp_read.specs.declared.tree.Tree.TheViews.{List as ListTree}
@@ -7,14 +7,13 @@ use Rattle.sexp_read.specs.declared.tree.Tree.TheVariants.{Leaf as LeafTree}
 use Rattle.sexp_read.specs.declared.tree.LeafKind.{LeafKind}
 use Rattle.sexp_read.specs.declared.tree.TextStop.{TextStop}
 use Rattle.sexp_read.specs.declared.tree.TextStop.TheVariants.{BadByte, Unclosed, Deep}
-use Rattle.sexp_read.specs.declared.token.Token.{Token}
 use Rattle.sexp_read.specs.declared.token.Token.TheVariants as token
 use Rattle.sexp_read.specs.declared.reader.OpenList.{OpenList}
 use Rattle.sexp_read.specs.Lexicon.{next_token}
-use Rattle.sexp_read.specs.Opened.{outside, outermost_start, stop_at_end}
-use Rattle.sexp_read.specs.Trees.{most_open, IsReading}
-use Rattle.sexp_read.proofs.Exists.{has_reading}
-use Rattle.sexp_read.proofs.Machine.{Stack, Leads, Ends, run, turn, unwound, outer, then_leads, then_ends, one_end, reading_ends, open_leads, at_once, test_false}
+use Rattle.sexp_read.specs.Opened.{outermost_start, stop_at_end}
+use Rattle.sexp_read.specs.Trees.{most_open, IsTree, AreTrees, Stops, outermost, ended, ended_inside, ended_in_token, no_token, closes_nothing, too_deep, inside}
+use Rattle.sexp_read.specs.Trees as reading
+use Rattle.sexp_read.proofs.Machine.{Stack, outer, starts, length_starts, outer_is as outer_starts}
 use Rattle.sexp_read.proofs.Progress.{IsAhead, next_ahead}
 
 -- the stack that a run has where these lists are open, by the trees of all of them, and the trees of the innermost
@@ -93,125 +92,106 @@ length_onto : (lists : List OpenList) (s : Stack) (trees : List Tree) → length
 length_onto [] s trees = omega arith
 length_onto (list ∷ lists) s trees = let e = length_onto lists ((list.start, take list.before trees) ∷ s) (drop list.before trees) in omega arith
 
-unwound_onto : (lists : List OpenList) (o : ℕ × List Tree) (s : Stack) (trees kept : List Tree) → unwound (onto lists (o ∷ s) trees).0 kept ≡ unwound s o.1
-unwound_onto [] o s trees kept = refl
-unwound_onto (list ∷ lists) o s trees kept = unwound_onto lists (list.start, take list.before trees) (o ∷ s) (drop list.before trees) kept
-
 outer_onto : (lists : List OpenList) (o : ℕ × List Tree) (s : Stack) (trees : List Tree) (start : ℕ) → outer (onto lists (o ∷ s) trees).0 start ≡ outer s o.0
 outer_onto [] o s trees start = refl
 outer_onto (list ∷ lists) o s trees start = outer_onto lists (list.start, take list.before trees) (o ∷ s) (drop list.before trees) start
-
-unwound_is : (lists : List OpenList) (trees : List Tree) → unwound (onto lists [] trees).0 (onto lists [] trees).1 ≡ outside lists trees
-unwound_is [] trees = refl
-unwound_is (list ∷ lists) trees =
-    unwound_onto lists (list.start, take list.before trees) [] (drop list.before trees) (onto lists ((list.start, take list.before trees) ∷ []) (drop list.before trees)).1
 
 outer_is : (lists : List OpenList) (trees : List Tree) (start : ℕ) → outer (onto lists [] trees).0 start ≡ outermost_start lists start
 outer_is [] trees start = refl
 outer_is (list ∷ lists) trees start = outer_onto lists (list.start, take list.before trees) [] (drop list.before trees) start
 
--- the run so far
-abbrev pub ReachedAs : List ℕ → Stack × List Tree → ℕ → Type 0
-ReachedAs text state at = Leads text [] [] 0 state.0 state.1 at
+-- From an offset outside of all lists the text goes on with lists that are open, and the trees of each so far. The innermost comes first.
+abbrev pub Within : List ℕ → ℕ → Stack → List Tree → ℕ → Type 0
+Within text from [] trees at = (trees ≡ []) × (at ≡ from)
+Within text from (o ∷ s) trees at =
+    (before : ℕ) × Within text from s o.1 before × (next_token text before ≡ token.Open o.0) × (length s < most_open) × AreTrees text (length s + 1) (o.0 + 1) trees at
 
-abbrev pub Reached : List ℕ → List OpenList → List Tree → ℕ → Type 0
-Reached text lists trees at = ReachedAs text (onto lists [] trees) at
+pub joined : (text : List ℕ) (depth at : ℕ) (trees : List Tree) (mid : ℕ) (others : List Tree) (after : ℕ) → AreTrees text depth at trees mid → AreTrees text depth mid others after
+    → AreTrees text depth at (trees ++ others) after
+joined text _ _ _ _ others after (reading.none depth at) r = r
+joined text _ _ _ _ others after (reading.more depth at first mid trees end h rest) r =
+    reading.more depth at first mid (trees ++ others) after h (joined text depth mid trees end others after rest r)
 
-pub reached_none : (text : List ℕ) → Reached text [] [] 0
-reached_none text = (0, λ n. refl)
+pub one_more : (text : List ℕ) (depth at : ℕ) (trees : List Tree) (mid : ℕ) (tree : Tree) (after : ℕ) → AreTrees text depth at trees mid → IsTree text depth mid tree after
+    → AreTrees text depth at (trees ++ tree ∷ []) after
+one_more text depth at trees mid tree after ts t = joined text depth at trees mid (tree ∷ []) after ts (reading.more depth mid tree after [] after t (reading.none depth after))
 
-pub reached_leaf : (text : List ℕ) (lists : List OpenList) (trees : List Tree) (here at : ℕ) (kind : LeafKind) (start end : ℕ) → Reached text lists trees at → Fits lists trees here
-    → next_token text at ≡ token.Leaf kind start end → Reached text lists (trees ++ LeafTree kind start end ∷ []) end
-reached_leaf text lists trees here at kind start end r f h =
+-- a tree that ends in an open list is one more of its trees
+within_more : (text : List ℕ) (from : ℕ) (s : Stack) (trees : List Tree) (at : ℕ) (tree : Tree) (after : ℕ) → 0 < length s → Within text from s trees at
+    → IsTree text (length s) at tree after → Within text from s (trees ++ tree ∷ []) after
+within_more text from [] trees at tree after some w t = absurd (omega arith)
+within_more text from (o ∷ s) trees at tree after some w t =
+    (w.0, w.1, w.2, w.3, one_more text (length s + 1) (o.0 + 1) trees at tree after w.4 (subst (λ d. IsTree text d at tree after) (omega arith) t))
+
+-- a tree that ends outside of all lists is the one that the text goes on with
+within_first : (text : List ℕ) (from : ℕ) (s : Stack) (trees : List Tree) (at : ℕ) (tree : Tree) (after : ℕ) → length s ≡ 0 → Within text from s trees at
+    → IsTree text (length s) at tree after → IsTree text 0 from tree after
+within_first text from [] trees at tree after e w t = subst (λ a. IsTree text 0 a tree after) w.1 t
+within_first text from (o ∷ s) trees at tree after e w t = absurd (omega (arith, e))
+
+within_list : (text : List ℕ) (from start : ℕ) (s : Stack) (before items : List Tree) (at close : ℕ) → (w : Within text from ((start, before) ∷ s) items at)
+    → next_token text at ≡ token.Close close → IsTree text (length s) w.0 (ListTree items start (close + 1)) (close + 1)
+within_list text from start s before items at close w h = reading.list (length s) w.0 start items at close w.2 w.3 w.4 h
+
+-- a stop in open lists is the text's
+within_stop : (text : List ℕ) (from : ℕ) (s : Stack) (trees : List Tree) (at : ℕ) (stop : Option TextStop) → Within text from s trees at → Stops text (starts s) at stop → Stops text [] from stop
+within_stop text from [] trees at stop w h = subst (λ a. Stops text [] a stop) w.1 h
+within_stop text from (o ∷ s) trees at stop w h =
+    let long = length_starts s in
+    let below : length (starts s) < most_open = omega (arith, long, w.3) in
+    let deep : length s + 1 ≡ length (starts s) + 1 = omega (arith, long) in
+    within_stop text from s o.1 w.0 stop w.1 (inside (starts s) w.0 o.0 trees at stop w.2 below (subst (λ d. AreTrees text d (o.0 + 1) trees at) deep w.4) h)
+
+-- how far the reader has come
+abbrev pub ReachedAs : List ℕ → ℕ → Stack × List Tree → ℕ → Type 0
+ReachedAs text from state at = Within text from state.0 state.1 at
+
+abbrev pub Reached : List ℕ → ℕ → List OpenList → List Tree → ℕ → Type 0
+Reached text from lists trees at = ReachedAs text from (onto lists [] trees) at
+
+pub reached_none : (text : List ℕ) (from : ℕ) (lists : List OpenList) (trees : List Tree) → lists ≡ [] → trees ≡ [] → Reached text from lists trees from × Fits lists trees 0
+reached_none text from [] trees e f = ((f, refl), ap length f)
+reached_none text from (list ∷ lists) trees e f = absurd (cc)
+
+one_within : (text : List ℕ) (from : ℕ) (lists : List OpenList) (trees : List Tree) (here at : ℕ) (tree : Tree) (after : ℕ) → 0 < length lists → Reached text from lists trees at
+    → Fits lists trees here → IsTree text (length (onto lists [] trees).0) at tree after → Reached text from lists (trees ++ tree ∷ []) after
+one_within text from lists trees here at tree after some r f t =
     let o = onto lists [] trees in
-    subst (λ x. ReachedAs text x end) (sym (grown lists [] trees (LeafTree kind start end) here f))
-    (then_leads text [] [] 0 o.0 o.1 at o.0 (o.1 ++ LeafTree kind start end ∷ []) end r (1, λ n. ap (turn (run text n) o.0 o.1) h))
+    subst (λ x. ReachedAs text from x after) (sym (grown lists [] trees tree here f)) (within_more text from o.0 o.1 at tree after (omega (arith, some, length_onto lists [] trees)) r t)
 
-pub reached_open : (text : List ℕ) (lists : List OpenList) (trees : List Tree) (at : ℕ) (list : OpenList) → Reached text lists trees at → Fits lists trees list.before
-    → next_token text at ≡ token.Open list.start → length lists < most_open → Reached text (lists ++ list ∷ []) trees (list.start + 1)
-reached_open text lists trees at list r f h below =
+one_outside : (text : List ℕ) (from : ℕ) (lists : List OpenList) (trees : List Tree) (at : ℕ) (tree : Tree) (after : ℕ) → length lists ≡ 0 → Reached text from lists trees at
+    → IsTree text (length (onto lists [] trees).0) at tree after → IsTree text 0 from tree after
+one_outside text from lists trees at tree after none r t =
     let o = onto lists [] trees in
-    subst (λ x. ReachedAs text x (list.start + 1)) (sym (opened_more lists [] trees list f))
-    (then_leads text [] [] 0 o.0 o.1 at ((list.start, o.1) ∷ o.0) [] (list.start + 1) r (open_leads text o.0 o.1 at list.start h (omega (arith, length_onto lists [] trees))))
+    within_first text from o.0 o.1 at tree after (omega (arith, none, length_onto lists [] trees)) r t
 
-pub reached_close : (text : List ℕ) (rest : List OpenList) (list : OpenList) (kept items : List Tree) (at close : ℕ) → Reached text (rest ++ list ∷ []) (kept ++ items) at
-    → Fits (rest ++ list ∷ []) (kept ++ items) (length items) → next_token text at ≡ token.Close close
-    → Reached text rest (kept ++ ListTree items list.start (close + 1) ∷ []) (close + 1)
-reached_close text rest list kept items at close r f h =
+pub reached_leaf : (text : List ℕ) (from : ℕ) (lists : List OpenList) (trees : List Tree) (here at : ℕ) (kind : LeafKind) (start end : ℕ) → 0 < length lists
+    → Reached text from lists trees at → Fits lists trees here → next_token text at ≡ token.Leaf kind start end → Reached text from lists (trees ++ LeafTree kind start end ∷ []) end
+reached_leaf text from lists trees here at kind start end some r f h =
+    one_within text from lists trees here at (LeafTree kind start end) end some r f (reading.leaf (length (onto lists [] trees).0) at kind start end h)
+
+pub reads_leaf : (text : List ℕ) (from : ℕ) (lists : List OpenList) (trees : List Tree) (at : ℕ) (kind : LeafKind) (start end : ℕ) → length lists ≡ 0
+    → Reached text from lists trees at → next_token text at ≡ token.Leaf kind start end → IsTree text 0 from (LeafTree kind start end) end
+reads_leaf text from lists trees at kind start end none r h =
+    one_outside text from lists trees at (LeafTree kind start end) end none r (reading.leaf (length (onto lists [] trees).0) at kind start end h)
+
+pub reached_open : (text : List ℕ) (from : ℕ) (lists : List OpenList) (trees : List Tree) (at : ℕ) (list : OpenList) → Reached text from lists trees at → Fits lists trees list.before
+    → next_token text at ≡ token.Open list.start → length lists < most_open → Reached text from (lists ++ list ∷ []) trees (list.start + 1)
+reached_open text from lists trees at list r f h below =
+    let o = onto lists [] trees in
+    subst (λ x. ReachedAs text from x (list.start + 1)) (sym (opened_more lists [] trees list f))
+    (at, r, h, omega (arith, below, length_onto lists [] trees), reading.none (length o.0 + 1) (list.start + 1))
+
+-- the list that closes, where it began, among the lists that are still open
+abbrev Closes : List ℕ → ℕ → List OpenList → List Tree → Tree → ℕ → Type 0
+Closes text from rest kept tree after = (before : ℕ) × Reached text from rest kept before × IsTree text (length (onto rest [] kept).0) before tree after
+
+closes : (text : List ℕ) (from : ℕ) (rest : List OpenList) (list : OpenList) (kept items : List Tree) (at close : ℕ) → Reached text from (rest ++ list ∷ []) (kept ++ items) at
+    → Fits (rest ++ list ∷ []) (kept ++ items) (length items) → next_token text at ≡ token.Close close → Closes text from rest kept (ListTree items list.start (close + 1)) (close + 1)
+closes text from rest list kept items at close r f h =
     let o = onto rest [] kept in
-    let tree = ListTree items list.start (close + 1) in
-    subst (λ x. ReachedAs text x (close + 1)) (sym (grown rest [] kept tree list.before (fits_close rest list kept items f)))
-    (then_leads text [] [] 0 ((list.start, o.1) ∷ o.0) items at o.0 (o.1 ++ tree ∷ []) (close + 1)
-    (subst (λ x. ReachedAs text x at) (closed_list rest [] list kept items f) r)
-    (1, λ n. ap (turn (run text n) ((list.start, o.1) ∷ o.0) items) h))
-
--- what a run ends with is the reading
-reads : (text : List ℕ) (lists : List OpenList) (trees : List Tree) (at : ℕ) (kept : List Tree) (stop : Option TextStop) → Reached text lists trees at
-    → Ends text (onto lists [] trees).0 (onto lists [] trees).1 at (kept, stop) → IsReading text kept stop
-reads text lists trees at kept stop r e =
-    let known = has_reading text in
-    let o = onto lists [] trees in
-    let same = one_end text [] [] 0 (known.0, known.1) (kept, stop) (reading_ends text known.0 known.1 known.2) (then_ends text [] [] 0 o.0 o.1 at (kept, stop) r e) in
-    subst (λ x. IsReading text x.0 x.1) same known.2
-
-abbrev Stopped : List ℕ → List OpenList → List Tree → ℕ → Token → TextStop → Type 0
-Stopped text lists trees at t stop = Reached text lists trees at → next_token text at ≡ t → (kept : List Tree) (end : Option TextStop) → kept ≡ outside lists trees → end ≡ Some stop → IsReading text kept end
-
-stopped : (text : List ℕ) (lists : List OpenList) (trees : List Tree) (at : ℕ) (t : Token) (stop : TextStop)
-    → ((n : ℕ) → turn (run text n) (onto lists [] trees).0 (onto lists [] trees).1 t ≡ (unwound (onto lists [] trees).0 (onto lists [] trees).1, Some stop))
-    → Stopped text lists trees at t stop
-stopped text lists trees at t stop ends r h kept end e f =
-    reads text lists trees at kept end r
-    (at_once text (onto lists [] trees).0 (onto lists [] trees).1 at t (kept, end) h
-    (λ n. ends n ∙ ap (λ x. (x, Some stop)) (unwound_is lists trees ∙ sym e) ∙ ap (λ x. (kept, x)) (sym f)))
-
-pub reads_bad : (text : List ℕ) (lists : List OpenList) (trees : List Tree) (at offset : ℕ) → Stopped text lists trees at (token.BadByte offset) (BadByte offset)
-reads_bad text lists trees at offset = stopped text lists trees at (token.BadByte offset) (BadByte offset) (λ n. refl)
-
-pub reads_unclosed : (text : List ℕ) (lists : List OpenList) (trees : List Tree) (at start offset : ℕ) → offset ≡ outermost_start lists start
-    → Stopped text lists trees at (token.Unclosed start) (Unclosed offset)
-reads_unclosed text lists trees at start offset e =
-    let o = onto lists [] trees in
-    stopped text lists trees at (token.Unclosed start) (Unclosed offset) (λ n. ap (λ x. (unwound o.0 o.1, Some (Unclosed x))) (outer_is lists trees start ∙ sym e))
-
-pub reads_deep : (text : List ℕ) (lists : List OpenList) (trees : List Tree) (at start : ℕ) → most_open ≤ length lists → Stopped text lists trees at (token.Open start) (Deep start)
-reads_deep text lists trees at start many =
-    let o = onto lists [] trees in
-    stopped text lists trees at (token.Open start) (Deep start)
-    (λ n. ap (λ b. cond b (run text n ((start, o.1) ∷ o.0) [] (start + 1)) (unwound o.0 o.1, Some (Deep start)))
-    (test_false (length o.0) most_open (omega (arith, length_onto lists [] trees))))
-
-pub reads_close : (text : List ℕ) (lists : List OpenList) (trees : List Tree) (at close : ℕ) → lists ≡ [] → Stopped text lists trees at (token.Close close) (BadByte close)
-reads_close text [] trees at close e = stopped text [] trees at (token.Close close) (BadByte close) (λ n. refl)
-reads_close text (list ∷ lists) trees at close e = absurd (cc)
-
-end_inside : (text : List ℕ) (n : ℕ) (s : Stack) (trees kept : List Tree) (start : ℕ) → 0 < length s → unwound s trees ≡ kept → outer s 0 ≡ start
-    → turn (run text n) s trees token.End ≡ (kept, Some (Unclosed start))
-end_inside text n [] trees kept start some e f = absurd (omega arith)
-end_inside text n (o ∷ s) trees kept start some e f = ap (λ x. (x, Some (Unclosed (outer s o.0)))) e ∙ ap (λ x. (kept, Some (Unclosed x))) f
-
-end_of : (text : List ℕ) (n : ℕ) (lists : List OpenList) (trees : List Tree)
-    → turn (run text n) (onto lists [] trees).0 (onto lists [] trees).1 token.End ≡ (outside lists trees, stop_at_end lists)
-end_of text n [] trees = refl
-end_of text n (list ∷ lists) trees =
-    end_inside text n (onto (list ∷ lists) [] trees).0 (onto (list ∷ lists) [] trees).1 (take list.before trees) list.start
-    (omega (arith, length_onto (list ∷ lists) [] trees)) (unwound_is (list ∷ lists) trees) (outer_is (list ∷ lists) trees 0)
-
-pub reads_end : (text : List ℕ) (lists : List OpenList) (trees : List Tree) (at : ℕ) → Reached text lists trees at → next_token text at ≡ token.End
-    → (kept : List Tree) (end : Option TextStop) → kept ≡ outside lists trees → end ≡ stop_at_end lists → IsReading text kept end
-reads_end text lists trees at r h kept end e f =
-    reads text lists trees at kept end r
-    (at_once text (onto lists [] trees).0 (onto lists [] trees).1 at token.End (kept, end) h
-    (λ n. end_of text n lists trees ∙ ap (λ x. (x, stop_at_end lists)) (sym e) ∙ ap (λ x. (kept, x)) (sym f)))
-
-pub ahead_open : (text : List ℕ) (at start : ℕ) → token.Open start ≡ next_token text at → (at ≤ start) × (start < length text)
-ahead_open text at start h = subst (IsAhead text at) (sym h) (next_ahead text at)
-
-pub ahead_close : (text : List ℕ) (at start : ℕ) → token.Close start ≡ next_token text at → (at ≤ start) × (start < length text)
-ahead_close text at start h = subst (IsAhead text at) (sym h) (next_ahead text at)
-
-pub ahead_leaf : (text : List ℕ) (at : ℕ) (kind : LeafKind) (start end : ℕ) → token.Leaf kind start end ≡ next_token text at → (at ≤ start) × (start < end) × (end ≤ length text)
-ahead_leaf text at kind start end h = subst (IsAhead text at) (sym h) (next_ahead text at)
+    let w = subst (λ x. ReachedAs text from x at) (closed_list rest [] list kept items f) r in
+    (w.0, w.1, within_list text from list.start o.0 o.1 items at close w h)
 
 -- the trees in two parts, of which the second is the innermost list's
 parted : (lists rest : List OpenList) (list : OpenList) (trees : List Tree) (here n : ℕ) → Fits lists trees here → lists ≡ rest ++ list ∷ [] → n + here ≡ length trees
@@ -221,13 +201,28 @@ parted lists rest list trees here n f e g =
     subst (λ x. Fits (rest ++ list ∷ []) (take n trees ++ drop n trees) x) count
     (subst (λ x. Fits (rest ++ list ∷ []) x here) (sym (take-append-drop n trees)) (subst (λ x. Fits x trees here) e f))
 
-pub reached_close_at : (text : List ℕ) (lists rest : List OpenList) (list : OpenList) (trees new : List Tree) (here n at close : ℕ) → Reached text lists trees at
+closes_at : (text : List ℕ) (from : ℕ) (lists rest : List OpenList) (list : OpenList) (trees : List Tree) (here n at close : ℕ) → Reached text from lists trees at
     → Fits lists trees here → lists ≡ rest ++ list ∷ [] → n + here ≡ length trees → next_token text at ≡ token.Close close
-    → new ≡ take n trees ++ ListTree (drop n trees) list.start (close + 1) ∷ [] → Reached text rest new (close + 1)
-reached_close_at text lists rest list trees new here n at close r f e g h made =
-    let r' = subst (λ x. Reached text (rest ++ list ∷ []) x at) (sym (take-append-drop n trees)) (subst (λ x. Reached text x trees at) e r) in
-    subst (λ x. Reached text rest x (close + 1)) (sym made)
-    (reached_close text rest list (take n trees) (drop n trees) at close r' (parted lists rest list trees here n f e g) h)
+    → Closes text from rest (take n trees) (ListTree (drop n trees) list.start (close + 1)) (close + 1)
+closes_at text from lists rest list trees here n at close r f e g h =
+    let r' = subst (λ x. Reached text from (rest ++ list ∷ []) x at) (sym (take-append-drop n trees)) (subst (λ x. Reached text from x trees at) e r) in
+    closes text from rest list (take n trees) (drop n trees) at close r' (parted lists rest list trees here n f e g) h
+
+pub reads_list : (text : List ℕ) (from : ℕ) (lists rest : List OpenList) (list : OpenList) (trees : List Tree) (here n at close : ℕ) (tree : Tree) → length rest ≡ 0
+    → Reached text from lists trees at → Fits lists trees here → lists ≡ rest ++ list ∷ [] → n + here ≡ length trees → next_token text at ≡ token.Close close
+    → tree ≡ ListTree (drop n trees) list.start (close + 1) → IsTree text 0 from tree (close + 1)
+reads_list text from lists rest list trees here n at close tree none r f e g h made =
+    let c = closes_at text from lists rest list trees here n at close r f e g h in
+    subst (λ t. IsTree text 0 from t (close + 1)) (sym made) (one_outside text from rest (take n trees) c.0 (ListTree (drop n trees) list.start (close + 1)) (close + 1) none c.1 c.2)
+
+pub reached_close : (text : List ℕ) (from : ℕ) (lists rest : List OpenList) (list : OpenList) (trees new : List Tree) (here n at close : ℕ) → 0 < length rest
+    → Reached text from lists trees at → Fits lists trees here → lists ≡ rest ++ list ∷ [] → n + here ≡ length trees → next_token text at ≡ token.Close close
+    → new ≡ take n trees ++ ListTree (drop n trees) list.start (close + 1) ∷ [] → Reached text from rest new (close + 1)
+reached_close text from lists rest list trees new here n at close some r f e g h made =
+    let c = closes_at text from lists rest list trees here n at close r f e g h in
+    let f' = fits_close rest list (take n trees) (drop n trees) (parted lists rest list trees here n f e g) in
+    subst (λ x. Reached text from rest x (close + 1)) (sym made)
+    (one_within text from rest (take n trees) list.before c.0 (ListTree (drop n trees) list.start (close + 1)) (close + 1) some c.1 f' c.2)
 
 pub fits_close_at : (lists rest : List OpenList) (list : OpenList) (trees new : List Tree) (here n close : ℕ) → Fits lists trees here → lists ≡ rest ++ list ∷ []
     → n + here ≡ length trees → new ≡ take n trees ++ ListTree (drop n trees) list.start (close + 1) ∷ [] → Fits rest new (list.before + 1)
@@ -241,6 +236,77 @@ pub before_within : (lists rest : List OpenList) (list : OpenList) (trees : List
 before_within lists rest list trees here n f e g =
     let within = fits_within rest (take n trees) list.before (fits_close rest list (take n trees) (drop n trees) (parted lists rest list trees here n f e g)) in
     omega (arith, within, length-take n trees)
+
+-- where the text stops
+
+stops : (text : List ℕ) (from : ℕ) (lists : List OpenList) (trees : List Tree) (at : ℕ) (stop : Option TextStop) → Reached text from lists trees at
+    → Stops text (starts (onto lists [] trees).0) at stop → Stops text [] from stop
+stops text from lists trees at stop r h = let o = onto lists [] trees in within_stop text from o.0 o.1 at stop r h
+
+pub reads_bad : (text : List ℕ) (from : ℕ) (lists : List OpenList) (trees : List Tree) (at offset : ℕ) → Reached text from lists trees at → next_token text at ≡ token.BadByte offset
+    → Stops text [] from (Some (BadByte offset))
+reads_bad text from lists trees at offset r h = stops text from lists trees at (Some (BadByte offset)) r (no_token (starts (onto lists [] trees).0) at offset h)
+
+outermost_is : (lists : List OpenList) (trees : List Tree) (start : ℕ) → outermost (starts (onto lists [] trees).0) start ≡ outermost_start lists start
+outermost_is lists trees start = sym (outer_starts (onto lists [] trees).0 start) ∙ outer_is lists trees start
+
+pub reads_unclosed : (text : List ℕ) (from : ℕ) (lists : List OpenList) (trees : List Tree) (at start offset : ℕ) → offset ≡ outermost_start lists start
+    → Reached text from lists trees at → next_token text at ≡ token.Unclosed start → Stops text [] from (Some (Unclosed offset))
+reads_unclosed text from lists trees at start offset e r h =
+    let opened = starts (onto lists [] trees).0 in
+    subst (λ x. Stops text [] from (Some (Unclosed x))) (outermost_is lists trees start ∙ sym e)
+    (stops text from lists trees at (Some (Unclosed (outermost opened start))) r (ended_in_token opened at start h))
+
+pub reads_deep : (text : List ℕ) (from : ℕ) (lists : List OpenList) (trees : List Tree) (at start : ℕ) → most_open ≤ length lists → Reached text from lists trees at
+    → next_token text at ≡ token.Open start → Stops text [] from (Some (Deep start))
+reads_deep text from lists trees at start many r h =
+    let opened = starts (onto lists [] trees).0 in
+    let long : most_open ≤ length opened = omega (arith, many, length_onto lists [] trees, length_starts (onto lists [] trees).0) in
+    stops text from lists trees at (Some (Deep start)) r (too_deep opened at start h long)
+
+pub reads_close : (text : List ℕ) (from : ℕ) (lists : List OpenList) (trees : List Tree) (at close : ℕ) → lists ≡ [] → Reached text from lists trees at
+    → next_token text at ≡ token.Close close → Stops text [] from (Some (BadByte close))
+reads_close text from [] trees at close e r h = stops text from [] trees at (Some (BadByte close)) r (closes_nothing at close h)
+reads_close text from (list ∷ lists) trees at close e r h = absurd (cc)
+
+ends_inside : (text : List ℕ) (from : ℕ) (s : Stack) (trees : List Tree) (at start : ℕ) → 0 < length s → outer s 0 ≡ start → Within text from s trees at → next_token text at ≡ token.End
+    → Stops text [] from (Some (Unclosed start))
+ends_inside text from [] trees at start some e w h = absurd (omega arith)
+ends_inside text from (o ∷ s) trees at start some e w h =
+    subst (λ x. Stops text [] from (Some (Unclosed x))) (sym (outer_starts s o.0) ∙ e)
+    (within_stop text from (o ∷ s) trees at (Some (Unclosed (outermost (starts s) o.0))) w (ended_inside o.0 (starts s) at h))
+
+pub reads_end : (text : List ℕ) (from : ℕ) (lists : List OpenList) (trees : List Tree) (at : ℕ) → Reached text from lists trees at → next_token text at ≡ token.End
+    → (stop : Option TextStop) → stop ≡ stop_at_end lists → Stops text [] from stop
+reads_end text from [] trees at r h stop e = subst (λ x. Stops text [] from x) (sym e) (stops text from [] trees at None r (ended at h))
+reads_end text from (list ∷ lists) trees at r h stop e =
+    let o = onto (list ∷ lists) [] trees in
+    subst (λ x. Stops text [] from x) (sym e)
+    (ends_inside text from o.0 o.1 at list.start (omega (arith, length_onto (list ∷ lists) [] trees)) (outer_is (list ∷ lists) trees 0) r h)
+
+pub ahead_open : (text : List ℕ) (at start : ℕ) → token.Open start ≡ next_token text at → (at ≤ start) × (start < length text)
+ahead_open text at start h = subst (IsAhead text at) (sym h) (next_ahead text at)
+
+pub ahead_close : (text : List ℕ) (at start : ℕ) → token.Close start ≡ next_token text at → (at ≤ start) × (start < length text)
+ahead_close text at start h = subst (IsAhead text at) (sym h) (next_ahead text at)
+
+pub ahead_leaf : (text : List ℕ) (at : ℕ) (kind : LeafKind) (start end : ℕ) → token.Leaf kind start end ≡ next_token text at → (at ≤ start) × (start < end) × (end ≤ length text)
+ahead_leaf text at kind start end h = subst (IsAhead text at) (sym h) (next_ahead text at)
+
+mutual
+  -- a tree ends behind where it is looked for, and with the text at the latest
+  pub tree_ahead : (text : List ℕ) (depth at : ℕ) (tree : Tree) (after : ℕ) → IsTree text depth at tree after → (at < after) × (after ≤ length text)
+  tree_ahead text _ _ _ _ (reading.leaf depth at kind start end h) = let a = ahead_leaf text at kind start end (sym h) in (omega (arith, a.0, a.1), a.2)
+  tree_ahead text _ _ _ _ (reading.list depth at start items inner close h below within h') =
+      let o = ahead_open text at start (sym h) in
+      let c = ahead_close text inner close (sym h') in
+      let i = trees_ahead text (depth + 1) (start + 1) items inner within in
+      (omega (arith, o.0, i, c.0), omega (arith, c.1))
+
+  trees_ahead : (text : List ℕ) (depth at : ℕ) (trees : List Tree) (after : ℕ) → AreTrees text depth at trees after → at ≤ after
+  trees_ahead text _ _ _ _ (reading.none depth at) = omega arith
+  trees_ahead text _ _ _ _ (reading.more depth at tree mid trees after first rest) =
+      let a = tree_ahead text depth at tree mid first in let b = trees_ahead text depth mid trees after rest in omega (arith, a.0, b)
 
 pub longer : (trees new : List Tree) (tree : Tree) (after : ℕ) → new ≡ trees ++ tree ∷ [] → length trees < after → length new ≤ after
 longer trees new tree after e h = omega (arith, ap length e, length-append trees (tree ∷ []))

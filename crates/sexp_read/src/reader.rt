@@ -1,13 +1,13 @@
 //! The reader: one token at a time, with the open lists on a stack of its own.
 
-ghost use Rattle.std.specs.Prelude.{◌≡◌, ◌+◌, ◌-◌, ◌^◌, ◌<◌, ◌≤◌, [], ◌∷◌, ◌++◌, take, drop, Some, length, vec_len, IfOk, OnOk};
+ghost use Rattle.std.specs.Prelude.{◌≡◌, [], ◌+◌, ◌-◌, ◌^◌, ◌<◌, ◌≤◌, take, drop, length, vec_len, IfOk};
 ghost use Rattle.sexp_read.specs.declared.tree.Tree.TheViews.{List as ListTree};
-ghost use Rattle.sexp_read.specs.Opened.{outside, outermost_start, stop_at_end};
-ghost use Rattle.sexp_read.specs.Trees.{IsReading};
+ghost use Rattle.sexp_read.specs.Opened.{outermost_start, stop_at_end};
+ghost use Rattle.sexp_read.specs.Next.{IsNext};
 
 use crate::lexer::next_token;
 use crate::token::Token;
-use crate::tree::{TextStop, Tree, Trees};
+use crate::tree::{TextStop, Tree};
 use base::{Items, Memory};
 use std::alloc::Global;
 
@@ -21,23 +21,66 @@ struct OpenList {
     before: usize,
 }
 
-/// The trees of a text up to its first fault, and that fault. It takes time and memory in
-/// proportion to the text, whose nesting costs no stack.
-pub fn read_commands(alloc: Global, text: &[u8]) -> Result<Trees, Memory>
-    requires { length text.now < 2 ^ 32 }
-    ensures { IfOk result (λ read. IsReading text.now read.trees read.stop) }
+/// What a text goes on with outside of all lists.
+#[derive(Debug, Drop)]
+pub enum Next {
+    /// A tree, and the offset of the byte after its last.
+    Tree { tree: Tree, end: usize },
+    /// No tree that is whole: here is the text's first fault, or none, where the text is over.
+    Stop(Option<TextStop>),
+}
+
+/// Reads one tree after another. It holds only memory, which serves one tree after the other.
+#[derive(Drop)]
+pub struct Reader {
+    lists: Vec<OpenList>,
+    trees: Vec<Tree>,
+}
+
+impl Reader {
+    pub fn new(alloc: Global) -> Reader {
+        Reader {
+            lists: Vec::new(alloc),
+            trees: Vec::new(alloc),
+        }
+    }
+
+    /// What the text goes on with from an offset outside of all lists: 0, or where a tree ended. It
+    /// takes time in proportion to the bytes that are read, whose nesting costs no stack.
+    pub fn read(&mut self, text: &[u8], at: usize) -> Result<Next, Memory>
+        requires short { length text.now < 2 ^ 32 }
+        requires within { at ≤ length text.now }
+        ensures { IfOk result (IsNext text.now at) }
+    {
+        self.lists.clear();
+        self.trees.clear();
+        read_tree(text, at, &mut self.lists, &mut self.trees)
+    }
+}
+
+/// Reads a tree with an empty stack of open lists. The trees of all of them stand one list after
+/// another.
+fn read_tree(
+    text: &[u8],
+    from: usize,
+    lists: &mut Vec<OpenList>,
+    trees: &mut Vec<Tree>,
+) -> Result<Next, Memory>
+    requires short { length text.now < 2 ^ 32 }
+    requires within { from ≤ length text.now }
+    requires lists { lists.old.items ≡ [] }
+    requires trees { trees.old.items ≡ [] }
+    ensures { IfOk result (IsNext text.now from) }
 {
-    let mut lists: Vec<OpenList> = Vec::new(alloc);
-    // The trees of all open lists, one list after another, and how many the innermost has.
-    let mut trees: Vec<Tree> = Vec::new(alloc);
+    // How many trees the innermost list has.
     let mut here: usize = 0;
-    let mut at: usize = 0;
+    let mut at = from;
     loop {
         match next_token(text, at) {
-            Token::End => return Ok(at_end(&lists, trees)),
+            Token::End => return Ok(Next::Stop(stop_at_end(lists))),
             Token::Open { start } => {
                 if lists.len() >= MOST_OPEN {
-                    return Ok(stopped(&lists, trees, TextStop::Deep { offset: start }));
+                    return Ok(Next::Stop(Some(TextStop::Deep { offset: start })));
                 }
                 lists.push(OpenList {
                     start,
@@ -48,25 +91,31 @@ pub fn read_commands(alloc: Global, text: &[u8]) -> Result<Trees, Memory>
             }
             Token::Close { start } => match lists.pop() {
                 Some(list) => {
-                    close(&mut trees, here, list.start, start)?;
-                    here = list.before + 1;
+                    let tree = closed(trees, here, list.start, start)?;
                     at = start as usize + 1;
+                    if lists.is_empty() {
+                        return Ok(Next::Tree { tree, end: at });
+                    }
+                    trees.push(tree)?;
+                    here = list.before + 1;
                 }
-                None => {
-                    return Ok(stopped(&lists, trees, TextStop::BadByte { offset: start }));
-                }
+                None => return Ok(Next::Stop(Some(TextStop::BadByte { offset: start }))),
             },
             Token::Leaf { kind, start, end } => {
-                trees.push(Tree::Leaf { kind, start, end })?;
-                here += 1;
+                let tree = Tree::Leaf { kind, start, end };
                 at = end as usize;
+                if lists.is_empty() {
+                    return Ok(Next::Tree { tree, end: at });
+                }
+                trees.push(tree)?;
+                here += 1;
             }
             Token::BadByte { offset } => {
-                return Ok(stopped(&lists, trees, TextStop::BadByte { offset }));
+                return Ok(Next::Stop(Some(TextStop::BadByte { offset })));
             }
             Token::Unclosed { start } => {
-                let offset = outermost_start(&lists, start);
-                return Ok(stopped(&lists, trees, TextStop::Unclosed { offset }));
+                let offset = outermost_start(lists, start);
+                return Ok(Next::Stop(Some(TextStop::Unclosed { offset })));
             }
         }
     }
@@ -82,48 +131,27 @@ fn outermost_start(lists: &[OpenList], start: u32) -> u32
     }
 }
 
-/// Makes the last trees, as many as there are here, the items of a list.
-fn close(trees: &mut Vec<Tree>, here: usize, start: u32, end: u32) -> Result<(), Memory>
+/// The stop of a text that ends while these lists are open.
+fn stop_at_end(lists: &[OpenList]) -> Option<TextStop>
+    ensures { result ≡ stop_at_end lists.now }
+{
+    match lists {
+        [] => None,
+        [list, ..] => Some(TextStop::Unclosed { offset: list.start }),
+    }
+}
+
+/// The list whose items are the last trees, as many as there are here.
+fn closed(trees: &mut Vec<Tree>, here: usize, start: u32, end: u32) -> Result<Tree, Memory>
     requires within { here ≤ vec_len trees.old }
     requires end { end + 1 < 2 ^ 32 }
-    ensures { OnOk result (trees.new.items ≡ take (vec_len trees.old - here) trees.old.items
-        ++ ListTree (drop (vec_len trees.old - here) trees.old.items) start (end + 1) ∷ []) }
+    ensures rest { IfOk result (λ _. trees.new.items ≡ take (vec_len trees.old - here) trees.old.items) }
+    ensures list { IfOk result (λ tree. tree ≡ ListTree (drop (vec_len trees.old - here) trees.old.items) start (end + 1)) }
 {
     let items = trees.split_off(trees.len() - here)?;
-    trees.push(Tree::List {
+    Ok(Tree::List {
         items: Items::from_vec(items),
         start,
         end: end + 1,
-    })?;
-    Ok(())
-}
-
-/// What is kept of a text that stops while these lists are open.
-fn stopped(lists: &[OpenList], mut trees: Vec<Tree>, stop: TextStop) -> Trees
-    ensures trees { result.trees ≡ outside lists.now trees.items }
-    ensures stop { result.stop ≡ Some stop }
-{
-    if let [list, ..] = lists {
-        trees.truncate(list.before);
-    }
-    trees.shrink_to_fit();
-    Trees {
-        trees: Items::from_vec(trees),
-        stop: Some(stop),
-    }
-}
-
-/// What is kept of a text that ends while these lists are open.
-fn at_end(lists: &[OpenList], mut trees: Vec<Tree>) -> Trees
-    ensures trees { result.trees ≡ outside lists.now trees.items }
-    ensures stop { result.stop ≡ stop_at_end lists.now }
-{
-    if let [list, ..] = lists {
-        return stopped(lists, trees, TextStop::Unclosed { offset: list.start });
-    }
-    trees.shrink_to_fit();
-    Trees {
-        trees: Items::from_vec(trees),
-        stop: None,
-    }
+    })
 }

@@ -7,4 +7,5 @@ pub mod LegalLemmas
 pub mod RuleLemmas
 pub mod ScriptLemmas
 pub mod StateLemmas
+pub mod TextLemmas
 pub mod WeightLemmas

@@ -32,13 +32,11 @@ checked text stop trees before fault found is script same = record {
   script = script;
 }
 
-module _ (text : List ℕ) (stop : Option TextStop) (trees : List Tree) (i : ℕ) (tree : Tree) (state : State) (so : IsSoFar text stop trees (drop i trees) i state) (at : i < length trees) (is : tree ≡ get_or trees i tree) where
-  abbrev rest : List Tree
-  rest = drop (i + 1) trees
+-- the trees that are left, as a list that begins with the next one
+pub left : (trees : List Tree) (i : ℕ) (tree : Tree) → i < length trees → tree ≡ get_or trees i tree → drop i trees ≡ tree ∷ drop (i + 1) trees
+left trees i tree at is = drop_more trees i tree at ∙ ap (λ (t : Tree). t ∷ drop (i + 1) trees) (sym is)
 
-  here : drop i trees ≡ tree ∷ rest
-  here = drop_more trees i tree at ∙ ap (λ (t : Tree). t ∷ rest) (sym is)
-
+module _ (text : List ℕ) (stop : Option TextStop) (trees now : List Tree) (count : ℕ) (tree : Tree) (rest : List Tree) (state : State) (so : IsSoFar text stop trees now count state) (here : now ≡ tree ∷ rest) where
   decided : outcome text stop [] trees ≡ outcome text stop so.before (tree ∷ rest)
   decided = sym so.outcome_is ∙ ap (outcome text stop so.before) here
 
@@ -66,7 +64,7 @@ module _ (text : List ℕ) (stop : Option TextStop) (trees : List Tree) (i : ℕ
       let exits : is_exit t.0 ≡ true = sym (over t.0 new t.2) ∙ done in
       (so.before ++ t.0 ∷ [], t.2, decided ∙ by_result (Ok t.0) t.1 ∙ ap (λ (b : Bool). if b then stops (so.before ++ t.0 ∷ []) (end_fault text (so.before ++ t.0 ∷ [])) else outcome text stop (so.before ++ t.0 ∷ []) rest) exits)
 
-  pub goes_on : (new : State) → Took so.before (command text so.before tree) None new → new.is_over ≡ false → IsSoFar text stop trees (drop (i + 1) trees) (i + 1) new
+  pub goes_on : (new : State) → Took so.before (command text so.before tree) None new → new.is_over ≡ false → IsSoFar text stop trees rest (count + 1) new
   goes_on new h running =
       let t : (c : Command) × (command text so.before tree ≡ Ok c) × IsState (so.before ++ c ∷ []) new = taken_by so.before (command text so.before tree) new h in
       let stays : is_exit t.0 ≡ false = sym (over t.0 new t.2) ∙ running in

@@ -10,7 +10,7 @@ use Rattle.term_check.specs.Weight.{weight, weights}
 use Rattle.term_check.proofs.SpellingLemmas.{weight-List, weigh_all}
 
 mutual
-  tree_weighs : (text : List ℕ) (depth at : ℕ) (tree : Tree) (after : ℕ) → IsTree text depth at tree after → (weight tree + at ≤ after) × (after ≤ length text)
+  pub tree_weighs : (text : List ℕ) (depth at : ℕ) (tree : Tree) (after : ℕ) → IsTree text depth at tree after → (weight tree + at ≤ after) × (after ≤ length text)
   tree_weighs text _ _ _ _ (leaf depth at kind start end h) = let a = ahead_leaf text at kind start end (sym h) in (omega (arith, a.0, a.1), a.2)
   tree_weighs text _ _ _ _ (list depth at start items inner close h below within h') =
       let o = ahead_open text at start (sym h) in
@@ -19,7 +19,7 @@ mutual
       let i = weight-List items start (close + 1) in
       (omega (arith, o.0, c.0, w.0, i), omega (arith, c.1))
 
-  trees_weigh : (text : List ℕ) (depth at : ℕ) (trees : List Tree) (after : ℕ) → at ≤ length text → AreTrees text depth at trees after → (weights trees + at ≤ after) × (after ≤ length text)
+  pub trees_weigh : (text : List ℕ) (depth at : ℕ) (trees : List Tree) (after : ℕ) → at ≤ length text → AreTrees text depth at trees after → (weights trees + at ≤ after) × (after ≤ length text)
   trees_weigh text _ _ _ _ start (none depth at) = (omega arith, start)
   trees_weigh text _ _ _ _ start (more depth at tree mid trees after first rest) =
       let a = tree_weighs text depth at tree mid first in

@@ -99,6 +99,10 @@ pub record IsChecked (text : List ℕ) (trees : List Tree) (stop : Option TextSt
   pub outcome_is : outcome text stop [] trees ≡ record { commands = commands; refusal = checked.stop }
   pub script : IsScriptOf commands checked.script
 
+-- what is found of a text: that of the trees and the fault that it has
+abbrev pub IsCheckedText : List ℕ → Checked → Type 0
+IsCheckedText text checked = (trees : List Tree) × (stop : Option TextStop) × IsReading text trees stop × IsChecked text trees stop checked
+
 -- a text is a script of some commands, or has a refusal
 abbrev pub IsScriptOrRefused : List ℕ → Type 0
 IsScriptOrRefused text = ((commands : List Command) × IsScript text commands) ⊎ ((refusal : Refusal) × IsRefused text refusal)

@@ -13,4 +13,4 @@ pub use laws::{
     assertions_are_legal, assertions_have_heads, few_predicates, no_script_is_refused, one_refusal,
     one_script, script_or_refused,
 };
-pub use script::check_script;
+pub use script::{check_script, check_text};

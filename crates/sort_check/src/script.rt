@@ -3,12 +3,12 @@
 ghost use Rattle.std.specs.Prelude.{◌≡◌, ◌<◌, ◌^◌, List, length, IfOk};
 ghost use Rattle.sexp_read.specs.Trees.{IsReading};
 ghost use Rattle.sort_check.specs.Commands.{Command};
-ghost use Rattle.sort_check.specs.Scripts.{IsChecked, stop_fault};
+ghost use Rattle.sort_check.specs.Scripts.{IsChecked, IsCheckedText, stop_fault};
 ghost use Rattle.sort_check.specs.State.{IsState};
 
 use crate::state::State;
 use base::Memory;
-use sexp_read::{TextStop, Trees};
+use sexp_read::{Next, Reader, TextStop, Trees};
 use std::alloc::Global;
 use term_check::{Fault, fault};
 use term_tree::{Checked, Kind};
@@ -44,4 +44,33 @@ pub fn check_script(alloc: Global, text: &[u8], trees: &Trees) -> Result<Checked
     }
     let fault = stop_fault(&state, text, trees.stop);
     Ok(state.into_checked(fault))
+}
+
+/// The script that a text spells, or its legal commands before the first that is illegal. It reads one
+/// command at a time, so that it holds no more than one command's trees at once.
+pub fn check_text(alloc: Global, text: &[u8]) -> Result<Checked, Memory>
+    requires { length text.now < 2 ^ 32 }
+    ensures { IfOk result (IsCheckedText text.now) }
+{
+    let mut state = State::new(alloc);
+    let mut reader = Reader::new(alloc);
+    let mut at = 0;
+    loop {
+        match reader.read(text, at)? {
+            Next::Tree { tree, end } => {
+                if let Some(fault) = state.step(alloc, text, &tree)? {
+                    return Ok(state.into_checked(Some(fault)));
+                }
+                if state.is_over {
+                    let fault = state.end_fault(text);
+                    return Ok(state.into_checked(fault));
+                }
+                at = end;
+            }
+            Next::Stop(stop) => {
+                let fault = stop_fault(&state, text, stop);
+                return Ok(state.into_checked(fault));
+            }
+        }
+    }
 }

@@ -1,4 +1,4 @@
-use Rattle.std.proofs.Common.{◌≡◌, ◌<◌, ◌≤◌, List, length, get_or, sym, ap, subst, ◌∙◌, arith}
+use Rattle.std.proofs.Common.{◌≡◌, ◌+◌, ◌<◌, ◌≤◌, List, length, drop, get_or, sym, ap, subst, ◌∙◌, arith}
 use Rattle.sexp_read.specs.declared.tree.Tree.{Tree}
 use Rattle.std.specs.Prelude.{Some}
 use Rattle.term_check.specs.Weight.{weight}
@@ -6,7 +6,7 @@ use Rattle.sort_check.specs.Commands.{command}
 use Rattle.sort_check.specs.Scripts.{stops}
 use Rattle.sort_check.specs.State.{Took}
 use Rattle.sort_check.proofs.WeightLemmas.{reading_weighs, reading_counts, one_weighs}
-use Rattle.sort_check.proofs.ScriptLemmas.{checked, refused, ended, goes_on, all_taken}
+use Rattle.sort_check.proofs.ScriptLemmas.{left, checked, refused, ended, goes_on, all_taken}
 use Rattle.sort_check.proofs.script.check_script.Goals as goal
 
 pub step-requires-clause-commands : goal.step-requires-clause-commands
@@ -33,7 +33,7 @@ returns-in-Some c =
     let same = ap (λ (ts : List Tree). length ts) c.as_slice-tree-items.ensures in
     let within : c.loop-tree.tree-index < length trees = omega (arith, same, c.loop-tree-test.true) in
     let is : c.tree-item.result ≡ get_or trees c.loop-tree.tree-index c.tree-item.result = c.tree-item.is ∙ ap (λ (ts : List Tree). get_or ts c.loop-tree.tree-index c.tree-item.result) c.as_slice-tree-items.ensures in
-    let r = refused c.args.text.now c.args.trees.now.stop trees c.loop-tree.tree-index c.tree-item.result c.loop-tree.state so within is c.in-Some.fault c.step.new.self
+    let r = refused c.args.text.now c.args.trees.now.stop trees (drop c.loop-tree.tree-index trees) c.loop-tree.tree-index c.tree-item.result (drop (c.loop-tree.tree-index + 1) trees) c.loop-tree.state so (left trees c.loop-tree.tree-index c.tree-item.result within is) c.in-Some.fault c.step.new.self
     (subst (λ f. Took so.before (command c.args.text.now so.before c.tree-item.result) f c.step.new.self) c.in-Some.is (c.in_ok-fault.ensures so.before so.state_is)) in
     checked c.args.text.now c.args.trees.now.stop trees so.before (Some c.in-Some.fault) c.into_checked.result r.0 (c.into_checked.ensures.script so.before r.1) (c.into_checked.ensures.stop so.before r.1)
 
@@ -44,7 +44,7 @@ returns-then-state c =
     let same = ap (λ (ts : List Tree). length ts) c.as_slice-tree-items.ensures in
     let within : c.loop-tree.tree-index < length trees = omega (arith, same, c.loop-tree-test.true) in
     let is : c.tree-item.result ≡ get_or trees c.loop-tree.tree-index c.tree-item.result = c.tree-item.is ∙ ap (λ (ts : List Tree). get_or ts c.loop-tree.tree-index c.tree-item.result) c.as_slice-tree-items.ensures in
-    let e = ended c.args.text.now c.args.trees.now.stop trees c.loop-tree.tree-index c.tree-item.result c.loop-tree.state so within is c.step.new.self
+    let e = ended c.args.text.now c.args.trees.now.stop trees (drop c.loop-tree.tree-index trees) c.loop-tree.tree-index c.tree-item.result (drop (c.loop-tree.tree-index + 1) trees) c.loop-tree.state so (left trees c.loop-tree.tree-index c.tree-item.result within is) c.step.new.self
     (subst (λ f. Took so.before (command c.args.text.now so.before c.tree-item.result) f c.step.new.self) c.in_default.is (c.in_ok-fault.ensures so.before so.state_is)) c.if-state.true in
     checked c.args.text.now c.args.trees.now.stop trees e.0 c.end_fault-fault.result c.into_checked-then-state.result (e.2 ∙ ap (stops e.0) (sym (c.end_fault-fault.ensures e.0 e.1))) (c.into_checked-then-state.ensures.script e.0 e.1) (c.into_checked-then-state.ensures.stop e.0 e.1)
 
@@ -55,7 +55,7 @@ loop-tree-preserved c =
     let same = ap (λ (ts : List Tree). length ts) c.as_slice-tree-items.ensures in
     let within : c.loop-tree.tree-index < length trees = omega (arith, same, c.loop-tree-test.true) in
     let is : c.tree-item.result ≡ get_or trees c.loop-tree.tree-index c.tree-item.result = c.tree-item.is ∙ ap (λ (ts : List Tree). get_or ts c.loop-tree.tree-index c.tree-item.result) c.as_slice-tree-items.ensures in
-    goes_on c.args.text.now c.args.trees.now.stop trees c.loop-tree.tree-index c.tree-item.result c.loop-tree.state so within is c.step.new.self
+    goes_on c.args.text.now c.args.trees.now.stop trees (drop c.loop-tree.tree-index trees) c.loop-tree.tree-index c.tree-item.result (drop (c.loop-tree.tree-index + 1) trees) c.loop-tree.state so (left trees c.loop-tree.tree-index c.tree-item.result within is) c.step.new.self
     (subst (λ f. Took so.before (command c.args.text.now so.before c.tree-item.result) f c.step.new.self) c.in_default.is (c.in_ok-fault.ensures so.before so.state_is)) c.if-state.false
 
 pub returns : goal.returns
