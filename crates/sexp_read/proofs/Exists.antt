@@ -71,11 +71,11 @@ found text (suc n) opened at h = at_token text opened at (next_token text at) re
 
 -- from an offset outside of all lists, the trees up to the text's first fault, and that fault
 abbrev pub HasRest : List ℕ → ℕ → Type 0
-HasRest text at = (trees : List Tree) × (stop : Option TextStop) × (mid : ℕ) × AreTrees text 0 at trees mid × Stops text [] mid stop
+HasRest text at = (trees : List Tree) × (stop : Option TextStop) × ((mid : ℕ) × AreTrees text 0 at trees mid × Stops text [] mid stop)
 
 whole : (text : List ℕ) (at : ℕ) → Found text [] at → HasRest text at
-whole text at (trees, mid, past, within, inl (close, h)) = (trees, Some (BadByte close), mid, within, closes_nothing mid close h)
-whole text at (trees, mid, past, within, inr (stop, s)) = (trees, stop, mid, within, s)
+whole text at (trees, mid, past, within, inl (close, h)) = (trees, Some (BadByte close), (mid, within, closes_nothing mid close h))
+whole text at (trees, mid, past, within, inr (stop, s)) = (trees, stop, (mid, within, s))
 
 pub has_rest : (text : List ℕ) (at : ℕ) → HasRest text at
 has_rest text at = whole text at (found text (length text) [] at (omega arith))

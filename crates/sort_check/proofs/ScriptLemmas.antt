@@ -19,7 +19,7 @@ refused_by : (before : List Command) (r : Result Command Fault) (f : Fault) (new
 refused_by before (Ok c) f new h = absurd h
 refused_by before (Err g) f new h = (ap (λ (e : Fault). Err e) h.0, h.1)
 
-taken_by : (before : List Command) (r : Result Command Fault) (new : State) → Took before r None new → (c : Command) × (r ≡ Ok c) × IsState (before ++ c ∷ []) new
+pub taken_by : (before : List Command) (r : Result Command Fault) (new : State) → Took before r None new → (c : Command) × (r ≡ Ok c) × IsState (before ++ c ∷ []) new
 taken_by before (Ok c) new h = (c, refl, h)
 taken_by before (Err g) new h = absurd h
 
@@ -49,7 +49,7 @@ module _ (text : List ℕ) (stop : Option TextStop) (trees now : List Tree) (cou
   refused f new h = let r = refused_by so.before (command text so.before tree) f new h in (decided ∙ by_result (Err f) r.0, r.1)
 
   -- the command was exit exactly where the state is over
-  over : (c : Command) (new : State) → IsState (so.before ++ c ∷ []) new → new.is_over ≡ is_exit c
+  pub over : (c : Command) (new : State) → IsState (so.before ++ c ∷ []) new → new.is_over ≡ is_exit c
   over c new h =
       let none : list_any is_exit so.before ≡ false = sym so.state_is.over ∙ so.running in
       h.over ∙ list_any-append is_exit so.before (c ∷ []) ∙ ap (λ (b : Bool). b || list_any is_exit (c ∷ [])) none ∙ or_nothing (is_exit c)
@@ -64,21 +64,28 @@ module _ (text : List ℕ) (stop : Option TextStop) (trees now : List Tree) (cou
       let exits : is_exit t.0 ≡ true = sym (over t.0 new t.2) ∙ done in
       (so.before ++ t.0 ∷ [], t.2, decided ∙ by_result (Ok t.0) t.1 ∙ ap (λ (b : Bool). if b then stops (so.before ++ t.0 ∷ []) (end_fault text (so.before ++ t.0 ∷ [])) else outcome text stop (so.before ++ t.0 ∷ []) rest) exits)
 
-  pub goes_on : (new : State) → Took so.before (command text so.before tree) None new → new.is_over ≡ false → IsSoFar text stop trees rest (count + 1) new
-  goes_on new h running =
-      let t : (c : Command) × (command text so.before tree ≡ Ok c) × IsState (so.before ++ c ∷ []) new = taken_by so.before (command text so.before tree) new h in
-      let stays : is_exit t.0 ≡ false = sym (over t.0 new t.2) ∙ running in
-      record {
-        before = so.before ++ t.0 ∷ [];
-        state_is = t.2;
-        outcome_is = sym (decided ∙ by_result (Ok t.0) t.1 ∙ ap (λ (b : Bool). if b then stops (so.before ++ t.0 ∷ []) (end_fault text (so.before ++ t.0 ∷ [])) else outcome text stop (so.before ++ t.0 ∷ []) rest) stays);
-        counted = t.2.commands ∙ length_last so.before t.0 ∙ ap (λ (n : ℕ). n + 1) (sym so.state_is.commands ∙ so.counted);
-        running = running;
-      }
+  -- behind a command that isn't exit the rest decide
+  pub passes : (c : Command) → command text so.before tree ≡ Ok c → is_exit c ≡ false → outcome text stop [] trees ≡ outcome text stop (so.before ++ c ∷ []) rest
+  passes c h stays =
+      decided ∙ by_result (Ok c) h ∙ ap (λ (b : Bool). if b then stops (so.before ++ c ∷ []) (end_fault text (so.before ++ c ∷ [])) else outcome text stop (so.before ++ c ∷ []) rest) stays
+
+  pub one_more : (c : Command) (new : State) → IsState (so.before ++ c ∷ []) new → new.commands ≡ count + 1
+  one_more c new h = h.commands ∙ length_last so.before c ∙ ap (λ (n : ℕ). n + 1) (sym so.state_is.commands ∙ so.counted)
     where
       length_last : (cs : List Command) (c : Command) → length (cs ++ c ∷ []) ≡ length cs + 1
       length_last [] c = refl
       length_last (x ∷ cs) c = let l = length_last cs c in omega (arith, l)
+
+  pub goes_on : (new : State) → Took so.before (command text so.before tree) None new → new.is_over ≡ false → IsSoFar text stop trees rest (count + 1) new
+  goes_on new h running =
+      let t : (c : Command) × (command text so.before tree ≡ Ok c) × IsState (so.before ++ c ∷ []) new = taken_by so.before (command text so.before tree) new h in
+      record {
+        before = so.before ++ t.0 ∷ [];
+        state_is = t.2;
+        outcome_is = sym (passes t.0 t.1 (sym (over t.0 new t.2) ∙ running));
+        counted = one_more t.0 new t.2;
+        running = running;
+      }
 
 -- all trees were commands
 pub all_taken : (text : List ℕ) (stop : Option TextStop) (trees : List Tree) (i : ℕ) (state : State) (so : IsSoFar text stop trees (drop i trees) i state) → length trees ≤ i → outcome text stop [] trees ≡ stops so.before (stop_fault text stop so.before)
