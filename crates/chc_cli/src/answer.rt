@@ -5,8 +5,7 @@ use crate::lines::refusal_line;
 use crate::model::all_true;
 use answer_text::{Answer as Printed, write_answer};
 use base::Memory;
-use sexp_read::read_commands;
-use sort_check::{assertions_have_heads, check_script, few_predicates};
+use sort_check::{assertions_have_heads, check_text, few_predicates};
 use std::alloc::Global;
 use term_tree::Refusal;
 
@@ -23,8 +22,7 @@ pub fn answer_to(alloc: Global, read: &[u8]) -> Result<Answer, Memory>
     requires { length read.now ≤ 2 ^ 24 }
     ensures { IfOk result (IsAnswerTo read.now) }
 {
-    let trees = read_commands(alloc, read)?;
-    let checked = check_script(alloc, read, &trees)?;
+    let checked = check_text(alloc, read)?;
     match checked.stop {
         Some(refusal) => {
             let text = refusal_line(alloc, &refusal)?;

@@ -14,4 +14,6 @@ mod runs;
 #[cfg(test)]
 mod scripts;
 #[cfg(test)]
+mod trees;
+#[cfg(test)]
 mod usage;

@@ -4,8 +4,8 @@
 ghost use Rattle.std.specs.Prelude.{◌<◌, ◌^◌, length};
 
 use crate::{
-    LeafKind, TextStop, Tree, Trees, is_word, leaf_bytes, numeral_value, read_commands,
-    symbol_bytes,
+    LeafKind, Next, Reader, TextStop, Tree, Trees, is_word, leaf_bytes, numeral_value,
+    read_commands, symbol_bytes,
 };
 use base::{Copied, Memory, Same};
 use std::alloc::Global;
@@ -183,6 +183,32 @@ fn bytes_above_127_stand_in_comments_and_quotes_alone(rt: HostRuntime) -> Result
     let text = b";\xff\n|\xff| \"\x80\" a\xc3";
     let found = reading(rt.alloc(), text)?;
     assert_eq!(rt; found.as_str(), "q3-6 t7-10 s11-12 bad 12");
+    Ok(())
+}
+
+#[test]
+fn a_reader_goes_on_where_a_tree_ended(rt: HostRuntime) -> Result<(), Fail> {
+    let text = b"a (b) )";
+    let mut reader = Reader::new(rt.alloc());
+    let mut at: usize = 0;
+    for (expected, behind) in [("s0-1", 1), ("(s3-4)2-5", 5)] {
+        assert!(rt; at <= text.len());
+        let Next::Tree { tree, end } = reader.read(text, at)? else {
+            return Err("no tree".into());
+        };
+        let mut found = String::new(rt.alloc());
+        show(rt.alloc(), &tree, &mut found)?;
+        assert_eq!(rt; found.as_str(), expected);
+        assert_eq!(rt; end, behind);
+        at = end;
+    }
+    for _ in 0..2 {
+        assert!(rt; at <= text.len());
+        let Next::Stop(stop) = reader.read(text, at)? else {
+            return Err("a tree".into());
+        };
+        assert!(rt; stop.equals(&Some(TextStop::BadByte { offset: 6 })));
+    }
     Ok(())
 }
 

@@ -8,23 +8,23 @@ use Rattle.chc_cli.proofs.answer.answer_to.Goals as goal
 
 pub returns-in-Some : goal.returns-in-Some
 returns-in-Some c =
-    let trees = c.in_ok-trees.trees in
-    (stopped c.args.read.now trees.trees trees.stop c.in_ok-checked.checked c.in-Some.refusal c.requires c.in_ok-trees.ensures c.in-Some.is c.in_ok-checked.ensures, c.in_ok-text-in-Some.ensures)
+    let found = c.in_ok-checked.ensures in
+    (stopped c.args.read.now found.0 found.1 c.in_ok-checked.checked c.in-Some.refusal c.requires found.2 c.in-Some.is found.3, c.in_ok-text-in-Some.ensures)
 
 pub returns : goal.returns
 returns c =
-    let trees = c.in_ok-trees.trees in
+    let found = c.in_ok-checked.ensures in
     let checked = c.in_ok-checked.checked in
     let script = checked.script in
-    let spelled = c.in_ok-checked.ensures in
-    let is_script = finished c.args.read.now trees.trees trees.stop checked c.requires c.in_ok-trees.ensures c.in-None.is spelled in
+    let spelled = found.3 in
+    let is_script = finished c.args.read.now found.0 found.1 checked c.requires found.2 c.in-None.is spelled in
     answered c.args.read.now spelled.commands script c.in_ok-text-in-None.text.items c.is_arena.ensures.arena is_script spelled.script
     (c.assertions_have_heads.ensures c.args.read.now spelled.commands script c.is_arena.ensures.arena is_script spelled.script)
     (subst (λ (d : List Definition). IsPrintable script.preds (Sat d) → IsAnswerText script.preds (Sat d) c.in_ok-text-in-None.text.items) (c.in_ok-definitions-in-None.ensures ∙ ap (true_definitions 0) c.as_slice.ensures) c.in_ok-text-in-None.ensures.spelling)
 
 pub all_true-requires : goal.all_true-requires
 all_true-requires c =
-    let trees = c.in_ok-trees.trees in
-    let spelled = c.in_ok-checked.ensures in
-    let is_script = finished c.args.read.now trees.trees trees.stop c.in_ok-checked.checked c.requires c.in_ok-trees.ensures c.in-None.is spelled in
+    let found = c.in_ok-checked.ensures in
+    let spelled = found.3 in
+    let is_script = finished c.args.read.now found.0 found.1 c.in_ok-checked.checked c.requires found.2 c.in-None.is spelled in
     omega (arith, c.few_predicates.ensures c.args.read.now spelled.commands is_script, ap length spelled.script.preds, ap length c.as_slice.ensures)
