@@ -1,7 +1,6 @@
 pub mod TermLemmas
 pub mod PlaceLemmas
 pub mod DefinitionLemmas
-pub mod WeightLemmas
 pub mod LawLemmas
 pub mod PieceLemmas
 pub mod ShowLemmas

@@ -12,7 +12,8 @@ use Rattle.term_tree.specs.declared.script.Name.{Name}
 use Rattle.term_check.specs.declared.scope.Bound.TheVariants.{Variable}
 use Rattle.term_check.specs.Formula.{params_from}
 use Rattle.term_check.specs.Words.{is_among}
-use Rattle.term_check.specs.Spelling.{first_of, bound_to, is_symbol, start_of}
+use Rattle.term_check.specs.Operators.{first_of}
+use Rattle.term_check.specs.Spelling.{bound_to, is_symbol, start_of}
 use Rattle.answer_text.specs.Names.{after_spaces}
 use Rattle.answer_text.specs.Terms.{parameter_name}
 use Rattle.answer_text.specs.Answers.{sort_text, parameter_text, parameters_text}

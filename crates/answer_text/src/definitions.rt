@@ -12,11 +12,11 @@ use crate::declared::Declared;
 use crate::parameters::{names_of, parameters};
 use crate::steps::pred;
 use crate::stop::{AnswerStop, bad_at};
-use crate::trees::{has_sort, is_word, start_of};
+use crate::trees::has_sort;
 use base::{Items, Memory};
 use sexp_read::Tree;
 use std::alloc::Global;
-use term_check::{FormulaStop, check_formula};
+use term_check::{FormulaStop, check_formula, is_word, start_of};
 use term_tree::{Definition, Sort};
 
 /// The definition of the predicate of that number by its parameters, its sort and its term.

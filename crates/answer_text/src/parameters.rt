@@ -7,10 +7,11 @@ ghost use Rattle.answer_text.specs.Read.{Gives, Adds};
 
 use crate::found::Found;
 use crate::stop::{AnswerStop, bad_at};
-use crate::trees::{has_sort, name_of, start_of};
+use crate::trees::has_sort;
 use base::{Copied, Items, Memory};
 use sexp_read::Tree;
 use std::alloc::Global;
+use term_check::{name_of, start_of};
 use term_tree::{Name, Sort};
 
 fn parameter_of<'a>(

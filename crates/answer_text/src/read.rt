@@ -10,9 +10,9 @@ use crate::declared::Declared;
 use crate::definitions::model;
 use crate::steps::derivation;
 use crate::stop::{AnswerStop, bad_at};
-use crate::trees::{is_symbol, start_of};
 use sexp_read::{TextStop, Tree, Trees, read_commands};
 use std::alloc::Global;
+use term_check::{is_symbol, start_of};
 use term_tree::Script;
 
 /// Reads a sat or unsat answer to the script, which may be laid out at will. An unknown answer

@@ -9,11 +9,11 @@ ghost use Rattle.answer_text.specs.Read.{Gives};
 use crate::answer::Line;
 use crate::declared::Declared;
 use crate::stop::{AnswerStop, bad_at};
-use crate::trees::{is_symbol, name_of, start_of};
 use crate::values::{number, number_list, value_list, values};
 use base::Items;
 use sexp_read::Tree;
 use std::alloc::Global;
+use term_check::{is_symbol, name_of, start_of};
 use term_tree::Value;
 
 /// The number of the predicate that a symbol names.

@@ -1,74 +1,11 @@
-//! Words, names and sorts among trees.
+//! Sorts among trees.
 
 ghost use Rattle.std.specs.Prelude.{◌≡◌};
-ghost use Rattle.std.specs.Option.{option_copied};
-ghost use Rattle.term_check.specs.Spelling.{is_symbol, is_word, name_of, sort_named, start_of};
 ghost use Rattle.answer_text.specs.Reading.{has_sort};
 
-use sexp_read::{LeafKind, Tree, symbol_bytes};
-use term_check::is_reserved;
+use sexp_read::Tree;
+use term_check::sort_named;
 use term_tree::Sort;
-
-/// Where the tree starts.
-pub fn start_of(tree: &Tree) -> u32
-    ensures { result ≡ start_of tree.now }
-{
-    match tree {
-        Tree::Leaf { start, .. } => *start,
-        Tree::List { start, .. } => *start,
-    }
-}
-
-/// Whether the tree is a symbol of these bytes, between bars or not.
-pub fn is_symbol(text: &[u8], tree: &Tree, name: &[u8]) -> bool
-    ensures { result ≡ is_symbol text.now tree.now name.now }
-{
-    match symbol_bytes(text, tree) {
-        Some(bytes) => bytes == name,
-        None => false,
-    }
-}
-
-/// Whether the tree is a symbol of these bytes without bars.
-pub fn is_word(text: &[u8], tree: &Tree, name: &[u8]) -> bool
-    ensures { result ≡ is_word text.now tree.now name.now }
-{
-    match tree {
-        Tree::Leaf { kind, .. } => match kind {
-            LeafKind::Symbol => is_symbol(text, tree, name),
-            _ => false,
-        },
-        Tree::List { .. } => false,
-    }
-}
-
-/// The name that a symbol spells; a reserved word is a name between bars alone.
-pub fn name_of<'a>(text: &'a [u8], tree: &Tree) -> Option<&'a [u8]>
-    ensures { option_copied result ≡ name_of text.now tree.now }
-{
-    match symbol_bytes(text, tree) {
-        Some(name) => match tree {
-            Tree::Leaf { kind, .. } => match kind {
-                LeafKind::Symbol if is_reserved(name) => None,
-                _ => Some(name),
-            },
-            Tree::List { .. } => None,
-        },
-        None => None,
-    }
-}
-
-fn sort_named(text: &[u8], tree: &Tree) -> Option<Sort>
-    ensures { result ≡ sort_named text.now tree.now }
-{
-    if is_symbol(text, tree, b"Int") {
-        Some(Sort::Int)
-    } else if is_symbol(text, tree, b"Bool") {
-        Some(Sort::Bool)
-    } else {
-        None
-    }
-}
 
 /// Whether the tree names that sort.
 pub fn has_sort(text: &[u8], tree: &Tree, sort: Sort) -> bool

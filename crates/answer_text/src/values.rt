@@ -5,10 +5,10 @@ ghost use Rattle.answer_text.specs.Reading.{number, integer, negated, negation, 
 ghost use Rattle.answer_text.specs.Read.{Gives};
 
 use crate::stop::{AnswerStop, bad_at};
-use crate::trees::{is_symbol, start_of};
 use base::Items;
 use sexp_read::{Tree, numeral_value};
 use std::alloc::Global;
+use term_check::{is_symbol, start_of};
 use term_tree::Value;
 
 /// A numeral below 2 ^ 63.

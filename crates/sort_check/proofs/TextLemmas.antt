@@ -10,6 +10,7 @@ use Rattle.sexp_read.proofs.Reaches.{joined, one_more as one_more_tree, tree_ahe
 use Rattle.term_tree.specs.declared.refusal.Checked.{Checked}
 use Rattle.term_check.specs.declared.part.Fault.{Fault}
 use Rattle.term_check.specs.Weight.{weight}
+use Rattle.term_check.proofs.LightLemmas.{tree_light, trees_light}
 use Rattle.term_check.proofs.SpellingLemmas.{weigh_all}
 use Rattle.sort_check.specs.Commands.{Command, command, is_exit}
 use Rattle.sort_check.specs.Scripts.{outcome, stops, end_fault, stop_fault, refusal_at, IsCheckedText, IsScriptOf}
@@ -17,7 +18,6 @@ use Rattle.sort_check.specs.State.{IsState, Took}
 use Rattle.sort_check.specs.Progress.{IsSoFar, IsReadSoFar}
 use Rattle.sort_check.specs.declared.state.State.{State}
 use Rattle.sort_check.proofs.ScriptLemmas.{checked, refused, ended, passes, one_more, taken_by, over as is_over_by}
-use Rattle.sort_check.proofs.WeightLemmas.{tree_weighs, trees_weigh}
 
 pub nothing_read : (text : List ℕ) (state : State) → IsState [] state → IsReadSoFar text 0 state
 nothing_read text state is = record {
@@ -39,7 +39,7 @@ module _ (text : List ℕ) (at : ℕ) (state : State) (so : IsReadSoFar text at 
       → IsScriptOf so.before found.script → found.stop ≡ refusal_at so.before fault → IsCheckedText text found
   stopped stop h fault found e script same =
       let all : outcome text stop [] so.trees ≡ stops so.before fault =
-          ap (outcome text stop []) (sym (append-nil so.trees)) ∙ sym (so.outcome_is stop []) ∙ ap (stops so.before) (sym e) in
+      ap (outcome text stop []) (sym (append-nil so.trees)) ∙ sym (so.outcome_is stop []) ∙ ap (stops so.before) (sym e) in
       (so.trees, stop, (at, so.read, h), checked text stop so.trees so.before fault found all script same)
 
   module _ (tree : Tree) (end : ℕ) (t_is : IsTree text 0 at tree end) where
@@ -47,11 +47,11 @@ module _ (text : List ℕ) (at : ℕ) (state : State) (so : IsReadSoFar text at 
     pub few : length text < 2 ^ 32 → state.commands + 1 < 2 ^ 32
     few short =
         let ahead = tree_ahead text 0 at tree end t_is in
-        let w = trees_weigh text 0 0 so.trees at (omega arith) so.read in
+        let w = trees_light text 0 0 so.trees at so.read in
         omega (arith, ahead.0, ahead.1, w.0, weigh_all so.trees, so.counted, short)
 
     pub light : length text < 2 ^ 32 → weight tree < 2 ^ 32
-    light short = let w = tree_weighs text 0 at tree end t_is in omega (arith, w.0, w.1, short)
+    light short = let w = tree_light text 0 at tree end t_is in omega (arith, w.0, w.1, short)
 
     -- what the text goes on with behind the tree, and its reading
     abbrev trees : List Tree

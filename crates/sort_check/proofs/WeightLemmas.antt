@@ -4,31 +4,10 @@ use Rattle.std.specs.Prelude.{Option}
 use Rattle.sexp_read.specs.declared.tree.Tree.{Tree}
 use Rattle.sexp_read.specs.declared.tree.TextStop.{TextStop}
 use Rattle.sexp_read.specs.declared.tree.Tree.TheViews.{List as ListTree}
-use Rattle.sexp_read.specs.Trees.{IsTree, AreTrees, IsReading, leaf, list, none, more}
-use Rattle.sexp_read.proofs.Reaches.{ahead_open, ahead_close, ahead_leaf}
+use Rattle.sexp_read.specs.Trees.{IsReading}
 use Rattle.term_check.specs.Weight.{weight, weights}
+use Rattle.term_check.proofs.LightLemmas.{reading_weighs}
 use Rattle.term_check.proofs.SpellingLemmas.{weight-List, weigh_all}
-
-mutual
-  pub tree_weighs : (text : List ℕ) (depth at : ℕ) (tree : Tree) (after : ℕ) → IsTree text depth at tree after → (weight tree + at ≤ after) × (after ≤ length text)
-  tree_weighs text _ _ _ _ (leaf depth at kind start end h) = let a = ahead_leaf text at kind start end (sym h) in (omega (arith, a.0, a.1), a.2)
-  tree_weighs text _ _ _ _ (list depth at start items inner close h below within h') =
-      let o = ahead_open text at start (sym h) in
-      let c = ahead_close text inner close (sym h') in
-      let w = trees_weigh text (depth + 1) (start + 1) items inner (omega (arith, o.1)) within in
-      let i = weight-List items start (close + 1) in
-      (omega (arith, o.0, c.0, w.0, i), omega (arith, c.1))
-
-  pub trees_weigh : (text : List ℕ) (depth at : ℕ) (trees : List Tree) (after : ℕ) → at ≤ length text → AreTrees text depth at trees after → (weights trees + at ≤ after) × (after ≤ length text)
-  trees_weigh text _ _ _ _ start (none depth at) = (omega arith, start)
-  trees_weigh text _ _ _ _ start (more depth at tree mid trees after first rest) =
-      let a = tree_weighs text depth at tree mid first in
-      let b = trees_weigh text depth mid trees after a.1 rest in
-      (omega (arith, a.0, b.0), b.1)
-
-pub reading_weighs : (text : List ℕ) (trees : List Tree) (stop : Option TextStop) → IsReading text trees stop → weights trees ≤ length text
-reading_weighs text trees stop h =
-    let w = trees_weigh text 0 0 trees h.0 (omega arith) h.1 in omega (arith, w.0, w.1)
 
 pub reading_counts : (text : List ℕ) (trees : List Tree) (stop : Option TextStop) → IsReading text trees stop → length trees ≤ length text
 reading_counts text trees stop h = let a = reading_weighs text trees stop h in let b = weigh_all trees in omega (arith, a, b)

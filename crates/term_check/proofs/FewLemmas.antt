@@ -7,7 +7,8 @@ use Rattle.term_check.specs.declared.scope.Bound.{Bound}
 use Rattle.term_check.specs.declared.scope.Named.{Named}
 use Rattle.term_check.specs.declared.scope.Meaning.{Meaning}
 use Rattle.term_check.specs.Meanings.{named_as}
-use Rattle.term_check.specs.Spelling.{bound_to, first_of}
+use Rattle.term_check.specs.Operators.{first_of}
+use Rattle.term_check.specs.Spelling.{bound_to}
 use Rattle.term_check.specs.Words.{is_among}
 use Rattle.term_check.proofs.MeaningLemmas.{bound_more}
 

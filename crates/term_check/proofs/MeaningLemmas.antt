@@ -13,7 +13,8 @@ use Rattle.term_check.specs.declared.scope.Bound.{Bound}
 use Rattle.term_check.specs.declared.scope.Named.{Named}
 use Rattle.term_check.specs.declared.scope.Binding.{Binding}
 use Rattle.term_check.specs.Meanings.{named, named_by, joined, meaning, AreKept, AreMeanings}
-use Rattle.term_check.specs.Spelling.{bound_to, first_of}
+use Rattle.term_check.specs.Operators.{first_of}
+use Rattle.term_check.specs.Spelling.{bound_to}
 use Rattle.term_check.specs.Words.{is_among}
 use Rattle.term_check.proofs.NumberLemmas.{same_bytes}
 

@@ -15,7 +15,8 @@ use Rattle.term_check.specs.declared.part.Part.{Part}
 use Rattle.term_check.specs.declared.scope.Bound.{Bound}
 use Rattle.term_check.specs.declared.scope.Bound.TheVariants.{Variable, Let}
 use Rattle.term_check.specs.declared.scope.Named.{Named}
-use Rattle.term_check.specs.Spelling.{first_of, bound_to, sort_or_bool, sort_in, sorts_bound, variables_from, lets_from, count_let, lets_in}
+use Rattle.term_check.specs.Operators.{first_of}
+use Rattle.term_check.specs.Spelling.{bound_to, sort_or_bool, sort_in, sorts_bound, variables_from, lets_from, count_let, lets_in}
 use Rattle.term_check.proofs.KnownLemmas.{Known, AllKnown, known_get, known_length}
 use Rattle.term_check.proofs.OutcomeLemmas.{below_is, above_is, same_again}
 

@@ -25,7 +25,7 @@ use Rattle.term_check.specs.declared.atom.Atom.TheVariants.{Number, Truth, Bound
 use Rattle.term_check.specs.declared.head.Head.{Head}
 use Rattle.term_check.specs.declared.head.Head.TheVariants.{Operator, Declared, Constant, Divisibility}
 use Rattle.term_check.specs.Words.{is_among, reserved_words}
-use Rattle.term_check.specs.Operators.{operator_named}
+use Rattle.term_check.specs.Operators.{first_of, operator_named}
 use Rattle.term_check.specs.Rules.{fault, unless, or_else, narrow, number_fault, same_sort, applied, divisible_fault, declared_fault}
 use Rattle.term_check.specs.Term.{Term, numeral, truth, variable, let_name, predicate, operation, divisible, binding, universal, existential, Terms, none, more, with_last}
 
@@ -56,10 +56,6 @@ abbrev pub spells : Term → ℕ → Sort → Option ℤ → ℕ → Result Spel
 spells term start sort constant next = Ok (record { term = term; part = record { start = start; sort = sort; constant = constant }; next = next })
 
 -- Names.
-
-abbrev pub first_of : {A : Type 0} → Option A → Option A → Option A
-first_of (Some a) o = Some a
-first_of None o = o
 
 -- what the last of that name stands for
 abbrev pub bound_to : List ℕ → List Named → Option Bound

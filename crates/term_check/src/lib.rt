@@ -40,5 +40,5 @@ pub use part::{Fault, Part};
 pub use rules::fault;
 pub use signature::Signature;
 pub use stop::TermStop;
-pub use trees::{is_symbol, name_of, sort_named, start_of};
+pub use trees::{is_symbol, is_word, name_of, sort_named, start_of};
 pub use words::is_reserved;

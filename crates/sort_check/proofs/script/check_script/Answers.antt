@@ -5,7 +5,8 @@ use Rattle.term_check.specs.Weight.{weight}
 use Rattle.sort_check.specs.Commands.{command}
 use Rattle.sort_check.specs.Scripts.{stops}
 use Rattle.sort_check.specs.State.{Took}
-use Rattle.sort_check.proofs.WeightLemmas.{reading_weighs, reading_counts, one_weighs}
+use Rattle.term_check.proofs.LightLemmas.{reading_weighs}
+use Rattle.sort_check.proofs.WeightLemmas.{reading_counts, one_weighs}
 use Rattle.sort_check.proofs.ScriptLemmas.{left, checked, refused, ended, goes_on, all_taken}
 use Rattle.sort_check.proofs.script.check_script.Goals as goal
 

@@ -32,7 +32,7 @@ returns-then-state c =
     let t : IsTree c.args.text.now 0 c.loop-reader.at c.in-Tree.tree c.in-Tree.end = search rules in
     let so = c.loop-reader.invariant.so_far in
     let e = over c.args.text.now c.loop-reader.at c.loop-reader.state so c.in-Tree.tree c.in-Tree.end t c.step.new.self
-        (subst (λ f. Took so.before (command c.args.text.now so.before c.in-Tree.tree) f c.step.new.self) c.in_default.is (c.in_ok-fault-in-Tree.ensures so.before so.state_is)) c.if-state.true in
+    (subst (λ f. Took so.before (command c.args.text.now so.before c.in-Tree.tree) f c.step.new.self) c.in_default.is (c.in_ok-fault-in-Tree.ensures so.before so.state_is)) c.if-state.true in
     e.2 c.into_checked-then-state.result c.end_fault-fault.result (c.end_fault-fault.ensures e.0 e.1) (c.into_checked-then-state.ensures.script e.0 e.1) (c.into_checked-then-state.ensures.stop e.0 e.1)
 
 pub loop-reader-smaller-else-state : goal.loop-reader-smaller-else-state

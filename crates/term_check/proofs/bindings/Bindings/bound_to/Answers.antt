@@ -1,6 +1,7 @@
 use Rattle.std.proofs.Common.{map, sym, ap, ◌∙◌}
 use Rattle.term_check.specs.Meanings.{named_as}
-use Rattle.term_check.specs.Spelling.{bound_to, first_of}
+use Rattle.term_check.specs.Operators.{first_of}
+use Rattle.term_check.specs.Spelling.{bound_to}
 use Rattle.term_check.proofs.FewLemmas.{bound_appended}
 use Rattle.term_check.proofs.bindings.Bindings.bound_to.Goals as goal
 
