@@ -1,3 +1,6 @@
 pub mod AnswerLemmas
+pub mod DeclaredLemmas
 pub mod ModelLemmas
+pub mod NameLemmas
 pub mod PlanLemmas
+pub mod SymbolLemmas

@@ -2,10 +2,12 @@
 #![tactic(auto)]
 
 mod answer;
+mod laws;
 mod lines;
 mod model;
 mod plan;
 mod run;
 mod words;
 
+pub use laws::{sat_answers_are_read_back, scripts_have_names, unsat_answers_are_read_back};
 pub use run::{Report, chc_run};
