@@ -6,6 +6,7 @@ pub mod TreeLemmas
 pub mod SumLemmas
 pub mod EndLemmas
 pub mod RoomLemmas
+pub mod NarrowLemmas
 pub mod WalkLemmas
 pub mod CopyLemmas
 pub mod NodeLemmas

@@ -233,7 +233,7 @@ with_term-none : (n v : ℕ) (b : ℤ) (ts : List (ℕ × ℤ)) → nat_abs b �
 with_term-none n v b [] h is = term_on-none v b [] h
 with_term-none n v b (t ∷ ts) h is = let o = ordered n t ts is in none_step v b t ts (with_term v b ts) h o.whole (with_term-none (t.0 + 1) v b ts h o.rest) (nat_lt v t.0) (v == t.0) refl
 
-term_step : (v : ℕ) (b : ℤ) (xs ys : List (ℕ × ℤ)) (z : Bool) → (nat_abs b == 0) ≡ z → collected (cond z xs ((v, b) ∷ xs) ++ ys) ≡ with_term v b (collected (xs ++ ys))
+pub term_step : (v : ℕ) (b : ℤ) (xs ys : List (ℕ × ℤ)) (z : Bool) → (nat_abs b == 0) ≡ z → collected (cond z xs ((v, b) ∷ xs) ++ ys) ≡ with_term v b (collected (xs ++ ys))
 term_step v b xs ys true e = sym (with_term-none 0 v b (collected (xs ++ ys)) (eqb-true _ _ e) (collected-ordered (xs ++ ys)))
 term_step v b xs ys false e = refl
 
@@ -283,12 +283,6 @@ divided-more f (t ∷ ts) (suc i) d h =
 
 pub divided-rest : (f : ℕ × ℤ → ℕ × ℤ) (ts : List (ℕ × Total)) (i : ℕ) (d : ℕ × Total) → i < length ts → map f (seen (drop i ts)) ≡ f ((get_or ts i d).0, (get_or ts i d).1.value) ∷ map f (seen (drop (i + 1) ts))
 divided-rest f ts i d h = ap (λ (us : List (ℕ × Total)). map f (seen us)) (drop_more ts i d h)
-
--- the term at the index is divided, so the rest decides
-pub divided-next : (d : ℤ) (ts : List (ℕ × Total)) (i : ℕ) (e : ℕ × Total) → i < length ts → is_multiple d (get_or ts i e).1.value ≡ true
-    → list_all (λ t. is_multiple d t.1) (seen (drop i ts)) ≡ list_all (λ t. is_multiple d t.1) (seen (drop (i + 1) ts))
-divided-next d ts i e h whole =
-    ap (λ (us : List (ℕ × Total)). list_all (λ t. is_multiple d t.1) (seen us)) (drop_more ts i e h) ∙ ap (λ b. b && list_all (λ t. is_multiple d t.1) (seen (drop (i + 1) ts))) whole
 
 -- a number that times the divisor makes the sum
 pub whole-is : (v q d : ℤ) → pos 0 <ℤ d → q *ℤ d ≡ v → (q ≡ int_div_euclid v d) × (is_multiple d v ≡ true)

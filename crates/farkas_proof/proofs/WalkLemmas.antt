@@ -1,7 +1,8 @@
 -- What is found in what waits in a walk.
-use Rattle.std.proofs.Common.{◌≡◌, ◌<◌, ◌+◌, ◌-◌, min, append_assoc, Err, ℕ, zero, suc, List, [], ◌∷◌, ◌++◌, map, take, drop, length, get_or, refl, ap, sym, ◌∙◌, arith, true, Bool, Bor}
+use Rattle.std.proofs.Common.{◌≡◌, ◌<◌, ◌≤◌, ◌+◌, ◌-◌, min, append_assoc, Err, Some, ℕ, zero, suc, List, [], ◌∷◌, ◌++◌, map, take, drop, length, get_or, refl, ap, sym, ◌∙◌, arith, true, Bool, Bor}
 use Rattle.std.proofs.Math.Seq.{take-append_seam, take-length}
-use Rattle.std.proofs.lemmas.List.{drop_min, drop_more, length-drop, take_min}
+use Rattle.std.proofs.lemmas.List.{drop_min, drop_more, length-drop, take-append-le, take_min}
+use Rattle.std.specs.Prelude.{slice_get}
 use Rattle.std.proofs.lemmas.List.Sums.{sum_by_push}
 use Rattle.lin_atoms.specs.Denial.{lit_fits}
 use Rattle.lin_atoms.specs.Linear.{Linear}
@@ -51,15 +52,38 @@ pub same_judged : (tree : Refutation) (e f : ℕ) (l m : List Lit) (c d : List (
 same_judged tree e f l m c d a b p q r s =
     ap (λ (x : ℕ). judged_at lit_fits x tree l c a) p ∙ ap (λ (x : List Lit). judged_at lit_fits f tree x c a) q ∙ ap (λ (x : List (List Form)). judged_at lit_fits f tree m x a) r ∙ ap (λ (x : ℕ). judged_at lit_fits f tree m d x) s
 
+-- literals that come now are forgotten, where no more than so many are known again
+pub forgets : (end : ℕ) (ws us : List Work) (lits more : List Lit) (cases : List (List Form)) (next depth : ℕ)
+    → us ≡ ws ++ Forget depth ∷ [] → length lits ≡ depth → left_to end us (lits ++ more) cases next ≡ left_to end ws lits cases next
+forgets end ws us lits more cases next depth u d =
+    let taken : take depth (lits ++ more) ≡ lits = ap (λ (k : ℕ). take k (lits ++ more)) (sym d) ∙ take-append_seam lits more in
+    left_to-push end ws us (Forget depth) (lits ++ more) cases next u ∙ ap (λ (xs : List Lit). left_to end ws xs cases next) taken
+
+last-is : (ws : List Work) (w : Work) (n : ℕ) → n ≡ length ws - 1 → Some w ≡ slice_get ws n → ws ≡ take n ws ++ w ∷ []
+last-is [] w n h is = absurd (cc)
+last-is (v ∷ []) w zero h is = let same : w ≡ v = cc in ap (λ (x : Work). x ∷ []) (sym same)
+last-is (v ∷ []) w (suc n) h is = absurd (omega arith)
+last-is (v ∷ u ∷ ws) w zero h is = absurd (omega arith)
+last-is (v ∷ u ∷ ws) w (suc n) h is = ap (λ (xs : List Work). v ∷ xs) (last-is (u ∷ ws) w n (omega arith) is)
+
+-- they are forgotten too, where what waits first forgets those before them
+pub forgets-already : (end : ℕ) (ws : List Work) (lits more : List Lit) (cases : List (List Form)) (next depth least : ℕ)
+    → Some (Forget least) ≡ slice_get ws (length ws - 1) → least ≤ depth → length lits ≡ depth → left_to end ws (lits ++ more) cases next ≡ left_to end ws lits cases next
+forgets-already end ws lits more cases next depth least is le d =
+    let before = take (length ws - 1) ws in
+    let split = last-is ws (Forget least) (length ws - 1) refl is in
+    let within : least ≤ length lits = omega arith in
+    left_to-push end before ws (Forget least) (lits ++ more) cases next split
+    ∙ ap (λ (xs : List Lit). left_to end before xs cases next) (take-append-le least lits more within)
+    ∙ sym (left_to-push end before ws (Forget least) lits cases next split)
+
 -- more literals, which are forgotten later
-pub with-more : (end : ℕ) (tree : Refutation) (ws us : List Work) (lits more ls : List Lit) (cases : List (List Form)) (at depth : ℕ)
-    → us ≡ ws ++ Forget depth ∷ [] → ls ≡ lits ++ more → depth ≡ length lits
+pub with-more : (end : ℕ) (tree : Refutation) (ws us : List Work) (lits more ls : List Lit) (cases : List (List Form)) (at : ℕ)
+    → ((n : ℕ) → left_to end us (lits ++ more) cases n ≡ left_to end ws lits cases n) → ls ≡ lits ++ more
     → followed_by (judged_at lit_fits end tree ls cases at) (left_to end us ls cases) ≡ followed_by (judged_at lit_fits end tree (lits ++ more) cases at) (left_to end ws lits cases)
-with-more end tree ws us lits more ls cases at depth u l d =
-    let taken : take depth ls ≡ lits = ap (λ (k : ℕ). take k ls) d ∙ ap (take (length lits)) l ∙ take-append_seam lits more in
-    let rest : (n : ℕ) → left_to end us ls cases n ≡ left_to end ws lits cases n = λ n. left_to-push end ws us (Forget depth) ls cases n u ∙ ap (λ (xs : List Lit). left_to end ws xs cases n) taken in
-    followed-same (judged_at lit_fits end tree ls cases at) (left_to end us ls cases) (left_to end ws lits cases) rest
-    ∙ ap (λ (f : Finding). followed_by f (left_to end ws lits cases)) (same_judged tree end end ls (lits ++ more) cases cases at at refl l refl refl)
+with-more end tree ws us lits more ls cases at rest l =
+    ap (λ (xs : List Lit). followed_by (judged_at lit_fits end tree xs cases at) (left_to end us xs cases)) l
+    ∙ followed-same (judged_at lit_fits end tree (lits ++ more) cases at) (left_to end us (lits ++ more) cases) (left_to end ws lits cases) rest
 
 -- a part, whose disjunctions are put away later
 pub with-part : (end which : ℕ) (tree : Refutation) (part : Form) (ws us : List Work) (w : Work) (lits more : List Lit) (cases cs : List (List Form)) (at : ℕ)

@@ -5,6 +5,7 @@ pub mod Refutation
 pub mod Sum
 pub mod Tells
 pub mod Kept
+pub mod Narrow
 pub mod Walk
 pub mod Copying
 pub mod Split

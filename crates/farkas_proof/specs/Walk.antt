@@ -1,5 +1,5 @@
 -- What waits in a walk through a tree, and what is found in it.
-use Rattle.std.specs.Prelude.{◌≡◌, ℕ, ◌+◌, List, [], ◌∷◌, ◌++◌, map, take, drop, Result, Ok, Err}
+use Rattle.std.specs.Prelude.{◌≡◌, ℕ, ◌+◌, List, [], ◌∷◌, ◌++◌, map, take, drop, Option, Some, None, Result, Ok, Err}
 use Rattle.std.specs.List.{sum_by}
 use Rattle.std.specs.Borrow.{Bor}
 use Rattle.lin_atoms.specs.Denial.{lit_fits}
@@ -12,7 +12,7 @@ use Rattle.farkas_proof.specs.declared.tree.Refutation.{Refutation}
 use Rattle.farkas_proof.specs.declared.tree.Refutation.TheOpen.{Refutation-F}
 use Rattle.farkas_proof.specs.declared.tree.Refutation.TheFolds.{fold-Refutation}
 use Rattle.farkas_proof.specs.declared.walk.Work.{Work}
-use Rattle.farkas_proof.specs.declared.walk.Work.TheVariants.{Tree, Under, Node, Part, Forget, Reopen}
+use Rattle.farkas_proof.specs.declared.walk.Work.TheVariants.{Tree, Under, Part, Forget, Reopen}
 use Rattle.farkas_proof.specs.declared.walk.Walk.{Walk}
 
 -- open disjunctions that are lent, as lists of their parts
@@ -27,7 +27,6 @@ replaced cases which part = take which cases ++ (disjunctions part ++ drop (whic
 abbrev pub work_step : ℕ → Work → Judge → Judge
 work_step end (Tree tree derived) rest lits cases at = followed_by (judged_at lit_fits end tree.now (lits ++ derived.items) cases at) (rest lits cases)
 work_step end (Under tree lit) rest lits cases at = followed_by (judged_at lit_fits end tree.now (lits ++ lit ∷ []) cases at) (rest lits cases)
-work_step end (Node tree) rest lits cases at = followed_by (judged_at lit_fits end tree.now lits cases at) (rest lits cases)
 work_step end (Part tree part which) rest lits cases at = followed_by (judged_at lit_fits end tree.now (lits ++ literals part.now) (replaced cases which part.now) at) (rest lits cases)
 work_step end (Forget depth) rest lits cases at = rest (take depth lits) cases at
 work_step end (Reopen outside) rest lits cases at = rest lits (opened outside.items) at
@@ -50,6 +49,14 @@ after walk = left_to walk.end walk.work.items walk.lits (opened walk.cases.items
 abbrev pub found : Walk → Finding
 found walk = after walk walk.at
 
+-- what is found where a tree comes next, and then all that waits
+abbrev pub found_in : Walk → Refutation → Finding
+found_in walk tree = followed_by (judged_at lit_fits walk.end tree walk.lits (opened walk.cases.items) walk.at) (after walk)
+
+abbrev pub found_next : Walk → Option (Bor Refutation) → Finding
+found_next walk None = found walk
+found_next walk (Some tree) = found_in walk tree.now
+
 -- what is found where something is to be done before all that waits
 abbrev pub begun : Walk → Work → Finding
 begun walk work = work_step walk.end work (left_to walk.end walk.work.items) walk.lits (opened walk.cases.items) walk.at
@@ -60,6 +67,13 @@ Leads before now (Ok _) = before ≡ now
 Leads before now (Err OutOfMemory) = Unit {0}
 Leads before now (Err (NoProof node)) = before ≡ Illegal node
 Leads before now (Err (SumWide node)) = before ≡ Wide node
+
+-- a node keeps what is found, and tells the tree that comes next, if any; or stops at it, unless memory runs out
+abbrev pub GoesOn : Finding → Walk → Result (Option (Bor Refutation)) CheckStop → Type 0
+GoesOn before walk (Ok next) = before ≡ found_next walk next
+GoesOn before walk (Err OutOfMemory) = Unit {0}
+GoesOn before walk (Err (NoProof node)) = before ≡ Illegal node
+GoesOn before walk (Err (SumWide node)) = before ≡ Wide node
 
 -- a bound on the turns that a tree takes
 abbrev pub sizes : List ℕ → ℕ
@@ -76,10 +90,14 @@ size_step (Refutation-F.Quotient lit sub) = sub + 2
 abbrev pub size : Refutation → ℕ
 size = fold-Refutation ℕ size_step
 
+-- a tree that comes next, or the turn that ends one
+abbrev pub size_of : Option (Bor Refutation) → ℕ
+size_of None = 1
+size_of (Some tree) = size tree.now
+
 abbrev pub weight_of : Work → ℕ
 weight_of (Tree tree derived) = size tree.now
 weight_of (Under tree lit) = size tree.now
-weight_of (Node tree) = size tree.now
 weight_of (Part tree part which) = size tree.now + 1
 weight_of (Forget depth) = 1
 weight_of (Reopen outside) = 1

@@ -8,7 +8,7 @@ ghost use Rattle.lin_atoms.specs.Accumulator.{is_multiple};
 use lin_atoms::Accumulator;
 
 /// The number with 64 bits, where it has room there.
-fn narrow(n: i128) -> Option<i64>
+pub(crate) fn narrow(n: i128) -> Option<i64>
     ensures { IfSome result (λ m. m ≡ n) }
 {
     if n.unsigned_abs() < 1 << 63 {
@@ -28,18 +28,8 @@ fn small(total: &Accumulator) -> Option<i64>
     }
 }
 
-/// The sum divided by the divisor, where both are found to have 64 bits and nothing is left.
-pub(crate) fn whole(total: &Accumulator, divisor: i64) -> Option<i64>
-    requires { pos 0 <ℤ divisor }
-    ensures { IfSome result (λ n. n *ℤ divisor ≡ total.now.value) }
-{
-    match small(total) {
-        Some(n) => whole_of(n, divisor),
-        None => None,
-    }
-}
-
-fn whole_of(n: i64, divisor: i64) -> Option<i64>
+/// The number divided by a divisor of it.
+pub(crate) fn whole_of(n: i64, divisor: i64) -> Option<i64>
     requires { pos 0 <ℤ divisor }
     ensures { IfSome result (λ quotient. quotient *ℤ divisor ≡ n) }
 {

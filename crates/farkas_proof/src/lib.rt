@@ -12,6 +12,7 @@ mod flatten;
 mod gave_up;
 mod known;
 mod laws;
+mod narrow;
 mod nodes;
 mod quotient;
 mod refuted;

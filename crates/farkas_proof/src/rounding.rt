@@ -1,12 +1,10 @@
 ghost use Rattle.std.specs.Prelude.{◌≡◌, ◌<ℤ◌, ◌<◌, ◌^◌, map, nat_abs, neg_ℤ, true, false, IfOk, IfSome, IsNone, IsSome, pos};
 ghost use Rattle.std.specs.Int.{int_div_euclid};
 ghost use Rattle.lin_atoms.specs.Linear.{are_ordered, are_small, fits, is_constant, is_small};
-ghost use Rattle.std.specs.List.{list_all};
-ghost use Rattle.lin_atoms.specs.Accumulator.{is_multiple};
 ghost use Rattle.farkas_proof.specs.Combination.{is_divided_by, rounded};
 ghost use Rattle.farkas_proof.specs.Sum.{seen, standing};
 
-use crate::division::{quotient, whole};
+use crate::division::quotient;
 use crate::sum::Sum;
 use base::Memory;
 use lin_atoms::{Accumulator, Lin, LinStop};
@@ -66,26 +64,6 @@ fn quotients(
     Ok(Some(made))
 }
 
-/// The quotients of the coefficients, where all are found to be whole and to have 64 bits.
-pub(crate) fn wholes(
-    alloc: Global,
-    terms: &[(u32, Accumulator)],
-    divisor: i64,
-) -> Result<Option<Vec<(u32, i64)>>, Memory>
-    requires { pos 0 <ℤ divisor }
-    ensures some { IfOk result (λ made. IfSome made (λ made. made.items ≡ map (λ t. (t.0, int_div_euclid t.1 divisor)) (seen terms.now))) }
-    ensures divided { IfOk result (λ made. IsSome made → list_all (λ t. is_multiple divisor t.1) (seen terms.now) ≡ true) }
-{
-    let mut made = Vec::with_capacity(alloc, terms.len())?;
-    for term in terms {
-        match whole(&term.1, divisor) {
-            Some(quotient) => made.push((term.0, quotient))?,
-            None => return Ok(None),
-        }
-    }
-    Ok(Some(made))
-}
-
 /// The constant divided and rounded up, given with the other sign, unless it has no room in a form.
 fn rounded_constant(negated: &Accumulator, divisor: i64) -> Option<i128>
     requires { pos 0 <ℤ divisor }
@@ -116,7 +94,7 @@ pub(crate) fn rounded(alloc: Global, sum: &Sum, divisor: i64) -> Result<Option<L
 
 /// The sum divided by a divisor of its coefficients, whose quotients are given, with the constant
 /// rounded up, unless a number has no room in a form.
-pub(crate) fn rounded_from(terms: Vec<(u32, i64)>, sum: &Sum, divisor: i64) -> Option<Lin>
+fn rounded_from(terms: Vec<(u32, i64)>, sum: &Sum, divisor: i64) -> Option<Lin>
     requires positive { pos 0 <ℤ divisor }
     requires quotients { terms.items ≡ map (λ t. (t.0, int_div_euclid t.1 divisor)) (seen sum.now.terms.items) }
     requires divided { is_divided_by divisor (standing sum.now.terms.items sum.now.negated) ≡ true }
@@ -132,7 +110,7 @@ pub(crate) fn rounded_from(terms: Vec<(u32, i64)>, sum: &Sum, divisor: i64) -> O
 }
 
 /// The form of terms that are in order, unless a number has no room.
-fn form_of(terms: Vec<(u32, i64)>, constant: i128) -> Option<Lin>
+pub(crate) fn form_of(terms: Vec<(u32, i64)>, constant: i128) -> Option<Lin>
     requires { are_ordered 0 terms.items ≡ true }
     ensures some { IfSome result (λ lin. lin ≡ record { terms = terms.items; constant = constant }) }
     ensures within { IsSome result → fits (record { terms = terms.items; constant = constant }) ≡ true }

@@ -262,7 +262,7 @@ impl Sum {
 }
 
 /// The form of a literal of that number, if it may be multiplied so.
-fn multiplied(lits: &[Lit], which: u32, k: i64) -> Option<&Lin>
+pub(crate) fn multiplied(lits: &[Lit], which: u32, k: i64) -> Option<&Lin>
     ensures some { IfSome result (λ lin. (is_multiplier lits.now (which, k) ≡ true) × (lin.now ≡ linear_at lits.now which)) }
     ensures small { IsSome result → nat_abs k < 2 ^ 63 }
     ensures none { IsNone result → is_multiplier lits.now (which, k) ≡ false }

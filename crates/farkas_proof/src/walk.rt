@@ -9,12 +9,13 @@ ghost use Rattle.farkas_proof.specs.Tells.{Tells};
 ghost use Rattle.lin_atoms.specs.declared.form.Form.{Form};
 ghost use Rattle.lin_atoms.specs.declared.lit.Lit.{Lit};
 ghost use Rattle.farkas_proof.specs.Flatten.{literals};
-ghost use Rattle.farkas_proof.specs.Walk.{Leads, after, begun, found, left_to, opened, replaced, size, sizes, weight, weight_of, weights};
+ghost use Rattle.farkas_proof.specs.Walk.{GoesOn, Leads, after, begun, found, found_in, found_next, left_to, opened, replaced, size, size_of, sizes, weight, weight_of, weights};
 ghost use Rattle.std.specs.List.{list_all};
 
 use crate::ends::form_end;
 use crate::flatten::{push_disjunctions, push_literals};
 use crate::known::Known;
+use crate::narrow::Narrow;
 use crate::nodes::{above, leaf, next, round};
 use crate::quotient::named;
 use crate::stop::CheckStop;
@@ -37,10 +38,6 @@ pub(crate) enum Work<'a> {
     Under {
         tree: &'a Refutation,
         lit: Lit,
-    },
-    /// A tree, where the literals that its node derives are known already.
-    Node {
-        tree: &'a Refutation,
     },
     /// A tree for one part of the open disjunction of that number.
     Part {
@@ -70,8 +67,9 @@ pub(crate) struct Walk<'a> {
     work: Vec<Work<'a>>,
     /// The number of the next node.
     at: u32,
-    /// Any sum, whose memory the nodes use in turn.
+    /// Any sums, whose memory the nodes use in turn.
     sum: Sum,
+    narrow: Narrow,
 }
 
 /// What is found in a tree for a form.
@@ -109,6 +107,7 @@ fn begin<'a>(alloc: Global, form: &'a Form, tree: &'a Refutation) -> Result<Walk
         work,
         at: 0,
         sum: Sum::nothing(alloc),
+        narrow: Narrow::nothing(alloc),
     })
 }
 
@@ -117,6 +116,24 @@ fn put<'a>(waiting: &mut Vec<Work<'a>>, work: Work<'a>) -> Result<(), Memory>
     ensures { OnOk result (waiting.new.items ≡ waiting.old.items ++ work.entry ∷ []) }
 {
     waiting.push(work)?;
+    Ok(())
+}
+
+/// More literals than so many are forgotten before what waits already. A literal may wait to be
+/// forgotten with those below it.
+fn forget<'a>(waiting: &mut Vec<Work<'a>>, depth: usize) -> Result<(), Memory>
+    ensures after { OnOk result ((end : ℕ) (lits more : List Lit) (cases : List (List Form)) (next : ℕ) → length lits ≡ depth → left_to end waiting.new.items (lits ++ more) cases next ≡ left_to end waiting.old.items lits cases next) }
+    ensures weight { OnOk result (weights waiting.new.items ≤ weights waiting.old.items + 1) }
+{
+    match waiting.last() {
+        Some(Work::Forget { depth: least }) => {
+            if *least <= depth {
+                return Ok(());
+            }
+        }
+        _ => {}
+    }
+    put(waiting, Work::Forget { depth })?;
     Ok(())
 }
 
@@ -196,7 +213,6 @@ impl<'a> Walk<'a> {
         match work {
             Work::Tree { tree, derived } => self.judge_with(tree, derived),
             Work::Under { tree, lit } => self.judge_under(tree, lit),
-            Work::Node { tree } => self.judge_node(tree),
             Work::Part { tree, part, which } => self.judge_part(tree, part, which),
             Work::Forget { depth } => {
                 self.lits.truncate(depth);
@@ -214,10 +230,9 @@ impl<'a> Walk<'a> {
         ensures leads { Leads (followed_by (judged_at lit_fits self.old.end tree.now (self.old.lits ++ derived.items) (opened self.old.cases.items) self.old.at) (after self.old)) (found self.new) result }
         ensures less { OnOk result (weight self.new < weight self.old + size tree.now) }
     {
-        let depth = self.lits.len();
-        put(&mut self.work, Work::Forget { depth })?;
+        forget(&mut self.work, self.lits.len())?;
         self.lits.push_all(derived)?;
-        self.judge_node(tree)
+        self.judge_tree(tree)
     }
 
     /// A tree, with one more literal.
@@ -225,10 +240,9 @@ impl<'a> Walk<'a> {
         ensures leads { Leads (followed_by (judged_at lit_fits self.old.end tree.now (self.old.lits ++ lit ∷ []) (opened self.old.cases.items) self.old.at) (after self.old)) (found self.new) result }
         ensures less { OnOk result (weight self.new < weight self.old + size tree.now) }
     {
-        let depth = self.lits.len();
-        put(&mut self.work, Work::Forget { depth })?;
+        forget(&mut self.work, self.lits.len())?;
         self.lits.push(lit)?;
-        self.judge_node(tree)
+        self.judge_tree(tree)
     }
 
     /// A tree for a part of an open disjunction.
@@ -249,10 +263,25 @@ impl<'a> Walk<'a> {
         self.judge_with(tree, derived)
     }
 
-    /// The node of a tree, and what waits then.
-    fn judge_node(&mut self, tree: &'a Refutation) -> Result<(), CheckStop>
-        ensures leads { Leads (followed_by (judged_at lit_fits self.old.end tree.now self.old.lits (opened self.old.cases.items) self.old.at) (after self.old)) (found self.new) result }
+    /// The nodes of a tree, down to one that ends it or splits a disjunction.
+    fn judge_tree(&mut self, tree: &'a Refutation) -> Result<(), CheckStop>
+        ensures leads { Leads (found_in self.old tree.now) (found self.new) result }
         ensures less { OnOk result (weight self.new + 2 ≤ weight self.old + size tree.now) }
+    {
+        let mut here = tree;
+        loop {
+            match self.judge_node(here) {
+                Ok(Some(sub)) => here = sub,
+                Ok(None) => return Ok(()),
+                Err(stop) => return Err(stop),
+            }
+        }
+    }
+
+    /// The node of a tree, what waits then, and the tree that is next where none waits before it.
+    fn judge_node(&mut self, tree: &'a Refutation) -> Result<Option<&'a Refutation>, CheckStop>
+        ensures on { GoesOn (found_in self.old tree.now) self.new result }
+        ensures less { IfOk result (λ next. weight self.new + size_of next < weight self.old + size tree.now) }
     {
         match tree {
             Refutation::Leaf { multipliers } => self.judge_leaf(multipliers.as_slice()),
@@ -269,14 +298,23 @@ impl<'a> Walk<'a> {
         }
     }
 
-    fn judge_leaf(&mut self, multipliers: &[(u32, i64)]) -> Result<(), CheckStop>
-        ensures leads { Leads (followed_by (checked (are_multipliers self.old.lits multipliers.now && is_above_zero (combined self.old.lits multipliers.now)) true self.old.at (Sound (self.old.at + 1))) (after self.old)) (found self.new) result }
-        ensures less { OnOk result (weight self.new ≡ weight self.old) }
+    fn judge_leaf(
+        &mut self,
+        multipliers: &[(u32, i64)],
+    ) -> Result<Option<&'a Refutation>, CheckStop>
+        ensures on { GoesOn (followed_by (checked (are_multipliers self.old.lits multipliers.now && is_above_zero (combined self.old.lits multipliers.now)) true self.old.at (Sound (self.old.at + 1))) (after self.old)) self.new result }
+        ensures less { IfOk result (λ next. weight self.new + size_of next ≡ weight self.old + 1) }
     {
-        match leaf(&mut self.sum, self.lits.as_slice(), multipliers, self.at) {
+        match leaf(
+            &mut self.sum,
+            &mut self.narrow,
+            self.lits.as_slice(),
+            multipliers,
+            self.at,
+        ) {
             Ok(at) => {
                 self.at = at;
-                Ok(())
+                Ok(None)
             }
             Err(stop) => Err(stop),
         }
@@ -287,21 +325,22 @@ impl<'a> Walk<'a> {
         multipliers: &[(u32, i64)],
         divisor: i64,
         sub: &'a Refutation,
-    ) -> Result<(), CheckStop>
-        ensures leads { Leads (followed_by (checked (are_multipliers self.old.lits multipliers.now && (int_le (pos 1) divisor && is_divided_by divisor (combined self.old.lits multipliers.now))) (lit_fits (Le (rounded divisor (combined self.old.lits multipliers.now)))) self.old.at (judged_at lit_fits self.old.end sub.now (self.old.lits ++ Le (rounded divisor (combined self.old.lits multipliers.now)) ∷ []) (opened self.old.cases.items) (self.old.at + 1))) (after self.old)) (found self.new) result }
-        ensures less { OnOk result (weight self.new ≡ weight self.old + (size sub.now + 1)) }
+    ) -> Result<Option<&'a Refutation>, CheckStop>
+        ensures on { GoesOn (followed_by (checked (are_multipliers self.old.lits multipliers.now && (int_le (pos 1) divisor && is_divided_by divisor (combined self.old.lits multipliers.now))) (lit_fits (Le (rounded divisor (combined self.old.lits multipliers.now)))) self.old.at (judged_at lit_fits self.old.end sub.now (self.old.lits ++ Le (rounded divisor (combined self.old.lits multipliers.now)) ∷ []) (opened self.old.cases.items) (self.old.at + 1))) (after self.old)) self.new result }
+        ensures less { IfOk result (λ next. weight self.new + size_of next ≤ weight self.old + (size sub.now + 1)) }
     {
         match round(
             self.alloc,
             &mut self.sum,
+            &mut self.narrow,
             self.lits.as_slice(),
             multipliers,
             divisor,
             self.at,
         ) {
             Ok(derived) => {
-                self.go_on(sub, derived)?;
-                Ok(())
+                let next = self.go_on(sub, derived)?;
+                Ok(next)
             }
             Err(stop) => Err(stop),
         }
@@ -312,44 +351,52 @@ impl<'a> Walk<'a> {
         lin: &Lin,
         low_sub: &'a Refutation,
         high_sub: &'a Refutation,
-    ) -> Result<(), CheckStop>
-        ensures leads { Leads (followed_by (checked true (lit_fits (Le lin.now) && lit_fits (Le (one_minus lin.now))) self.old.at (followed_by (judged_at lit_fits self.old.end low_sub.now (self.old.lits ++ Le lin.now ∷ []) (opened self.old.cases.items) (self.old.at + 1)) (judged_at lit_fits self.old.end high_sub.now (self.old.lits ++ Le (one_minus lin.now) ∷ []) (opened self.old.cases.items)))) (after self.old)) (found self.new) result }
-        ensures less { OnOk result (weight self.new ≡ weight self.old + (size low_sub.now + size high_sub.now + 1)) }
+    ) -> Result<Option<&'a Refutation>, CheckStop>
+        ensures on { GoesOn (followed_by (checked true (lit_fits (Le lin.now) && lit_fits (Le (one_minus lin.now))) self.old.at (followed_by (judged_at lit_fits self.old.end low_sub.now (self.old.lits ++ Le lin.now ∷ []) (opened self.old.cases.items) (self.old.at + 1)) (judged_at lit_fits self.old.end high_sub.now (self.old.lits ++ Le (one_minus lin.now) ∷ []) (opened self.old.cases.items)))) (after self.old)) self.new result }
+        ensures less { IfOk result (λ next. weight self.new + size_of next ≤ weight self.old + (size low_sub.now + size high_sub.now + 1)) }
     {
         match above(self.alloc, lin, self.at) {
             Ok(high) => {
                 let low = lin.copy(self.alloc)?;
                 self.wait(high_sub, high)?;
-                self.go_on(low_sub, Lit::Le(low))?;
-                Ok(())
+                let next = self.go_on(low_sub, Lit::Le(low))?;
+                Ok(next)
             }
             Err(stop) => Err(stop),
         }
     }
 
-    fn judge_cases(&mut self, which: u32, subs: &'a [Refutation]) -> Result<(), CheckStop>
-        ensures leads { Leads (followed_by (checked (has_parts (opened self.old.cases.items) which (length subs.now)) true self.old.at (each_part (map (judged_at lit_fits self.old.end) subs.now) (slice_index_or (opened self.old.cases.items) which []) which self.old.lits (opened self.old.cases.items) (self.old.at + 1))) (after self.old)) (found self.new) result }
-        ensures less { OnOk result (weight self.new ≡ weight self.old + sizes (map size subs.now)) }
+    fn judge_cases(
+        &mut self,
+        which: u32,
+        subs: &'a [Refutation],
+    ) -> Result<Option<&'a Refutation>, CheckStop>
+        ensures on { GoesOn (followed_by (checked (has_parts (opened self.old.cases.items) which (length subs.now)) true self.old.at (each_part (map (judged_at lit_fits self.old.end) subs.now) (slice_index_or (opened self.old.cases.items) which []) which self.old.lits (opened self.old.cases.items) (self.old.at + 1))) (after self.old)) self.new result }
+        ensures less { IfOk result (λ next. weight self.new + size_of next ≡ weight self.old + (sizes (map size subs.now) + 1)) }
     {
         match parts_of(self.cases.as_slice(), which, subs.len()) {
             Some(parts) => {
                 self.at = next(self.at)?;
                 push_parts(&mut self.work, parts, subs, which)?;
-                Ok(())
+                Ok(None)
             }
             None => Err(CheckStop::NoProof { node: self.at }),
         }
     }
 
-    fn judge_quotient(&mut self, lit: u32, sub: &'a Refutation) -> Result<(), CheckStop>
-        ensures leads { Leads (followed_by (checked (has_quotient self.old.lits lit (new_variable self.old.end self.old.lits)) (list_all lit_fits (quotient_at self.old.lits lit (new_variable self.old.end self.old.lits))) self.old.at (judged_at lit_fits self.old.end sub.now (self.old.lits ++ quotient_at self.old.lits lit (new_variable self.old.end self.old.lits)) (opened self.old.cases.items) (self.old.at + 1))) (after self.old)) (found self.new) result }
-        ensures less { OnOk result (weight self.new ≡ weight self.old + size sub.now) }
+    fn judge_quotient(
+        &mut self,
+        lit: u32,
+        sub: &'a Refutation,
+    ) -> Result<Option<&'a Refutation>, CheckStop>
+        ensures on { GoesOn (followed_by (checked (has_quotient self.old.lits lit (new_variable self.old.end self.old.lits)) (list_all lit_fits (quotient_at self.old.lits lit (new_variable self.old.end self.old.lits))) self.old.at (judged_at lit_fits self.old.end sub.now (self.old.lits ++ quotient_at self.old.lits lit (new_variable self.old.end self.old.lits)) (opened self.old.cases.items) (self.old.at + 1))) (after self.old)) self.new result }
+        ensures less { IfOk result (λ next. weight self.new + size_of next ≤ weight self.old + (size sub.now + 1)) }
     {
         match named(self.alloc, &self.lits, lit, self.end, self.at) {
             Ok(derived) => {
                 let derived = copies(self.alloc, derived.as_slice())?;
-                self.go_on_with(sub, derived)?;
-                Ok(())
+                let next = self.go_on_with(sub, derived)?;
+                Ok(next)
             }
             Err(stop) => Err(stop),
         }
@@ -368,26 +415,29 @@ impl<'a> Walk<'a> {
         Ok(())
     }
 
-    /// The next node is that of the tree, which stands on one more literal.
-    fn go_on(&mut self, tree: &'a Refutation, lit: Lit) -> Result<(), Memory>
-        ensures found { OnOk result (found self.new ≡ followed_by (judged_at lit_fits self.old.end tree.now (self.old.lits ++ lit ∷ []) (opened self.old.cases.items) (self.old.at + 1)) (after self.old)) }
-        ensures weight { OnOk result (weight self.new ≡ weight self.old + (size tree.now + 1)) }
+    /// One node is done, and the tree comes next, which stands on one more literal.
+    fn go_on(&mut self, tree: &'a Refutation, lit: Lit) -> Result<Option<&'a Refutation>, Memory>
+        ensures found { IfOk result (λ next. found_next self.new next ≡ followed_by (judged_at lit_fits self.old.end tree.now (self.old.lits ++ lit ∷ []) (opened self.old.cases.items) (self.old.at + 1)) (after self.old)) }
+        ensures weight { IfOk result (λ next. weight self.new + size_of next ≤ weight self.old + (size tree.now + 1)) }
     {
         self.at = next(self.at)?;
-        let depth = self.lits.len();
-        put(&mut self.work, Work::Forget { depth })?;
+        forget(&mut self.work, self.lits.len())?;
         self.lits.push(lit)?;
-        put(&mut self.work, Work::Node { tree })?;
-        Ok(())
+        Ok(Some(tree))
     }
 
-    /// The next node is that of the tree, which stands on more literals.
-    fn go_on_with(&mut self, tree: &'a Refutation, derived: Vec<Lit>) -> Result<(), Memory>
-        ensures found { OnOk result (found self.new ≡ followed_by (judged_at lit_fits self.old.end tree.now (self.old.lits ++ derived.items) (opened self.old.cases.items) (self.old.at + 1)) (after self.old)) }
-        ensures weight { OnOk result (weight self.new ≡ weight self.old + size tree.now) }
+    /// One node is done, and the tree comes next, which stands on more literals.
+    fn go_on_with(
+        &mut self,
+        tree: &'a Refutation,
+        derived: Vec<Lit>,
+    ) -> Result<Option<&'a Refutation>, Memory>
+        ensures found { IfOk result (λ next. found_next self.new next ≡ followed_by (judged_at lit_fits self.old.end tree.now (self.old.lits ++ derived.items) (opened self.old.cases.items) (self.old.at + 1)) (after self.old)) }
+        ensures weight { IfOk result (λ next. weight self.new + size_of next ≤ weight self.old + (size tree.now + 1)) }
     {
         self.at = next(self.at)?;
-        put(&mut self.work, Work::Tree { tree, derived })?;
-        Ok(())
+        forget(&mut self.work, self.lits.len())?;
+        self.lits.push_all(derived)?;
+        Ok(Some(tree))
     }
 }

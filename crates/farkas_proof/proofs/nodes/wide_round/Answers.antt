@@ -9,7 +9,7 @@ use Rattle.farkas_proof.specs.Combination.{are_multipliers, combined, is_divided
 use Rattle.farkas_proof.specs.Sum.{standing}
 use Rattle.farkas_proof.specs.Tells.{Derives}
 use Rattle.farkas_proof.specs.declared.stop.CheckStop.{CheckStop}
-use Rattle.farkas_proof.proofs.nodes.round.Goals as goal
+use Rattle.farkas_proof.proofs.nodes.wide_round.Goals as goal
 
 -- what a sum derives, the node derives whose multipliers and divisor are legal
 derives : (m p q r : Bool) (x y : Lit) (at : ℕ) (result : Result Lit CheckStop) → m ≡ true → p ≡ true → q ≡ r → x ≡ y → Derives r y at result → Derives (m && (p && q)) x at result
