@@ -23,7 +23,7 @@ pub(crate) enum Frame<'a> {
     },
     Above {
         lin: &'a Lin,
-        below: Refutation,
+        below: Boxed<Refutation>,
     },
     Cases {
         which: u32,
@@ -164,12 +164,12 @@ fn fill<'a>(
             }))
         }
         Frame::Below { lin, above } => {
-            frames.push(Frame::Above { lin, below: tree })?;
+            let below = Boxed::new(alloc, tree)?;
+            frames.push(Frame::Above { lin, below })?;
             Ok(Next::Down(above))
         }
         Frame::Above { lin, below } => {
             let lin = lin.copy(alloc)?;
-            let below = Boxed::new(alloc, below)?;
             let above = Boxed::new(alloc, tree)?;
             Ok(Next::Up(Refutation::Split { lin, below, above }))
         }

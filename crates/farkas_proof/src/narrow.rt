@@ -140,6 +140,15 @@ fn merge(made: &mut Vec<(u32, i64)>, k: i64, ours: &[(u32, i64)], theirs: &[(u32
     made.extend_from_slice(&theirs[j..]).is_ok()
 }
 
+/// Puts a multiple of terms where there are none, and says whether that could be done.
+fn put_multiple(terms: &mut Vec<(u32, i64)>, k: i64, added: &[(u32, i64)]) -> bool
+    requires empty { terms.old.items ≡ [] }
+    requires rising { are_ordered 0 added.now ≡ true }
+    ensures { IsTrue result → terms.new.items ≡ collected (scaled_terms k added.now ++ terms.old.items) }
+{
+    push_multiples(terms, k, added)
+}
+
 /// The quotients of the coefficients, where all are found to be whole.
 fn wholes(
     alloc: Global,
@@ -187,6 +196,9 @@ impl Narrow {
         match less_multiple(self.negated, k, lin.constant()) {
             Some(negated) => {
                 self.negated = negated;
+                if self.terms.is_empty() {
+                    return put_multiple(&mut self.terms, k, lin.terms());
+                }
                 self.spare.clear();
                 if !merge(&mut self.spare, k, lin.terms(), self.terms.as_slice()) {
                     return false;

@@ -19,7 +19,7 @@ returns-else-not-merge-clause-value c =
     let a_fits : FitsSigned w128 c.constant.result = omega (arith, ints, small) in
     let merged = simp to_z-of_z at (c.merge.ensures c.if-not-merge.false) in
     let terms = ap (λ v. v.items) c.swap.ensures.x_after ∙ merged
-    ∙ ap (λ (ts : List (ℕ × ℤ)). collected (scaled_terms k ts ++ c.as_slice.result.now)) c.terms.ensures.is ∙ ap (λ (ts : List (ℕ × ℤ)). collected (scaled_terms k c.args.lin.now.terms ++ ts)) c.as_slice.ensures.value in
+    ∙ ap (λ (ts : List (ℕ × ℤ)). collected (scaled_terms k ts ++ c.as_slice.result.now)) c.terms-in-Some.ensures.is ∙ ap (λ (ts : List (ℕ × ℤ)). collected (scaled_terms k c.args.lin.now.terms ++ ts)) c.as_slice.ensures.value in
     let less = simp to_z-of_z at c.in-Some.ensures in
     let constant = negated-less c.in-Some.negated self.negated (k *ℤ c.constant.result) less ∙ ap (λ z. k *ℤ z +ℤ neg_ℤ self.negated) c.constant.ensures.is in
     λ _. simp to_z-of_z (same-parts c.swap.new.x.items (collected (scaled_terms k c.args.lin.now.terms ++ self.terms.items)) (neg_ℤ c.in-Some.negated) (k *ℤ c.args.lin.now.constant +ℤ neg_ℤ self.negated) terms constant)
@@ -28,4 +28,10 @@ pub returns-else-not-merge-clause-ordered : goal.returns-else-not-merge-clause-o
 returns-else-not-merge-clause-ordered c =
     let k_fits : FitsSigned w64 c.args.k = c.ranges.k in
     let merged = simp to_z-of_z at (c.merge.ensures c.if-not-merge.false) in
-    λ _. ap (λ v. are_ordered 0 v.items) c.swap.ensures.x_after ∙ ordered-made c.merge.new.made.items (scaled_terms c.args.k c.terms.result.now ++ c.as_slice.result.now) merged
+    λ _. ap (λ v. are_ordered 0 v.items) c.swap.ensures.x_after ∙ ordered-made c.merge.new.made.items (scaled_terms c.args.k c.terms-in-Some.result.now ++ c.as_slice.result.now) merged
+
+pub returns-then-is_empty-clause-ordered : goal.returns-then-is_empty-clause-ordered
+returns-then-is_empty-clause-ordered c = λ done.
+    let k_fits : FitsSigned w64 c.args.k = c.ranges.k in
+    let made = simp to_z-of_z at (c.put_multiple.ensures done) in
+    ordered-made c.put_multiple.new.terms.items (scaled_terms c.args.k c.terms.result.now ++ c.args.self.now.terms.items) made
