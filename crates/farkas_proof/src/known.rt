@@ -1,7 +1,9 @@
 //! The literals that are known where a walk stands.
 
-ghost use Rattle.std.specs.Prelude.{◌≡◌, ◌++◌, ◌∷◌, [], OnOk, length, take};
+ghost use Rattle.std.specs.Prelude.{◌≡◌, ◌++◌, ◌∷◌, [], List, IfOk, OnOk, length, take};
+ghost use Rattle.lin_atoms.specs.declared.lit.Lit.{Lit};
 ghost use Rattle.farkas_proof.specs.Combination.{lits_end};
+ghost use Rattle.farkas_proof.specs.Ends.{ends_from};
 
 use crate::ends::lit_end;
 use base::Memory;
@@ -9,17 +11,17 @@ use lin_atoms::Lit;
 use std::alloc::Global;
 use std::marker::Model;
 
-/// Literals, of which the last come and go. The first number above all their variables is kept, so
-/// that no call looks through them for it.
+/// Literals, of which the last come and go. First numbers above their variables are kept from call
+/// to call, so that none looks through all literals again.
 #[derive(Drop)]
 pub(crate) struct Known {
     lits: Vec<Lit>,
-    /// For each literal, the first number above the variables of those up to it.
+    /// For each of the first literals, the first number above the variables of those up to it.
     ends: Vec<u64>,
 }
 
 impl Model for Known {
-    ghost use Rattle.std.specs.Prelude.{◌≡◌, List};
+    ghost use Rattle.std.specs.Prelude.{◌≡◌, List, length, take};
     ghost use Rattle.lin_atoms.specs.declared.lit.Lit.{Lit};
     ghost use Rattle.farkas_proof.specs.Ends.{ends_from};
 
@@ -27,7 +29,30 @@ impl Model for Known {
 
     ghost view = { λ k. k.lits.items };
 
-    ghost invariant = { λ k. k.ends.items ≡ ends_from 0 k.lits.items };
+    ghost invariant = { λ k. k.ends.items ≡ ends_from 0 (take (length k.ends.items) k.lits.items) };
+}
+
+/// The last of the numbers, 0 where there is none.
+fn last_of(ends: &[u64]) -> u64
+    ensures { (lits : List Lit) → ends.now ≡ ends_from 0 lits → result ≡ lits_end lits }
+{
+    match ends.last() {
+        Some(end) => *end,
+        None => 0,
+    }
+}
+
+/// Makes the numbers for all literals, where those for the first are there.
+fn complete(ends: &mut Vec<u64>, lits: &[Lit]) -> Result<(), Memory>
+    requires { ends.old.items ≡ ends_from 0 (take (length ends.old.items) lits.now) }
+    ensures kept { ends.new.items ≡ ends_from 0 (take (length ends.new.items) lits.now) }
+    ensures all { OnOk result (ends.new.items ≡ ends_from 0 lits.now) }
+{
+    while ends.len() < lits.len() {
+        let end = last_of(ends.as_slice()).max(lit_end(&lits[ends.len()]));
+        ends.push(end)?;
+    }
+    Ok(())
 }
 
 impl Known {
@@ -54,23 +79,19 @@ impl Known {
     }
 
     /// One more than the greatest variable of the literals, 0 where there is none.
-    pub(crate) fn end(&self) -> u64
-        ensures { result ≡ lits_end self.now }
+    pub(crate) fn end(&mut self) -> Result<u64, Memory>
+        ensures value { IfOk result (λ end. end ≡ lits_end self.old) }
+        ensures same { self.new ≡ self.old }
     {
-        match self.ends.last() {
-            Some(end) => *end,
-            None => 0,
-        }
+        complete(&mut self.ends, self.lits.as_slice())?;
+        Ok(last_of(self.ends.as_slice()))
     }
 
     /// One more literal.
     pub(crate) fn push(&mut self, lit: Lit) -> Result<(), Memory>
         ensures { OnOk result (self.new ≡ self.old ++ lit ∷ []) }
     {
-        let end = self.end().max(lit_end(&lit));
-        self.ends.reserve(1)?;
         self.lits.push(lit)?;
-        self.ends.push(end).unwrap();
         Ok(())
     }
 

@@ -140,14 +140,15 @@ fn is_division(lit: &Lit) -> bool
 /// The literals of a node that names a quotient.
 pub(crate) fn named(
     alloc: Global,
-    lits: &Known,
+    lits: &mut Known,
     which: u32,
     end: u64,
     at: u32,
 ) -> Result<Items<Lit>, CheckStop>
-    ensures { DerivesAll (has_quotient lits.now which (new_variable end lits.now)) (quotient_at lits.now which (new_variable end lits.now)) at result }
+    ensures derived { DerivesAll (has_quotient lits.old which (new_variable end lits.old)) (quotient_at lits.old which (new_variable end lits.old)) at result }
+    ensures same { lits.new ≡ lits.old }
 {
-    let q = lits.end().max(end);
+    let q = lits.end()?.max(end);
     match lits.as_slice().get(which as usize) {
         Some(lit) => named_of(alloc, lit, q, at),
         None => Err(CheckStop::NoProof { node: at }),

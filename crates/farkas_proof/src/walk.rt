@@ -392,7 +392,7 @@ impl<'a> Walk<'a> {
         ensures on { GoesOn (followed_by (checked (has_quotient self.old.lits lit (new_variable self.old.end self.old.lits)) (list_all lit_fits (quotient_at self.old.lits lit (new_variable self.old.end self.old.lits))) self.old.at (judged_at lit_fits self.old.end sub.now (self.old.lits ++ quotient_at self.old.lits lit (new_variable self.old.end self.old.lits)) (opened self.old.cases.items) (self.old.at + 1))) (after self.old)) self.new result }
         ensures less { IfOk result (λ next. weight self.new + size_of next ≤ weight self.old + (size sub.now + 1)) }
     {
-        match named(self.alloc, &self.lits, lit, self.end, self.at) {
+        match named(self.alloc, &mut self.lits, lit, self.end, self.at) {
             Ok(derived) => {
                 let derived = copies(self.alloc, derived.as_slice())?;
                 let next = self.go_on_with(sub, derived)?;

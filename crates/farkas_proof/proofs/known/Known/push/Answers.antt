@@ -1,13 +1,10 @@
-use Rattle.std.proofs.Common.{◌≡◌, ◌++◌, ◌∷◌, [], ap, sym, ◌∙◌, rules, List, ℕ, max}
-use Rattle.lin_atoms.specs.Denial.{linear_of}
-use Rattle.farkas_proof.specs.Combination.{lits_end, terms_end}
+use Rattle.std.proofs.Common.{List, [], ◌∷◌, take, length, ap, sym, ◌∙◌}
+use Rattle.lin_atoms.specs.declared.lit.Lit.{Lit}
 use Rattle.farkas_proof.specs.Ends.{ends_from}
-use Rattle.farkas_proof.proofs.KnownLemmas.{ends-pushed}
+use Rattle.farkas_proof.proofs.KnownLemmas.{kept-push}
 use Rattle.farkas_proof.proofs.known.Known.push.Goals as goal
 
 pub invariant_of-self-2 : goal.invariant_of-self-2
 invariant_of-self-2 c =
-    let lits = c.self.inside.lits.items in
-    let pushed : c.push-2.new.self.items ≡ c.self.inside.ends.items ++ max (lits_end lits) (terms_end (linear_of c.args.lit).terms) ∷ [] = search rules in
-    let more : c.push.new.self.items ≡ lits ++ c.args.lit ∷ [] = search rules in
-    pushed ∙ ap (λ (ns : List ℕ). ns ++ max (lits_end lits) (terms_end (linear_of c.args.lit).terms) ∷ []) c.self.invariant ∙ sym (ends-pushed lits c.args.lit) ∙ ap (ends_from 0) (sym more)
+    let ends = c.self.inside.ends.items in
+    kept-push ends c.self.inside.lits.items (c.args.lit ∷ []) c.self.invariant ∙ ap (λ (xs : List Lit). ends_from 0 (take (length ends) xs)) (sym c.in_ok-push.ensures.items)
