@@ -88,6 +88,19 @@ fn push_multiples(terms: &mut Vec<(u32, i64)>, k: i64, added: &[(u32, i64)]) -> 
     true
 }
 
+/// Puts the terms from `from` on behind others, and says whether that could be done.
+fn push_rest(made: &mut Vec<(u32, i64)>, terms: &[(u32, i64)], from: usize) -> bool
+    requires { from ≤ length terms.now }
+    ensures { IsTrue result → made.new.items ≡ made.old.items ++ drop from terms.now }
+{
+    for i in from..terms.len() {
+        if made.push(terms[i]).is_err() {
+            return false;
+        }
+    }
+    true
+}
+
 /// The first term of the sum of what is left of a multiple and of other terms, from `i` and `j` on,
 /// and from where on they are left then.
 fn first(
@@ -137,7 +150,7 @@ fn merge(made: &mut Vec<(u32, i64)>, k: i64, ours: &[(u32, i64)], theirs: &[(u32
     if !push_multiples(made, k, &ours[i..]) {
         return false;
     }
-    made.extend_from_slice(&theirs[j..]).is_ok()
+    push_rest(made, theirs, j)
 }
 
 /// Puts a multiple of terms where there are none, and says whether that could be done.

@@ -1,5 +1,5 @@
-use Rattle.std.proofs.Common.{◌≡◌, ◌++◌, List, ℕ, true, ap, sym, ◌∙◌, arith, append_assoc, drop, FitsSigned}
-use Rattle.std.specs.Prelude.{ℤ, is_ok}
+use Rattle.std.proofs.Common.{◌≡◌, ◌++◌, List, ℕ, ap, sym, ◌∙◌, arith, append_assoc, drop, FitsSigned}
+use Rattle.std.specs.Prelude.{ℤ}
 use Rattle.std.specs.Int.{w64}
 use Rattle.std.proofs.lemmas.List.{take_rest}
 use Rattle.std.proofs.lemmas.Int.{to_z-of_z}
@@ -22,8 +22,7 @@ returns c = λ done.
       | then-loop-i-test+else-j-theirs w ↦ theirs-over k ours theirs i j (omega (arith, w.if-j-theirs.false)) c.requires.ours
       | else-loop-i-test w ↦ ours-over k ours theirs i j (omega (arith, w.loop-i-test.false)) c.requires.theirs
     ] in
-    let ok : is_ok c.extend_from_slice.result ≡ true = sym c.is_ok.ensures.value ∙ done in
-    let extended = rw (ok, take_rest theirs j) at c.extend_from_slice.ensures.items in
+    let extended = c.push_rest.ensures done in
     let pushed = rw (take_rest ours i) at (simp to_z-of_z at (c.push_multiples.ensures c.if-not-push_multiples.false)) in
     let told = simp to_z-of_z at c.loop-i.invariant.told in
     extended ∙ ap (λ (xs : List (ℕ × ℤ)). xs ++ drop j theirs) pushed ∙ append_assoc made (scaled_terms k (drop i ours)) (drop j theirs)
