@@ -12,8 +12,8 @@ use std::alloc::Global;
 
 /// Checks a tree from anyone as a proof that no integer point satisfies the form. `Refuted` comes
 /// exactly where each node is legal and derives no literal that is too wide; otherwise the first
-/// node in preorder that isn't, or does, decides. The tree is copied first, and the copy is judged:
-/// its nodes lie side by side, and take the room of trees that were given back before.
+/// node in preorder that isn't, or does, decides. Form and tree are copied first, and the copies are
+/// judged, whose nodes lie side by side in memory.
 pub fn check(alloc: Global, form: &Form, proof: &Refutation) -> Result<Refuted, CheckStop>
     ensures form { IfOk result (λ refuted. form_of refuted ≡ form.now) }
     ensures proof { IfOk result (λ refuted. proof_of refuted ≡ proof.now) }
@@ -22,15 +22,10 @@ pub fn check(alloc: Global, form: &Form, proof: &Refutation) -> Result<Refuted, 
     ensures no_proof { (n : ℕ) → IsErrOf result (CheckStop.NoProof n) → judged lit_fits form.now proof.now ≡ Illegal n }
     ensures sum_wide { (n : ℕ) → IsErrOf result (CheckStop.SumWide n) → judged lit_fits form.now proof.now ≡ Wide n }
 {
-    let copied = proof.copy(alloc)?;
-    match judge(alloc, form, &copied) {
-        Ok(_) => {
-            let form = form.copy(alloc)?;
-            Ok(Refuted {
-                form,
-                proof: copied,
-            })
-        }
+    let form = form.copy(alloc)?;
+    let proof = proof.copy(alloc)?;
+    match judge(alloc, &form, &proof) {
+        Ok(_) => Ok(Refuted { form, proof }),
         Err(stop) => Err(stop),
     }
 }

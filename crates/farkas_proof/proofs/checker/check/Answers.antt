@@ -1,6 +1,6 @@
 use Rattle.std.proofs.Common.{ap, sym, ◌∙◌}
 use Rattle.lin_atoms.specs.Denial.{lit_fits}
-use Rattle.lin_atoms.specs.Truth.{truth}
+use Rattle.lin_atoms.specs.declared.form.Form.{Form}
 use Rattle.farkas_proof.specs.Refutation.{is_sound, judged}
 use Rattle.farkas_proof.specs.declared.tree.Refutation.{Refutation}
 use Rattle.farkas_proof.proofs.RoomLemmas.{legal_without}
@@ -9,10 +9,10 @@ use Rattle.farkas_proof.proofs.checker.check.Goals as goal
 
 pub invariant_of-result : goal.invariant_of-result
 invariant_of-result c = record {
-  no_point = λ point. ap (truth point) c.in_ok-form-in-Ok.ensures ∙ no_point lit_fits c.args.form.now c.in_ok-copied.copied (ap is_sound c.in-Ok.ensures) point;
+  no_point = λ point. no_point lit_fits c.in_ok-form.form c.in_ok-proof.proof (ap is_sound c.in-Ok.ensures) point;
 }
 
-pub returns-in_ok-form-in-Ok-clause-legal : goal.returns-in_ok-form-in-Ok-clause-legal
-returns-in_ok-form-in-Ok-clause-legal c =
-    let sound = ap (λ (tree : Refutation). is_sound (judged lit_fits c.args.form.now tree)) (sym c.in_ok-copied.ensures) ∙ ap is_sound c.in-Ok.ensures in
-    legal_without lit_fits c.args.form.now c.args.proof.now sound
+pub returns-in-Ok-clause-legal : goal.returns-in-Ok-clause-legal
+returns-in-Ok-clause-legal c =
+    let same = ap (λ (form : Form). judged lit_fits form c.args.proof.now) (sym c.in_ok-form.ensures) ∙ ap (λ (tree : Refutation). judged lit_fits c.in_ok-form.form tree) (sym c.in_ok-proof.ensures) in
+    legal_without lit_fits c.args.form.now c.args.proof.now (ap is_sound (same ∙ c.in-Ok.ensures))
