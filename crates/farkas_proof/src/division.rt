@@ -28,16 +28,37 @@ fn small(total: &Accumulator) -> Option<i64>
     }
 }
 
+/// The quotient, rounded down. Most divisors are 1 or 2, and a division by 2 is none.
+pub(crate) fn floored(n: i64, divisor: i64) -> i64
+    requires { pos 0 <ℤ divisor }
+    ensures { result ≡ int_div_euclid n divisor }
+{
+    match divisor {
+        2 => n.div_euclid(2),
+        _ => n.div_euclid(divisor),
+    }
+}
+
+/// The quotient, where nothing is left.
+fn exact(n: i64, quotient: i64, divisor: i64) -> Option<i64>
+    ensures { IfSome result (λ quotient. quotient *ℤ divisor ≡ n) }
+{
+    if i128::from(quotient) * i128::from(divisor) == i128::from(n) {
+        Some(quotient)
+    } else {
+        None
+    }
+}
+
 /// The number divided by a divisor of it.
 pub(crate) fn whole_of(n: i64, divisor: i64) -> Option<i64>
     requires { pos 0 <ℤ divisor }
     ensures { IfSome result (λ quotient. quotient *ℤ divisor ≡ n) }
 {
-    let quotient = n / divisor;
-    if i128::from(quotient) * i128::from(divisor) == i128::from(n) {
-        Some(quotient)
-    } else {
-        None
+    match divisor {
+        1 => exact(n, n, divisor),
+        2 => exact(n, n / 2, divisor),
+        _ => exact(n, n / divisor, divisor),
     }
 }
 

@@ -10,7 +10,7 @@ ghost use Rattle.lin_atoms.specs.Linear.{are_ordered, fits, of_constant};
 ghost use Rattle.farkas_proof.specs.Combination.{are_multipliers, combined, is_above_zero, is_divided_by, rounded};
 ghost use Rattle.farkas_proof.specs.Narrow.{sum_of};
 
-use crate::division::{narrow, whole_of};
+use crate::division::{floored, narrow, whole_of};
 use crate::rounding::form_of;
 use crate::sum::multiplied;
 use base::Memory;
@@ -187,7 +187,7 @@ fn rounded_constant(negated: i64, divisor: i64) -> i128
     requires { pos 0 <ℤ divisor }
     ensures { result ≡ neg_ℤ (int_div_euclid negated divisor) }
 {
-    -i128::from(negated.div_euclid(divisor))
+    -i128::from(floored(negated, divisor))
 }
 
 impl Narrow {
