@@ -1,4 +1,5 @@
-//! Whole runs of the program's top call over sources and sinks in memory. It has nothing but tests.
+//! Whole runs of the program's top call over sources and sinks in memory, and whole scripts whose
+//! trees are read before they are checked. It has nothing but tests.
 #![tactic(auto)]
 
 #[cfg(test)]
