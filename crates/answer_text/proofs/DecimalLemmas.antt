@@ -6,7 +6,7 @@ use Rattle.std.proofs.lemmas.List.Sums.{fold-append}
 use Rattle.std.specs.List.{list_all}
 use Rattle.base.specs.Bytes.{is_digit}
 use Rattle.base.specs.Numeral.{is_numeral, number_of}
-use Rattle.term_tree.proofs.MeaningLemmas.{both_true}
+use Rattle.term_tree.proofs.Public.{both_true}
 
 -- the first digit isn't 0
 abbrev leads : List ℕ → Bool

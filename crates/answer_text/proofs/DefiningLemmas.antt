@@ -12,7 +12,7 @@ use Rattle.term_tree.specs.declared.node.Node.TheVariants.{Num, Op, Divisible}
 use Rattle.term_tree.specs.Arena.{IsArena}
 use Rattle.term_check.specs.declared.scope.Named.{Named}
 use Rattle.answer_text.specs.Lemmas.{IsNode, IsNumber, IsArgument, IsProduct, AreProducts, AreTerms, IsSum, IsLinear, IsShifted, IsDivisibility, IsLiteral, IsCube, IsLemma, IsDefiningTerm}
-use Rattle.answer_text.specs.ReadBack.{HasShortNumber}
+use Rattle.answer_text.specs.machinery.ReadBack.{HasShortNumber}
 use Rattle.answer_text.proofs.OperatorLemmas.{Kind, OfSort, counts_and, counts_add, takes_sub, takes_ite, takes_mul, takes_le, takes_eq, takes_not, takes_and, takes_add}
 use Rattle.answer_text.proofs.StepLemmas.{got}
 use Rattle.answer_text.proofs.TermShowLemmas.{AreParameters, Reads, AllRead, numeral_reads, variable_reads, true_reads, false_reads, operation_reads, divisible_reads}

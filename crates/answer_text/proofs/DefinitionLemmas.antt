@@ -11,16 +11,16 @@ use Rattle.term_tree.specs.declared.script.Pred.{Pred}
 use Rattle.term_tree.specs.declared.definition.Definition.{Definition}
 use Rattle.term_check.specs.Spelling.{sorts_of, start_of}
 use Rattle.term_check.specs.Term.{Term}
-use Rattle.term_check.specs.Weight.{weight, weights}
+use Rattle.term_check.specs.machinery.Weight.{weight, weights}
 use Rattle.term_check.specs.Formula.{formula}
-use Rattle.term_check.proofs.SpellingLemmas.{weight-List, weigh_all}
+use Rattle.term_check.proofs.Public.{weigh_all, weight-List}
 use Rattle.answer_text.specs.declared.answer.Answer.TheVariants.{Sat}
 use Rattle.answer_text.specs.declared.stop.AnswerStop.{AnswerStop}
 use Rattle.answer_text.specs.declared.stop.AnswerStop.TheVariants.{Memory as OutOfMemory, BadAnswer}
 use Rattle.answer_text.specs.Reading.{◌>>=◌, provided, Defined, pred, is_defined, has_sort, parameters, defined, definition_by, definition_of, definition, definitions_from, in_order, complete, model_listed}
 use Rattle.answer_text.specs.Reading.Reply.{model}
 use Rattle.answer_text.specs.Read.{TellsDefinition, TellsReply}
-use Rattle.answer_text.specs.Places.{ArePlaces, Took, TookAll, IsSoFar, gathered}
+use Rattle.answer_text.specs.machinery.Places.{ArePlaces, Took, TookAll, IsSoFar, gathered}
 use Rattle.answer_text.proofs.PlaceLemmas.{Agree, agree}
 
 -- weights

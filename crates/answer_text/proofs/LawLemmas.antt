@@ -4,8 +4,7 @@ use Rattle.std.specs.Prelude.{Option, Result, Ok, Err}
 use Rattle.sexp_read.specs.declared.tree.Tree.{Tree}
 use Rattle.sexp_read.specs.declared.tree.TextStop.{TextStop}
 use Rattle.sexp_read.specs.Trees.{IsReading}
-use Rattle.sexp_read.proofs.Exists.{has_reading}
-use Rattle.sexp_read.proofs.Machine.{one_reading}
+use Rattle.sexp_read.proofs.Public.{has_reading, one_reading}
 use Rattle.term_tree.specs.declared.script.Pred.{Pred}
 use Rattle.answer_text.specs.declared.answer.Line.{Line}
 use Rattle.answer_text.specs.declared.answer.Answer.{Answer}

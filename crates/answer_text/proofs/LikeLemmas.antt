@@ -8,9 +8,7 @@ use Rattle.term_tree.specs.declared.node.Node.{Node}
 use Rattle.term_tree.specs.declared.node.Node.TheVariants.{Num, True, False, Var, Op, Divisible}
 use Rattle.term_tree.specs.Arena.{Arena, IsArena}
 use Rattle.term_tree.specs.Same.{is_alike, parts_of, same_parts, same_node, is_same_tree}
-use Rattle.term_tree.proofs.EachLemmas.{same_at}
-use Rattle.term_tree.proofs.PlainLemmas.{arena_below, eqb_self}
-use Rattle.term_tree.proofs.SameLemmas.{own_op}
+use Rattle.term_tree.proofs.Public.{arena_below, eqb_self, own_op, same_at}
 use Rattle.term_check.specs.Term.{Term, numeral, truth, variable, let_name, predicate, operation, divisible, binding, universal, existential, Terms, none, more, with_last, IsTermAt, AreTermsAt}
 
 -- the nodes have the term at this number

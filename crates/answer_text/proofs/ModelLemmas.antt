@@ -18,7 +18,7 @@ use Rattle.answer_text.specs.declared.answer.Answer.TheVariants.{Sat, Unsat, Unk
 use Rattle.answer_text.specs.Terms.{parameter_name, term_text}
 use Rattle.answer_text.specs.Answers.{sorts_in, pred_text, parameters_text, definition_text, answer_text}
 use Rattle.answer_text.specs.Printable.{IsMadeOfLemmas, IsAnswerText}
-use Rattle.answer_text.specs.ReadBack.{AreNames, IsStored, AreSameDefinitions, IsSameModel, IsReadAs}
+use Rattle.answer_text.specs.machinery.ReadBack.{AreNames, IsStored, AreSameDefinitions, IsSameModel, IsReadAs}
 use Rattle.answer_text.specs.Reading.{◌>>=◌, provided, said_by, has_sort, parameters, Defined, defined, is_defined, definition_by, definition_of, definition, definitions_from, definition_for, and_then, in_order, Reply, complete, model_listed, model_of, claim, evidence, unless_at, reply}
 use Rattle.answer_text.specs.Reading.Reply.{model, refutation}
 use Rattle.answer_text.specs.Read.{AreDefinitions, IsReply, Spells, IsBad}

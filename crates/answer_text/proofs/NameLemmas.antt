@@ -9,8 +9,8 @@ use Rattle.std.specs.Str.{bytes_eq}
 use Rattle.indexmap.specs.IndexMap.{insert_entry}
 use Rattle.term_tree.specs.declared.script.Pred.{Pred}
 use Rattle.term_check.specs.Spelling.{pred_from}
-use Rattle.term_check.proofs.NumberLemmas.{same_bytes}
-use Rattle.answer_text.specs.Places.{AreNumbers}
+use Rattle.term_check.proofs.Public.{same_bytes}
+use Rattle.answer_text.specs.machinery.Places.{AreNumbers}
 
 abbrev Entries : Type 0
 Entries = List (Bor (List ℕ) × ℕ)

@@ -12,7 +12,7 @@ use Rattle.term_check.specs.declared.part.Part.{Part}
 use Rattle.term_check.specs.Operators.{operator_named}
 use Rattle.term_check.specs.Rules.{fault, unless, worth, value_at, number_fault, first_not, constant_of, part_of, wide_unless, without_value, narrow, multiplied, varying, same_sort, applied}
 use Rattle.term_check.specs.Words.{is_among, reserved_words}
-use Rattle.term_check.proofs.OutcomeLemmas.{below_is}
+use Rattle.term_check.proofs.Public.{below_is}
 use Rattle.answer_text.specs.Terms.{operator_word}
 use Rattle.answer_text.proofs.ShowLemmas.{Shows, IsLeaf}
 use Rattle.answer_text.proofs.SpellLemmas.{shows_symbol}

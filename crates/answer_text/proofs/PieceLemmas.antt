@@ -8,7 +8,7 @@ use Rattle.sexp_read.specs.declared.token.Token.{Token}
 use Rattle.sexp_read.specs.declared.token.Token.TheVariants as token
 use Rattle.sexp_read.specs.Leaves.{between}
 use Rattle.sexp_read.specs.Lexicon.{after_gap, after_comment, after_word, after_plain, word_kind, word_of, word_at, quoted_of, quoted_at, literal_at, keyword_at, token_by, token_at, next_token}
-use Rattle.term_tree.proofs.MeaningLemmas.{both_true}
+use Rattle.term_tree.proofs.Public.{both_true}
 
 -- no word goes on there
 abbrev pub ends_word : List ℕ → Bool

@@ -7,7 +7,7 @@ use Rattle.term_tree.specs.declared.script.Pred.{Pred}
 use Rattle.term_tree.specs.declared.definition.Definition.{Definition}
 use Rattle.answer_text.specs.Reading.{Defined, is_defined, definition_for, in_order, and_then}
 use Rattle.answer_text.specs.Read.{IsDefinition, AreDefinitions}
-use Rattle.answer_text.specs.Places.{AreEmpty, IsPlace, ArePlaces, gathered, with_definition}
+use Rattle.answer_text.specs.machinery.Places.{AreEmpty, IsPlace, ArePlaces, gathered, with_definition}
 
 -- a place of each number
 

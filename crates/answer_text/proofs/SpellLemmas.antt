@@ -12,13 +12,13 @@ use Rattle.sexp_read.specs.Lexicon.{word_kind, number_kind, is_decimal}
 use Rattle.sexp_read.specs.Trees.{most_open}
 use Rattle.term_tree.specs.declared.scalar.Value.{Value}
 use Rattle.term_tree.specs.declared.scalar.Value.TheVariants.{Int, Bool as Truth}
-use Rattle.term_tree.proofs.MeaningLemmas.{both_true}
+use Rattle.term_tree.proofs.Public.{both_true}
 use Rattle.term_check.specs.Words.{is_among, reserved_words}
 use Rattle.term_check.specs.Spelling.{is_symbol, is_spelled, name_of}
-use Rattle.term_check.proofs.OutcomeLemmas.{below_is}
+use Rattle.term_check.proofs.Public.{below_is}
 use Rattle.answer_text.specs.Names.{is_simple, is_bare, name_text, number_text, value_text, after_spaces, spaced}
 use Rattle.answer_text.specs.Printable.{IsSmallValue}
-use Rattle.answer_text.specs.ReadBack.{is_quotable}
+use Rattle.answer_text.specs.machinery.ReadBack.{is_quotable}
 use Rattle.answer_text.specs.Reading.{◌>>=◌, in_list, each, said_by, number, integer, negated, negation, value_of, value}
 use Rattle.answer_text.proofs.PieceLemmas.{ends_word, not_true}
 use Rattle.answer_text.proofs.DecimalLemmas.{IsSpelled, decimal_is}

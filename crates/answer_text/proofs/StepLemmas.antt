@@ -14,7 +14,7 @@ use Rattle.answer_text.specs.declared.answer.Answer.TheVariants.{Unsat}
 use Rattle.answer_text.specs.Names.{name_text, value_text, after_spaces, spaced}
 use Rattle.answer_text.specs.Answers.{name_in, sorts_in, pred_text, atom_text, conclusion_text, step_text, answer_text}
 use Rattle.answer_text.specs.Printable.{IsSmall, IsSmallValue, IsConclusion, IsStep, IsAnswerText}
-use Rattle.answer_text.specs.ReadBack.{is_quotable, AreNames}
+use Rattle.answer_text.specs.machinery.ReadBack.{is_quotable, AreNames}
 use Rattle.answer_text.specs.Reading.{◌>>=◌, provided, said_by, in_list, each, number, value, declared_by, pred, arity, bare, with_values, applied, atom, conclusion, step_of, step, derivation_of, derivation, claim, evidence, unless_at, reply}
 use Rattle.answer_text.specs.Reading.Reply.{refutation}
 use Rattle.answer_text.specs.Read.{Spells}

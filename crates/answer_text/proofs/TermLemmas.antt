@@ -8,7 +8,7 @@ use Rattle.term_tree.specs.declared.node.TermId.{TermId}
 use Rattle.term_tree.specs.declared.node.Node.{Node}
 use Rattle.term_tree.specs.declared.node.Node.TheVariants.{Num, True, False, Var, LetVar, Pred, Op, Divisible, Let, Forall, Exists}
 use Rattle.term_tree.specs.Arena.{is_below, has_parts_below}
-use Rattle.term_tree.proofs.MeaningLemmas.{both_true, below_from}
+use Rattle.term_tree.proofs.Public.{below_from, both_true}
 use Rattle.answer_text.specs.Names.{after_spaces}
 use Rattle.answer_text.specs.Terms.{operator_word, divisible_text, node_text, text_in, texts_from, term_text}
 

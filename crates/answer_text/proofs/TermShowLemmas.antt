@@ -12,7 +12,7 @@ use Rattle.term_tree.specs.declared.node.TermId.{TermId}
 use Rattle.term_tree.specs.declared.node.Node.{Node}
 use Rattle.term_tree.specs.declared.node.Node.TheVariants.{Num, True, False, Var, Op, Divisible}
 use Rattle.term_tree.specs.Arena.{IsArena}
-use Rattle.term_tree.proofs.PlainLemmas.{arena_below}
+use Rattle.term_tree.proofs.Public.{arena_below}
 use Rattle.term_tree.specs.declared.refusal.Kind.TheVariants.{CommandForm, UnknownSymbol, Arity, ZeroDivisor, TooWide}
 use Rattle.term_check.specs.declared.head.Head.{Head}
 use Rattle.term_check.specs.declared.head.Head.TheVariants.{Operator, Divisibility}
@@ -26,8 +26,7 @@ use Rattle.term_check.specs.Rules.{fault, unless, narrow, number_fault, applied,
 use Rattle.term_check.specs.Reading.{scope_of, next_spelled, each_spelled, applied_list, any_list}
 use Rattle.term_check.specs.Spelling.{Scope, Spelled, Gathered, ◌>>=◌, is_spelled, is_word, is_symbol, bound_to, bound_symbol, symbol_atom, narrow_number, numeral_atom, spelled_atom, leaf_atom, operator_or, head_of, head_fault, list_head, with_part, application, spells, number_or_0, the_argument, added, nothing_yet, spelled}
 use Rattle.term_check.specs.Term.{operation, divisible, Terms, none, more}
-use Rattle.term_check.proofs.OutcomeLemmas.{below_is}
-use Rattle.term_check.proofs.SpellingLemmas.{spelled-List, head_of-List}
+use Rattle.term_check.proofs.Public.{below_is, head_of-List, spelled-List}
 use Rattle.answer_text.specs.Names.{after_spaces}
 use Rattle.answer_text.specs.Terms.{operator_word, parameter_name, term_text}
 use Rattle.answer_text.proofs.DecimalLemmas.{decimal_is}

@@ -1,10 +1,9 @@
 pub mod Answers
+pub mod Lemmas
 pub mod Lines
 pub mod Names
 pub mod Printable
-pub mod Terms
-pub mod Lemmas
-pub mod Reading
 pub mod Read
-pub mod Places
-pub mod ReadBack
+pub mod Reading
+pub mod Terms
+pub mod machinery

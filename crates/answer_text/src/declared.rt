@@ -1,7 +1,7 @@
 ghost use Rattle.std.specs.Prelude.{◌≡◌, ◌<◌, ◌^◌, length, IfOk};
 ghost use Rattle.std.specs.Option.{IfSome};
 ghost use Rattle.term_check.specs.Spelling.{pred_from, sorts_of};
-ghost use Rattle.answer_text.specs.Places.{AreNumbers};
+ghost use Rattle.answer_text.specs.machinery.Places.{AreNumbers};
 ghost use Rattle.answer_text.specs.Reading.{arity};
 
 use base::Memory;
@@ -21,7 +21,7 @@ pub struct Declared<'a> {
 impl<'a> Model for Declared<'a> {
     ghost use Rattle.std.specs.Prelude.{List, ◌<◌, ◌^◌, length};
     ghost use Rattle.term_tree.specs.declared.script.Pred.{Pred as APred};
-    ghost use Rattle.answer_text.specs.Places.{AreNumbers};
+    ghost use Rattle.answer_text.specs.machinery.Places.{AreNumbers};
 
     ghost Value = { List APred };
 

@@ -1,7 +1,7 @@
 //! The parameters of a definition that is read.
 
 ghost use Rattle.std.specs.Prelude.{◌≡◌, ◌≤◌, length, map, [], IfOk};
-ghost use Rattle.term_check.specs.Weight.{weight};
+ghost use Rattle.term_check.specs.machinery.Weight.{weight};
 ghost use Rattle.answer_text.specs.Reading.{parameter_of, parameter, parameters_from, parameters_of, parameters};
 ghost use Rattle.answer_text.specs.Read.{Gives, Adds};
 

@@ -1,2 +1,4 @@
 pub mod Bytes
+pub mod Limits
 pub mod Numeral
+pub mod Widths

@@ -3,10 +3,15 @@
 #![tactic(auto)]
 
 mod bytes;
+mod limits;
 mod memory;
 mod same;
 
 pub use bytes::{is_digit, is_symbol_byte, is_white};
+pub use limits::{
+    MOST_ARGUMENTS, MOST_ASSERTIONS, MOST_BYTES, MOST_DISTINCT, MOST_OPEN, MOST_PREDICATES,
+    MOST_ROWS,
+};
 pub use memory::Memory;
 pub use same::{Copied, Same};
 pub use sqlite_items::{Boxed, Items};

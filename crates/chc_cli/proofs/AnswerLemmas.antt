@@ -15,7 +15,7 @@ use Rattle.sort_check.specs.Scripts.IsRefused.{illegal}
 use Rattle.answer_text.specs.declared.answer.Answer.TheVariants.{Sat}
 use Rattle.answer_text.specs.Printable.{IsPrintable, IsAnswerText}
 use Rattle.chc_cli.specs.Headline.{IsSatAnswer}
-use Rattle.chc_cli.specs.Model.{true_definitions}
+use Rattle.chc_cli.specs.machinery.Model.{true_definitions}
 use Rattle.chc_cli.proofs.ModelLemmas.{printable, solves}
 
 -- the refusal that is found is that of the text

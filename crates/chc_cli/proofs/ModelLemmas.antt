@@ -13,11 +13,11 @@ use Rattle.term_tree.specs.declared.script.Pred.{Pred}
 use Rattle.term_tree.specs.declared.script.Script.{Script}
 use Rattle.term_tree.specs.declared.script.Assertion.{Assertion}
 use Rattle.term_tree.specs.Arena.{IsArena}
-use Rattle.term_tree.specs.Agreement.{IsTrueBelow}
+use Rattle.term_tree.specs.machinery.Agreement.{IsTrueBelow}
 use Rattle.term_tree.specs.Value.{Environment}
 use Rattle.term_tree.specs.Truth.{Interpretation, HasValue}
 use Rattle.term_tree.specs.Solution.{interpretation_of, DefinesEach, IsSolution}
-use Rattle.term_tree.proofs.HeadLemmas.{headed}
+use Rattle.term_tree.proofs.Public.{headed}
 use Rattle.term_tree.specs.Head.{has_head}
 use Rattle.term_tree.specs.declared.node.Node.{Node}
 use Rattle.sort_check.specs.Scripts.{HasHead}
@@ -25,7 +25,7 @@ use Rattle.answer_text.specs.declared.answer.Answer.TheVariants.{Sat}
 use Rattle.answer_text.specs.Terms.{parameter_name}
 use Rattle.answer_text.specs.Answers.{sorts_in}
 use Rattle.answer_text.specs.Printable.{IsMadeOfLemmas, IsPrintable}
-use Rattle.chc_cli.specs.Model.{parameter, true_definitions}
+use Rattle.chc_cli.specs.machinery.Model.{parameter, true_definitions}
 
 defines : (number : ℕ) (preds : List Pred) → DefinesEach number preds (true_definitions number preds)
 defines number [] = tt

@@ -14,7 +14,7 @@ use Rattle.term_check.specs.Rules.{or_else}
 use Rattle.term_check.specs.Spelling.{is_some, name_of, name_or_none, pred_from, start_of}
 use Rattle.term_check.specs.Words.{is_among, reserved_words}
 use Rattle.sort_check.specs.Commands.{declaration_fault, form_fault, order_fault, predicate_named, taken_fault}
-use Rattle.answer_text.specs.ReadBack.{AreNames, is_quotable}
+use Rattle.answer_text.specs.machinery.ReadBack.{AreNames, is_quotable}
 use Rattle.chc_cli.proofs.SymbolLemmas.{HasQuotable, IsQuotable}
 
 -- One predicate more.

@@ -10,9 +10,9 @@ use Rattle.sort_check.specs.Scripts.{IsScript, IsRefused}
 use Rattle.chc_cli.specs.declared.plan.Plan.{Plan}
 use Rattle.chc_cli.specs.declared.plan.Plan.TheVariants.{Answered, Refused, ReadFault, OutOfMemory}
 use Rattle.chc_cli.specs.Headline.{IsSatAnswer, RefusesInput, ReadsInput}
-use Rattle.chc_cli.specs.Plans.{IsPlan}
+use Rattle.chc_cli.specs.machinery.Plans.{IsPlan}
 use Rattle.chc_cli.specs.declared.answer.Answer.{Answer}
-use Rattle.chc_cli.specs.Answers.{IsAnswerTo}
+use Rattle.chc_cli.specs.machinery.Answers.{IsAnswerTo}
 use Rattle.answer_text.specs.Lines.{error_text}
 
 -- the bytes that are told of a refusal: all, or none where they are too many

@@ -1,4 +1,2 @@
-pub mod Answers
 pub mod Headline
-pub mod Model
-pub mod Plans
+pub mod machinery

@@ -1,5 +1,5 @@
 ghost use Rattle.std.specs.Prelude.{◌≤◌, ◌^◌, length, IfOk};
-ghost use Rattle.chc_cli.specs.Answers.{IsAnswerTo};
+ghost use Rattle.chc_cli.specs.machinery.Answers.{IsAnswerTo};
 
 use crate::lines::refusal_line;
 use crate::model::all_true;
@@ -19,7 +19,7 @@ pub struct Answer {
 /// What is to be written for the bytes of an input that isn't too long. A script whose assertions all
 /// end in a predicate is satisfied where every predicate is `true`.
 pub fn answer_to(alloc: Global, read: &[u8]) -> Result<Answer, Memory>
-    requires { length read.now ≤ 2 ^ 24 }
+    requires { length read.now ≤ most_bytes }
     ensures { IfOk result (IsAnswerTo read.now) }
 {
     let checked = check_text(alloc, read)?;

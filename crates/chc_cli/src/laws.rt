@@ -11,7 +11,7 @@ ghost use Rattle.answer_text.specs.declared.answer.Answer.{Answer};
 ghost use Rattle.answer_text.specs.declared.answer.Answer.TheVariants.{Sat, Unsat};
 ghost use Rattle.answer_text.specs.Printable.{IsAnswerText};
 ghost use Rattle.answer_text.specs.Read.{Spells};
-ghost use Rattle.answer_text.specs.ReadBack.{AreNames, IsStored, IsReadAs};
+ghost use Rattle.answer_text.specs.machinery.ReadBack.{AreNames, IsStored, IsReadAs};
 
 /// The predicates of a script have names that can be printed and read back: no bar and no backslash
 /// stands in one, they differ, and none is `false`.

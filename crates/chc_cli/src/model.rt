@@ -4,7 +4,7 @@ ghost use Rattle.std.specs.Prelude.{◌≡◌, ◌<◌, ◌^◌, [], ◌∷◌, 
 ghost use Rattle.std.specs.List.{enumerate_from};
 ghost use Rattle.term_tree.specs.declared.node.Node.TheVariants.{True};
 ghost use Rattle.answer_text.specs.Terms.{parameter_name};
-ghost use Rattle.chc_cli.specs.Model.{parameter, true_definition, true_definitions};
+ghost use Rattle.chc_cli.specs.machinery.Model.{parameter, true_definition, true_definitions};
 
 use answer_text::push_parameter_name;
 use base::{Items, Memory};

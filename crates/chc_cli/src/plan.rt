@@ -1,17 +1,16 @@
 ghost use Rattle.std.specs.Prelude.{◌≡◌, ◌≢◌, [], ◌≤◌, ◌<◌, ◌^◌, List, ℕ, length, vec_len, Some, None, true, false, if◌then◌else◌};
+ghost use Rattle.base.specs.Limits.{most_bytes};
 ghost use Rattle.outside_io.specs.Counts.{counted};
 ghost use Rattle.outside_io.specs.declared.turn.Turn.TheVariants.{Fault};
 ghost use Rattle.term_tree.specs.declared.refusal.Kind.TheVariants.{TooLong};
-ghost use Rattle.chc_cli.specs.Plans.{IsPlan, is_fault};
+ghost use Rattle.chc_cli.specs.machinery.Plans.{IsPlan, is_fault};
 
 use crate::answer::answer_to;
 use crate::lines::refusal_line;
+use base::MOST_BYTES;
 use outside_io::{ReadStop, Source, read_all};
 use std::alloc::Global;
 use term_tree::{Kind, Refusal};
-
-/// The most bytes that an input may have.
-const MOST_BYTES: usize = 16_777_216;
 
 /// What a call of `solve` is to write, whole, before anything is written.
 #[derive(Drop)]
@@ -49,7 +48,7 @@ pub fn plan_for<S: Source>(alloc: Global, source: &mut S) -> Plan
 
 /// What is to be written for the bytes of an input that isn't too long.
 fn plan_of(alloc: Global, read: Vec<u8>) -> Plan
-    requires { vec_len read ≤ 2 ^ 24 }
+    requires { vec_len read ≤ most_bytes }
     ensures plan { IsPlan (Some read.items) result }
     ensures fault { is_fault result ≡ false }
 {
@@ -82,7 +81,7 @@ fn told(alloc: Global, read: Vec<u8>, refusal: &Refusal) -> Vec<u8>
 
 /// What is to be written where the input has too many bytes.
 fn plan_of_too_long(alloc: Global) -> Plan
-    ensures plan { (bytes : List ℕ) → 2 ^ 24 < length bytes → IsPlan (Some bytes) result }
+    ensures plan { (bytes : List ℕ) → most_bytes < length bytes → IsPlan (Some bytes) result }
     ensures untold { IsPlan None result }
     ensures fault { is_fault result ≡ false }
 {

@@ -2,7 +2,7 @@
 use Rattle.std.proofs.Common.{◌≡◌, ℕ, zero, suc, ◌+◌, ◌<◌, List, [], ◌∷◌, length, get_or, true, arith, subst}
 use Rattle.term_tree.specs.declared.node.Node.{Node}
 use Rattle.term_tree.specs.Arena.{has_parts_below}
-use Rattle.clause_gen.specs.Order.{are_in_order}
+use Rattle.clause_gen.specs.machinery.Order.{are_in_order}
 use Rattle.std.proofs.Common.{Bool, false, ◌&&◌, refl}
 
 both_true : (a b : Bool) → (a && b) ≡ true → (a ≡ true) × (b ≡ true)

@@ -1,5 +1,5 @@
 ghost use Rattle.std.specs.Prelude.{◌≡◌, ◌<◌, ◌^◌, IfOk, IsTrue, length, replicate};
-ghost use Rattle.clause_gen.specs.Order.{are_in_order};
+ghost use Rattle.clause_gen.specs.machinery.Order.{are_in_order};
 
 use base::{Copied, Memory};
 use std::alloc::Global;

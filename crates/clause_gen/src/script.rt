@@ -1,6 +1,6 @@
 ghost use Rattle.std.specs.Prelude.{◌≡◌, ◌<◌, ◌≤◌, ◌^◌, ◌*◌, ◌+◌, ◌++◌, pos, IfOk, OnOk, IsTrue, length, codes, vec_len};
 ghost use Rattle.clause_gen.specs.Generated.{start_of, generated_nodes, generated_asserts, generated_preds, generated_script};
-ghost use Rattle.clause_gen.specs.Order.{are_in_order};
+ghost use Rattle.clause_gen.specs.machinery.Order.{are_in_order};
 
 use crate::arena::terms_of;
 use crate::pieces::{children, leaves, parent, query};

@@ -4,8 +4,8 @@ use Rattle.std.specs.Prelude.{ℤ, slice_get}
 use Rattle.lin_atoms.specs.Linear.{Linear}
 use Rattle.std.proofs.lemmas.List.{drop_all, drop_more, length-append}
 use Rattle.std.proofs.lemmas.List.Sums.{sum_by_push}
-use Rattle.farkas_proof.specs.Copying.{pending, pending_of, plug, plug_all}
-use Rattle.farkas_proof.specs.Walk.{size, size_step, sizes}
+use Rattle.farkas_proof.specs.machinery.Copying.{pending, pending_of, plug, plug_all}
+use Rattle.farkas_proof.specs.machinery.Walk.{size, size_step, sizes}
 use Rattle.farkas_proof.specs.declared.copying.Frame.{Frame}
 use Rattle.farkas_proof.specs.declared.copying.Frame.TheVariants as frame
 use Rattle.farkas_proof.specs.declared.tree.Refutation.{Refutation}

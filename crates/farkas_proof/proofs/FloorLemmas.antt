@@ -7,7 +7,7 @@ use Rattle.int_rows.specs.Node.{all_bounds, system, system_of}
 use Rattle.int_rows.specs.Ready.{bounded}
 use Rattle.int_rows.specs.Rows.{content, entry}
 use Rattle.int_rows.specs.declared.bounds.Bounded.{Bounded}
-use Rattle.int_rows.proofs.EquationLemmas.{one-primitive}
+use Rattle.int_rows.proofs.Public.{one-primitive}
 use Rattle.lin_atoms.specs.Dot.{dot}
 use Rattle.farkas_proof.specs.GivenUp.{IsEvidence, tableau}
 use Rattle.farkas_proof.specs.Instances.{both, is_multiple_of_second, is_two}

@@ -14,8 +14,7 @@ use Rattle.lin_atoms.specs.declared.form.Form.TheOpen.{Form-F}
 use Rattle.lin_atoms.specs.declared.form.Form.TheViews.{And, Or, roll-Form}
 use Rattle.lin_atoms.specs.declared.form.Form.TheVariants.{rolls-And, rolls-Or}
 use Rattle.lin_atoms.specs.declared.form.Form.TheFolds.{fold-roll-Form, ind-Form}
-use Rattle.lin_atoms.proofs.LinearLemmas.{both_true}
-use Rattle.lin_atoms.proofs.TruthLemmas.{truth-And, truth-Or, is_below-And, is_below-Or}
+use Rattle.lin_atoms.proofs.Public.{both_true, is_below-And, is_below-Or, truth-And, truth-Or}
 use Rattle.farkas_proof.specs.Combination.{terms_end}
 use Rattle.farkas_proof.specs.Flatten.{literals, literals_step, disjunctions}
 use Rattle.farkas_proof.specs.Refutation.{end_step, form_end, greatest_of}

@@ -7,8 +7,7 @@ use Rattle.int_rows.specs.Node.{all_bounds, system_of}
 use Rattle.int_rows.specs.Ready.{bounded}
 use Rattle.int_rows.specs.Rows.{content}
 use Rattle.int_rows.specs.declared.bounds.Bounded.{Bounded}
-use Rattle.int_rows.proofs.EquationLemmas.{one-primitive}
-use Rattle.int_rows.proofs.FollowLemmas.{follows-own}
+use Rattle.int_rows.proofs.Public.{follows-own, one-primitive}
 use Rattle.farkas_proof.specs.GivenUp.{IsEvidence}
 use Rattle.farkas_proof.specs.Instances.{both, first_is_one, is_double, is_even, is_one}
 use Rattle.farkas_proof.specs.declared.evidence.Evidence.TheVariants.{Nodes}

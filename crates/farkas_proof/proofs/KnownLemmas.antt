@@ -6,7 +6,7 @@ use Rattle.std.proofs.lemmas.List.{length-append, length-take, length-take-le, t
 use Rattle.lin_atoms.specs.Denial.{linear_of}
 use Rattle.lin_atoms.specs.declared.lit.Lit.{Lit}
 use Rattle.farkas_proof.specs.Combination.{lits_end, terms_end}
-use Rattle.farkas_proof.specs.Ends.{ends_from}
+use Rattle.farkas_proof.specs.machinery.Ends.{ends_from}
 
 abbrev end_of : Lit → ℕ
 end_of lit = terms_end (linear_of lit).terms

@@ -4,10 +4,10 @@ use mathlib.Core.Logic.{∥∥₁_elim}
 use Rattle.std.specs.Prelude.{ℤ, slice_get}
 use Rattle.std.specs.List.{Contains, list_all}
 use Rattle.std.proofs.lemmas.List.Elements.{filter-append}
-use Rattle.lin_atoms.specs.Linear.{are_small, is_constant}
+use Rattle.lin_atoms.specs.Linear.{are_short, is_long}
 use Rattle.lin_atoms.specs.declared.lit.Lit.{Lit}
 use Rattle.lin_atoms.specs.declared.form.Form.{Form}
-use Rattle.lin_atoms.proofs.LinearLemmas.{both_true}
+use Rattle.lin_atoms.proofs.Public.{both_true}
 use Rattle.int_rows.specs.Basis.{IsWideRow}
 use Rattle.int_rows.specs.Node.{all_bounds, bounds_of, end_of_quotients, has_row, in_rows, quotients, system}
 use Rattle.int_rows.specs.Ready.{ready, ready_fits}
@@ -116,13 +116,13 @@ stands form few none node (taken_in before _ k lit is at e) =
     subst (Stands form) (sym e) (record { open_cases = was.open_cases; lits = joined-lits form before k lit few was.lits at })
 stands form few none node (under inner _ below is split inside) = split-stands form inner node below (stands form few none inner is) split.split inside
 
-kept-small : (b : Bounded) (test : Bool) → are_small b.form.terms ≡ true → list_all (λ b. are_small b.form.terms) (cond test (b ∷ []) []) ≡ true
+kept-small : (b : Bounded) (test : Bool) → are_short b.form.terms ≡ true → list_all (λ b. are_short b.form.terms) (cond test (b ∷ []) []) ≡ true
 kept-small b true h = ap (λ t. t && true) h
 kept-small b false h = refl
 
-fits-small : (r : Ready) → ready_fits r ≡ true → list_all (λ b. are_small b.form.terms) (in_rows (bounds_of r ++ [])) ≡ true
+fits-small : (r : Ready) → ready_fits r ≡ true → list_all (λ b. are_short b.form.terms) (in_rows (bounds_of r ++ [])) ≡ true
 fits-small (Truth truth) h = refl
-fits-small (Bounds b) h = kept-small b (has_row b) (both_true (are_small b.form.terms) (is_constant b.form.constant) (both_true _ _ h).0).0
+fits-small (Bounds b) h = kept-small b (has_row b) (both_true (are_short b.form.terms) (is_long b.form.constant) (both_true _ _ h).0).0
 
 few-kept : (b : Bounded) (test : Bool) → length (cond test (b ∷ []) []) ≤ 1
 few-kept b true = omega arith
@@ -137,7 +137,7 @@ few-literals q [] few = omega arith
 few-literals q (lit ∷ []) few = few-ready (ready q lit)
 few-literals q (l ∷ m ∷ lits) few = absurd (omega arith)
 
-small-literals : (q : ℕ) (lits : List Lit) → length lits ≤ 1 → list_all (λ lit. ready_fits (ready q lit)) lits ≡ true → list_all (λ b. are_small b.form.terms) (rows-of q lits) ≡ true
+small-literals : (q : ℕ) (lits : List Lit) → length lits ≤ 1 → list_all (λ lit. ready_fits (ready q lit)) lits ≡ true → list_all (λ b. are_short b.form.terms) (rows-of q lits) ≡ true
 small-literals q [] few fits = refl
 small-literals q (lit ∷ []) few fits = fits-small (ready q lit) (both_true (ready_fits (ready q lit)) _ fits).0
 small-literals q (l ∷ m ∷ lits) few fits = absurd (omega arith)
@@ -147,9 +147,9 @@ few-lits form node few (inl is) = subst (λ bs. length bs ≤ 1) (sym is.rows) (
 few-lits form node few (inr is) = subst (λ bs. length bs ≤ 1) (sym is.rows) (few-literals (form_end form) (literals form) few)
 
 small-lits : (form : Form) (node : Node) → length (literals form) ≤ 1 → list_all (λ lit. ready_fits (ready (form_end form) lit)) (literals form) ≡ true → Before form node ⊎ After form node
-    → list_all (λ b. are_small b.form.terms) (rows-of (form_end form) node.lits) ≡ true
-small-lits form node few fits (inl is) = ap (list_all (λ (b : Bounded). are_small b.form.terms)) is.rows
-small-lits form node few fits (inr is) = ap (list_all (λ (b : Bounded). are_small b.form.terms)) is.rows ∙ small-literals (form_end form) (literals form) few fits
+    → list_all (λ b. are_short b.form.terms) (rows-of (form_end form) node.lits) ≡ true
+small-lits form node few fits (inl is) = ap (list_all (λ (b : Bounded). are_short b.form.terms)) is.rows
+small-lits form node few fits (inr is) = ap (list_all (λ (b : Bounded). are_short b.form.terms)) is.rows ∙ small-literals (form_end form) (literals form) few fits
 
 no-evidence : (form : Form) → length (literals form) ≤ 1 → disjunctions form ≡ [] → list_all (λ lit. ready_fits (ready (form_end form) lit)) (literals form) ≡ true
     → (lits : List Lit) (basis : List ℕ) (wide : ℤ) → IsEvidence form (Row lits basis wide) → ⊥

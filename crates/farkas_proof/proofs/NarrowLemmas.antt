@@ -5,11 +5,10 @@ use Rattle.std.specs.Int.{int_div_euclid}
 use Rattle.std.proofs.lemmas.Int.{ints}
 use Rattle.std.proofs.lemmas.List.{append-nil, drop_more, drop_all}
 use Rattle.std.specs.List.{list_all}
-use Rattle.lin_atoms.specs.Accumulator.{is_multiple}
+use Rattle.lin_atoms.specs.Multiples.{is_multiple}
 use Rattle.lin_atoms.specs.Algebra.{term_on, with_term, collected, scaled_terms}
 use Rattle.lin_atoms.specs.Linear.{Linear, are_ordered}
-use Rattle.lin_atoms.proofs.TermLemmas.{both-ordered, collected-same, ordered-cons, ordered-weaker, second-first, term_on-whole, with_term-front, with_term-same}
-use Rattle.lin_atoms.proofs.MergeLemmas.{ordered-at, ordered-drop, scaled-drop, scaled-ordered}
+use Rattle.lin_atoms.proofs.Public.{both-ordered, collected-same, ordered-at, ordered-cons, ordered-drop, ordered-weaker, scaled-drop, scaled-ordered, second-first, term_on-whole, with_term-front, with_term-same}
 use Rattle.farkas_proof.specs.Combination.{rounded}
 use Rattle.farkas_proof.proofs.SumLemmas.{term_step}
 

@@ -5,7 +5,7 @@ use Rattle.lin_atoms.specs.declared.lit.Lit.{Lit}
 use Rattle.lin_atoms.specs.declared.form.Form.{Form}
 use Rattle.int_rows.specs.Node.{all_bounds, bounds_of, end_of_quotients, equations, in_rows, quotients}
 use Rattle.int_rows.specs.Ready.{ready}
-use Rattle.int_rows.proofs.EquationLemmas.{length-equations}
+use Rattle.int_rows.proofs.Public.{length-equations}
 use Rattle.farkas_proof.specs.Flatten.{disjunctions, literals}
 use Rattle.farkas_proof.specs.GivenUp.{AreOfNode, IsEvidence}
 use Rattle.farkas_proof.specs.Refutation.{form_end}

@@ -8,13 +8,13 @@ use Rattle.std.proofs.Math.IntN.{zero-*ℤ}
 use Rattle.std.proofs.Math.Nat.{eq-zero_of_zero-dvd, zero-div}
 use Rattle.std.proofs.lemmas.Int.{ints}
 use Rattle.std.proofs.lemmas.List.FromFn.{get_or-range_with_len, length-range_with_len}
-use Rattle.base.proofs.IntLemmas.{neg_ℤ-*ℤ}
+use Rattle.base.proofs.Public.{neg_ℤ-*ℤ}
 use Rattle.lin_atoms.specs.declared.lit.Lit.{Lit}
 use Rattle.lin_atoms.specs.declared.form.Form.{Form}
 use Rattle.int_rows.specs.Basis.{Point, IsBasicPoint, IsWideCoordinate, IsWideFloor, IsWideNumerator, IsWideRow, MayStand, bound, is_in, outside}
 use Rattle.int_rows.specs.Node.{greatest_lower, least_upper, system}
 use Rattle.int_rows.specs.Rows.{entry}
-use Rattle.int_rows.proofs.PivotLemmas.{positive-factor, zero-factor}
+use Rattle.int_rows.proofs.Public.{positive-factor, zero-factor}
 use Rattle.farkas_proof.specs.Flatten.{disjunctions, literals}
 use Rattle.farkas_proof.specs.GivenUp.{IsEvidence, IsGivenUp, tableau}
 use Rattle.farkas_proof.specs.Refutation.{form_end}

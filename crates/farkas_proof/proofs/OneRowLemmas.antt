@@ -10,17 +10,15 @@ use Rattle.std.proofs.lemmas.Int.{ints, unsigned_abs-mul}
 use Rattle.std.proofs.lemmas.List.{get_or_past, length-map}
 use Rattle.std.proofs.lemmas.List.FromFn.{length-range_with_len}
 use Rattle.std.proofs.lemmas.Nat.Gcd.{dvd_refl}
-use Rattle.base.proofs.IntLemmas.{+ℤ-*ℤ, *ℤ_assoc, neg_ℤ-*ℤ}
+use Rattle.base.proofs.Public.{*ℤ_assoc, +ℤ-*ℤ, neg_ℤ-*ℤ}
 use Rattle.lin_atoms.specs.Dot.{dot}
-use Rattle.lin_atoms.specs.Linear.{Linear, are_small}
-use Rattle.lin_atoms.proofs.LinearLemmas.{both_true}
+use Rattle.lin_atoms.specs.Linear.{Linear, are_short}
+use Rattle.lin_atoms.proofs.Public.{both_true}
 use Rattle.int_rows.specs.Basis.{IsWideRow}
 use Rattle.int_rows.specs.Node.{coefficient, equation, equations}
 use Rattle.int_rows.specs.Rows.{Follows, content, entry}
 use Rattle.int_rows.specs.declared.bounds.Bounded.{Bounded}
-use Rattle.int_rows.proofs.ContentLemmas.{Divides, content-most}
-use Rattle.int_rows.proofs.EquationLemmas.{coefficient-small, equation-at}
-use Rattle.int_rows.proofs.PivotLemmas.{zero-factor}
+use Rattle.int_rows.proofs.Public.{Divides, coefficient-small, content-most, equation-at, zero-factor}
 
 -- what divides each entry divides the row
 divides-each : (n : ℕ) (row : List ℤ) → ((v : ℕ) → n ∣ nat_abs (entry row v)) → Divides n row
@@ -71,7 +69,7 @@ entry-small c false h = omega (arith, ints, h)
 length-equation : (columns slack : ℕ) (lin : Linear) → length (equation columns slack lin) ≡ columns
 length-equation columns slack lin = length-map (range_with_len 0 columns) _ ∙ length-range_with_len 0 columns
 
-equation-small : (columns slack : ℕ) (lin : Linear) (v : ℕ) → are_small lin.terms ≡ true → nat_abs (entry (equation columns slack lin) v) < 2 ^ 63
+equation-small : (columns slack : ℕ) (lin : Linear) (v : ℕ) → are_short lin.terms ≡ true → nat_abs (entry (equation columns slack lin) v) < 2 ^ 63
 equation-small columns slack lin v small =
     ⊎_elim (λ less. subst (λ z. nat_abs z < 2 ^ 63) (sym (equation-at columns slack lin v less)) (entry-small (coefficient lin.terms v) (v == slack) (coefficient-small lin.terms v small)))
     (λ past.
@@ -88,7 +86,7 @@ own-entry columns slack lin h = equation-at columns slack lin slack h ∙ ap (λ
 primitive-content : (row : List ℤ) → (content row == 1) ≡ true → content row ≡ 1
 primitive-content row h = grind arith
 
-one-row : (columns slack : ℕ) (lin : Linear) (basis : List ℕ) (wide : ℤ) → slack < columns → are_small lin.terms ≡ true → IsWideRow columns (equation columns slack lin ∷ []) basis wide → ⊥
+one-row : (columns slack : ℕ) (lin : Linear) (basis : List ℕ) (wide : ℤ) → slack < columns → are_short lin.terms ≡ true → IsWideRow columns (equation columns slack lin ∷ []) basis wide → ⊥
 one-row columns slack lin basis wide within small is =
     let e = equation columns slack lin in
     let less = no-greater e is.row slack is.is_row.follows (own-entry columns slack lin within) (primitive-content is.row is.is_row.primitive) is.place in
@@ -99,9 +97,9 @@ one-row columns slack lin basis wide within small is =
 pub no-row : (columns : ℕ) (basis : List ℕ) (wide : ℤ) → IsWideRow columns [] basis wide → ⊥
 no-row columns basis wide is = let full = is.is_basis.full in let place = is.basic.1 in omega (arith, full, place)
 
-pub few-rows : (variables : ℕ) (rows : List Bounded) (basis : List ℕ) (wide : ℤ) → length rows ≤ 1 → list_all (λ b. are_small b.form.terms) rows ≡ true
+pub few-rows : (variables : ℕ) (rows : List Bounded) (basis : List ℕ) (wide : ℤ) → length rows ≤ 1 → list_all (λ b. are_short b.form.terms) rows ≡ true
     → IsWideRow (variables + length rows) (equations (variables + length rows) variables (map (λ b. b.form) rows)) basis wide → ⊥
 few-rows variables [] basis wide few small is = no-row (variables + 0) basis wide is
 few-rows variables (b ∷ []) basis wide few small is =
-    one-row (variables + 1) variables b.form basis wide (omega arith) (both_true (are_small b.form.terms) _ small).0 is
+    one-row (variables + 1) variables b.form basis wide (omega arith) (both_true (are_short b.form.terms) _ small).0 is
 few-rows variables (a ∷ b ∷ rows) basis wide few small is = absurd (omega arith)

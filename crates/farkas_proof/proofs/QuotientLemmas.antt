@@ -6,8 +6,8 @@ use Rattle.std.specs.List.{list_all, list_any}
 use Rattle.std.proofs.Math.IntN.{*ℤ_comm}
 use Rattle.std.proofs.lemmas.Int.{ints}
 use Rattle.std.proofs.lemmas.Bool.{ltb-true, eqb-true}
-use Rattle.base.proofs.IntLemmas.{neg_ℤ-*ℤ}
-use Rattle.lin_atoms.specs.Accumulator.{is_multiple}
+use Rattle.base.proofs.Public.{neg_ℤ-*ℤ}
+use Rattle.lin_atoms.specs.Multiples.{is_multiple}
 use Rattle.lin_atoms.specs.Algebra.{plus}
 use Rattle.lin_atoms.specs.Denial.{linear_of}
 use Rattle.lin_atoms.specs.Linear.{Linear, value_at, variable_at}
@@ -15,11 +15,7 @@ use Rattle.lin_atoms.specs.Truth.{is_below, lit_truth, truth}
 use Rattle.lin_atoms.specs.declared.lit.Lit.{Lit}
 use Rattle.lin_atoms.specs.declared.lit.Lit.TheVariants.{Le, Eq, Div, NDiv}
 use Rattle.lin_atoms.specs.declared.form.Form.{Form}
-use Rattle.lin_atoms.proofs.AgreeLemmas.{form-agree, lit-agree}
-use Rattle.lin_atoms.proofs.DivisionLemmas.{quotient-rest, multiple_where, rest-below, rest-natural}
-use Rattle.lin_atoms.proofs.LinearLemmas.{both_true}
-use Rattle.lin_atoms.proofs.TermLemmas.{sum_at-++}
-use Rattle.lin_atoms.proofs.ValueLemmas.{value_at-agree}
+use Rattle.lin_atoms.proofs.Public.{both_true, form-agree, lit-agree, multiple_where, quotient-rest, rest-below, rest-natural, sum_at-++, value_at-agree}
 use Rattle.farkas_proof.specs.Combination.{is_division, less_multiple, lits_end, one_minus, quotient, terms_end}
 use Rattle.farkas_proof.proofs.FormLemmas.{lit_below, terms_below}
 use Rattle.farkas_proof.proofs.SoundLemmas.{true-le, value_at-one_minus, value_at-plus}

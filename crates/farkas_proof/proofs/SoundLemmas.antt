@@ -7,17 +7,15 @@ use Rattle.std.specs.Option.{option_map_or}
 use Rattle.std.proofs.Math.IntN.{*ℤ_comm, *ℤ-zero, zero-*ℤ}
 use Rattle.std.proofs.lemmas.Int.{ints}
 use Rattle.std.proofs.lemmas.Bool.{eqb-true}
-use Rattle.base.proofs.IntLemmas.{*ℤ_assoc, +ℤ-*ℤ}
-use Rattle.lin_atoms.specs.Accumulator.{is_multiple}
+use Rattle.base.proofs.Public.{*ℤ_assoc, +ℤ-*ℤ}
+use Rattle.lin_atoms.specs.Multiples.{is_multiple}
 use Rattle.lin_atoms.specs.Algebra.{negated, plus, scaled}
 use Rattle.lin_atoms.specs.Denial.{linear_of}
 use Rattle.lin_atoms.specs.Linear.{Linear, sum_at, value_at, variable_at}
 use Rattle.lin_atoms.specs.Truth.{lit_truth}
 use Rattle.lin_atoms.specs.declared.lit.Lit.{Lit}
 use Rattle.lin_atoms.specs.declared.lit.Lit.TheVariants.{Le, Eq, Div, NDiv}
-use Rattle.lin_atoms.proofs.DivisionLemmas.{positive, quotient-rest, quotient-greatest, multiple_where}
-use Rattle.lin_atoms.proofs.LinearLemmas.{both_true}
-use Rattle.lin_atoms.proofs.ValueLemmas.{value_at-added, value_at-scaled, value_at-negated}
+use Rattle.lin_atoms.proofs.Public.{both_true, multiple_where, positive, quotient-greatest, quotient-rest, value_at-added, value_at-negated, value_at-scaled}
 use Rattle.farkas_proof.specs.Combination.{are_multipliers, combined, is_above_zero, is_divided_by, is_multiplier, linear_at, may_be_multiplied, one_minus, rounded}
 
 pub le-true : (a b : ℤ) → int_le a b ≡ true → a ≤ℤ b

@@ -9,17 +9,15 @@ use Rattle.std.proofs.lemmas.Bool.Decides.{nat_tests}
 use Rattle.std.proofs.Math.Nat.{mul-mod_left}
 use Rattle.std.proofs.lemmas.Int.{ints, unsigned_abs-mul}
 use Rattle.std.proofs.lemmas.List.{append-nil, drop_more, take_more, get_or-map}
-use Rattle.lin_atoms.specs.Accumulator.{Total, is_multiple}
+use Rattle.lin_atoms.specs.Multiples.{is_multiple}
+use Rattle.lin_atoms.specs.machinery.Accumulator.{Total}
 use Rattle.farkas_proof.proofs.SoundLemmas.{divided}
 use Rattle.lin_atoms.specs.Algebra.{added, term_on, with_term, collected, scaled, scaled_terms}
-use Rattle.lin_atoms.specs.Linear.{Linear, are_ordered, is_small}
+use Rattle.lin_atoms.specs.Linear.{Linear, are_ordered, is_short}
 use Rattle.lin_atoms.specs.declared.lit.Lit.{Lit}
 use Rattle.farkas_proof.specs.Combination.{are_multipliers, combined, is_multiplier, linear_at, rounded}
-use Rattle.lin_atoms.proofs.DivisionLemmas.{quotient_is}
-use Rattle.lin_atoms.proofs.LinearLemmas.{both_true, length_at}
-use Rattle.lin_atoms.proofs.TermLemmas.{collected-ordered, collected-same, ordered, ordered-cons, term_on-whole, with_term-behind, with_term-same}
-use Rattle.lin_atoms.proofs.MergeLemmas.{scaled-drop, scaled-ordered}
-use Rattle.farkas_proof.specs.Sum.{are_counted, seen, standing}
+use Rattle.lin_atoms.proofs.Public.{both_true, collected-ordered, collected-same, length_at, ordered, ordered-cons, quotient_is, scaled-drop, scaled-ordered, term_on-whole, with_term-behind, with_term-same}
+use Rattle.farkas_proof.specs.machinery.Sum.{are_counted, seen, standing}
 
 pub seen-at : (ts : List (ℕ × Total)) (i : ℕ) (d : ℕ × Total) → i < length ts → get_or (seen ts) i (0, pos 0) ≡ ((get_or ts i d).0, (get_or ts i d).1.value)
 seen-at ts i d h = get_or-map (λ (t : ℕ × Total). (t.0, t.1.value)) ts i d (0, pos 0) h
@@ -264,8 +262,8 @@ multipliers-fail lits [] i d h f = absurd (omega arith)
 multipliers-fail lits (m ∷ ms) zero d h f = ap (λ b. b && are_multipliers lits ms) f
 multipliers-fail lits (m ∷ ms) (suc i) d h f = and-false (is_multiplier lits m) (multipliers-fail lits ms i d (omega arith) f)
 
-pub small-multiplier : (lits : List Lit) (which : ℕ) (k : ℤ) → is_multiplier lits (which, k) ≡ true → is_small k ≡ true
-small-multiplier lits which k h = (both_true (is_small k) _ h).0
+pub small-multiplier : (lits : List Lit) (which : ℕ) (k : ℤ) → is_multiplier lits (which, k) ≡ true → is_short k ≡ true
+small-multiplier lits which k h = (both_true (is_short k) _ h).0
 
 pub negated-sum : (new old k a : ℤ) → new ≡ old +ℤ neg_ℤ (k *ℤ a) → neg_ℤ new ≡ k *ℤ a +ℤ neg_ℤ old
 negated-sum new old k a h = omega (arith, ints)

@@ -12,10 +12,10 @@ use Rattle.lin_atoms.specs.declared.form.Form.{Form}
 use Rattle.farkas_proof.specs.Combination.{one_minus}
 use Rattle.farkas_proof.specs.Flatten.{disjunctions, literals}
 use Rattle.farkas_proof.specs.Refutation.{Finding, Sound, Illegal, Wide, Judge, checked, each_part, followed_by, judged_at}
-use Rattle.farkas_proof.specs.Tells.{Tells}
+use Rattle.farkas_proof.specs.machinery.Tells.{Tells}
 use Rattle.farkas_proof.specs.declared.stop.CheckStop.{CheckStop}
 use Rattle.farkas_proof.specs.declared.stop.CheckStop.TheVariants.{Memory as OutOfMemory, NoProof, SumWide}
-use Rattle.farkas_proof.specs.Walk.{Leads, left_over, left_to, nothing_left, opened, replaced, size, sizes, weights, weight_of, work_step}
+use Rattle.farkas_proof.specs.machinery.Walk.{Leads, left_over, left_to, nothing_left, opened, replaced, size, sizes, weights, weight_of, work_step}
 use Rattle.farkas_proof.specs.declared.tree.Refutation.{Refutation}
 use Rattle.farkas_proof.specs.declared.walk.Work.{Work}
 use Rattle.farkas_proof.specs.declared.walk.Work.TheVariants.{Part, Forget}

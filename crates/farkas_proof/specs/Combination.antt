@@ -3,10 +3,10 @@ use Rattle.std.specs.Prelude.{ℕ, ◌+◌, max, List, [], ◌∷◌, ◌++◌, 
 use Rattle.std.specs.Int.{int_div_euclid}
 use Rattle.std.specs.List.{list_all}
 use Rattle.std.specs.Option.{option_map_or}
-use Rattle.lin_atoms.specs.Accumulator.{is_multiple}
+use Rattle.lin_atoms.specs.Multiples.{is_multiple}
 use Rattle.lin_atoms.specs.Algebra.{added, negated, plus, scaled}
 use Rattle.lin_atoms.specs.Denial.{linear_of}
-use Rattle.lin_atoms.specs.Linear.{Linear, is_small, of_constant}
+use Rattle.lin_atoms.specs.Linear.{Linear, is_short, of_constant}
 use Rattle.lin_atoms.specs.declared.lit.Lit.{Lit}
 use Rattle.lin_atoms.specs.declared.lit.Lit.TheVariants.{Le, Eq, Div, NDiv}
 
@@ -19,7 +19,7 @@ may_be_multiplied k (NDiv d lin) = false
 
 -- the number of a literal that is there, and a multiplier for it, below 2 ^ 63 in magnitude
 abbrev pub is_multiplier : List Lit → ℕ × ℤ → Bool
-is_multiplier lits m = is_small m.1 && option_map_or (may_be_multiplied m.1) (slice_get lits m.0) false
+is_multiplier lits m = is_short m.1 && option_map_or (may_be_multiplied m.1) (slice_get lits m.0) false
 
 abbrev pub are_multipliers : List Lit → List (ℕ × ℤ) → Bool
 are_multipliers lits ms = list_all (is_multiplier lits) ms

@@ -1,5 +1,6 @@
 -- Evidence that a form was given up: a search by simplex and branch and bound left the widths of its numbers, or made so many splits.
 use Rattle.std.specs.Prelude.{◌≡◌, ◌<◌, List, [], ◌∷◌, length}
+use Rattle.base.specs.Limits.{most_rows}
 use Rattle.lin_atoms.specs.declared.lit.Lit.{Lit}
 use Rattle.lin_atoms.specs.declared.form.Form.{Form}
 use Rattle.int_rows.specs.Basis.{System, IsWideRow, IsWideCoordinate}
@@ -21,7 +22,7 @@ tableau form lits = system (form_end form) lits
 abbrev pub IsEvidence : Form → Evidence → Type 0
 IsEvidence form (Row lits basis wide) = AreOfNode form lits × IsWideRow (tableau form lits).columns (tableau form lits).equations basis wide
 IsEvidence form (Coordinate lits basis outside variable) = AreOfNode form lits × IsWideCoordinate (tableau form lits) basis outside variable
-IsEvidence form (Rows lits) = AreOfNode form lits × (1024 < length (tableau form lits).equations)
+IsEvidence form (Rows lits) = AreOfNode form lits × (most_rows < length (tableau form lits).equations)
 IsEvidence form (Nodes nodes) = (0 < nodes) × HaveTrees (form_end form) (start form ∷ []) nodes
 
 -- the form is given up with the evidence: that a tree or a basis is there counts, and not which

@@ -1,14 +1,7 @@
 pub mod Combination
-pub mod Ends
 pub mod Flatten
-pub mod Refutation
-pub mod Sum
-pub mod Tells
-pub mod Kept
-pub mod Narrow
-pub mod Walk
-pub mod Copying
-pub mod Split
 pub mod GivenUp
-pub mod KeptEvidence
 pub mod Instances
+pub mod Refutation
+pub mod Split
+pub mod machinery

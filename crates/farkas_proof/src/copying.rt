@@ -2,8 +2,8 @@
 
 ghost use Rattle.std.specs.Prelude.{◌≡◌, ◌+◌, ◌<◌, ◌≤◌, ◌++◌, ◌∷◌, IfOk, OnOk, drop, length, map};
 ghost use Rattle.farkas_proof.specs.declared.tree.Refutation.TheViews.{Cases};
-ghost use Rattle.farkas_proof.specs.Copying.{ahead, pending, pending_of, plug, plug_all, reached, whole};
-ghost use Rattle.farkas_proof.specs.Walk.{size, sizes};
+ghost use Rattle.farkas_proof.specs.machinery.Copying.{ahead, pending, pending_of, plug, plug_all, reached, whole};
+ghost use Rattle.farkas_proof.specs.machinery.Walk.{size, sizes};
 
 use crate::tree::Refutation;
 use base::{Boxed, Copied, Items, Memory};

@@ -3,7 +3,7 @@
 ghost use Rattle.std.specs.Prelude.{◌≡◌, ◌<ℤ◌, ◌*ℤ◌, pos, IfSome, FitsSigned};
 ghost use Rattle.std.specs.Int.{int_div_euclid, w128};
 ghost use Rattle.std.specs.Option.{SomeIff};
-ghost use Rattle.lin_atoms.specs.Accumulator.{is_multiple};
+ghost use Rattle.lin_atoms.specs.Multiples.{is_multiple};
 
 use lin_atoms::Accumulator;
 

@@ -2,6 +2,7 @@
 
 ghost use Rattle.std.specs.Prelude.{◌≡◌, ℕ, List, [], ◌∷◌, ◌++◌, ◌+◌, ◌*◌, ◌-◌, ◌<◌, ◌≤◌, length, ℤ, pos, true};
 ghost use Rattle.std.specs.List.{list_all};
+ghost use Rattle.base.specs.Limits.{most_rows};
 ghost use Rattle.lin_atoms.specs.declared.lit.Lit.{Lit};
 ghost use Rattle.lin_atoms.specs.declared.form.Form.{Form};
 ghost use Rattle.int_rows.specs.Node.{all_bounds, end_of_quotients, in_rows};
@@ -56,7 +57,7 @@ pub fn a_quotient_is_split()
 
 /// Literals of a node with more than 1,024 forms of two or more variables are evidence.
 pub fn many_rows_are_given_up()
-    ensures { (form : Form) (lits : List Lit) → AreOfNode form lits → 1024 < length (in_rows (all_bounds (form_end form) lits)) → IsEvidence form (Rows lits) }
+    ensures { (form : Form) (lits : List Lit) → AreOfNode form lits → most_rows < length (in_rows (all_bounds (form_end form) lits)) → IsEvidence form (Rows lits) }
 {}
 
 /// A form of at most one literal, whose numbers have room once it is made ready, and of no

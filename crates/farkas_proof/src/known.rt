@@ -3,7 +3,7 @@
 ghost use Rattle.std.specs.Prelude.{◌≡◌, ◌++◌, ◌∷◌, [], List, IfOk, OnOk, length, take};
 ghost use Rattle.lin_atoms.specs.declared.lit.Lit.{Lit};
 ghost use Rattle.farkas_proof.specs.Combination.{lits_end};
-ghost use Rattle.farkas_proof.specs.Ends.{ends_from};
+ghost use Rattle.farkas_proof.specs.machinery.Ends.{ends_from};
 
 use crate::ends::lit_end;
 use base::Memory;
@@ -23,7 +23,7 @@ pub(crate) struct Known {
 impl Model for Known {
     ghost use Rattle.std.specs.Prelude.{◌≡◌, List, length, take};
     ghost use Rattle.lin_atoms.specs.declared.lit.Lit.{Lit};
-    ghost use Rattle.farkas_proof.specs.Ends.{ends_from};
+    ghost use Rattle.farkas_proof.specs.machinery.Ends.{ends_from};
 
     ghost Value = { List Lit };
 

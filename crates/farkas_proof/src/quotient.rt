@@ -1,7 +1,7 @@
 //! What is known of a quotient.
 
 ghost use Rattle.farkas_proof.specs.Refutation.{has_quotient, new_variable, quotient_at};
-ghost use Rattle.farkas_proof.specs.Tells.{DerivesAll};
+ghost use Rattle.farkas_proof.specs.machinery.Tells.{DerivesAll};
 ghost use Rattle.lin_atoms.specs.declared.lit.Lit.TheVariants.{Eq, Le};
 ghost use Rattle.std.specs.Prelude.{◌&&◌, nat_lt, IsSome, ◌≡◌, ◌<◌, ◌≤◌, ◌^◌, ◌++◌, ◌∷◌, [], IfOk, OnOk, pos, neg_ℤ, ◌-ℤ◌, ℕ, IsErrOf, IfSome, IsNone, true, false};
 ghost use Rattle.std.specs.List.{list_all};

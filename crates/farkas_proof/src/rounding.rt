@@ -1,8 +1,8 @@
 ghost use Rattle.std.specs.Prelude.{◌≡◌, ◌<ℤ◌, ◌<◌, ◌^◌, map, nat_abs, neg_ℤ, true, false, IfOk, IfSome, IsNone, IsSome, pos};
 ghost use Rattle.std.specs.Int.{int_div_euclid};
-ghost use Rattle.lin_atoms.specs.Linear.{are_ordered, are_small, fits, is_constant, is_small};
+ghost use Rattle.lin_atoms.specs.Linear.{are_ordered, are_short, fits, is_long, is_short};
 ghost use Rattle.farkas_proof.specs.Combination.{is_divided_by, rounded};
-ghost use Rattle.farkas_proof.specs.Sum.{seen, standing};
+ghost use Rattle.farkas_proof.specs.machinery.Sum.{seen, standing};
 
 use crate::division::quotient;
 use crate::sum::Sum;
@@ -13,8 +13,8 @@ use std::alloc::Global;
 /// The number with 64 bits, unless it has no room in a form.
 fn narrow(n: i128) -> Option<i64>
     ensures some { IfSome result (λ m. m ≡ n) }
-    ensures small { IsSome result → is_small n ≡ true }
-    ensures none { IsNone result → is_small n ≡ false }
+    ensures small { IsSome result → is_short n ≡ true }
+    ensures none { IsNone result → is_short n ≡ false }
 {
     if n.unsigned_abs() < 1 << 63 {
         Some(n as i64)
@@ -26,7 +26,7 @@ fn narrow(n: i128) -> Option<i64>
 /// The number with the other sign, unless it has no room in a form.
 fn minus(n: i128) -> Option<i128>
     ensures some { IfSome result (λ m. m ≡ neg_ℤ n) }
-    ensures none { IsNone result → is_constant (neg_ℤ n) ≡ false }
+    ensures none { IsNone result → is_long (neg_ℤ n) ≡ false }
 {
     if n == i128::MIN { None } else { Some(-n) }
 }
@@ -35,8 +35,8 @@ fn minus(n: i128) -> Option<i128>
 fn quotient_of(total: &Accumulator, divisor: i64) -> Option<i64>
     requires { pos 0 <ℤ divisor }
     ensures some { IfSome result (λ n. n ≡ int_div_euclid total.now.value divisor) }
-    ensures small { IsSome result → is_small (int_div_euclid total.now.value divisor) ≡ true }
-    ensures none { IsNone result → is_small (int_div_euclid total.now.value divisor) ≡ false }
+    ensures small { IsSome result → is_short (int_div_euclid total.now.value divisor) ≡ true }
+    ensures none { IsNone result → is_short (int_div_euclid total.now.value divisor) ≡ false }
 {
     match quotient(total, divisor) {
         Some(n) => narrow(n),
@@ -52,7 +52,7 @@ fn quotients(
 ) -> Result<Option<Vec<(u32, i64)>>, Memory>
     requires { pos 0 <ℤ divisor }
     ensures some { IfOk result (λ made. IfSome made (λ made. made.items ≡ map (λ t. (t.0, int_div_euclid t.1 divisor)) (seen terms.now))) }
-    ensures none { IfOk result (λ made. IsNone made → are_small (map (λ t. (t.0, int_div_euclid t.1 divisor)) (seen terms.now)) ≡ false) }
+    ensures none { IfOk result (λ made. IsNone made → are_short (map (λ t. (t.0, int_div_euclid t.1 divisor)) (seen terms.now)) ≡ false) }
 {
     let mut made = Vec::with_capacity(alloc, terms.len())?;
     for term in terms {
@@ -68,7 +68,7 @@ fn quotients(
 fn rounded_constant(negated: &Accumulator, divisor: i64) -> Option<i128>
     requires { pos 0 <ℤ divisor }
     ensures some { IfSome result (λ n. n ≡ neg_ℤ (int_div_euclid negated.now.value divisor)) }
-    ensures none { IsNone result → is_constant (neg_ℤ (int_div_euclid negated.now.value divisor)) ≡ false }
+    ensures none { IsNone result → is_long (neg_ℤ (int_div_euclid negated.now.value divisor)) ≡ false }
 {
     match quotient(negated, divisor) {
         Some(n) => minus(n),

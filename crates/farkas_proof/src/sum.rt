@@ -1,10 +1,10 @@
 ghost use Rattle.std.specs.Prelude.{◌≡◌, ◌+◌, ◌<◌, ◌≤◌, ◌^◌, ◌++◌, [], ◌==◌, ◌+ℤ◌, ◌-ℤ◌, ◌*ℤ◌, ◌<ℤ◌, ℤ, take, drop, length, nat_abs, neg_ℤ, true, false, OnOk, IfOk, IfErr, IfSome, IsSome, IsNone, slice_index_or, pos};
-ghost use Rattle.lin_atoms.specs.Accumulator.{Total};
+ghost use Rattle.lin_atoms.specs.machinery.Accumulator.{Total};
 ghost use Rattle.lin_atoms.specs.Algebra.{added, collected, scaled, scaled_terms, term_on, with_term};
 ghost use Rattle.lin_atoms.specs.Denial.{linear_of};
 ghost use Rattle.lin_atoms.specs.Linear.{are_ordered, of_constant};
 ghost use Rattle.farkas_proof.specs.Combination.{are_multipliers, combined, is_above_zero, is_divided_by, is_multiplier, linear_at, may_be_multiplied};
-ghost use Rattle.farkas_proof.specs.Sum.{IsSum, are_counted, seen, standing};
+ghost use Rattle.farkas_proof.specs.machinery.Sum.{IsSum, are_counted, seen, standing};
 
 use crate::division::is_multiple;
 use base::Memory;

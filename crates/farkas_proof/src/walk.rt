@@ -5,11 +5,11 @@ ghost use Rattle.lin_atoms.specs.Denial.{lit_fits};
 ghost use Rattle.lin_atoms.specs.declared.lit.Lit.TheVariants.{Le};
 ghost use Rattle.farkas_proof.specs.Combination.{are_multipliers, combined, is_above_zero, is_divided_by, one_minus, rounded};
 ghost use Rattle.farkas_proof.specs.Refutation.{Sound, checked, each_part, followed_by, has_parts, has_quotient, judged, judged_at, new_variable, quotient_at};
-ghost use Rattle.farkas_proof.specs.Tells.{Tells};
+ghost use Rattle.farkas_proof.specs.machinery.Tells.{Tells};
 ghost use Rattle.lin_atoms.specs.declared.form.Form.{Form};
 ghost use Rattle.lin_atoms.specs.declared.lit.Lit.{Lit};
 ghost use Rattle.farkas_proof.specs.Flatten.{literals};
-ghost use Rattle.farkas_proof.specs.Walk.{GoesOn, Leads, after, begun, found, found_in, found_next, left_to, opened, replaced, size, size_of, sizes, weight, weight_of, weights};
+ghost use Rattle.farkas_proof.specs.machinery.Walk.{GoesOn, Leads, after, begun, found, found_in, found_next, left_to, opened, replaced, size, size_of, sizes, weight, weight_of, weights};
 ghost use Rattle.std.specs.List.{list_all};
 
 use crate::ends::form_end;

@@ -6,16 +6,16 @@ use Rattle.std.proofs.lemmas.Bool.{eqb-true, ltb-true}
 use Rattle.std.proofs.lemmas.Int.{ints}
 use Rattle.std.proofs.lemmas.List.{append-nil, append_assoc, drop_more, drop_all, get_or_at, length-map, length-take-le, set_at, take_all, take_more}
 use Rattle.std.proofs.lemmas.Bool.Decides.{nat_tests}
-use Rattle.lin_atoms.specs.Linear.{is_small}
-use Rattle.lin_atoms.proofs.LinearLemmas.{both_true}
+use Rattle.lin_atoms.specs.Linear.{is_short}
+use Rattle.lin_atoms.proofs.Public.{both_true}
 use Rattle.int_rows.specs.Pivot.{combined, crossed, eliminated, reduced, turned}
-use Rattle.int_rows.specs.Rows.{are_small, content, entry}
+use Rattle.int_rows.specs.Rows.{are_short, content, entry}
 
 -- each entry has its bound
-pub small-at : (row : List ℤ) (i : ℕ) (d : ℤ) → i < length row → are_small row ≡ true → nat_abs (get_or row i d) < 2 ^ 63
+pub small-at : (row : List ℤ) (i : ℕ) (d : ℤ) → i < length row → are_short row ≡ true → nat_abs (get_or row i d) < 2 ^ 63
 small-at [] i d h is = absurd (omega arith)
-small-at (a ∷ row) zero d h is = ltb-true _ _ (both_true (is_small a) _ is).0
-small-at (a ∷ row) (suc i) d h is = small-at row i d (omega arith) (both_true (is_small a) _ is).1
+small-at (a ∷ row) zero d h is = ltb-true _ _ (both_true (is_short a) _ is).0
+small-at (a ∷ row) (suc i) d h is = small-at row i d (omega arith) (both_true (is_short a) _ is).1
 
 pub length-combined : (p q : ℤ) (xs ys : List ℤ) → length xs ≡ length ys → length (combined p q xs ys) ≡ length xs
 length-combined p q [] ys e = refl
@@ -38,13 +38,13 @@ reduced-at g p q (x ∷ xs) (y ∷ ys) zero d h e = refl
 reduced-at g p q (x ∷ xs) (y ∷ ys) (suc i) d h e = reduced-at g p q xs ys i d (omega arith) (omega arith)
 
 -- one entry of the rest has room
-pub small-more : (row : List ℤ) (i : ℕ) (d : ℤ) → i < length row → are_small (drop i row) ≡ (is_small (get_or row i d) && are_small (drop (i + 1) row))
-small-more row i d h = ap are_small (drop_more row i d h)
+pub small-more : (row : List ℤ) (i : ℕ) (d : ℤ) → i < length row → are_short (drop i row) ≡ (is_short (get_or row i d) && are_short (drop (i + 1) row))
+small-more row i d h = ap are_short (drop_more row i d h)
 
-pub small-end : (row : List ℤ) (i : ℕ) → length row ≤ i → are_small (drop i row) ≡ true
-small-end row i h = ap are_small (drop_all i row h)
+pub small-end : (row : List ℤ) (i : ℕ) → length row ≤ i → are_short (drop i row) ≡ true
+small-end row i h = ap are_short (drop_all i row h)
 
-pub small-test : (a : ℤ) → nat_abs a < 2 ^ 63 → is_small a ≡ true
+pub small-test : (a : ℤ) → nat_abs a < 2 ^ 63 → is_short a ≡ true
 small-test a h = grind (arith, nat_tests)
 
 -- a list that is written from the front: what is read, what is written, and the end

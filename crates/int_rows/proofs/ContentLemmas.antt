@@ -4,14 +4,13 @@ use Rattle.std.specs.Int.{◌∣◌}
 use Rattle.std.specs.Prelude.{ℤ, pos, ◌*ℤ◌, nat_abs, nat_le, nat_lt}
 use Rattle.std.specs.Int.{IsGcd, int_div_euclid}
 use Rattle.std.proofs.lemmas.Int.{ints, unsigned_abs-mul}
-use Rattle.lin_atoms.proofs.RatioLemmas.{exact_quotient}
+use Rattle.lin_atoms.proofs.Public.{both_true, exact_quotient}
 use Rattle.int_rows.specs.Pivot.{reduced}
 use Rattle.std.proofs.Math.Nat.{eq-zero_of_zero-dvd, one-dvd, mul-dvd-mul_right, mul-le-mul_right, zero-mul}
 use Rattle.std.proofs.lemmas.Nat.Gcd.{dvd_refl, dvd_trans, le_of_dvd, dvd_of_mod-eq-zero, mod-eq-zero_of_dvd}
 use Rattle.std.proofs.lemmas.Bool.{eqb-true, ltb-true}
 use Rattle.std.proofs.lemmas.List.{drop_more, drop_all}
-use Rattle.lin_atoms.proofs.LinearLemmas.{both_true}
-use Rattle.lin_atoms.specs.Linear.{Linear, are_ordered, are_small, is_linear, is_small}
+use Rattle.lin_atoms.specs.Linear.{Linear, are_ordered, are_short, is_linear, is_short}
 use Rattle.int_rows.specs.Ready.{lin_content}
 use Rattle.int_rows.specs.Rows.{content, divides_all, greatest_divisor, greatest_magnitude}
 
@@ -143,10 +142,10 @@ some-found zero row h = absurd (omega arith)
 some-found (suc zero) row h = rw (tested-divides 1 row (by-one row)) (omega arith)
 some-found (suc (suc n)) row h = some-step (suc n) (greatest_divisor (suc n) row) (divides_all (suc (suc n)) row) (some-found (suc n) row (omega arith))
 
-magnitude-small : (ts : List (ℕ × ℤ)) → are_small ts ≡ true → greatest_magnitude (map (λ t. t.1) ts) < 2 ^ 63
+magnitude-small : (ts : List (ℕ × ℤ)) → are_short ts ≡ true → greatest_magnitude (map (λ t. t.1) ts) < 2 ^ 63
 magnitude-small [] h = omega arith
 magnitude-small (t ∷ ts) h =
-    let both = both_true (is_small t.1) _ h in
+    let both = both_true (is_short t.1) _ h in
     let first : nat_abs t.1 < 2 ^ 63 = ltb-true _ _ both.0 in
     let rest = magnitude-small ts both.1 in
     omega arith
@@ -163,7 +162,7 @@ pub coefficients-content : (lin : Linear) → 0 < length lin.terms → is_linear
 unfolding content
 coefficients-content lin some h =
     let both = both_true (are_ordered 0 lin.terms) _ h in
-    let small = magnitude-small lin.terms (both_true (are_small lin.terms) _ both.1).0 in
+    let small = magnitude-small lin.terms (both_true (are_short lin.terms) _ both.1).0 in
     let positive = magnitude-some lin.terms some both.0 in
     let row = map (λ t. t.1) lin.terms in
     (some-found (greatest_magnitude row) row positive, omega (arith, most-found (greatest_magnitude row) row))

@@ -8,8 +8,8 @@ use Rattle.std.proofs.lemmas.Int.{ints}
 use Rattle.std.proofs.lemmas.List.{get_or-replicate, get_or_past, length-map, length-replicate, length-take-le, map-id, take_more}
 use Rattle.std.proofs.lemmas.List.FromFn.{get_or-map-range_with_len, get_or-range_with_len, length-range_with_len, map-range_with_len_more}
 use Rattle.std.proofs.lemmas.List.Folds.{list_all-append}
-use Rattle.lin_atoms.specs.Linear.{Linear, are_ordered, are_small, is_linear, is_small, lin_is_below, of_constant}
-use Rattle.lin_atoms.proofs.LinearLemmas.{both_true}
+use Rattle.lin_atoms.specs.Linear.{Linear, are_ordered, are_short, is_linear, is_short, lin_is_below, of_constant}
+use Rattle.lin_atoms.proofs.Public.{both_true}
 use Rattle.int_rows.specs.Basis.{bound}
 use Rattle.int_rows.specs.Node.{coefficient, equation, equations}
 use Rattle.int_rows.specs.Rows.{content}
@@ -21,10 +21,10 @@ small-step : (t : ℕ × ℤ) (v : ℕ) (rest : ℤ) (b : Bool) → nat_abs t.1 
 small-step t v rest true h k = h
 small-step t v rest false h k = k
 
-pub coefficient-small : (ts : List (ℕ × ℤ)) (v : ℕ) → are_small ts ≡ true → nat_abs (coefficient ts v) < 2 ^ 63
+pub coefficient-small : (ts : List (ℕ × ℤ)) (v : ℕ) → are_short ts ≡ true → nat_abs (coefficient ts v) < 2 ^ 63
 coefficient-small [] v h = omega arith
 coefficient-small (t ∷ ts) v h =
-    let both = both_true (is_small t.1) _ h in
+    let both = both_true (is_short t.1) _ h in
     small-step t v (coefficient ts v) (t.0 == v) (ltb-true _ _ both.0) (coefficient-small ts v both.1)
 
 pub other-entry : (b : Bool) (x y : ℤ) → (b ≡ true → ⊥) → cond b x y ≡ y
@@ -92,7 +92,7 @@ pub one-primitive : (row : List ℤ) (i : ℕ) → i < length row → get_or row
 one-primitive row i h one =
     content-is 1 row (record { common = by-one row; greatest = λ d all. subst (λ z. d ∣ nat_abs z) one (divides-at d row i h all) })
 
-small-entry : (slack : ℕ) (lin : Linear) (c : ℕ) (b : Bool) → are_small lin.terms ≡ true → is_small (cond b (pos 1) (neg_ℤ (coefficient lin.terms c))) ≡ true
+small-entry : (slack : ℕ) (lin : Linear) (c : ℕ) (b : Bool) → are_short lin.terms ≡ true → is_short (cond b (pos 1) (neg_ℤ (coefficient lin.terms c))) ≡ true
 small-entry slack lin c true h = refl
 small-entry slack lin c false h = let small = coefficient-small lin.terms c h in let less : nat_abs (neg_ℤ (coefficient lin.terms c)) < 2 ^ 63 = omega (arith, ints, small) in small-test (neg_ℤ (coefficient lin.terms c)) less
 
@@ -100,7 +100,7 @@ same-test : (n : ℕ) → (n == n) ≡ true
 same-test n = eq-eqb n n refl
 
 -- the equation is solved for its slack
-pub equation-solved : (variables count i : ℕ) (lin : Linear) → i < count → are_small lin.terms ≡ true → lin_is_below variables lin ≡ true → IsSolved (variables + count) (range_with_len variables count) i (equation (variables + count) (variables + i) lin)
+pub equation-solved : (variables count i : ℕ) (lin : Linear) → i < count → are_short lin.terms ≡ true → lin_is_below variables lin ≡ true → IsSolved (variables + count) (range_with_len variables count) i (equation (variables + count) (variables + i) lin)
 equation-solved variables count i lin h small below =
     let columns = variables + count in
     let slack = variables + i in
@@ -112,7 +112,7 @@ equation-solved variables count i lin h small below =
     let basic = range-at variables count i 0 h in
     record {
       width = long;
-      small = all-mapped is_small (equation_entry slack lin) (range_with_len 0 columns) (λ c. small-entry slack lin c (c == slack) small);
+      small = all-mapped is_short (equation_entry slack lin) (range_with_len 0 columns) (λ c. small-entry slack lin c (c == slack) small);
       primitive = eq-eqb (content row) 1 (one-primitive row slack place own);
       positive = subst (λ v. pos 0 <ℤ get_or row v (pos 0)) (sym basic) (subst (λ z. pos 0 <ℤ z) (sym own) (omega (arith, ints)));
       zero = λ j less other.
@@ -144,7 +144,7 @@ first-solved variables lins below legal few =
           let inside : i < n = omega (arith, h, count) in
           let lin = get_or lins i (of_constant (pos 0)) in
           let small = both_true (are_ordered 0 lin.terms) _ (all-at is_linear lins i (of_constant (pos 0)) inside legal) in
-          let solved = equation-solved variables n i lin inside (both_true (are_small lin.terms) _ small.1).0 (all-at (lin_is_below variables) lins i (of_constant (pos 0)) inside below) in
+          let solved = equation-solved variables n i lin inside (both_true (are_short lin.terms) _ small.1).0 (all-at (lin_is_below variables) lins i (of_constant (pos 0)) inside below) in
           let row = equations-at (variables + n) variables lins i (of_constant (pos 0)) inside in
           subst (λ k. IsSolved (variables + k) (range_with_len variables n) i (get_or rows i [])) (sym count) (subst (λ r. IsSolved (variables + n) (range_with_len variables n) i r) (sym row) solved);
       lowers = length-replicate (variables + n) None ∙ ap (λ k. variables + k) (sym count);

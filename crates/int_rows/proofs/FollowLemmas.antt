@@ -7,7 +7,7 @@ use Rattle.std.proofs.Math.Nat.{mul-le-mul_right}
 use Rattle.std.proofs.lemmas.Bool.{cases_lt}
 use Rattle.std.proofs.lemmas.Int.{ints}
 use Rattle.std.proofs.lemmas.List.{get_or_default, get_or_past, length-map}
-use Rattle.base.proofs.IntLemmas.{+ℤ-*ℤ, *ℤ_assoc, *ℤ-+ℤ, neg_ℤ-*ℤ}
+use Rattle.base.proofs.Public.{*ℤ-+ℤ, *ℤ_assoc, +ℤ-*ℤ, neg_ℤ-*ℤ}
 use Rattle.lin_atoms.specs.Dot.{dot}
 use Rattle.int_rows.specs.Pivot.{combined, crossed, eliminated, turned}
 use Rattle.int_rows.specs.Rows.{Follows, Solves, SolvesAll, content, entry}

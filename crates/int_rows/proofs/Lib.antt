@@ -5,6 +5,7 @@ pub mod EquationLemmas
 pub mod FollowLemmas
 pub mod PivotLemmas
 pub mod PivotedLemmas
+pub mod Public
 pub mod QuotientLemmas
 pub mod ReadyLemmas
 pub mod SpaceLemmas

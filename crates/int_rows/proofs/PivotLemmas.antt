@@ -6,9 +6,9 @@ use Rattle.std.specs.Int.{int_div_euclid}
 use Rattle.std.proofs.Math.IntN.{*ℤ_comm, *ℤ-zero, zero-*ℤ}
 use Rattle.std.proofs.Math.Nat.{mul-le-mul_right}
 use Rattle.std.proofs.lemmas.Int.{ints}
-use Rattle.base.proofs.IntLemmas.{+ℤ-*ℤ, *ℤ_assoc, *ℤ-+ℤ, neg_ℤ-*ℤ}
+use Rattle.base.proofs.Public.{*ℤ-+ℤ, *ℤ_assoc, +ℤ-*ℤ, neg_ℤ-*ℤ}
 use Rattle.lin_atoms.specs.Dot.{dot}
-use Rattle.lin_atoms.proofs.RatioLemmas.{exact_quotient}
+use Rattle.lin_atoms.proofs.Public.{exact_quotient}
 use Rattle.int_rows.specs.Pivot.{combined, crossed, eliminated, reduced, turned}
 use Rattle.int_rows.specs.Rows.{Solves, content, entry, is_primitive}
 use Rattle.int_rows.proofs.CombineLemmas.{combined-at, length-combined, reduced-at}

@@ -6,10 +6,10 @@ use Rattle.std.proofs.Math.IntN.{*ℤ_comm, *ℤ-zero}
 use Rattle.std.proofs.lemmas.Bool.{eqb-true, eqb-false}
 use Rattle.std.proofs.lemmas.Int.{ints}
 use Rattle.std.proofs.lemmas.List.{append-nil, drop_all, drop_more, get_or-map, get_or-set_other, get_or-set_same, get_or_at, length-map, length-set, length-take-le, map-append, set_at, take_all}
-use Rattle.lin_atoms.specs.Linear.{is_small}
-use Rattle.lin_atoms.proofs.LinearLemmas.{both_true}
+use Rattle.lin_atoms.specs.Linear.{is_short}
+use Rattle.lin_atoms.proofs.Public.{both_true}
 use Rattle.int_rows.specs.Pivot.{CanCross, crossed, eliminated, turned}
-use Rattle.int_rows.specs.Rows.{are_small, content, divides_all, entry, greatest_divisor, greatest_magnitude, is_primitive}
+use Rattle.int_rows.specs.Rows.{are_short, content, divides_all, entry, greatest_divisor, greatest_magnitude, is_primitive}
 use Rattle.int_rows.specs.Table.{CanPivot, IsSolved, IsTable, Table, basic_at, facing, pivoted, row_at, width}
 use Rattle.int_rows.proofs.CombineLemmas.{combined-at, length-combined, length-reduced}
 use Rattle.int_rows.proofs.ContentLemmas.{content-positive}
@@ -35,11 +35,11 @@ neg-entry (a ∷ row) (suc v) = neg-entry row v
 abs-neg : (a : ℤ) → nat_abs (neg_ℤ a) ≡ nat_abs a
 abs-neg a = omega (arith, ints)
 
-small-neg : (row : List ℤ) → are_small row ≡ true → are_small (map neg_ℤ row) ≡ true
+small-neg : (row : List ℤ) → are_short row ≡ true → are_short (map neg_ℤ row) ≡ true
 small-neg [] h = refl
 small-neg (a ∷ row) h =
-    let both = both_true (is_small a) _ h in
-    ap (λ n. is_small (pos n) && are_small (map neg_ℤ row)) (abs-neg a) ∙ ap (λ b. b && are_small (map neg_ℤ row)) both.0 ∙ small-neg row both.1
+    let both = both_true (is_short a) _ h in
+    ap (λ n. is_short (pos n) && are_short (map neg_ℤ row)) (abs-neg a) ∙ ap (λ b. b && are_short (map neg_ℤ row)) both.0 ∙ small-neg row both.1
 
 magnitude-neg : (row : List ℤ) → greatest_magnitude (map neg_ℤ row) ≡ greatest_magnitude row
 magnitude-neg [] = refl
@@ -62,7 +62,7 @@ turned-length : (b : Bool) (row : List ℤ) → length (cond b (map neg_ℤ row)
 turned-length true row = length-map row neg_ℤ
 turned-length false row = refl
 
-turned-small : (b : Bool) (row : List ℤ) → are_small row ≡ true → are_small (cond b (map neg_ℤ row) row) ≡ true
+turned-small : (b : Bool) (row : List ℤ) → are_short row ≡ true → are_short (cond b (map neg_ℤ row) row) ≡ true
 turned-small true row h = small-neg row h
 turned-small false row h = h
 
@@ -85,7 +85,7 @@ turned-positive false row v e some = let most = lt-false (entry row v) (pos 0) e
 pub facing-length : (column : ℕ) (row : List ℤ) → length (facing column row) ≡ length row
 facing-length column row = turned-length (int_lt (entry row column) (pos 0)) row
 
-pub facing-small : (column : ℕ) (row : List ℤ) → are_small row ≡ true → are_small (facing column row) ≡ true
+pub facing-small : (column : ℕ) (row : List ℤ) → are_short row ≡ true → are_short (facing column row) ≡ true
 facing-small column row h = turned-small (int_lt (entry row column) (pos 0)) row h
 
 -- a row as in a tableau, whether it has room or not
@@ -235,7 +235,7 @@ abbrev pub after : Table → ℕ → ℕ → Table
 after t i column = record t { rows = pivoted i column t.rows; basic = set t.basic i column }
 
 -- a pivot keeps a tableau
-pub pivoted-table : (t : Table) (i column : ℕ) → IsTable t → i < length t.rows → column < width t → (entry (row_at t.rows i) column ≡ pos 0 → ⊥) → list_all are_small (pivoted i column t.rows) ≡ true → IsTable (after t i column)
+pub pivoted-table : (t : Table) (i column : ℕ) → IsTable t → i < length t.rows → column < width t → (entry (row_at t.rows i) column ≡ pos 0 → ⊥) → list_all are_short (pivoted i column t.rows) ≡ true → IsTable (after t i column)
 pivoted-table t i column is h there factor room =
     let rows = pivoted i column t.rows in
     let count = length-pivoted i column t.rows in
@@ -246,7 +246,7 @@ pivoted-table t i column is h there factor room =
       within = λ j less. subst (λ n. basic_at (set t.basic i column) j < n) (sym wide) (all.within j less);
       solved = λ j less.
           let solved = all.solved j less in
-          subst (λ n. IsSolved n (set t.basic i column) j (row_at rows j)) (sym wide) (record { width = solved.width; small = all-at are_small rows j [] less room; primitive = solved.primitive; positive = solved.positive; zero = solved.zero });
+          subst (λ n. IsSolved n (set t.basic i column) j (row_at rows j)) (sym wide) (record { width = solved.width; small = all-at are_short rows j [] less room; primitive = solved.primitive; positive = solved.positive; zero = solved.zero });
       lowers = is.lowers ∙ sym wide;
       uppers = is.uppers ∙ sym wide;
       few = omega (arith, count, is.few);
@@ -271,10 +271,10 @@ refilled n ws xs e f = ap (λ rest. take n (ws ++ rest)) (drop_all (length ws) x
 pub cross-at : (i column j : ℕ) (rows : List (List ℤ)) (other row : List ℤ) → CanPivot i column rows → j < length rows → (j ≡ i → ⊥) → other ≡ row_at rows i → row ≡ row_at rows j → CanCross column other row
 cross-at i column j rows other row can h away own at = subst (λ r. CanCross column r row) (sym own) (subst (CanCross column (row_at rows i)) (sym at) (can.others j h away))
 
-pub room-at : (i column j : ℕ) (rows : List (List ℤ)) (other row : List ℤ) → list_all are_small (pivoted i column rows) ≡ true → j < length rows → (j ≡ i → ⊥) → other ≡ row_at rows i → row ≡ row_at rows j → are_small (eliminated column other row) ≡ true
+pub room-at : (i column j : ℕ) (rows : List (List ℤ)) (other row : List ℤ) → list_all are_short (pivoted i column rows) ≡ true → j < length rows → (j ≡ i → ⊥) → other ≡ row_at rows i → row ≡ row_at rows j → are_short (eliminated column other row) ≡ true
 room-at i column j rows other row room h away own at =
-    ap (λ r. are_small (eliminated column r row)) own ∙ ap (λ r. are_small (eliminated column (row_at rows i) r)) at ∙ ap are_small (sym (pivoted-other i j column rows h away))
-    ∙ all-at are_small (pivoted i column rows) j [] (omega (arith, h, length-pivoted i column rows)) room
+    ap (λ r. are_short (eliminated column r row)) own ∙ ap (λ r. are_short (eliminated column (row_at rows i) r)) at ∙ ap are_short (sym (pivoted-other i j column rows h away))
+    ∙ all-at are_short (pivoted i column rows) j [] (omega (arith, h, length-pivoted i column rows)) room
 
 -- a pivot by the rows before and after
 pub pivoted-split : (i column : ℕ) (front back : List (List ℤ)) (row : List ℤ) → length front ≡ i → pivoted i column (front ++ row ∷ back) ≡ map (eliminated column row) front ++ facing column row ∷ map (eliminated column row) back

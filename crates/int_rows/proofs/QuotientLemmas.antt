@@ -6,16 +6,13 @@ use Rattle.std.proofs.Math.IntN.{*ℤ_comm}
 use Rattle.std.proofs.lemmas.Int.{ints}
 use Rattle.std.proofs.lemmas.Bool.{ltb-true, eqb-true}
 use Rattle.std.proofs.lemmas.List.{get_or_append_left, get_or_at}
-use Rattle.base.proofs.IntLemmas.{neg_ℤ-*ℤ}
-use Rattle.lin_atoms.specs.Accumulator.{is_multiple}
+use Rattle.base.proofs.Public.{neg_ℤ-*ℤ}
+use Rattle.lin_atoms.specs.Multiples.{is_multiple}
 use Rattle.lin_atoms.specs.Linear.{Linear, lin_is_below, sum_at, value_at, variable_at}
 use Rattle.lin_atoms.specs.Truth.{lit_truth}
 use Rattle.lin_atoms.specs.declared.lit.Lit.{Lit}
 use Rattle.lin_atoms.specs.declared.lit.Lit.TheVariants.{Div, NDiv}
-use Rattle.lin_atoms.proofs.DivisionLemmas.{quotient-rest, rest-natural, rest-below, rest_is, multiple_where}
-use Rattle.lin_atoms.proofs.LinearLemmas.{both_true}
-use Rattle.lin_atoms.proofs.TermLemmas.{sum_at-++}
-use Rattle.lin_atoms.proofs.ValueLemmas.{value_at-agree}
+use Rattle.lin_atoms.proofs.Public.{both_true, multiple_where, quotient-rest, rest-below, rest-natural, rest_is, sum_at-++, value_at-agree}
 use Rattle.int_rows.specs.Ready.{between, bounded, is_bounded_at, less_multiple, ready, ready_truth}
 use Rattle.int_rows.specs.declared.bounds.Ready.TheVariants.{Truth, Bounds}
 use Rattle.int_rows.proofs.ReadyLemmas.{and-true, le-true, true-le, true-zero, value-none, zero-true}

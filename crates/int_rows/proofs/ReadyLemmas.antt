@@ -6,13 +6,11 @@ use Rattle.std.proofs.Math.IntN.{*ℤ_comm, zero-*ℤ}
 use Rattle.std.proofs.lemmas.Int.{ints}
 use Rattle.std.proofs.lemmas.Bool.{eqb-true, eqb-false}
 use Rattle.std.proofs.lemmas.List.{nil_from_length}
-use Rattle.base.proofs.IntLemmas.{+ℤ-*ℤ, *ℤ_assoc, neg_ℤ-*ℤ}
+use Rattle.base.proofs.Public.{*ℤ_assoc, +ℤ-*ℤ, neg_ℤ-*ℤ}
 use Rattle.lin_atoms.specs.Linear.{Linear, are_ordered, sum_at, value_at, variable_at}
 use Rattle.lin_atoms.specs.Truth.{lit_truth}
 use Rattle.lin_atoms.specs.declared.lit.Lit.TheVariants.{Le, Eq}
-use Rattle.lin_atoms.proofs.DivisionLemmas.{quotient-rest, rest-natural, quotient-greatest}
-use Rattle.lin_atoms.proofs.LinearLemmas.{both_true}
-use Rattle.lin_atoms.proofs.RatioLemmas.{exact_quotient}
+use Rattle.lin_atoms.proofs.Public.{both_true, exact_quotient, quotient-greatest, quotient-rest, rest-natural}
 use Rattle.int_rows.specs.Ready.{bounded, is_bounded_at, least, lin_content, most, ready, ready_truth, tightened}
 use Rattle.int_rows.specs.declared.bounds.Ready.TheVariants.{Truth, Bounds}
 use Rattle.int_rows.proofs.ContentLemmas.{Divides, coefficients-divided}

@@ -1,7 +1,7 @@
 -- Gauss-Jordan elimination without fractions: a combination of two rows, divided by what divides all of it (Bareiss, Sylvester's Identity and Multistep Integer-Preserving Gaussian Elimination).
 use Rattle.std.specs.Prelude.{◌≡◌, ◌<◌, true, length, ℕ, List, [], ◌∷◌, map, ℤ, pos, ◌-ℤ◌, ◌*ℤ◌, neg_ℤ, int_lt, nat_abs, ◌==◌, if◌then◌else◌}
 use Rattle.std.specs.Int.{int_div_euclid}
-use Rattle.int_rows.specs.Rows.{are_small, content, entry}
+use Rattle.int_rows.specs.Rows.{are_short, content, entry}
 
 -- p times a row less q times another, as far as both go
 abbrev pub combined : ℤ → ℤ → List ℤ → List ℤ → List ℤ
@@ -27,7 +27,7 @@ eliminated column other row = if nat_abs (entry row column) == 0 then row else r
 
 -- a row that can be freed of a column by another: it has room, is as long, has the column, and the crossing isn't 0 everywhere
 pub record CanCross (column : ℕ) (other row : List ℤ) : Type 0 where
-  pub small : are_small row ≡ true
+  pub small : are_short row ≡ true
   pub same : length row ≡ length other
   pub there : column < length row
   pub some : 0 < content (crossed column row other)

@@ -4,7 +4,7 @@ use Rattle.std.specs.Int.{int_div_euclid}
 use Rattle.std.specs.Option.{option_map_or}
 use Rattle.lin_atoms.specs.Algebra.{negated}
 use Rattle.lin_atoms.specs.Denial.{linear_of}
-use Rattle.lin_atoms.specs.Linear.{Linear, fits, is_constant, sum_at}
+use Rattle.lin_atoms.specs.Linear.{Linear, fits, is_long, sum_at}
 use Rattle.lin_atoms.specs.Truth.{lit_truth}
 use Rattle.lin_atoms.specs.declared.lit.Lit.{Lit}
 use Rattle.lin_atoms.specs.declared.lit.Lit.TheVariants.{Le, Eq, Div, NDiv}
@@ -59,7 +59,7 @@ abbrev pub ready : ℕ → Lit → Ready
 ready q lit = if has_no_variable lit then Truth (lit_truth [] lit) else Bounds (bounded q lit)
 
 abbrev pub bound_fits : Option ℤ → Bool
-bound_fits bound = option_map_or is_constant bound true
+bound_fits bound = option_map_or is_long bound true
 
 abbrev pub bounded_fits : Bounded → Bool
 bounded_fits b = fits b.form && (bound_fits b.lower && bound_fits b.upper)

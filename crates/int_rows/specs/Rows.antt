@@ -2,7 +2,7 @@
 use Rattle.std.specs.Prelude.{◌≡◌, ◌<◌, ℕ, zero, suc, List, [], ◌∷◌, map, length, ℤ, pos, ◌*ℤ◌, nat_abs, max, Bool, ◌&&◌, ◌==◌, ◌%◌, slice_index_or, if◌then◌else◌}
 use Rattle.std.specs.List.{All, list_all}
 use Rattle.lin_atoms.specs.Dot.{dot}
-use Rattle.lin_atoms.specs.Linear.{is_small}
+use Rattle.lin_atoms.specs.Linear.{is_short}
 
 -- the entry of a variable, which is 0 past the end
 abbrev pub entry : List ℤ → ℕ → ℤ
@@ -30,12 +30,12 @@ content row = greatest_divisor (greatest_magnitude row) row
 abbrev pub is_primitive : List ℤ → Bool
 is_primitive row = content row == 1
 
-abbrev pub are_small : List ℤ → Bool
-are_small row = list_all is_small row
+abbrev pub are_short : List ℤ → Bool
+are_short row = list_all is_short row
 
 -- whether the code can have the row: a primitive one whose entries have room
 abbrev pub is_row : List ℤ → Bool
-is_row row = are_small row && is_primitive row
+is_row row = are_short row && is_primitive row
 
 -- whether the point makes the row's equation true: row * point = 0
 abbrev pub Solves : List ℤ → List ℤ → Type 0

@@ -1,11 +1,12 @@
 -- A simplex tableau: a row for each equation, solved for its basic variable (Dantzig, Linear Programming and Extensions, chapter 5).
 use Rattle.std.specs.Prelude.{◌≡◌, ℕ, ◌+◌, ◌^◌, ◌<◌, ◌≤◌, List, [], map, ℤ, pos, neg_ℤ, nat_abs, ◌<ℤ◌, int_lt, true, length, Option, Some, None, replicate, slice_index_or, slice_set, if◌then◌else◌}
 use Rattle.std.specs.List.{Contains, range_with_len}
+use Rattle.base.specs.Limits.{most_rows}
 use Rattle.lin_atoms.specs.Linear.{Linear}
 use Rattle.int_rows.specs.Basis.{bound}
 use Rattle.int_rows.specs.Node.{equations}
 use Rattle.int_rows.specs.Pivot.{CanCross, eliminated}
-use Rattle.int_rows.specs.Rows.{are_small, entry, is_primitive}
+use Rattle.int_rows.specs.Rows.{are_short, entry, is_primitive}
 
 -- the variables that are no slacks, the rows, the basic variable of each row, and the bounds of all variables
 pub record Table : Type 0 where
@@ -28,7 +29,7 @@ basic_at basic i = slice_index_or basic i 0
 -- a row is primitive, positive in its own basic variable and 0 in the others
 pub record IsSolved (columns : ℕ) (basic : List ℕ) (i : ℕ) (row : List ℤ) : Type 0 where
   pub width : length row ≡ columns
-  pub small : are_small row ≡ true
+  pub small : are_short row ≡ true
   pub primitive : is_primitive row ≡ true
   pub positive : pos 0 <ℤ entry row (basic_at basic i)
   pub zero : (j : ℕ) → j < length basic → (j ≡ i → ⊥) → entry row (basic_at basic j) ≡ pos 0
@@ -39,7 +40,7 @@ pub record IsTable (t : Table) : Type 0 where
   pub solved : (i : ℕ) → i < length t.rows → IsSolved (width t) t.basic i (row_at t.rows i)
   pub lowers : length t.lower ≡ width t
   pub uppers : length t.upper ≡ width t
-  pub few : length t.rows ≤ 1024
+  pub few : length t.rows ≤ most_rows
   pub small_lower : (v : ℕ) (b : ℤ) → bound t.lower v ≡ Some b → nat_abs b < 2 ^ 64
   pub small_upper : (v : ℕ) (b : ℤ) → bound t.upper v ≡ Some b → nat_abs b < 2 ^ 64
 
@@ -64,7 +65,7 @@ pivoted i column rows = slice_set (map (eliminated column (row_at rows i)) rows)
 -- rows that can pivot: the row has room and the column, and each other row can be freed of the column by it
 pub record CanPivot (i column : ℕ) (rows : List (List ℤ)) : Type 0 where
   pub within : i < length rows
-  pub small : are_small (row_at rows i) ≡ true
+  pub small : are_short (row_at rows i) ≡ true
   pub there : column < length (row_at rows i)
   pub others : (j : ℕ) → j < length rows → (j ≡ i → ⊥) → CanCross column (row_at rows i) (row_at rows j)
 

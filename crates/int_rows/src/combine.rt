@@ -3,7 +3,7 @@
 ghost use Rattle.std.specs.Prelude.{◌≡◌, ◌<◌, ◌≤◌, ◌^◌, ◌-ℤ◌, ◌*ℤ◌, ◌<ℤ◌, length, nat_abs, pos, true, IfSome, IsNone};
 ghost use Rattle.std.specs.Int.{int_div_euclid};
 ghost use Rattle.std.specs.List.{Contains};
-ghost use Rattle.int_rows.specs.Rows.{are_small, content};
+ghost use Rattle.int_rows.specs.Rows.{are_short, content};
 ghost use Rattle.int_rows.specs.Pivot.{combined, reduced};
 
 use lin_atoms::gcd;
@@ -82,8 +82,8 @@ fn narrow(n: i128) -> i64
 pub(crate) fn combined_content(p: i64, row: &[i64], q: i64, other: &[i64]) -> u128
     requires p { nat_abs p < 2 ^ 63 }
     requires q { nat_abs q < 2 ^ 63 }
-    requires row { are_small row.now ≡ true }
-    requires other { are_small other.now ≡ true }
+    requires row { are_short row.now ≡ true }
+    requires other { are_short other.now ≡ true }
     requires same { length row.now ≡ length other.now }
     ensures is { result ≡ content (combined p q row.now other.now) }
     ensures bound { result < 2 ^ 127 }
@@ -103,12 +103,12 @@ pub(crate) fn combined_content(p: i64, row: &[i64], q: i64, other: &[i64]) -> u1
 pub(crate) fn wide_entry(p: i64, row: &[i64], q: i64, other: &[i64], divisor: i128) -> Option<i128>
     requires p { nat_abs p < 2 ^ 63 }
     requires q { nat_abs q < 2 ^ 63 }
-    requires row { are_small row.now ≡ true }
-    requires other { are_small other.now ≡ true }
+    requires row { are_short row.now ≡ true }
+    requires other { are_short other.now ≡ true }
     requires same { length row.now ≡ length other.now }
     requires divisor { pos 0 <ℤ divisor }
     ensures some { IfSome result (λ wide. Contains (reduced divisor (combined p q row.now other.now)) wide × (2 ^ 63 ≤ nat_abs wide)) }
-    ensures none { IsNone result → are_small (reduced divisor (combined p q row.now other.now)) ≡ true }
+    ensures none { IsNone result → are_short (reduced divisor (combined p q row.now other.now)) ≡ true }
 {
     for (i, x) in row.iter().enumerate() {
         let entry = quotient(p, *x, q, other[i], divisor);
@@ -123,11 +123,11 @@ pub(crate) fn wide_entry(p: i64, row: &[i64], q: i64, other: &[i64], divisor: i1
 pub(crate) fn combine(p: i64, row: &mut [i64], q: i64, other: &[i64], divisor: i128)
     requires p { nat_abs p < 2 ^ 63 }
     requires q { nat_abs q < 2 ^ 63 }
-    requires row { are_small row.old ≡ true }
-    requires other { are_small other.now ≡ true }
+    requires row { are_short row.old ≡ true }
+    requires other { are_short other.now ≡ true }
     requires same { length row.old ≡ length other.now }
     requires divisor { pos 0 <ℤ divisor }
-    requires room { are_small (reduced divisor (combined p q row.old other.now)) ≡ true }
+    requires room { are_short (reduced divisor (combined p q row.old other.now)) ≡ true }
     ensures { row.new ≡ reduced divisor (combined p q row.old other.now) }
 {
     for i in 0..row.len() {

@@ -1,5 +1,5 @@
 ghost use Rattle.std.specs.Prelude.{◌≡◌};
-ghost use Rattle.int_rows.specs.Rows.{are_small, content};
+ghost use Rattle.int_rows.specs.Rows.{are_short, content};
 
 use lin_atoms::gcd;
 
@@ -18,8 +18,8 @@ pub(crate) fn content(row: &[i64]) -> u128
 }
 
 /// Whether each entry is below 2^63 in magnitude: -2^63 alone isn't.
-pub(crate) fn are_small(row: &[i64]) -> bool
-    ensures { result ≡ are_small row.now }
+pub(crate) fn are_short(row: &[i64]) -> bool
+    ensures { result ≡ are_short row.now }
 {
     row.iter().all(|entry| *entry != i64::MIN)
 }

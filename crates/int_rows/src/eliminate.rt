@@ -2,7 +2,7 @@
 
 ghost use Rattle.std.specs.Prelude.{◌≡◌, ◌<◌, ◌≤◌, ◌^◌, ◌-ℤ◌, ◌*ℤ◌, ◌<ℤ◌, ◌==◌, length, nat_abs, pos, true, false, IfSome, IsNone};
 ghost use Rattle.std.specs.List.{Contains};
-ghost use Rattle.int_rows.specs.Rows.{are_small, content, entry};
+ghost use Rattle.int_rows.specs.Rows.{are_short, content, entry};
 ghost use Rattle.int_rows.specs.Pivot.{crossed, eliminated, turned};
 
 use crate::combine::{combine, combined_content, wide_entry};
@@ -27,7 +27,7 @@ fn turned(a: i64, b: i64) -> i64
 
 /// The entry of a row.
 pub(crate) fn entry(row: &[i64], column: usize) -> i64
-    requires small { are_small row.now ≡ true }
+    requires small { are_short row.now ≡ true }
     requires within { column < length row.now }
     ensures is { result ≡ entry row.now column }
     ensures small { nat_abs result < 2 ^ 63 }
@@ -45,13 +45,13 @@ fn signed(n: u128) -> i128
 
 /// The first entry without room in the row without the column.
 pub(crate) fn wide_elimination(row: &[i64], other: &[i64], column: usize) -> Option<i128>
-    requires row { are_small row.now ≡ true }
-    requires other { are_small other.now ≡ true }
+    requires row { are_short row.now ≡ true }
+    requires other { are_short other.now ≡ true }
     requires same { length row.now ≡ length other.now }
     requires within { column < length row.now }
     requires some { 0 < content (crossed column row.now other.now) }
     ensures some { IfSome result (λ wide. Contains (eliminated column other.now row.now) wide × (2 ^ 63 ≤ nat_abs wide)) }
-    ensures none { IsNone result → are_small (eliminated column other.now row.now) ≡ true }
+    ensures none { IsNone result → are_short (eliminated column other.now row.now) ≡ true }
 {
     let (a, b) = (entry(other, column), entry(row, column));
     if b == 0 {
@@ -64,12 +64,12 @@ pub(crate) fn wide_elimination(row: &[i64], other: &[i64], column: usize) -> Opt
 
 /// The row without the column.
 pub(crate) fn eliminate(row: &mut [i64], other: &[i64], column: usize)
-    requires row { are_small row.old ≡ true }
-    requires other { are_small other.now ≡ true }
+    requires row { are_short row.old ≡ true }
+    requires other { are_short other.now ≡ true }
     requires same { length row.old ≡ length other.now }
     requires within { column < length row.old }
     requires some { 0 < content (crossed column row.old other.now) }
-    requires room { are_small (eliminated column other.now row.old) ≡ true }
+    requires room { are_short (eliminated column other.now row.old) ≡ true }
     ensures { row.new ≡ eliminated column other.now row.old }
 {
     let (a, b) = (entry(other, column), entry(row, column));

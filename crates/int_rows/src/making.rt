@@ -2,7 +2,7 @@ ghost use Rattle.std.specs.Prelude.{◌≡◌, ◌<◌, ◌≤◌, ◌<ℤ◌, �
 ghost use Rattle.std.specs.Int.{int_div_euclid};
 ghost use Rattle.std.specs.Option.{SomeIff};
 ghost use Rattle.lin_atoms.specs.Denial.{linear_of};
-ghost use Rattle.lin_atoms.specs.Linear.{is_constant};
+ghost use Rattle.lin_atoms.specs.Linear.{is_long};
 ghost use Rattle.lin_atoms.specs.Algebra.{negated};
 ghost use Rattle.lin_atoms.specs.Truth.{lit_is_below, lit_truth};
 ghost use Rattle.lin_atoms.specs.declared.lit.Lit.TheVariants.{Le, Eq, Div, NDiv};
@@ -166,7 +166,7 @@ fn less_multiple(alloc: Global, n: Divisor, q: u32, lin: &Lin) -> Result<Lin, Me
 
 /// A bound for a form without its constant, unless it has no room.
 fn less_constant(bound: i64, lin: &Lin) -> Option<i128>
-    ensures { SomeIff result (is_constant (bound -ℤ lin.now.constant) ≡ true) (bound -ℤ lin.now.constant) }
+    ensures { SomeIff result (is_long (bound -ℤ lin.now.constant) ≡ true) (bound -ℤ lin.now.constant) }
 {
     let less = i128::from(bound) - lin.constant();
     if less.unsigned_abs() < 1 << 64 {

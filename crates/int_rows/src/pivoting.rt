@@ -3,7 +3,7 @@
 ghost use Rattle.std.specs.Prelude.{◌≡◌, ◌<◌, ◌≤◌, ◌^◌, length, map, nat_abs, neg_ℤ, true, IfSome, IsNone};
 ghost use Rattle.std.specs.List.{All, Contains, list_all};
 ghost use Rattle.int_rows.specs.Pivot.{CanCross, eliminated};
-ghost use Rattle.int_rows.specs.Rows.{are_small};
+ghost use Rattle.int_rows.specs.Rows.{are_short};
 ghost use Rattle.int_rows.specs.Table.{CanPivot, HasWide, facing, pivoted, row_at};
 
 use crate::eliminate::{eliminate, entry, wide_elimination};
@@ -14,7 +14,7 @@ fn wide_at(rows: &[Vec<i64>], i: usize, pivot: usize, column: usize) -> Option<i
     requires can { CanPivot pivot column (map (λ r. r.items) rows.now) }
     requires within { i < length rows.now }
     ensures some { IfSome result (λ wide. Contains (row_at (pivoted pivot column (map (λ r. r.items) rows.now)) i) wide × (2 ^ 63 ≤ nat_abs wide)) }
-    ensures none { IsNone result → are_small (row_at (pivoted pivot column (map (λ r. r.items) rows.now)) i) ≡ true }
+    ensures none { IsNone result → are_short (row_at (pivoted pivot column (map (λ r. r.items) rows.now)) i) ≡ true }
 {
     if i == pivot {
         return None;
@@ -26,7 +26,7 @@ fn wide_at(rows: &[Vec<i64>], i: usize, pivot: usize, column: usize) -> Option<i
 pub(crate) fn first_wide(rows: &[Vec<i64>], pivot: usize, column: usize) -> Option<RowWide>
     requires can { CanPivot pivot column (map (λ r. r.items) rows.now) }
     ensures some { IfSome result (λ w. HasWide (pivoted pivot column (map (λ r. r.items) rows.now)) w.row w.entry) }
-    ensures none { IsNone result → list_all are_small (pivoted pivot column (map (λ r. r.items) rows.now)) ≡ true }
+    ensures none { IsNone result → list_all are_short (pivoted pivot column (map (λ r. r.items) rows.now)) ≡ true }
 {
     for i in 0..rows.len() {
         if let Some(entry) = wide_at(rows, i, pivot, column) {
@@ -38,9 +38,9 @@ pub(crate) fn first_wide(rows: &[Vec<i64>], pivot: usize, column: usize) -> Opti
 
 /// Frees each of the rows of the column.
 fn eliminate_each(rows: &mut [Vec<i64>], other: &[i64], column: usize)
-    requires small { are_small other.now ≡ true }
+    requires small { are_short other.now ≡ true }
     requires can { All (λ r. CanCross column other.now r.items) rows.old }
-    requires room { All (λ r. are_small (eliminated column other.now r.items) ≡ true) rows.old }
+    requires room { All (λ r. are_short (eliminated column other.now r.items) ≡ true) rows.old }
     ensures { map (λ r. r.items) rows.new ≡ map (eliminated column other.now) (map (λ r. r.items) rows.old) }
 {
     for i in 0..rows.len() {
@@ -50,7 +50,7 @@ fn eliminate_each(rows: &mut [Vec<i64>], other: &[i64], column: usize)
 
 /// Makes the entry in the column positive, where it isn't 0.
 fn face(row: &mut [i64], column: usize)
-    requires small { are_small row.old ≡ true }
+    requires small { are_short row.old ≡ true }
     requires there { column < length row.old }
     ensures { row.new ≡ facing column row.old }
 {
@@ -61,7 +61,7 @@ fn face(row: &mut [i64], column: usize)
 
 /// Gives each entry the other sign.
 fn negate(row: &mut [i64])
-    requires { are_small row.old ≡ true }
+    requires { are_short row.old ≡ true }
     ensures { row.new ≡ map neg_ℤ row.old }
 {
     for i in 0..row.len() {
@@ -72,7 +72,7 @@ fn negate(row: &mut [i64])
 /// Frees each row but one of the column, which that row gets as its basic one.
 pub(crate) fn pivot_rows(rows: &mut [Vec<i64>], pivot: usize, column: usize)
     requires can { CanPivot pivot column (map (λ r. r.items) rows.old) }
-    requires room { list_all are_small (pivoted pivot column (map (λ r. r.items) rows.old)) ≡ true }
+    requires room { list_all are_short (pivoted pivot column (map (λ r. r.items) rows.old)) ≡ true }
     ensures { map (λ r. r.items) rows.new ≡ pivoted pivot column (map (λ r. r.items) rows.old) }
 {
     let (before, rest) = rows.split_at_mut(pivot);

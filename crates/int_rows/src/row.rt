@@ -1,7 +1,7 @@
 ghost use Rattle.std.specs.Prelude.{◌≡◌, ◌<◌, ◌^◌, ◌↔◌, length, nat_abs, slice_index_or, pos, true, false, IfSome, IsSome, IsNone};
 ghost use Rattle.int_rows.specs.Rows.{entry, is_row};
 
-use crate::content::{are_small, content};
+use crate::content::{are_short, content};
 use base::{Copied, Items, Memory, Same};
 use std::alloc::Global;
 use std::marker::Model;
@@ -15,13 +15,13 @@ pub struct Row {
 
 impl Model for Row {
     ghost use Rattle.std.specs.Prelude.{List, ℤ, IsTrue};
-    ghost use Rattle.int_rows.specs.Rows.{are_small, is_primitive};
+    ghost use Rattle.int_rows.specs.Rows.{are_short, is_primitive};
 
     ghost Value = { List ℤ };
 
     ghost view = { λ r. r.entries };
 
-    ghost invariant = { λ r. IsTrue (are_small r.entries) × IsTrue (is_primitive r.entries) };
+    ghost invariant = { λ r. IsTrue (are_short r.entries) × IsTrue (is_primitive r.entries) };
 }
 
 impl Row {
@@ -31,7 +31,7 @@ impl Row {
         ensures legal { IsSome result → is_row entries.items ≡ true }
         ensures none { IsNone result → is_row entries.items ≡ false }
     {
-        if !are_small(entries.as_slice()) || content(entries.as_slice()) != 1 {
+        if !are_short(entries.as_slice()) || content(entries.as_slice()) != 1 {
             return None;
         }
         Some(Row {

@@ -1,21 +1,19 @@
 ghost use Rattle.std.specs.Prelude.{◌≡◌, ◌+◌, ◌<◌, ◌≤◌, ◌^◌, ◌↔◌, ℕ, List, ℤ, length, nat_abs, pos, true, false, slice_set, IfOk, OnOk, IfErr, OnErr, IfSome, IsNone, IsErrOf, Some};
 ghost use Rattle.std.specs.List.{Contains, list_all};
+ghost use Rattle.base.specs.Limits.{most_rows};
 ghost use Rattle.lin_atoms.specs.Linear.{lin_is_below};
 ghost use Rattle.int_rows.specs.Basis.{IsWideRow, bound, in_order};
-ghost use Rattle.int_rows.specs.Rows.{are_small, entry, SolvesAll};
+ghost use Rattle.int_rows.specs.Rows.{are_short, entry, SolvesAll};
 ghost use Rattle.int_rows.specs.Space.{SameSpace};
 ghost use Rattle.int_rows.specs.Table.{HasWide, IsTable, basic_at, first_table, pivoted, row_at, width};
 
 use crate::equation::{equations, no_bounds, numbers};
 use crate::pivoting::{first_wide, pivot_rows};
 use crate::stop::{RowStop, RowWide};
-use base::Memory;
+use base::{MOST_ROWS, Memory};
 use lin_atoms::Lin;
 use std::alloc::Global;
 use std::marker::Model;
-
-/// The greatest number of rows.
-const MOST_ROWS: usize = 1024;
 
 /// The rows of a simplex tableau, each an equation solved for its basic variable, and a lower and
 /// an upper bound for each variable, where it has one.
@@ -129,7 +127,7 @@ impl Tableau {
         requires column { column < width self.old }
         requires entry { entry (row_at self.old.rows row) column ≡ pos 0 → ⊥ }
         ensures pivoted { IfOk result (λ _. self.new ≡ record self.old { rows = pivoted row column self.old.rows; basic = slice_set self.old.basic row column }) }
-        ensures room { OnOk result (list_all are_small (pivoted row column self.old.rows) ≡ true) }
+        ensures room { OnOk result (list_all are_short (pivoted row column self.old.rows) ≡ true) }
         ensures wide { IfErr result (λ w. HasWide (pivoted row column self.old.rows) w.row w.entry) }
         ensures evidence { IfErr result (λ w. IsWideRow (width self.old) self.old.rows (in_order (width self.old) (slice_set self.old.basic row column)) w.entry) }
         ensures space { SameSpace self.old.rows self.new.rows }
@@ -149,8 +147,8 @@ impl Tableau {
         requires below { list_all (lin_is_below variables) lins.now ≡ true }
         requires few { variables < 2 ^ 32 }
         ensures made { IfOk result (λ t. t ≡ first_table variables lins.now) }
-        ensures within { OnOk result (length lins.now ≤ 1024) }
-        ensures too_many { IsErrOf result RowStop.TooMany → 1024 < length lins.now }
+        ensures within { OnOk result (length lins.now ≤ most_rows) }
+        ensures too_many { IsErrOf result RowStop.TooMany → most_rows < length lins.now }
     {
         if lins.len() > MOST_ROWS {
             return Err(RowStop::TooMany);

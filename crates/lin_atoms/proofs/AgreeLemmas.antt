@@ -2,7 +2,7 @@
 use Rattle.std.proofs.Common.{◌≡◌, ℕ, List, [], ◌∷◌, map, Bool, true, refl, ap, sym, ◌∙◌, ◌&&◌, ◌||◌, subst, nat_abs}
 use Rattle.std.specs.Prelude.{ℤ, pos, int_le, not, ◌==◌}
 use Rattle.std.specs.List.{list_all, list_any}
-use Rattle.lin_atoms.specs.Accumulator.{is_multiple}
+use Rattle.lin_atoms.specs.Multiples.{is_multiple}
 use Rattle.lin_atoms.specs.Linear.{variable_at}
 use Rattle.lin_atoms.specs.Truth.{truth, truth_step, all_variables, variables_step, lit_truth, lit_all}
 use Rattle.lin_atoms.specs.declared.lit.Lit.{Lit}

@@ -7,7 +7,7 @@ use Rattle.std.proofs.Math.Nat.{mul-mod_left, mul-le-mul_right, mul-le-mul_left}
 use Rattle.std.proofs.lemmas.Nat.{mod-mul-add}
 use Rattle.std.proofs.lemmas.Int.{ints, by_lt_z, unsigned_abs-mul, int_rem_euclid_is}
 use Rattle.std.proofs.lemmas.Bool.Decides.{same_from_decides, Decides-eqb}
-use Rattle.base.proofs.IntLemmas.{+ℤ-*ℤ, *ℤ_assoc, neg_ℤ-*ℤ}
+use Rattle.base.proofs.Public.{*ℤ_assoc, +ℤ-*ℤ, neg_ℤ-*ℤ}
 
 pub positive : (d : ℤ) → pos 0 <ℤ d → d ≡ pos (nat_abs d)
 positive (pos n) h = refl

@@ -4,6 +4,7 @@ pub mod DivisionLemmas
 pub mod DotLemmas
 pub mod LinearLemmas
 pub mod MergeLemmas
+pub mod Public
 pub mod RatioLemmas
 pub mod TermLemmas
 pub mod TruthLemmas

@@ -4,8 +4,8 @@ use Rattle.std.specs.Prelude.{ℤ, pos, neg_ℤ, nat_abs, ◌+ℤ◌, ◌*ℤ◌
 use Rattle.std.proofs.lemmas.Int.{ints}
 use Rattle.std.proofs.lemmas.List.{take_more, drop_more, drop_all}
 use Rattle.std.proofs.lemmas.Bool.{ltb-true}
-use Rattle.base.proofs.IntLemmas.{neg_ℤ-*ℤ}
-use Rattle.lin_atoms.specs.Linear.{sum_at, variable_at, are_ordered, are_small, is_small}
+use Rattle.base.proofs.Public.{neg_ℤ-*ℤ}
+use Rattle.lin_atoms.specs.Linear.{sum_at, variable_at, are_ordered, are_short, is_short}
 use Rattle.lin_atoms.specs.Algebra.{negated_terms}
 
 pub both_true : (a b : Bool) → (a && b) ≡ true → (a ≡ true) × (b ≡ true)
@@ -13,16 +13,16 @@ both_true true b h = (refl, h)
 both_true false b h = absurd (cc)
 
 -- each coefficient has its bound
-pub small_at : (ts : List (ℕ × ℤ)) (i : ℕ) (d : ℕ × ℤ) → i < length ts → are_small ts ≡ true → nat_abs (get_or ts i d).1 < 2 ^ 63
+pub small_at : (ts : List (ℕ × ℤ)) (i : ℕ) (d : ℕ × ℤ) → i < length ts → are_short ts ≡ true → nat_abs (get_or ts i d).1 < 2 ^ 63
 small_at [] i d h is = absurd (omega arith)
-small_at (t ∷ ts) zero d h is = ltb-true _ _ (both_true (is_small t.1) _ is).0
-small_at (t ∷ ts) (suc i) d h is = small_at ts i d (omega arith) (both_true (is_small t.1) _ is).1
+small_at (t ∷ ts) zero d h is = ltb-true _ _ (both_true (is_short t.1) _ is).0
+small_at (t ∷ ts) (suc i) d h is = small_at ts i d (omega arith) (both_true (is_short t.1) _ is).1
 
-pub are_small-negated : (ts : List (ℕ × ℤ)) → are_small (negated_terms ts) ≡ are_small ts
-are_small-negated [] = refl
-are_small-negated (t ∷ ts) =
+pub are_short-negated : (ts : List (ℕ × ℤ)) → are_short (negated_terms ts) ≡ are_short ts
+are_short-negated [] = refl
+are_short-negated (t ∷ ts) =
     let size : nat_abs (neg_ℤ t.1) ≡ nat_abs t.1 = omega (arith, ints) in
-    rw (size, are_small-negated ts) refl
+    rw (size, are_short-negated ts) refl
 
 pub are_ordered-negated : (from : ℕ) (ts : List (ℕ × ℤ)) → are_ordered from (negated_terms ts) ≡ are_ordered from ts
 are_ordered-negated from [] = refl

@@ -8,7 +8,7 @@ use Rattle.std.proofs.lemmas.Bool.{cases_lt}
 use Rattle.std.proofs.lemmas.Bool.Decides.{Decides-eqb}
 use Rattle.std.proofs.lemmas.Nat.Gcd.{mod-eq-zero_of_dvd, same_from_IsGcd}
 use Rattle.std.proofs.lemmas.Int.{ints, unsigned_abs-mul, fits_signed_from_abs}
-use Rattle.base.proofs.IntLemmas.{*ℤ_assoc}
+use Rattle.base.proofs.Public.{*ℤ_assoc}
 use Rattle.lin_atoms.specs.Ratio.{IsLowest, IsNumerator}
 use Rattle.lin_atoms.proofs.DivisionLemmas.{positive, quotient-rest, rest-natural, multiple_where, quotient_is}
 

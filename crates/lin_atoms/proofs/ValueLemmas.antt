@@ -5,7 +5,7 @@ use Rattle.std.specs.List.{list_all}
 use Rattle.std.proofs.Math.IntN.{*ℤ_comm}
 use Rattle.std.proofs.lemmas.Int.{ints}
 use Rattle.std.proofs.lemmas.Bool.{ltb-true, eqb-true, eqb-false}
-use Rattle.base.proofs.IntLemmas.{*ℤ_assoc, *ℤ-+ℤ}
+use Rattle.base.proofs.Public.{*ℤ-+ℤ, *ℤ_assoc}
 use Rattle.lin_atoms.specs.Linear.{Linear, sum_at, value_at, variable_at, lin_all, lin_is_below}
 use Rattle.lin_atoms.specs.Algebra.{added, name_in, negated, put_for, renamed, scaled, scaled_terms}
 use Rattle.lin_atoms.proofs.LinearLemmas.{both_true, sum_at-negated}

@@ -1,6 +1,7 @@
 -- Linear forms over the integers (SMT-LIB 2.6, the logic LIA): a sum of coefficients times variables, and a constant.
-use Rattle.std.specs.Prelude.{ℕ, ◌+◌, ◌^◌, List, [], ◌∷◌, ℤ, pos, ◌+ℤ◌, ◌*ℤ◌, nat_abs, Bool, true, ◌&&◌, ◌==◌, nat_lt, nat_le, slice_index_or, if◌then◌else◌}
+use Rattle.std.specs.Prelude.{ℕ, ◌+◌, List, [], ◌∷◌, ℤ, pos, ◌+ℤ◌, ◌*ℤ◌, nat_abs, Bool, true, ◌&&◌, ◌==◌, nat_lt, nat_le, slice_index_or, if◌then◌else◌}
 use Rattle.std.specs.List.{list_all}
+pub use Rattle.base.specs.Widths.{is_short, is_long}
 
 -- the terms are pairs of a variable and its coefficient
 pub record Linear : Type 0 where
@@ -19,19 +20,13 @@ sum_at point (t ∷ ts) = t.1 *ℤ variable_at point t.0 +ℤ sum_at point ts
 abbrev pub value_at : List ℤ → Linear → ℤ
 value_at point lin = sum_at point lin.terms +ℤ lin.constant
 
--- the numbers that have room in a form of the code: coefficients below 2 ^ 63, constants below 2 ^ 64 in magnitude
-abbrev pub is_small : ℤ → Bool
-is_small a = nat_lt (nat_abs a) (2 ^ 63)
-
-abbrev pub is_constant : ℤ → Bool
-is_constant k = nat_lt (nat_abs k) (2 ^ 64)
-
-abbrev pub are_small : List (ℕ × ℤ) → Bool
-are_small ts = list_all (λ t. is_small t.1) ts
+-- the numbers that have room in a form of the code: coefficients are short, constants long
+abbrev pub are_short : List (ℕ × ℤ) → Bool
+are_short ts = list_all (λ t. is_short t.1) ts
 
 -- whether all numbers of a form have room
 abbrev pub fits : Linear → Bool
-fits lin = are_small lin.terms && is_constant lin.constant
+fits lin = are_short lin.terms && is_long lin.constant
 
 -- the variables rise, from the given number on, and no coefficient is 0
 abbrev pub are_ordered : ℕ → List (ℕ × ℤ) → Bool

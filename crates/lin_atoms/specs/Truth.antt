@@ -1,7 +1,7 @@
 -- When a literal or a formula is true at a point: the usual meaning of `<=`, `=` and `divisible` over the integers and of `and` and `or` (SMT-LIB 2.6, theories Core and Ints).
 use Rattle.std.specs.Prelude.{ℕ, List, ℤ, pos, int_le, nat_abs, Bool, true, false, not, ◌==◌, nat_lt}
 use Rattle.std.specs.List.{list_any, list_all}
-use Rattle.lin_atoms.specs.Accumulator.{is_multiple}
+use Rattle.lin_atoms.specs.Multiples.{is_multiple}
 use Rattle.lin_atoms.specs.Linear.{value_at, lin_all}
 use Rattle.lin_atoms.specs.declared.lit.Lit.{Lit}
 use Rattle.lin_atoms.specs.declared.lit.Lit.TheVariants.{Le, Eq, Div, NDiv}

@@ -2,7 +2,7 @@ ghost use Rattle.std.specs.Prelude.{◌≡◌, ◌+◌, ◌^◌, ◌<◌, ◌≤
 ghost use Rattle.std.specs.Int.{int_signum, int_rem_euclid, int_div_euclid, IsGcd, w128};
 ghost use Rattle.std.specs.Option.{SomeIff};
 ghost use Rattle.std.specs.Ordering.{int_cmp};
-ghost use Rattle.lin_atoms.specs.Accumulator.{is_multiple};
+ghost use Rattle.lin_atoms.specs.Multiples.{is_multiple};
 ghost use Rattle.lin_atoms.specs.Ratio.{IsLowest, IsNumerator};
 
 use crate::greatest::gcd;
@@ -23,7 +23,7 @@ pub struct Accumulator {
 
 impl Model for Accumulator {
     ghost use Rattle.std.specs.Prelude.{◌≤◌, ◌^◌, ◌+ℤ◌, ◌*ℤ◌, pos, nat_abs};
-    ghost use Rattle.lin_atoms.specs.Accumulator.{Total};
+    ghost use Rattle.lin_atoms.specs.machinery.Accumulator.{Total};
 
     ghost Value = { Total };
 

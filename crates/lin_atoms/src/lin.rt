@@ -20,13 +20,13 @@ pub struct Lin {
 
 impl Model for Lin {
     ghost use Rattle.std.specs.Prelude.{IsTrue};
-    ghost use Rattle.lin_atoms.specs.Linear.{Linear, are_ordered, are_small, is_constant};
+    ghost use Rattle.lin_atoms.specs.Linear.{Linear, are_ordered, are_short, is_long};
 
     ghost Value = { Linear };
 
     ghost view = { λ l. record { terms = l.terms; constant = l.constant } };
 
-    ghost invariant = { λ l. IsTrue (are_ordered 0 l.terms) × IsTrue (are_small l.terms) × IsTrue (is_constant l.constant) };
+    ghost invariant = { λ l. IsTrue (are_ordered 0 l.terms) × IsTrue (are_short l.terms) × IsTrue (is_long l.constant) };
 }
 
 /// Why terms and a constant are no linear form.
@@ -64,7 +64,7 @@ impl Lin {
         if !terms::are_ordered(terms.as_slice()) {
             return Err(LinStop::Order);
         }
-        if !terms::are_small(terms.as_slice()) || !terms::is_constant(constant) {
+        if !terms::are_short(terms.as_slice()) || !terms::is_long(constant) {
             return Err(LinStop::Wide);
         }
         Ok(Lin {
@@ -118,7 +118,7 @@ impl Lin {
         ensures within { OnOk result (fits (record { terms = terms.items; constant = constant }) ≡ true) }
         ensures wide { IsErrOf result WideStop.Wide → fits (record { terms = terms.items; constant = constant }) ≡ false }
     {
-        if !terms::is_constant(constant) {
+        if !terms::is_long(constant) {
             return Err(WideStop::Wide);
         }
         let terms = wide_terms::narrowed(alloc, terms.as_slice())?;
@@ -141,7 +141,7 @@ impl Lin {
         ensures wide { IsNone result ↔ (fits (plus self k) ≡ false) }
     {
         let constant = self.constant + i128::from(k);
-        if !terms::is_constant(constant) {
+        if !terms::is_long(constant) {
             return None;
         }
         Some(Lin {

@@ -1,20 +1,20 @@
 ghost use Rattle.std.specs.Prelude.{◌≡◌, IsTrue, IfOk};
-ghost use Rattle.lin_atoms.specs.Linear.{are_ordered, are_small, is_constant, is_small};
+ghost use Rattle.lin_atoms.specs.Linear.{are_ordered, are_short, is_long, is_short};
 ghost use Rattle.lin_atoms.specs.Algebra.{negated_terms};
 
 use base::{Items, Memory};
 use std::alloc::Global;
 
 /// Whether the coefficient is below 2^63 in magnitude: -2^63 alone isn't.
-pub(crate) fn is_small(coefficient: i64) -> bool
-    ensures { result ≡ is_small coefficient }
+pub(crate) fn is_short(coefficient: i64) -> bool
+    ensures { result ≡ is_short coefficient }
 {
     coefficient != i64::MIN
 }
 
 /// Whether the constant is below 2^64 in magnitude.
-pub(crate) fn is_constant(constant: i128) -> bool
-    ensures { result ≡ is_constant constant }
+pub(crate) fn is_long(constant: i128) -> bool
+    ensures { result ≡ is_long constant }
 {
     constant.unsigned_abs() < 1 << 64
 }
@@ -34,11 +34,11 @@ pub(crate) fn are_ordered(terms: &[(u32, i64)]) -> bool
 }
 
 /// Whether each coefficient is below 2^63 in magnitude.
-pub(crate) fn are_small(terms: &[(u32, i64)]) -> bool
-    ensures { result ≡ are_small terms.now }
+pub(crate) fn are_short(terms: &[(u32, i64)]) -> bool
+    ensures { result ≡ are_short terms.now }
 {
     for (_, coefficient) in terms {
-        if !is_small(*coefficient) {
+        if !is_short(*coefficient) {
             return false;
         }
     }
@@ -47,7 +47,7 @@ pub(crate) fn are_small(terms: &[(u32, i64)]) -> bool
 
 /// The terms with each coefficient's sign turned.
 pub(crate) fn negated(alloc: Global, terms: &[(u32, i64)]) -> Result<Items<(u32, i64)>, Memory>
-    requires { IsTrue (are_small terms.now) }
+    requires { IsTrue (are_short terms.now) }
     ensures { IfOk result (λ made. made ≡ negated_terms terms.now) }
 {
     let mut made = Vec::with_capacity(alloc, terms.len())?;

@@ -1,6 +1,6 @@
 ghost use Rattle.std.specs.Prelude.{◌≡◌, pos};
 ghost use Rattle.std.specs.Int.{int_signum};
-ghost use Rattle.lin_atoms.specs.Accumulator.{is_multiple};
+ghost use Rattle.lin_atoms.specs.Multiples.{is_multiple};
 ghost use Rattle.lin_atoms.specs.Linear.{value_at, variable_at};
 
 use crate::accumulator::Accumulator;

@@ -10,7 +10,7 @@ use Rattle.sexp_read.specs.declared.tree.TextStop.TheVariants.{BadByte, Unclosed
 use Rattle.sexp_read.specs.declared.token.Token.TheVariants as token
 use Rattle.sexp_read.specs.declared.reader.OpenList.{OpenList}
 use Rattle.sexp_read.specs.Lexicon.{next_token}
-use Rattle.sexp_read.specs.Opened.{outermost_start, stop_at_end}
+use Rattle.sexp_read.specs.machinery.Opened.{outermost_start, stop_at_end}
 use Rattle.sexp_read.specs.Trees.{most_open, IsTree, AreTrees, Stops, outermost, ended, ended_inside, ended_in_token, no_token, closes_nothing, too_deep, inside}
 use Rattle.sexp_read.specs.Trees as reading
 use Rattle.sexp_read.proofs.Machine.{Stack, outer, starts, length_starts, outer_is as outer_starts}

@@ -1,5 +1,4 @@
 pub mod Leaves
 pub mod Lexicon
-pub mod Next
-pub mod Opened
 pub mod Trees
+pub mod machinery

@@ -1,5 +1,6 @@
 -- Which trees a text spells, and its first fault (SMT-LIB 2.6, section 3.2, "S-expressions", with a bound on nesting).
 use Rattle.std.specs.Prelude.{ℕ, ◌≡◌, ◌+◌, ◌<◌, ◌≤◌, length, List, [], ◌∷◌, Option, None, Some}
+pub use Rattle.base.specs.Limits.{most_open}
 use Rattle.sexp_read.specs.declared.tree.Tree.{Tree}
 use Rattle.sexp_read.specs.declared.tree.Tree.TheViews.{List as ListTree}
 use Rattle.sexp_read.specs.declared.tree.Tree.TheVariants.{Leaf as LeafTree}
@@ -7,10 +8,6 @@ use Rattle.sexp_read.specs.declared.tree.TextStop.{TextStop}
 use Rattle.sexp_read.specs.declared.tree.TextStop.TheVariants.{BadByte, Unclosed, Deep}
 use Rattle.sexp_read.specs.declared.token.Token.TheVariants as token
 use Rattle.sexp_read.specs.Lexicon.{next_token}
-
--- how many lists may be open at once
-abbrev pub most_open : ℕ
-most_open = 2000
 
 mutual
   -- IsTree text depth at tree after: the text goes on from an offset with this tree, inside so many open lists, and the tree ends at the offset after

@@ -2,17 +2,14 @@
 
 ghost use Rattle.std.specs.Prelude.{◌≡◌, [], ◌+◌, ◌-◌, ◌^◌, ◌<◌, ◌≤◌, take, drop, length, vec_len, IfOk};
 ghost use Rattle.sexp_read.specs.declared.tree.Tree.TheViews.{List as ListTree};
-ghost use Rattle.sexp_read.specs.Opened.{outermost_start, stop_at_end};
-ghost use Rattle.sexp_read.specs.Next.{IsNext};
+ghost use Rattle.sexp_read.specs.machinery.Opened.{outermost_start, stop_at_end};
+ghost use Rattle.sexp_read.specs.machinery.Next.{IsNext};
 
 use crate::lexer::next_token;
 use crate::token::Token;
 use crate::tree::{TextStop, Tree};
-use base::{Items, Memory};
+use base::{Items, MOST_OPEN, Memory};
 use std::alloc::Global;
-
-/// How many lists may be open at once.
-const MOST_OPEN: usize = 2000;
 
 /// A list that isn't closed yet, and how many trees stand before it in the list that it stands in.
 #[derive(Clone, Copy)]

@@ -5,9 +5,9 @@ use Rattle.std.proofs.lemmas.List.{get_or-map, length-map}
 use Rattle.int_rows.specs.Basis.{IsBasicPoint, IsBasis, MayStand, bound, outside}
 use Rattle.int_rows.specs.Rows.{entry}
 use Rattle.int_rows.specs.Table.{IsTable, Table, width}
-use Rattle.int_rows.proofs.BasisLemmas.{table-basis}
+use Rattle.int_rows.proofs.Public.{table-basis}
 use Rattle.simplex_core.specs.Answer.{basis, is_outside_at, outer}
-use Rattle.simplex_core.specs.Kept.{AreStandings}
+use Rattle.simplex_core.specs.machinery.Kept.{AreStandings}
 use Rattle.simplex_core.specs.Meaning.{system_of}
 use Rattle.simplex_core.specs.Run.{columns, coordinates, moment, standing_at, stood_at}
 use Rattle.simplex_core.specs.declared.standing.Standing.{Standing}

@@ -6,13 +6,13 @@ use Rattle.std.specs.Ordering.{int_eq}
 use Rattle.std.proofs.Math.IntN.{*ℤ_comm, zero-*ℤ}
 use Rattle.std.proofs.lemmas.Bool.{and_parts, cases_order}
 use Rattle.std.proofs.lemmas.Int.{ints}
-use Rattle.base.proofs.IntLemmas.{*ℤ-+ℤ, *ℤ_assoc, +ℤ-*ℤ, neg_ℤ-*ℤ}
+use Rattle.base.proofs.Public.{*ℤ-+ℤ, *ℤ_assoc, +ℤ-*ℤ, neg_ℤ-*ℤ}
 use Rattle.int_rows.specs.Basis.{bound}
 use Rattle.int_rows.specs.Rows.{entry}
 use Rattle.int_rows.specs.Space.{SameSpace}
 use Rattle.int_rows.specs.Table.{IsTable, basic_at, row_at, width}
-use Rattle.int_rows.proofs.SpaceLemmas.{same-solutions}
-use Rattle.simplex_core.specs.Kept.{AreStandings}
+use Rattle.int_rows.proofs.Public.{same-solutions}
+use Rattle.simplex_core.specs.machinery.Kept.{AreStandings}
 use Rattle.simplex_core.specs.Run.{Moment, broken_at, crossed, is_basic, may_enter, may_leave, seen_from, settled, standing_at, stood, stood_at}
 use Rattle.simplex_core.specs.declared.standing.Standing.TheVariants.{AtLower, AtUpper}
 use Rattle.simplex_core.specs.declared.turn.Side.{Side}

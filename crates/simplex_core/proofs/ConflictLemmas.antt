@@ -6,8 +6,8 @@ use Rattle.std.specs.List.{range_with_len}
 use Rattle.std.proofs.lemmas.Int.{ints}
 use Rattle.std.proofs.Math.IntN.{*ℤ_comm}
 use Rattle.std.proofs.lemmas.Bool.{cases_lt, eq-eqb, ne_eqb}
-use Rattle.base.proofs.IntLemmas.{neg_ℤ-*ℤ}
-use Rattle.int_rows.proofs.PivotLemmas.{lt-true}
+use Rattle.base.proofs.Public.{neg_ℤ-*ℤ}
+use Rattle.int_rows.proofs.Public.{lt-true}
 use Rattle.simplex_core.specs.Run.{are_crossed, are_crossed_at, crossed}
 use Rattle.simplex_core.proofs.RangeLemmas.{find-within}
 use Rattle.std.proofs.lemmas.List.{get_or_past, length-map}

@@ -6,12 +6,12 @@ use Rattle.std.proofs.lemmas.List.{get_or-take, length-take-le}
 use Rattle.lin_atoms.specs.Ratio.{Fraction}
 use Rattle.base.specs.declared.memory.Memory.{Memory}
 use Rattle.int_rows.specs.Basis.{IsWideCoordinate, IsWideRow}
-use Rattle.int_rows.specs.Rows.{are_small}
+use Rattle.int_rows.specs.Rows.{are_short}
 use Rattle.int_rows.specs.Space.{SameSpace}
 use Rattle.int_rows.specs.Table.{IsTable, Table, pivoted, width}
-use Rattle.int_rows.proofs.SpaceLemmas.{same-symmetric}
+use Rattle.int_rows.proofs.Public.{same-symmetric}
 use Rattle.simplex_core.specs.Answer.{IsEnd, IsRun, Tells, basis, crossing, multipliers, outer}
-use Rattle.simplex_core.specs.Kept.{AreStandings}
+use Rattle.simplex_core.specs.machinery.Kept.{AreStandings}
 use Rattle.simplex_core.specs.Meaning.{HasSameBounds, IsConflict, Means, system_of}
 use Rattle.simplex_core.specs.Run.{Moment, Next, Ended, after, columns, coordinate_at, coordinates, has_wide_floor, is_wide, next, outcome, turn, wide, wide_floor}
 use Rattle.simplex_core.specs.declared.answer.Feasible.{Feasible}
@@ -38,7 +38,7 @@ outcome-ended m (Crossed c) x e = cc
 outcome-ended m (Wide c) x e = cc
 outcome-ended m Vertex x e = cc
 outcome-ended m (Conflict i side) x e = cc
-outcome-ended m (Pivot i c side) x e = ended-cases m i c side x (list_all are_small (pivoted i c m.table.rows)) e
+outcome-ended m (Pivot i c side) x e = ended-cases m i c side x (list_all are_short (pivoted i c m.table.rows)) e
 
 -- the run ends at a moment with what the moment is
 pub end-turn : (m : Moment) (x : Turn) → next m ≡ Ended x → turn m ≡ x

@@ -6,9 +6,9 @@ use Rattle.std.proofs.lemmas.List.{get_or_append_left, get_or_at, get_or_default
 use Rattle.base.specs.declared.memory.Memory.{Memory}
 use Rattle.int_rows.specs.Table.{Table}
 use Rattle.simplex_core.specs.Answer.{AreSame, IsEnd, IsRun, Tells}
-use Rattle.simplex_core.specs.Following.{IsFollowing}
+use Rattle.simplex_core.specs.machinery.Following.{IsFollowing}
 use Rattle.simplex_core.specs.Run.{Moment, Next, first_moment, next, proceed, run}
-use Rattle.simplex_core.specs.Visited.{Lists}
+use Rattle.simplex_core.specs.machinery.Visited.{Lists}
 use Rattle.simplex_core.specs.declared.answer.Feasible.{Feasible}
 use Rattle.simplex_core.specs.declared.answer.Feasible.TheVariants.{Vertex, Conflict, Wide, Again}
 use Rattle.simplex_core.proofs.GoodLemmas.{IsGood, good-next, run-good}

@@ -6,16 +6,14 @@ use Rattle.std.proofs.Math.IntN.{*ℤ_comm, *ℤ-zero}
 use Rattle.std.proofs.lemmas.Bool.{and_parts, eq-eqb, ne_eqb}
 use Rattle.std.proofs.lemmas.Int.{ints}
 use Rattle.std.proofs.lemmas.List.FromFn.{get_or-map-range_with_len}
-use Rattle.base.proofs.IntLemmas.{*ℤ-+ℤ, *ℤ_assoc, neg_ℤ-*ℤ}
+use Rattle.base.proofs.Public.{*ℤ-+ℤ, *ℤ_assoc, neg_ℤ-*ℤ}
 use Rattle.lin_atoms.specs.Dot.{dot}
 use Rattle.lin_atoms.specs.Linear.{Linear, lin_is_below}
 use Rattle.int_rows.specs.Node.{coefficient, equation, equations}
 use Rattle.int_rows.specs.Rows.{Follows, entry}
 use Rattle.int_rows.specs.Space.{SameSpace}
 use Rattle.int_rows.specs.Table.{Table, first_table, width}
-use Rattle.int_rows.proofs.EquationLemmas.{coefficient-none}
-use Rattle.int_rows.proofs.PivotLemmas.{zero-factor}
-use Rattle.int_rows.proofs.SpaceLemmas.{same-follows, same-symmetric}
+use Rattle.int_rows.proofs.Public.{coefficient-none, same-follows, same-symmetric, zero-factor}
 use Rattle.simplex_core.specs.Meaning.{IsConflict, summed, with_forms}
 
 -- the coefficients of a variable in the forms, and the entries of a column in the rows

@@ -8,12 +8,11 @@ use Rattle.std.proofs.lemmas.Bool.{cases_lt, le-leb, lt-leb, leb-true, leb-false
 use Rattle.std.proofs.lemmas.Int.{ints, unsigned_abs-mul, by_lt_z}
 use Rattle.std.proofs.lemmas.Nat.{mod-mul-add}
 use Rattle.std.proofs.lemmas.Nat.Gcd.{IsGcd-from_zero, IsGcd-from_mod, same_from_IsGcd}
-use Rattle.base.proofs.IntLemmas.{*ℤ_assoc}
+use Rattle.base.proofs.Public.{*ℤ_assoc}
 use Rattle.lin_atoms.specs.Ratio.{Fraction, IsNumerator}
-use Rattle.lin_atoms.proofs.DivisionLemmas.{positive, quotient-rest, rest-natural, quotient-greatest}
-use Rattle.lin_atoms.proofs.RatioLemmas.{divisor-some, exact_quotient}
+use Rattle.lin_atoms.proofs.Public.{divisor-some, exact_quotient, positive, quotient-greatest, quotient-rest, rest-natural}
 use Rattle.int_rows.specs.Rows.{content}
-use Rattle.int_rows.proofs.ContentLemmas.{content-is}
+use Rattle.int_rows.proofs.Public.{content-is}
 use Rattle.simplex_core.specs.Run.{is_wide}
 
 rest-scaled : (a b k : ℕ) → 0 < b → 0 < k → (a * k) % (b * k) ≡ a % b * k

@@ -3,10 +3,10 @@ use Rattle.std.proofs.Common.{◌≡◌, ℕ, refl, ap, sym, ◌∙◌, arith, �
 use Rattle.std.specs.Prelude.{ℤ, pos, neg_ℤ, int_lt, ◌-ℤ◌, ◌*ℤ◌, ◌<ℤ◌, ◌≤ℤ◌}
 use Rattle.std.proofs.Math.IntN.{*ℤ_comm, *ℤ-zero, zero-*ℤ}
 use Rattle.std.proofs.lemmas.Int.{ints}
-use Rattle.base.proofs.IntLemmas.{*ℤ_assoc, neg_ℤ-*ℤ}
-use Rattle.int_rows.proofs.PivotLemmas.{lt-true}
+use Rattle.base.proofs.Public.{*ℤ_assoc, neg_ℤ-*ℤ}
+use Rattle.int_rows.proofs.Public.{lt-true}
 use Rattle.lin_atoms.specs.Ratio.{Fraction}
-use Rattle.lin_atoms.proofs.DivisionLemmas.{positive}
+use Rattle.lin_atoms.proofs.Public.{positive}
 use Rattle.simplex_core.proofs.FractionLemmas.{keeps, order}
 use Rattle.simplex_core.proofs.VertexLemmas.{not-less}
 

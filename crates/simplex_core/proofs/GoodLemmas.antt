@@ -8,12 +8,11 @@ use Rattle.std.proofs.lemmas.Int.{ints}
 use Rattle.std.proofs.lemmas.List.{get_or-set_other, get_or-set_same, length-set}
 use Rattle.lin_atoms.specs.Ratio.{Fraction}
 use Rattle.int_rows.specs.Basis.{bound, is_in}
-use Rattle.int_rows.specs.Rows.{are_small, entry}
+use Rattle.int_rows.specs.Rows.{are_short, entry}
 use Rattle.int_rows.specs.Space.{SameSpace}
 use Rattle.int_rows.specs.Table.{IsTable, Table, basic_at, pivoted, row_at, width}
-use Rattle.int_rows.proofs.PivotedLemmas.{length-pivoted, pivoted-table, table-pivots}
-use Rattle.int_rows.proofs.SpaceLemmas.{pivoted-same, same-reflexive, same-transitive}
-use Rattle.simplex_core.specs.Kept.{AreStandings, may_stand}
+use Rattle.int_rows.proofs.Public.{length-pivoted, pivoted-same, pivoted-table, same-reflexive, same-transitive, table-pivots}
+use Rattle.simplex_core.specs.machinery.Kept.{AreStandings, may_stand}
 use Rattle.simplex_core.specs.Run.{Moment, Outcome, Next, Ended, after, after_pivot, broken_at, coordinate_at, crossed, first_moment, is_above, is_basic, is_below, may_enter, may_leave, next, proceed, restood, row_of, run, settled, standing_at, turn}
 use Rattle.simplex_core.specs.declared.standing.Standing.{Standing}
 use Rattle.simplex_core.specs.declared.standing.Standing.TheVariants.{Basic, AtLower, AtUpper}
@@ -225,7 +224,7 @@ pub record IsGood (t : Table) (m : Moment) : Type 0 where
   pub upper : m.table.upper ≡ t.upper
   pub space : SameSpace t.rows m.table.rows
 
-good-after : (t : Table) (m : Moment) (i c : ℕ) (side : Side) → IsGood t m → turn m ≡ Pivot i c side → list_all are_small (pivoted i c m.table.rows) ≡ true → IsGood t (after m i c side)
+good-after : (t : Table) (m : Moment) (i c : ℕ) (side : Side) → IsGood t m → turn m ≡ Pivot i c side → list_all are_short (pivoted i c m.table.rows) ≡ true → IsGood t (after m i c side)
 good-after t m i c side good turns small =
     let p = pivots-row m i c side good.table good.legal turns in
     record {

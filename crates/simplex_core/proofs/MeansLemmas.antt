@@ -7,17 +7,15 @@ use Rattle.std.specs.Option.{unwrap_or}
 use Rattle.std.specs.Prelude.{◌-ℤ◌}
 use Rattle.lin_atoms.specs.Dot.{dot}
 use Rattle.std.proofs.lemmas.Bool.{ltb-false}
-use Rattle.lin_atoms.specs.Linear.{is_small}
+use Rattle.lin_atoms.specs.Linear.{is_short}
 use Rattle.lin_atoms.specs.Ratio.{Fraction}
 use Rattle.int_rows.specs.Basis.{IsBasicPoint, IsWideCoordinate, IsWideRow, Point, System, bound, in_order}
 use Rattle.int_rows.specs.Rows.{Follows, entry}
 use Rattle.int_rows.specs.Space.{SameSpace}
 use Rattle.int_rows.specs.Table.{HasWide, IsTable, Table, basic_at, pivoted, row_at, width}
-use Rattle.int_rows.proofs.BasisLemmas.{pivoted-wide}
-use Rattle.int_rows.proofs.PivotedLemmas.{length-pivoted}
-use Rattle.int_rows.proofs.SpaceLemmas.{same-basis, same-follows, same-solutions, same-wide}
+use Rattle.int_rows.proofs.Public.{length-pivoted, pivoted-wide, same-basis, same-follows, same-solutions, same-wide}
 use Rattle.simplex_core.specs.Answer.{basis, outer}
-use Rattle.simplex_core.specs.Kept.{AreStandings}
+use Rattle.simplex_core.specs.machinery.Kept.{AreStandings}
 use Rattle.simplex_core.specs.Meaning.{IsConflict, IsVertex, of_lower, of_upper, summed, summed_bounds, system_of}
 use Rattle.simplex_core.specs.Run.{after_pivot, columns, coordinate_at, crossed, has_wide_floor, is_wide, leaving, moment, restood}
 use Rattle.simplex_core.specs.declared.standing.Standing.{Standing}
@@ -38,8 +36,8 @@ wide-means t standings c is are h wide =
     let found = wide_elsewhere q (entry p.nums c) p.den (den-positive t standings c is are h) there.positive (sym (point-at t standings c is are h)) wide in
     record { point = p; is_basic = there; within = h; wide = inl (record { num = found.0; lowest = found.1; is_wide = found.2 }) }
 
-not-small : (z : ℤ) → not (is_small z) ≡ true → 2 ^ 63 ≤ nat_abs z
-not-small z h = ltb-false (nat_abs z) (2 ^ 63) (turned (is_small z) h) where
+not-small : (z : ℤ) → not (is_short z) ≡ true → 2 ^ 63 ≤ nat_abs z
+not-small z h = ltb-false (nat_abs z) (2 ^ 63) (turned (is_short z) h) where
   turned : (b : Bool) → not b ≡ true → b ≡ false
   turned true e = absurd (cc)
   turned false e = refl

@@ -6,7 +6,7 @@ use Rattle.std.proofs.Math.Nat.{eq-or-lt_of_le}
 use Rattle.std.proofs.lemmas.Bool.{cases_eq, cases_order}
 use Rattle.int_rows.specs.Basis.{bound}
 use Rattle.int_rows.specs.Table.{IsTable, Table, basic_at, width}
-use Rattle.int_rows.proofs.SpaceLemmas.{same-symmetric, same-transitive}
+use Rattle.int_rows.proofs.Public.{same-symmetric, same-transitive}
 use Rattle.simplex_core.specs.Answer.{AreSame}
 use Rattle.simplex_core.specs.Run.{Moment, Outcome, Next, Ended, broken_at, is_basic, may_enter, next, proceed, restood, run, settled, standing_at}
 use Rattle.simplex_core.specs.declared.standing.Standing.{Standing}

@@ -6,9 +6,9 @@ use Rattle.std.proofs.lemmas.Bool.{eqb-true, cases_lt}
 use Rattle.std.proofs.lemmas.Bool.Decides.{Decides-eqb}
 use Rattle.std.proofs.Math.Nat.{add-mul-mod_self_left, mul-le-mul_right}
 use Rattle.std.proofs.Math.Seq.{take-append_seam, drop-append_seam}
-use Rattle.simplex_core.specs.Packed.{AreKept, all_unpacked, are_digits, are_packed, mark, packed, rows, unpacked, words_for}
-use Rattle.simplex_core.specs.Standing.{code, number, of_code, standings_of}
-use Rattle.simplex_core.specs.Visited.{AreDistinct}
+use Rattle.simplex_core.specs.machinery.Packed.{AreKept, all_unpacked, are_digits, are_packed, mark, packed, rows, unpacked, words_for}
+use Rattle.simplex_core.specs.machinery.Standing.{code, number, of_code, standings_of}
+use Rattle.simplex_core.specs.machinery.Visited.{AreDistinct}
 use Rattle.simplex_core.specs.declared.standing.Standing.{Standing}
 use Rattle.simplex_core.proofs.StandingLemmas.{code-of_code, of_code-code, length-standings_of, standings_of-number}
 use Rattle.simplex_core.proofs.VisitedLemmas.{distinct-push}

@@ -9,15 +9,15 @@ use Rattle.std.proofs.Math.Nat.{div-mul_cancel, dvd-mul_left_of_dvd, dvd-mul_rig
 use Rattle.std.proofs.lemmas.Int.{ints}
 use Rattle.std.proofs.lemmas.List.{get_or-map, length-map, get_or_default, length-set}
 use Rattle.std.proofs.lemmas.List.Elements.{All-head, All-tail}
-use Rattle.base.proofs.IntLemmas.{*ℤ_assoc, +ℤ-*ℤ, neg_ℤ-*ℤ}
+use Rattle.base.proofs.Public.{*ℤ_assoc, +ℤ-*ℤ, neg_ℤ-*ℤ}
 use Rattle.lin_atoms.specs.Dot.{dot}
 use Rattle.lin_atoms.specs.Ratio.{Fraction}
-use Rattle.lin_atoms.proofs.DivisionLemmas.{positive}
+use Rattle.lin_atoms.proofs.Public.{positive}
 use Rattle.int_rows.specs.Basis.{Point, is_in}
 use Rattle.int_rows.specs.Rows.{Solves, SolvesAll, entry}
 use Rattle.int_rows.specs.Table.{IsTable, Table, basic_at, row_at, width}
 use Rattle.simplex_core.specs.Coordinate.{coordinate, others}
-use Rattle.simplex_core.specs.Kept.{AreStandings}
+use Rattle.simplex_core.specs.machinery.Kept.{AreStandings}
 use Rattle.simplex_core.specs.declared.standing.Standing.{Standing}
 use Rattle.simplex_core.specs.Run.{Moment, coordinate_at, coordinates, is_basic, moment, row_of, row_value, standing_at, stood_at, values}
 use Rattle.simplex_core.proofs.CoordinateLemmas.{masked-at}

@@ -9,7 +9,7 @@ use Rattle.std.proofs.lemmas.List.Elements.{filter-append}
 use Rattle.std.proofs.lemmas.List.FromFn.{map-range_with_len_more}
 use Rattle.std.proofs.lemmas.Grind.{flat_map-append}
 use Rattle.std.proofs.Math.Nat.{eq-or-lt_of_le}
-use Rattle.int_rows.proofs.EquationLemmas.{range-more}
+use Rattle.int_rows.proofs.Public.{range-more}
 
 counted-more : (c : ℕ) → range_with_len 0 (c + 1) ≡ range_with_len 0 c ++ c ∷ []
 counted-more c = let e : 0 + c ≡ c = omega arith in range-more 0 c ∙ ap (λ k. range_with_len 0 c ++ k ∷ []) e

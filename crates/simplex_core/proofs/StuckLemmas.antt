@@ -6,17 +6,16 @@ use Rattle.std.proofs.Math.IntN.{*ℤ_comm}
 use Rattle.std.proofs.lemmas.Bool.{cases_lt, eq-eqb, ne_eqb}
 use Rattle.std.proofs.lemmas.Int.{ints, by_lt_z}
 use Rattle.std.proofs.lemmas.List.{get_or_past, length-set}
-use Rattle.base.proofs.IntLemmas.{neg_ℤ-*ℤ}
+use Rattle.base.proofs.Public.{neg_ℤ-*ℤ}
 use Rattle.lin_atoms.specs.Ratio.{Fraction}
-use Rattle.lin_atoms.proofs.DivisionLemmas.{positive}
+use Rattle.lin_atoms.proofs.Public.{positive}
 use Rattle.int_rows.specs.Basis.{bound}
 use Rattle.int_rows.specs.Rows.{Follows, entry}
 use Rattle.int_rows.specs.Table.{IsTable, Table, basic_at, row_at, width}
-use Rattle.int_rows.proofs.FollowLemmas.{follows-own}
-use Rattle.int_rows.proofs.PivotLemmas.{lt-true}
+use Rattle.int_rows.proofs.Public.{follows-own, lt-true}
 use Rattle.simplex_core.specs.Answer.{multipliers, multipliers_at}
 use Rattle.simplex_core.specs.Coordinate.{others}
-use Rattle.simplex_core.specs.Kept.{AreStandings}
+use Rattle.simplex_core.specs.machinery.Kept.{AreStandings}
 use Rattle.simplex_core.specs.Meaning.{IsConflict, summed}
 use Rattle.simplex_core.specs.Run.{broken_at, can_rise, can_sink, coordinate_at, entering, helps, is_above, is_basic, is_below, may_enter, moment, seen_from, standing_at, stood_at, values}
 use Rattle.simplex_core.specs.declared.standing.Standing.{Standing}

@@ -6,9 +6,9 @@ use Rattle.std.specs.Option.{unwrap_or}
 use Rattle.std.proofs.lemmas.Bool.{and_parts, le-ltb, cond-false, cond-true, not-true, or_cases}
 use Rattle.std.proofs.lemmas.List.{length-take-le}
 use Rattle.std.proofs.lemmas.List.Folds.{list_all_at}
-use Rattle.lin_atoms.specs.Linear.{is_small}
+use Rattle.lin_atoms.specs.Linear.{is_short}
 use Rattle.lin_atoms.specs.Ratio.{Fraction}
-use Rattle.int_rows.specs.Rows.{are_small, entry}
+use Rattle.int_rows.specs.Rows.{are_short, entry}
 use Rattle.int_rows.specs.Table.{HasWide, pivoted, row_at, width}
 use Rattle.simplex_core.specs.Run.{Moment, Next, Ended, after, broken_at, can_rise, can_sink, coordinates, crossed, enter, entering, first_of, has_wide_floor, helps, is_basic, is_wide, leave, leaving, may_enter, may_leave, next, outcome, row_of, seen_from, settle, standing_at, turn, wide, wide_floor}
 use Rattle.simplex_core.specs.declared.turn.Side.{Side}
@@ -157,11 +157,11 @@ pub enters-some : (m : Moment) (i c : ℕ) (side : Side) → may_enter m i side 
 enters-some m i c side h zero = helps-some m (seen_from side (entry (row_at m.table.rows i) c)) c h (seen-zero side (entry (row_at m.table.rows i) c) zero)
 
 -- what comes next
-pub next-pivot : (m : Moment) (i c : ℕ) (side : Side) → turn m ≡ Pivot i c side → list_all are_small (pivoted i c m.table.rows) ≡ true → next m ≡ Next (after m i c side)
-next-pivot m i c side e small = ap (outcome m) e ∙ cond-true (list_all are_small (pivoted i c m.table.rows)) (Next (after m i c side)) (Ended (Pivot i c side)) small
+pub next-pivot : (m : Moment) (i c : ℕ) (side : Side) → turn m ≡ Pivot i c side → list_all are_short (pivoted i c m.table.rows) ≡ true → next m ≡ Next (after m i c side)
+next-pivot m i c side e small = ap (outcome m) e ∙ cond-true (list_all are_short (pivoted i c m.table.rows)) (Next (after m i c side)) (Ended (Pivot i c side)) small
 
-pub next-wide : (m : Moment) (i c : ℕ) (side : Side) → turn m ≡ Pivot i c side → list_all are_small (pivoted i c m.table.rows) ≡ false → next m ≡ Ended (Pivot i c side)
-next-wide m i c side e small = ap (outcome m) e ∙ cond-false (list_all are_small (pivoted i c m.table.rows)) (Next (after m i c side)) (Ended (Pivot i c side)) small
+pub next-wide : (m : Moment) (i c : ℕ) (side : Side) → turn m ≡ Pivot i c side → list_all are_short (pivoted i c m.table.rows) ≡ false → next m ≡ Ended (Pivot i c side)
+next-wide m i c side e small = ap (outcome m) e ∙ cond-false (list_all are_short (pivoted i c m.table.rows)) (Next (after m i c side)) (Ended (Pivot i c side)) small
 
 -- a next moment is one after a pivot
 pub record IsNext (m n : Moment) : Type 0 where
@@ -169,10 +169,10 @@ pub record IsNext (m n : Moment) : Type 0 where
   pub column : ℕ
   pub side : Side
   pub turns : turn m ≡ Pivot row column side
-  pub small : list_all are_small (pivoted row column m.table.rows) ≡ true
+  pub small : list_all are_short (pivoted row column m.table.rows) ≡ true
   pub moment : n ≡ after m row column side
 
-next-cases : (m n : Moment) (i c : ℕ) (side : Side) (b : Bool) → turn m ≡ Pivot i c side → list_all are_small (pivoted i c m.table.rows) ≡ b → cond b (Next (after m i c side)) (Ended (Pivot i c side)) ≡ Next n → IsNext m n
+next-cases : (m n : Moment) (i c : ℕ) (side : Side) (b : Bool) → turn m ≡ Pivot i c side → list_all are_short (pivoted i c m.table.rows) ≡ b → cond b (Next (after m i c side)) (Ended (Pivot i c side)) ≡ Next n → IsNext m n
 next-cases m n i c side true t small e = record { row = i; column = c; side = side; turns = t; small = small; moment = cc }
 next-cases m n i c side false t small e = absurd (cc)
 
@@ -181,7 +181,7 @@ outcome-next m n (Crossed c) t e = absurd (cc)
 outcome-next m n (Wide c) t e = absurd (cc)
 outcome-next m n Vertex t e = absurd (cc)
 outcome-next m n (Conflict i side) t e = absurd (cc)
-outcome-next m n (Pivot i c side) t e = next-cases m n i c side (list_all are_small (pivoted i c m.table.rows)) t refl e
+outcome-next m n (Pivot i c side) t e = next-cases m n i c side (list_all are_short (pivoted i c m.table.rows)) t refl e
 
 pub next-is : (m n : Moment) → next m ≡ Next n → IsNext m n
 next-is m n e = outcome-next m n (turn m) refl e
@@ -269,5 +269,5 @@ turn-crosses m c e =
     ⊎_elim (λ x. let same : Crossed c ≡ Crossed x.0 = x.2 in let number : c ≡ x.0 = cc in x.1 ∙ ap (λ k. Some k) (sym number)) (λ rest. absurd (⊎_elim (λ x. let bad : Crossed c ≡ Wide x.0 = x.3 in cc) (λ s. settled-crossed m c (leaving m) s.2) rest)) (turn-comes m (Crossed c) e)
 
 -- rows with an entry without room
-pub wide-list : (rows : List (List ℤ)) (j : ℕ) (wide : ℤ) → HasWide rows j wide → list_all are_small rows ≡ false
-wide-list rows j wide h = list_all_at are_small rows j [] h.within (list_all_at is_small (row_at rows j) h.contains.0 wide h.contains.1 (ap is_small h.contains.2 ∙ le-ltb (nat_abs wide) (2 ^ 63) h.is_wide))
+pub wide-list : (rows : List (List ℤ)) (j : ℕ) (wide : ℤ) → HasWide rows j wide → list_all are_short rows ≡ false
+wide-list rows j wide h = list_all_at are_short rows j [] h.within (list_all_at is_short (row_at rows j) h.contains.0 wide h.contains.1 (ap is_short h.contains.2 ∙ le-ltb (nat_abs wide) (2 ^ 63) h.is_wide))

@@ -9,8 +9,8 @@ use Rattle.std.proofs.lemmas.Map.Steps.{length-le_from_distinct_below}
 use Rattle.std.proofs.lemmas.Map.Views.{Contains-from_any}
 use Rattle.std.proofs.lemmas.Bool.{eqb-true, false_from_ne_true}
 use Rattle.std.proofs.lemmas.Cmp.{nat_eq_equiv}
-use Rattle.simplex_core.specs.Standing.{number}
-use Rattle.simplex_core.specs.Visited.{AreDistinct}
+use Rattle.simplex_core.specs.machinery.Standing.{number}
+use Rattle.simplex_core.specs.machinery.Visited.{AreDistinct}
 use Rattle.simplex_core.specs.declared.standing.Standing.{Standing}
 use Rattle.simplex_core.proofs.StandingLemmas.{number-below, number-same}
 

@@ -1,10 +1,5 @@
 pub mod Answer
 pub mod Coordinate
-pub mod Following
-pub mod Kept
 pub mod Meaning
-pub mod Packed
-pub mod Refresh
 pub mod Run
-pub mod Standing
-pub mod Visited
+pub mod machinery

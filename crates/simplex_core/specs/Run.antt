@@ -4,10 +4,10 @@ use Rattle.std.specs.Int.{int_div_euclid}
 use Rattle.std.specs.List.{list_all, range_with_len}
 use Rattle.std.specs.Option.{option_map_or, unwrap_or}
 use Rattle.std.specs.Ordering.{int_eq}
-use Rattle.lin_atoms.specs.Linear.{is_small}
+use Rattle.lin_atoms.specs.Linear.{is_short}
 use Rattle.lin_atoms.specs.Ratio.{Fraction}
 use Rattle.int_rows.specs.Basis.{bound, is_in}
-use Rattle.int_rows.specs.Rows.{are_small, content, entry}
+use Rattle.int_rows.specs.Rows.{are_short, content, entry}
 use Rattle.int_rows.specs.Table.{Table, basic_at, pivoted, row_at, width}
 use Rattle.simplex_core.specs.Coordinate.{coordinate}
 use Rattle.simplex_core.specs.declared.standing.Standing.{Standing}
@@ -74,7 +74,7 @@ is_wide q = nat_le (2 ^ 127 * content (q.num ∷ q.den ∷ [])) (nat_abs q.num)
 
 -- whether the value, rounded down, is 2^63 or more in magnitude
 abbrev pub has_wide_floor : Fraction → Bool
-has_wide_floor q = not (is_small (int_div_euclid q.num q.den))
+has_wide_floor q = not (is_short (int_div_euclid q.num q.den))
 
 abbrev pub is_below : Option ℤ → Fraction → Bool
 is_below lower q = option_map_or (λ l. int_lt q.num (q.den *ℤ l)) lower false
@@ -190,7 +190,7 @@ outcome m (Crossed c) = Ended (Crossed c)
 outcome m (Wide c) = Ended (Wide c)
 outcome m Vertex = Ended Vertex
 outcome m (Conflict i side) = Ended (Conflict i side)
-outcome m (Pivot i c side) = if list_all are_small (pivoted i c m.table.rows) then Next (after m i c side) else Ended (Pivot i c side)
+outcome m (Pivot i c side) = if list_all are_short (pivoted i c m.table.rows) then Next (after m i c side) else Ended (Pivot i c side)
 
 abbrev pub next : Moment → Outcome
 next m = outcome m (turn m)

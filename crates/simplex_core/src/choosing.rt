@@ -3,7 +3,7 @@
 ghost use Rattle.std.specs.Prelude.{◌≡◌, ◌<◌, ◌≤◌, ◌^◌, ◌-ℤ◌, length, nat_abs, position, take, true};
 ghost use Rattle.int_rows.specs.Ready.{bound_fits};
 ghost use Rattle.int_rows.specs.Table.{row_at, width};
-ghost use Rattle.simplex_core.specs.Kept.{AreStandings};
+ghost use Rattle.simplex_core.specs.machinery.Kept.{AreStandings};
 ghost use Rattle.simplex_core.specs.Run.{are_crossed, are_crossed_at, broken, broken_at, can_rise, can_sink, coordinates, crossed, entering, has_wide_floor, helps, is_above, is_basic, is_below, is_wide, leave, leaving, may_enter, may_leave, moment, seen_from, settle, turn, wide, wide_floor};
 
 use crate::coordinate::Coordinate;

@@ -2,7 +2,7 @@ ghost use Rattle.std.specs.Prelude.{◌≡◌, ◌^◌, ◌<◌, ◌≤◌, ◌+
 ghost use Rattle.std.specs.Int.{IsGcd, int_div_euclid};
 ghost use Rattle.std.specs.List.{list_all};
 ghost use Rattle.std.specs.Ordering.{int_cmp};
-ghost use Rattle.lin_atoms.specs.Linear.{is_constant, is_small};
+ghost use Rattle.lin_atoms.specs.Linear.{is_long, is_short};
 ghost use Rattle.lin_atoms.specs.Ratio.{Fraction, IsLowest, IsNumerator};
 ghost use Rattle.int_rows.specs.Rows.{entry};
 ghost use Rattle.simplex_core.specs.Coordinate.{coordinate, held, is_held};
@@ -85,7 +85,7 @@ fn take_away(sum: &mut Accumulator, entry: i64, value: i128)
 fn take_column(sum: &mut Accumulator, row: &[i64], values: &[i128], column: usize, own: usize)
     requires width { length row.now ≡ length values.now }
     requires within { column < length row.now }
-    requires small { list_all is_constant values.now ≡ true }
+    requires small { list_all is_long values.now ≡ true }
     requires room { sum.old.added < 2 ^ 32 }
     ensures value { sum.new.value ≡ sum.old.value -ℤ (if column == own then pos 0 else entry row.now column) *ℤ entry values.now column }
     ensures added { sum.new.added ≤ sum.old.added + 1 }
@@ -112,7 +112,7 @@ impl Coordinate {
         requires few { length row.now ≤ 2 ^ 32 }
         requires own { own < length row.now }
         requires positive { pos 0 <ℤ entry row.now own }
-        requires small { list_all is_constant values.now ≡ true }
+        requires small { list_all is_long values.now ≡ true }
         requires places { places.now ≡ held values.now }
         ensures { result ≡ coordinate row.now values.now own }
     {
@@ -145,7 +145,7 @@ impl Coordinate {
 
     /// Whether the greatest integer that is at most the value has room: its magnitude is below 2^63.
     pub fn has_small_floor(&self) -> bool
-        ensures { result ≡ is_small (int_div_euclid self.now.num self.now.den) }
+        ensures { result ≡ is_short (int_div_euclid self.now.num self.now.den) }
     {
         match self.sum.quotient(self.den).to_i128() {
             None => false,

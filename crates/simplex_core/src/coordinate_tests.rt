@@ -1,7 +1,7 @@
 //! Coordinates by hand, where their numerators and floors begin to have no room.
 ghost use Rattle.std.specs.Prelude.{◌≡◌, ◌<◌, ◌≤◌, ◌^◌, length, true, pos, ◌<ℤ◌};
 ghost use Rattle.std.specs.List.{list_all};
-ghost use Rattle.lin_atoms.specs.Linear.{is_constant};
+ghost use Rattle.lin_atoms.specs.Linear.{is_long};
 ghost use Rattle.int_rows.specs.Rows.{entry};
 
 use super::*;
@@ -25,7 +25,7 @@ fn basic(alloc: Global, row: &[i64], values: &[i128], own: usize) -> Result<Coor
     requires few { length row.now ≤ 2 ^ 32 }
     requires own { own < length row.now }
     requires positive { pos 0 <ℤ entry row.now own }
-    requires small { list_all is_constant values.now ≡ true }
+    requires small { list_all is_long values.now ≡ true }
 {
     let places = held(alloc, values)?;
     Ok(Coordinate::basic(row, values, places.as_slice(), own))

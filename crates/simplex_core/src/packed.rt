@@ -2,8 +2,8 @@
 
 ghost use Rattle.std.specs.Prelude.{◌≡◌, ◌+◌, ◌*◌, ◌<◌, ◌≤◌, ◌++◌, ◌&&◌, ◌==◌, length, take, drop};
 ghost use Rattle.std.specs.Vec.{vec_capacity, vec_len};
-ghost use Rattle.simplex_core.specs.Packed.{are_digits, are_packed, mark, packed};
-ghost use Rattle.simplex_core.specs.Standing.{code, number};
+ghost use Rattle.simplex_core.specs.machinery.Packed.{are_digits, are_packed, mark, packed};
+ghost use Rattle.simplex_core.specs.machinery.Standing.{code, number};
 
 use crate::standing::Standing;
 

@@ -2,11 +2,11 @@
 
 ghost use Rattle.std.specs.Prelude.{◌≡◌, ◌<◌, ◌≤◌, ◌^◌, length, nat_abs, true, IfOk, OnOk};
 ghost use Rattle.std.specs.List.{list_all};
-ghost use Rattle.lin_atoms.specs.Linear.{is_constant};
+ghost use Rattle.lin_atoms.specs.Linear.{is_long};
 ghost use Rattle.int_rows.specs.Basis.{is_in};
 ghost use Rattle.int_rows.specs.Table.{basic_at, row_at, width};
 ghost use Rattle.simplex_core.specs.Coordinate.{coordinate, held};
-ghost use Rattle.simplex_core.specs.Kept.{AreStandings};
+ghost use Rattle.simplex_core.specs.machinery.Kept.{AreStandings};
 ghost use Rattle.simplex_core.specs.Run.{coordinate_at, coordinates, first_standing, first_standing_at, first_standings, moment, row_of, stood, stood_at, values};
 
 use crate::coordinate::{Coordinate, held};
@@ -133,7 +133,7 @@ pub(crate) fn values(
 ) -> Result<Vec<i128>, Memory>
     requires { length standings.now ≡ width t.now }
     ensures is { IfOk result (λ made. made.items ≡ values (moment t.now standings.now)) }
-    ensures small { IfOk result (λ made. list_all is_constant made.items ≡ true) }
+    ensures small { IfOk result (λ made. list_all is_long made.items ≡ true) }
 {
     let mut made = Vec::with_capacity(alloc, standings.len())?;
     for column in 0..standings.len() {
@@ -147,7 +147,7 @@ fn row_value(t: &Tableau, values: &[i128], places: &[usize], row: usize) -> Coor
     requires row { row < length t.now.rows }
     requires each { length values.now ≡ width t.now }
     requires few { width t.now < 2 ^ 32 }
-    requires small { list_all is_constant values.now ≡ true }
+    requires small { list_all is_long values.now ≡ true }
     requires places { places.now ≡ held values.now }
     ensures { result ≡ coordinate (row_at t.now.rows row) values.now (basic_at t.now.basic row) }
 {
@@ -165,7 +165,7 @@ pub(crate) fn coordinate_at(
 ) -> Coordinate
     requires legal { AreStandings t.now standings.now }
     requires known { known.now ≡ values (moment t.now standings.now) }
-    requires small { list_all is_constant known.now ≡ true }
+    requires small { list_all is_long known.now ≡ true }
     requires places { places.now ≡ held known.now }
     requires column { column < width t.now }
     ensures { result ≡ coordinate_at (moment t.now standings.now) column }

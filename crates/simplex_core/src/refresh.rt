@@ -2,13 +2,13 @@
 
 ghost use Rattle.std.specs.Prelude.{◌≡◌, ◌<◌, ◌==◌, ℕ, length, nat_abs, not, true, false, slice_index_or, slice_set, IfOk, if◌then◌else◌};
 ghost use Rattle.std.specs.List.{list_all};
-ghost use Rattle.lin_atoms.specs.Linear.{is_constant};
+ghost use Rattle.lin_atoms.specs.Linear.{is_long};
 ghost use Rattle.lin_atoms.specs.Ratio.{Fraction};
 ghost use Rattle.int_rows.specs.Rows.{entry};
 ghost use Rattle.int_rows.specs.Table.{Table, row_at, width};
 ghost use Rattle.simplex_core.specs.Coordinate.{held};
-ghost use Rattle.simplex_core.specs.Kept.{AreStandings};
-ghost use Rattle.simplex_core.specs.Refresh.{changes};
+ghost use Rattle.simplex_core.specs.machinery.Kept.{AreStandings};
+ghost use Rattle.simplex_core.specs.machinery.Refresh.{changes};
 ghost use Rattle.simplex_core.specs.Run.{coordinate_at, coordinates, moment, values};
 
 use crate::coordinate::Coordinate;
@@ -78,7 +78,7 @@ fn renew(
 )
     requires legal { AreStandings t.now standings.now }
     requires known { known.now ≡ values (moment t.now standings.now) }
-    requires small { list_all is_constant known.now ≡ true }
+    requires small { list_all is_long known.now ≡ true }
     requires places { places.now ≡ held known.now }
     requires column { column < width t.now }
     requires each { column < length kept.old }
@@ -104,7 +104,7 @@ pub(crate) fn refresh(
 )
     requires legal { AreStandings t.now standings.now }
     requires known { known.now ≡ values (moment t.now standings.now) }
-    requires small { list_all is_constant known.now ≡ true }
+    requires small { list_all is_long known.now ≡ true }
     requires places { places.now ≡ held known.now }
     requires marks { length marks.now ≡ width t.now }
     requires each { length kept.old ≡ width t.now }

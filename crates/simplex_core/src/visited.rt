@@ -1,6 +1,6 @@
 ghost use Rattle.std.specs.Prelude.{◌≡◌, ◌+◌, ◌*◌, ◌^◌, ◌<◌, ◌↔◌, [], ◌∷◌, ◌++◌, length, IsTrue, OnOk, OnErr, false};
 ghost use Rattle.std.specs.List.{Contains};
-ghost use Rattle.simplex_core.specs.Visited.{Lists};
+ghost use Rattle.simplex_core.specs.machinery.Visited.{Lists};
 
 use crate::packed::{is_list, mark, put};
 use crate::standing::Standing;
@@ -19,8 +19,8 @@ pub struct Visited {
 
 impl Model for Visited {
     ghost use Rattle.std.specs.Prelude.{length};
-    ghost use Rattle.simplex_core.specs.Packed.{AreKept, all_unpacked};
-    ghost use Rattle.simplex_core.specs.Visited.{Lists};
+    ghost use Rattle.simplex_core.specs.machinery.Packed.{AreKept, all_unpacked};
+    ghost use Rattle.simplex_core.specs.machinery.Visited.{Lists};
 
     ghost Value = { Lists };
 

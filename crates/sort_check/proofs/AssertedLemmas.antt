@@ -15,7 +15,7 @@ use Rattle.term_tree.specs.Arena.{Arena, IsArena}
 use Rattle.term_tree.specs.Legal.{IsLegal}
 use Rattle.term_check.specs.Reading.{scope_of}
 use Rattle.term_check.specs.Term.{Term, IsTermAt}
-use Rattle.term_check.proofs.LegalityLemmas.{spelled_legal}
+use Rattle.term_check.proofs.Public.{spelled_legal}
 use Rattle.sort_check.specs.Commands.{Command, declared, declares}
 use Rattle.sort_check.specs.Commands.Command.{SetLogic, Inform, Declare, Assert, CheckSat, GetModel, Exit}
 use Rattle.sort_check.specs.Scripts.{AreAsserted, IsChecked, IsLegalAssertion}

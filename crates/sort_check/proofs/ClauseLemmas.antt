@@ -14,12 +14,9 @@ use Rattle.term_tree.specs.declared.node.Node.TheVariants.{Pred, Op, Forall}
 use Rattle.term_tree.specs.Arena.{Arena, IsArena}
 use Rattle.term_tree.specs.Head.{is_applied, ends_applied, node_has_head, has_head}
 use Rattle.term_tree.specs.Sorts.{has_sort, all_of, sort_if, operation_sort, predicate_sort, sort_of}
-use Rattle.term_tree.proofs.FoldLemmas.{sort_at, head_at}
-use Rattle.term_tree.proofs.MeaningLemmas.{both_true}
-use Rattle.term_tree.proofs.PlainLemmas.{arena_below}
+use Rattle.term_tree.proofs.Public.{arena_below, both_true, head_at, sort_at}
 use Rattle.term_check.specs.Term.{Term, numeral, truth, variable, let_name, predicate, operation, divisible, binding, universal, existential, Terms, none, more, IsTermAt, AreTermsAt}
-use Rattle.term_check.proofs.OutcomeLemmas.{below_is}
-use Rattle.term_check.proofs.LegalityLemmas.{spelled_legal}
+use Rattle.term_check.proofs.Public.{below_is, spelled_legal}
 use Rattle.term_check.specs.Reading.{scope_of}
 use Rattle.term_tree.specs.declared.script.Script.{Script}
 use Rattle.term_tree.specs.declared.script.Assertion.{Assertion}

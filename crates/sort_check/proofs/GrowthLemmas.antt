@@ -14,9 +14,7 @@ use Rattle.term_tree.specs.declared.node.Node.TheVariants.{Num, True, False, Var
 use Rattle.term_tree.specs.Arena.{IsArena, is_below, has_parts_below}
 use Rattle.term_tree.specs.Sorts.{has_sort, is_sorted, have_sorts, are_alike, sort_if, all_of, choice_sort, operation_sort, predicate_sort, node_sort, sort_of}
 use Rattle.term_tree.specs.Legal.{IsLegal}
-use Rattle.term_tree.proofs.FoldLemmas.{sort_at}
-use Rattle.term_tree.proofs.MeaningLemmas.{both_true, below_from}
-use Rattle.term_tree.proofs.PlainLemmas.{arena_below}
+use Rattle.term_tree.proofs.Public.{arena_below, below_from, both_true, sort_at}
 
 has_is : (s : Sort) (o : Option Sort) → has_sort s o ≡ true → is_sorted o ≡ true
 has_is s None h = absurd (cc)

@@ -5,8 +5,7 @@ use Rattle.std.proofs.lemmas.Bool.{ltb-true, ltb-false}
 use Rattle.sexp_read.specs.declared.tree.Tree.{Tree}
 use Rattle.sexp_read.specs.declared.tree.TextStop.{TextStop}
 use Rattle.sexp_read.specs.Trees.{IsReading}
-use Rattle.sexp_read.proofs.Exists.{has_reading}
-use Rattle.sexp_read.proofs.Machine.{one_reading}
+use Rattle.sexp_read.proofs.Public.{has_reading, one_reading}
 use Rattle.term_tree.specs.declared.refusal.Refusal.{Refusal}
 use Rattle.sort_check.specs.Commands.{Command}
 use Rattle.sort_check.specs.Scripts.{Outcome, outcome, IsScript, IsRefused, IsScriptOrRefused}

@@ -16,7 +16,7 @@ use Rattle.term_check.specs.Rules.{fault, unless, same_sort}
 use Rattle.term_check.specs.Reading.{scope_of}
 use Rattle.term_check.specs.Spelling.{Spelled, spelled, is_word, ◌>>=◌}
 use Rattle.term_check.specs.Term.{Term}
-use Rattle.term_check.proofs.OutcomeLemmas.{bind_ok, unless_ok}
+use Rattle.term_check.proofs.Public.{bind_ok, unless_ok}
 use Rattle.sort_check.specs.Commands.{Command, command, listed, worded, plain, set_logic_fault, inform_fault, alone_fault, declaration, declaration_fault, declare_listed, declare_function, declare_constant, predicate_named, assertion, assert_fault, assert_term, asserted, clause_fault, has_head, declared, declares, most_predicates, is_check_sat, is_exit, is_inform, is_set_logic}
 use Rattle.sort_check.specs.Commands.Command.{SetLogic, Inform, Declare, Assert, CheckSat, GetModel, Exit}
 use Rattle.sort_check.specs.Scripts.{IsScript, Outcome, outcome, stops, after, end_fault}

@@ -5,17 +5,15 @@ use Rattle.std.proofs.lemmas.List.{append-nil}
 use Rattle.sexp_read.specs.declared.tree.Tree.{Tree}
 use Rattle.sexp_read.specs.declared.tree.TextStop.{TextStop}
 use Rattle.sexp_read.specs.Trees.{IsTree, Stops, IsReading, none, more}
-use Rattle.sexp_read.proofs.Exists.{has_rest}
-use Rattle.sexp_read.proofs.Reaches.{joined, one_more as one_more_tree, tree_ahead}
+use Rattle.sexp_read.proofs.Public.{has_rest, joined, one_more as one_more_tree, tree_ahead}
 use Rattle.term_tree.specs.declared.refusal.Checked.{Checked}
 use Rattle.term_check.specs.declared.part.Fault.{Fault}
-use Rattle.term_check.specs.Weight.{weight}
-use Rattle.term_check.proofs.LightLemmas.{tree_light, trees_light}
-use Rattle.term_check.proofs.SpellingLemmas.{weigh_all}
+use Rattle.term_check.specs.machinery.Weight.{weight}
+use Rattle.term_check.proofs.Public.{tree_light, trees_light, weigh_all}
 use Rattle.sort_check.specs.Commands.{Command, command, is_exit}
 use Rattle.sort_check.specs.Scripts.{outcome, stops, end_fault, stop_fault, refusal_at, IsCheckedText, IsScriptOf}
-use Rattle.sort_check.specs.State.{IsState, Took}
-use Rattle.sort_check.specs.Progress.{IsSoFar, IsReadSoFar}
+use Rattle.sort_check.specs.machinery.State.{IsState, Took}
+use Rattle.sort_check.specs.machinery.Progress.{IsSoFar, IsReadSoFar}
 use Rattle.sort_check.specs.declared.state.State.{State}
 use Rattle.sort_check.proofs.ScriptLemmas.{checked, refused, ended, passes, one_more, taken_by, over as is_over_by}
 

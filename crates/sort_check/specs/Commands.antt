@@ -12,6 +12,7 @@
 use Rattle.std.specs.Prelude.{ℕ, List, [], ◌∷◌, length, map, take, Bool, true, false, not, ◌&&◌, ◌||◌, nat_lt, Option, None, Some, Result, Ok, Err, if◌then◌else◌, codes}
 use Rattle.std.specs.List.{list_any, list_all, flat_map}
 use Rattle.std.specs.Str.{bytes_eq}
+pub use Rattle.base.specs.Limits.{most_arguments, most_assertions, most_predicates}
 use Rattle.sexp_read.specs.declared.tree.LeafKind.TheVariants.{Keyword}
 use Rattle.sexp_read.specs.declared.tree.Tree.{Tree, Leaf, List', items-the_row-Tree}
 use Rattle.sexp_read.specs.Leaves.{symbol_bytes}
@@ -109,12 +110,6 @@ inform_fault start parts = if is_information parts then None else Some (fault Co
 
 -- (declare-fun name (sort ..) Bool); may: there was no check-sat
 
-abbrev pub most_arguments : ℕ
-most_arguments = 256
-
-abbrev pub most_predicates : ℕ
-most_predicates = 4096
-
 -- a name of the theories Core and Ints
 abbrev pub is_theory_name : List ℕ → Bool
 is_theory_name name = bytes_eq name (codes "true") || bytes_eq name (codes "false") || is_some (operator_named name)
@@ -173,9 +168,6 @@ declare_constant text before start (name ∷ result ∷ []) = declaration text b
 declare_constant text before start _ = Err (fault CommandForm start)
 
 -- (assert term)
-
-abbrev pub most_assertions : ℕ
-most_assertions = 65536
 
 abbrev pub is_implication : OpKind → Bool
 is_implication Implies = true

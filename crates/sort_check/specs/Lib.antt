@@ -1,4 +1,3 @@
 pub mod Commands
-pub mod Progress
 pub mod Scripts
-pub mod State
+pub mod machinery

@@ -1,6 +1,7 @@
 -- Which texts are scripts, which script each spells, and the one refusal of every other text (SMT-LIB 2.6, section 3.9).
 use Rattle.std.specs.Prelude.{◌≡◌, ℕ, ◌+◌, ◌<◌, ◌≤◌, ◌^◌, List, [], ◌∷◌, ◌++◌, length, Option, None, Some, Result, Ok, Err, if◌then◌else◌, ◌⊎◌, IsTrue}
 use Rattle.std.specs.List.{list_any}
+use Rattle.base.specs.Limits.{most_bytes}
 use Rattle.sexp_read.specs.declared.tree.Tree.{Tree}
 use Rattle.sexp_read.specs.declared.tree.TextStop.{TextStop}
 use Rattle.sexp_read.specs.declared.tree.TextStop.TheVariants.{BadByte as BadByteStop, Unclosed as UnclosedStop, Deep as DeepStop}
@@ -55,7 +56,7 @@ outcome text stop before (tree ∷ trees) =
 
 -- the text is these commands
 pub record IsScript (text : List ℕ) (commands : List Command) : Type 0 where
-  pub short : length text ≤ 2 ^ 24
+  pub short : length text ≤ most_bytes
   pub trees : List Tree
   pub stop : Option TextStop
   pub reading : IsReading text trees stop
@@ -63,8 +64,8 @@ pub record IsScript (text : List ℕ) (commands : List Command) : Type 0 where
 
 -- the refusal of a text that is no script
 pub data IsRefused (text : List ℕ) (refusal : Refusal) : Type 0 where
-  too_long : 2 ^ 24 < length text → refusal ≡ record { kind = TooLong; offset = 16777216; command = 0 } → IsRefused text refusal
-  illegal : (commands : List Command) (trees : List Tree) (stop : Option TextStop) → length text ≤ 2 ^ 24 → IsReading text trees stop
+  too_long : most_bytes < length text → refusal ≡ record { kind = TooLong; offset = most_bytes; command = 0 } → IsRefused text refusal
+  illegal : (commands : List Command) (trees : List Tree) (stop : Option TextStop) → length text ≤ most_bytes → IsReading text trees stop
       → outcome text stop [] trees ≡ record { commands = commands; refusal = Some refusal } → IsRefused text refusal
 
 -- the assertions are those among these commands, of which the first has this number

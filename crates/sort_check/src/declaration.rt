@@ -4,17 +4,11 @@ ghost use Rattle.std.specs.Prelude.{◌≡◌, take, IfOk};
 ghost use Rattle.sort_check.specs.Commands.{most_arguments, is_theory_name, taken_fault, sort_fault, sorts_fault, truth_fault, result_fault, signature_fault, declaration_fault, sorts_named, predicate_named};
 
 use crate::rules::{count_fault, form_fault, order_fault};
-use base::{Items, Memory};
+use base::{Items, MOST_ARGUMENTS, MOST_PREDICATES, Memory};
 use sexp_read::Tree;
 use std::alloc::Global;
 use term_check::{Fault, Signature, fault, name_of, operator_named, sort_named, start_of};
 use term_tree::{Kind, Name, Pred, Sort};
-
-/// How many arguments a predicate may have.
-const MOST_ARGUMENTS: usize = 256;
-
-/// How many predicates may be declared.
-const MOST_PREDICATES: usize = 4096;
 
 fn is_theory_name(name: &[u8]) -> bool
     ensures { result ≡ is_theory_name name.now }

@@ -3,6 +3,7 @@
 ghost use Rattle.std.specs.Prelude.{◌≡◌};
 ghost use Rattle.sort_check.specs.Commands.{order_fault, form_fault, count_fault, logic_fault, set_logic_fault, is_keyword, is_information, inform_fault, alone_fault, assert_fault, clause_fault};
 
+use base::MOST_ASSERTIONS;
 use sexp_read::{LeafKind, Tree, symbol_bytes};
 use term_check::{Fault, Part, fault, is_symbol, start_of};
 use term_tree::{Kind, Sort};
@@ -108,9 +109,6 @@ pub fn alone_fault(start: u32, may: bool, parts: &[Tree]) -> Option<Fault>
         _ => Some(fault(Kind::CommandForm, start)),
     }
 }
-
-/// How many assertions there may be.
-const MOST_ASSERTIONS: usize = 65536;
 
 /// What is wrong with an assertion behind so many others before its term is looked at; may says that
 /// there was no `check-sat`.

@@ -4,7 +4,7 @@ ghost use Rattle.std.specs.Prelude.{◌≡◌, ◌<◌, ◌^◌, List, length, I
 ghost use Rattle.sexp_read.specs.Trees.{IsReading};
 ghost use Rattle.sort_check.specs.Commands.{Command};
 ghost use Rattle.sort_check.specs.Scripts.{IsChecked, IsCheckedText, stop_fault};
-ghost use Rattle.sort_check.specs.State.{IsState};
+ghost use Rattle.sort_check.specs.machinery.State.{IsState};
 
 use crate::state::State;
 use base::Memory;

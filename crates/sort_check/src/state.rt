@@ -3,10 +3,10 @@
 ghost use Rattle.std.specs.Prelude.{◌≡◌, ◌+◌, ◌≤◌, ◌<◌, ◌^◌, List, [], ◌∷◌, length, IfOk};
 ghost use Rattle.term_check.specs.Spelling.{Spelled};
 ghost use Rattle.term_check.specs.Term.{IsTermAt, IsAligned};
-ghost use Rattle.term_check.specs.Weight.{weight, weights};
+ghost use Rattle.term_check.specs.machinery.Weight.{weight, weights};
 ghost use Rattle.sort_check.specs.Commands.{Command, set_logic, inform, check_sat, get_model, exit, declaration, declare_function, declare_constant, assertion, assert_term, plain, worded, command};
 ghost use Rattle.sort_check.specs.Scripts.{IsScriptOf, end_fault, refusal_at};
-ghost use Rattle.sort_check.specs.State.{IsState, Took};
+ghost use Rattle.sort_check.specs.machinery.State.{IsState, Took};
 
 use crate::declaration::{declaration_fault, predicate_named};
 use crate::heads::has_head;

@@ -14,14 +14,14 @@ use Rattle.term_check.specs.declared.scope.Named.{Named}
 use Rattle.term_check.specs.declared.atom.Atom.{Atom}
 use Rattle.term_check.specs.declared.atom.Atom.TheVariants.{Number, Truth, BoundVariable, LetName, Predicate}
 use Rattle.term_tree.specs.declared.refusal.Kind.TheVariants.{Arity}
-use Rattle.term_check.specs.Rules.{fault, is_narrow}
+use Rattle.term_check.specs.Rules.{fault, is_short}
 use Rattle.term_check.specs.Words.{is_among, reserved_words}
 use Rattle.term_check.specs.Spelling.{bound_to, pred_from, sorts_in, bare_predicate, bound_symbol, symbol_atom, narrow_number, numeral_atom, leaf_atom}
 use Rattle.term_check.proofs.OutcomeLemmas.{same_numbers}
 
 -- a number is short, a bound name stands among the names, and a predicate is declared without arguments
 abbrev pub IsAtom : List Declared → List Named → Atom → Type 0
-IsAtom preds names (Number k) = is_narrow k ≡ true
+IsAtom preds names (Number k) = is_short k ≡ true
 IsAtom preds names (Truth value) = Unit {0}
 IsAtom preds names (BoundVariable number sort) = (name : List ℕ) × (bound_to name names ≡ Some (Variable number sort))
 IsAtom preds names (LetName number sort constant) = (name : List ℕ) × (bound_to name names ≡ Some (Let number sort constant))
@@ -30,14 +30,14 @@ IsAtom preds names (Predicate number) = (p : Declared) × (slice_get preds numbe
 found : (preds : List Declared) (names : List Named) (a b : Atom) → IsAtom preds names a → (let r : Result Atom Fault = Ok a in r) ≡ Ok b → IsAtom preds names b
 found preds names a b is h = let same : a ≡ b = cc in subst (λ (x : Atom). IsAtom preds names x) same is
 
-numeral_found : (preds : List Declared) (names : List Named) (start : ℕ) (k : ℤ) (b : Bool) (atom : Atom) → is_narrow k ≡ b → numeral_atom start (if b then Some k else None) ≡ Ok atom
+numeral_found : (preds : List Declared) (names : List Named) (start : ℕ) (k : ℤ) (b : Bool) (atom : Atom) → is_short k ≡ b → numeral_atom start (if b then Some k else None) ≡ Ok atom
     → IsAtom preds names atom
 numeral_found preds names start k true atom e h = found preds names (Number k) atom e h
 numeral_found preds names start k false atom e h = absurd (cc)
 
 numeral_is : (preds : List Declared) (names : List Named) (start : ℕ) (o : Option ℕ) (atom : Atom) → numeral_atom start (narrow_number o) ≡ Ok atom → IsAtom preds names atom
 numeral_is preds names start None atom h = absurd (cc)
-numeral_is preds names start (Some n) atom h = numeral_found preds names start (pos n) (is_narrow (pos n)) atom refl h
+numeral_is preds names start (Some n) atom h = numeral_found preds names start (pos n) (is_short (pos n)) atom refl h
 
 -- a predicate's number leads to its declaration
 pred_there : (name : List ℕ) (first number : ℕ) (preds : List Declared) → pred_from first name preds ≡ Some number → (i : ℕ) × (p : Declared) × (number ≡ first + i) × (slice_get preds i ≡ Some p)

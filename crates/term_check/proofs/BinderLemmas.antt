@@ -9,7 +9,7 @@ use Rattle.term_tree.specs.declared.sort.Sort.TheVariants.{Bool as BoolSort}
 use Rattle.term_tree.specs.declared.node.TermId.{TermId}
 use Rattle.term_tree.specs.Arena.{Arena, IsArena}
 use Rattle.term_tree.specs.Legal.{has_some}
-use Rattle.term_tree.proofs.MeaningLemmas.{both_true}
+use Rattle.term_tree.proofs.Public.{both_true}
 use Rattle.term_check.specs.declared.part.Part.{Part}
 use Rattle.term_check.specs.declared.part.Fault.{Fault}
 use Rattle.term_check.specs.Rules.{same_sort}

@@ -6,7 +6,7 @@ use Rattle.std.specs.Str.{bytes_eq}
 use Rattle.term_check.specs.declared.scope.Bound.{Bound}
 use Rattle.term_check.specs.declared.scope.Named.{Named}
 use Rattle.term_check.specs.declared.scope.Meaning.{Meaning}
-use Rattle.term_check.specs.Meanings.{named_as}
+use Rattle.term_check.specs.machinery.Meanings.{named_as}
 use Rattle.term_check.specs.Operators.{first_of}
 use Rattle.term_check.specs.Spelling.{bound_to}
 use Rattle.term_check.specs.Words.{is_among}

@@ -8,12 +8,12 @@ use Rattle.term_tree.specs.declared.script.Pred.{Pred}
 use Rattle.term_check.specs.declared.check.FormulaStop.{FormulaStop}
 use Rattle.term_check.specs.declared.check.FormulaStop.TheVariants.{Memory as OutOfMemory, Bad}
 use Rattle.term_check.specs.declared.scope.Named.{Named}
-use Rattle.term_check.specs.Known.{Known, IsReady, are_lets_below}
+use Rattle.term_check.specs.machinery.Known.{Known, IsReady, are_lets_below}
 use Rattle.term_check.specs.Formula.{params_from}
 use Rattle.term_check.specs.Reading.{scope_of}
 use Rattle.term_check.specs.Spelling.{Scope, lets_in}
 use Rattle.term_check.specs.Term.{Term, IsAligned}
-use Rattle.term_check.specs.TellsFormula.{TellsFormula}
+use Rattle.term_check.specs.machinery.TellsFormula.{TellsFormula}
 
 pub ready_at_first : (known : Known) (text : List ℕ) (scope : Scope) (arena : Arena) (next room : ℕ) → known ≡ record { text = text; scope = scope; lets = [] } → lets_in scope.names ≡ 0 → are_lets_below 0 scope.names ≡ true
     → IsAligned arena → next + room < 2 ^ 32 → IsReady known arena next room

@@ -14,8 +14,7 @@ use Rattle.term_tree.specs.Arena.{IsArena}
 use Rattle.term_tree.specs.Constants.{constant_of, node_constant, is_short, is_short_constant, is_linear, has_short_constants}
 use Rattle.term_tree.specs.Sorts.{node_sort, sort_of, predicate_sort, operation_sort, have_sorts, sort_if, has_sort, is_sorted}
 use Rattle.term_tree.specs.Subterms.{is_among, is_part, EverySubterm, is_plain, IsPlain}
-use Rattle.term_tree.proofs.FoldLemmas.{sort_at, constant_at}
-use Rattle.term_tree.proofs.PlainLemmas.{arena_below}
+use Rattle.term_tree.proofs.Public.{arena_below, constant_at, sort_at}
 use Rattle.term_check.specs.declared.part.Part.{Part}
 use Rattle.term_check.specs.Operators.{wanted}
 use Rattle.term_check.specs.Rules.{number_fault, sort_fault, linear_fault, result_sort, constant_of as constant_by}

@@ -13,7 +13,7 @@ use Rattle.term_check.specs.declared.scope.Bound.{Bound}
 use Rattle.term_check.specs.declared.scope.Bound.TheVariants.{Variable, Let}
 use Rattle.term_check.specs.declared.scope.Named.{Named}
 use Rattle.term_check.specs.Words.{is_among, reserved_words}
-use Rattle.term_check.specs.Known.{is_let_below, are_lets_below, is_atom_below}
+use Rattle.term_check.specs.machinery.Known.{is_let_below, are_lets_below, is_atom_below}
 use Rattle.term_check.specs.Operators.{first_of}
 use Rattle.term_check.specs.Spelling.{bound_to, leaf_atom, symbol_atom, bound_symbol, free_symbol, bare_predicate, numeral_atom, narrow_number, pred_from, sorts_of}
 use Rattle.term_check.proofs.ReadingLemmas.{first_of_both, second_of_both}

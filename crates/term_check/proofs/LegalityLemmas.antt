@@ -15,7 +15,7 @@ use Rattle.term_check.specs.declared.head.Head.{Head}
 use Rattle.term_check.specs.declared.scope.Bound.{Bound}
 use Rattle.term_check.specs.declared.scope.Bound.TheVariants.{Variable, Let}
 use Rattle.term_check.specs.declared.scope.Named.{Named}
-use Rattle.term_check.specs.Legality.{AreParameters}
+use Rattle.term_check.specs.machinery.Legality.{AreParameters}
 use Rattle.term_check.specs.Term.{IsTermAt}
 use Rattle.term_check.specs.Operators.{first_of}
 use Rattle.term_check.specs.Spelling.{Scope, Spelled, Gathered, spelled, list_spelled, all_spelled, let_spelled_by, bindings_spelled, each_bound, binding_spelled, item_spelled, quantifier_spelled, added, nothing_yet, application, head_of, head_fault, is_word, items_of, binder_fault, let_names_fault, variables_fault, with_lets, with_variables, let_spelled, quantifier_fault, bound_to, lets_in, count_let}

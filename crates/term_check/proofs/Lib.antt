@@ -14,6 +14,7 @@ pub mod NameLemmas
 pub mod NodeLemmas
 pub mod NumberLemmas
 pub mod OutcomeLemmas
+pub mod Public
 pub mod ReadingLemmas
 pub mod RuleLemmas
 pub mod SortLemmas

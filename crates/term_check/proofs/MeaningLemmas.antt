@@ -12,7 +12,7 @@ use Rattle.indexmap.specs.IndexSet.{insert_key}
 use Rattle.term_check.specs.declared.scope.Bound.{Bound}
 use Rattle.term_check.specs.declared.scope.Named.{Named}
 use Rattle.term_check.specs.declared.scope.Binding.{Binding}
-use Rattle.term_check.specs.Meanings.{named, named_by, joined, meaning, AreKept, AreMeanings}
+use Rattle.term_check.specs.machinery.Meanings.{named, named_by, joined, meaning, AreKept, AreMeanings}
 use Rattle.term_check.specs.Operators.{first_of}
 use Rattle.term_check.specs.Spelling.{bound_to}
 use Rattle.term_check.specs.Words.{is_among}

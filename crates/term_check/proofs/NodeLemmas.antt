@@ -8,9 +8,7 @@ use Rattle.term_tree.specs.declared.node.Node.TheVariants.{Num, True, False, Var
 use Rattle.term_tree.specs.Arena.{IsArena, is_below, has_parts_below}
 use Rattle.term_tree.specs.Legal.{Scope, with_bound, with_variables, has_some, node_is_scoped, is_scoped, carried, numbers_through, node_numbers, next_variable}
 use Rattle.term_tree.specs.Subterms.{is_part, IsSubterm, itself, inside, EverySubterm}
-use Rattle.term_tree.proofs.FoldLemmas.{told_at}
-use Rattle.term_tree.proofs.MeaningLemmas.{both_true, below_from}
-use Rattle.term_tree.proofs.PlainLemmas.{arena_below}
+use Rattle.term_tree.proofs.Public.{arena_below, below_from, both_true, told_at}
 
 -- the two tell the same of terms below a number
 abbrev AgreeBelow : (X : Type 0) → (ℕ → X) → (ℕ → X) → ℕ → Type 0

@@ -6,7 +6,7 @@ use Rattle.std.specs.Cmp.Lexicographic.{pointwise}
 use Rattle.std.specs.Str.{bytes_eq}
 use Rattle.std.proofs.lemmas.Slice.Eq.{bytes_eq-Decides}
 use Rattle.term_tree.specs.declared.script.Pred.{Pred}
-use Rattle.term_check.specs.Numbers.{numbered}
+use Rattle.term_check.specs.machinery.Numbers.{numbered}
 use Rattle.term_check.specs.Spelling.{pred_from}
 
 abbrev pub names_of : List (Vec ℕ Global × ℕ) → List (List ℕ × ℕ)

@@ -9,7 +9,7 @@ use Rattle.term_tree.specs.declared.node.OpKind.{OpKind}
 use Rattle.term_tree.specs.declared.node.OpKind.TheVariants.{Not, And, Or, Xor, Implies, Eq, Distinct, Ite, Add, Mul, Sub, Abs, Div, Mod, Le, Lt, Ge, Gt}
 use Rattle.term_tree.specs.Sorts.{same_sort as are_same, has_sort, have_sorts, are_alike, sort_if, all_of, choice_sort, operation_sort}
 use Rattle.term_check.specs.declared.part.Part.{Part}
-use Rattle.term_check.specs.Operators.{least_arguments, most_arguments, wanted, is_distinct}
+use Rattle.term_check.specs.Operators.{least_operands, most_operands, wanted, is_distinct}
 use Rattle.term_check.specs.Rules.{is_above, most_distinct, number_fault, same_sort, first_not, first_unlike, choice_fault, sort_fault, result_sort, declared_fault}
 use Rattle.term_check.proofs.OutcomeLemmas.{both_are, if_none, not_if, not_below, up_to}
 
@@ -41,12 +41,12 @@ all_alike (p ∷ ps) h = all_have p.sort ps h
 
 -- what the rule of numbers lets through
 pub right_number : (op : OpKind) (start n : ℕ) → number_fault op start n ≡ None
-    → (least_arguments op ≤ n) × (is_above (most_arguments op) n ≡ false) × ((is_distinct op && nat_lt most_distinct n) ≡ false)
+    → (least_operands op ≤ n) × (is_above (most_operands op) n ≡ false) × ((is_distinct op && nat_lt most_distinct n) ≡ false)
 right_number op start n h =
-    let least = not_if (nat_lt n (least_arguments op)) _ _ h in
-    let most = not_if (is_above (most_arguments op) n) _ _ least.1 in
+    let least = not_if (nat_lt n (least_operands op)) _ _ h in
+    let most = not_if (is_above (most_operands op) n) _ _ least.1 in
     let few = not_if (is_distinct op && nat_lt most_distinct n) _ _ most.1 in
-    (not_below n (least_arguments op) least.0, most.0, few.0)
+    (not_below n (least_operands op) least.0, most.0, few.0)
 
 enough : (s : Sort) (least : ℕ) (ps : List Part) → least ≤ length ps → first_not s ps ≡ None → all_of s least (given ps) ≡ true
 enough s least ps n h =

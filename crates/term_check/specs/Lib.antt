@@ -1,14 +1,8 @@
 pub mod Formula
-pub mod Known
-pub mod Legality
-pub mod Meanings
-pub mod Numbers
 pub mod Operators
 pub mod Reading
 pub mod Rules
 pub mod Spelling
-pub mod TellsFormula
 pub mod Term
-pub mod Weight
-pub mod WordLengths
 pub mod Words
+pub mod machinery

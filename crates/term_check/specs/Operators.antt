@@ -46,34 +46,34 @@ first_of None o = o
 abbrev pub operator_named : List ℕ → Option OpKind
 operator_named name = first_of (core_operator name) (first_of (number_operator name) (order_operator name))
 
-abbrev pub least_arguments : OpKind → ℕ
-least_arguments Not = 1
-least_arguments And = 1
-least_arguments Or = 1
-least_arguments Xor = 2
-least_arguments Implies = 2
-least_arguments Eq = 2
-least_arguments Distinct = 2
-least_arguments Ite = 3
-least_arguments Add = 1
-least_arguments Mul = 1
-least_arguments Sub = 1
-least_arguments Abs = 1
-least_arguments Div = 2
-least_arguments Mod = 2
-least_arguments Le = 2
-least_arguments Lt = 2
-least_arguments Ge = 2
-least_arguments Gt = 2
+abbrev pub least_operands : OpKind → ℕ
+least_operands Not = 1
+least_operands And = 1
+least_operands Or = 1
+least_operands Xor = 2
+least_operands Implies = 2
+least_operands Eq = 2
+least_operands Distinct = 2
+least_operands Ite = 3
+least_operands Add = 1
+least_operands Mul = 1
+least_operands Sub = 1
+least_operands Abs = 1
+least_operands Div = 2
+least_operands Mod = 2
+least_operands Le = 2
+least_operands Lt = 2
+least_operands Ge = 2
+least_operands Gt = 2
 
 -- None: any number
-abbrev pub most_arguments : OpKind → Option ℕ
-most_arguments Not = Some 1
-most_arguments Ite = Some 3
-most_arguments Abs = Some 1
-most_arguments Div = Some 2
-most_arguments Mod = Some 2
-most_arguments _ = None
+abbrev pub most_operands : OpKind → Option ℕ
+most_operands Not = Some 1
+most_operands Ite = Some 3
+most_operands Abs = Some 1
+most_operands Div = Some 2
+most_operands Mod = Some 2
+most_operands _ = None
 
 -- the sorts of the arguments
 abbrev pub wanted : OpKind → Sorts

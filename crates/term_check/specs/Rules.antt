@@ -4,6 +4,8 @@
 use Rattle.std.specs.Prelude.{ℕ, ◌+◌, ◌^◌, List, [], ◌∷◌, map, fold, Bool, true, false, ◌&&◌, nat_lt, nat_eq, Option, None, Some, Result, Ok, Err, ℤ, pos, ◌*ℤ◌, nat_abs, if◌then◌else◌}
 use Rattle.std.specs.Int.{int_div_euclid, int_rem_euclid}
 use Rattle.std.specs.Ordering.{int_eq}
+pub use Rattle.base.specs.Limits.{most_distinct}
+pub use Rattle.base.specs.Widths.{is_short}
 use Rattle.term_tree.specs.declared.node.OpKind.{OpKind}
 use Rattle.term_tree.specs.declared.node.OpKind.TheVariants.{Add, Sub, Abs, Div, Mod}
 use Rattle.term_tree.specs.declared.sort.Sort.{Sort}
@@ -15,7 +17,7 @@ use Rattle.term_check.specs.declared.operators.Sorts.{Sorts}
 use Rattle.term_check.specs.declared.operators.Sorts.TheVariants.{Bools, Ints, Alike, Choice}
 use Rattle.term_check.specs.declared.part.Part.{Part}
 use Rattle.term_check.specs.declared.part.Fault.{Fault}
-use Rattle.term_check.specs.Operators.{least_arguments, most_arguments, wanted, is_arithmetic, is_division, is_product, is_choice, is_distinct}
+use Rattle.term_check.specs.Operators.{least_operands, most_operands, wanted, is_arithmetic, is_division, is_product, is_choice, is_distinct}
 
 abbrev pub fault : Kind → ℕ → Fault
 fault kind offset = record { kind = kind; offset = offset }
@@ -36,14 +38,10 @@ abbrev pub is_above : Option ℕ → ℕ → Bool
 is_above None n = false
 is_above (Some most) n = nat_lt most n
 
--- how many terms distinct may have
-abbrev pub most_distinct : ℕ
-most_distinct = 64
-
 abbrev pub number_fault : OpKind → ℕ → ℕ → Option Fault
 number_fault op start n =
-    if nat_lt n (least_arguments op) then Some (fault Arity start)
-    else if is_above (most_arguments op) n then Some (fault Arity start)
+    if nat_lt n (least_operands op) then Some (fault Arity start)
+    else if is_above (most_operands op) n then Some (fault Arity start)
     else if is_distinct op && nat_lt most_distinct n then Some (fault Count start)
     else None
 
@@ -109,11 +107,8 @@ linear_fault op start ps = if is_product op then product_fault start ps else if 
 -- Constants. An application of an operator of arithmetic to constants is one, and its value lies strictly between
 -- -2 ^ 63 and 2 ^ 63; so does each product of the first constant factors of a product, whose other factor may vary.
 
-abbrev pub is_narrow : ℤ → Bool
-is_narrow k = nat_lt (nat_abs k) (2 ^ 63)
-
 abbrev pub narrow : ℤ → Option ℤ
-narrow k = if is_narrow k then Some k else None
+narrow k = if is_short k then Some k else None
 
 -- a product of constants and one more part of it, unless it is wide; what is no constant is left out
 abbrev pub multiplied : Option ℤ → Option ℤ → Option ℤ

@@ -5,7 +5,7 @@ ghost use Rattle.std.specs.List.{list_all};
 ghost use Rattle.term_tree.specs.Arena.{is_below, has_parts_below};
 ghost use Rattle.term_tree.specs.declared.node.TermId.{TermId as AnId};
 ghost use Rattle.term_tree.specs.declared.sort.Sort.TheVariants.{Bool as BoolSort};
-ghost use Rattle.term_check.specs.Known.{IsReady};
+ghost use Rattle.term_check.specs.machinery.Known.{IsReady};
 ghost use Rattle.term_check.specs.Reading.{IsAdded, IsGathered, Tells, quantifier_node};
 ghost use Rattle.term_check.specs.Spelling.{leaf_term, head_fault, Gathered, Spelled, application, let_spelled, quantified, quantifier};
 ghost use Rattle.term_check.specs.Term.{IsAligned, Keeps, AreTermsAt, IsTermAt};

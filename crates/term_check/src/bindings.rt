@@ -1,6 +1,6 @@
 ghost use Rattle.std.specs.Prelude.{◌≡◌, ◌+◌, ◌<◌, ◌^◌, ◌++◌, [], ◌∷◌, length, take, map, OnOk};
 ghost use Rattle.term_check.specs.Formula.{params_from};
-ghost use Rattle.term_check.specs.Meanings.{named, named_as};
+ghost use Rattle.term_check.specs.machinery.Meanings.{named, named_as};
 ghost use Rattle.term_check.specs.Spelling.{bound_to, variables_from, lets_from};
 
 use crate::binders::{name_bound, sort_bound};
@@ -27,7 +27,7 @@ pub struct Bindings<'a> {
 impl<'a> Model for Bindings<'a> {
     ghost use Rattle.std.specs.Prelude.{List, map, ◌++◌};
     ghost use Rattle.term_check.specs.declared.scope.Named.{Named as ANamed};
-    ghost use Rattle.term_check.specs.Meanings.{named_as};
+    ghost use Rattle.term_check.specs.machinery.Meanings.{named_as};
 
     ghost Value = { List ANamed };
 

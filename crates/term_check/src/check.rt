@@ -5,10 +5,10 @@ ghost use Rattle.term_tree.specs.Arena.{Arena};
 ghost use Rattle.term_check.specs.declared.part.Fault.{Fault as AFault};
 ghost use Rattle.term_check.specs.Term.{Term, IsAligned, IsTermAt, Keeps};
 ghost use Rattle.term_check.specs.Spelling.{Spelled, spelled};
-ghost use Rattle.term_check.specs.Weight.{weight};
+ghost use Rattle.term_check.specs.machinery.Weight.{weight};
 ghost use Rattle.term_check.specs.Reading.{scope_of, IsFound, Tells};
 ghost use Rattle.term_check.specs.Formula.{bool_term, formula};
-ghost use Rattle.term_check.specs.TellsFormula.{TellsFormula};
+ghost use Rattle.term_check.specs.machinery.TellsFormula.{TellsFormula};
 
 use crate::bindings::Bindings;
 use crate::found::Found;

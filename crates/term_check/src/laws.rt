@@ -5,7 +5,7 @@ ghost use Rattle.sexp_read.specs.declared.tree.Tree.{Tree};
 ghost use Rattle.sexp_read.specs.declared.tree.Tree.TheViews.{List as ListTree};
 ghost use Rattle.sexp_read.specs.declared.tree.TextStop.{TextStop};
 ghost use Rattle.sexp_read.specs.Trees.{IsReading};
-ghost use Rattle.term_check.specs.Weight.{weight};
+ghost use Rattle.term_check.specs.machinery.Weight.{weight};
 ghost use Rattle.term_tree.specs.declared.node.TermId.{TermId};
 ghost use Rattle.term_tree.specs.Arena.{Arena};
 ghost use Rattle.term_check.specs.Term.{Term, IsTermAt, Keeps};

@@ -10,7 +10,7 @@ ghost use Rattle.term_tree.specs.Arena.{Arena, IsArena};
 ghost use Rattle.term_tree.specs.Legal.{IsLegal};
 ghost use Rattle.term_tree.specs.Subterms.{IsPlain};
 ghost use Rattle.term_check.specs.declared.part.Part.{Part};
-ghost use Rattle.term_check.specs.Legality.{AreParameters};
+ghost use Rattle.term_check.specs.machinery.Legality.{AreParameters};
 ghost use Rattle.term_check.specs.Reading.{scope_of, IsFound};
 ghost use Rattle.term_check.specs.Spelling.{Scope, Spelled, spelled};
 ghost use Rattle.term_check.specs.Term.{IsTermAt};

@@ -1,5 +1,5 @@
 ghost use Rattle.std.specs.Prelude.{◌≡◌, ◌++◌, [], ◌∷◌, ◌-◌, ◌<◌, ◌^◌, length, take, OnOk};
-ghost use Rattle.term_check.specs.Meanings.{named, joined};
+ghost use Rattle.term_check.specs.machinery.Meanings.{named, joined};
 ghost use Rattle.term_check.specs.Spelling.{bound_to};
 
 use crate::scope::{Binding, Bound};
@@ -19,7 +19,7 @@ pub struct Mapped<'a> {
 impl<'a> Model for Mapped<'a> {
     ghost use Rattle.std.specs.Prelude.{List, [], map};
     ghost use Rattle.term_check.specs.declared.scope.Named.{Named as ANamed};
-    ghost use Rattle.term_check.specs.Meanings.{named_by, AreKept, AreMeanings};
+    ghost use Rattle.term_check.specs.machinery.Meanings.{named_by, AreKept, AreMeanings};
 
     ghost Value = { List ANamed };
 

@@ -1,7 +1,7 @@
 //! The table of operators: their names, how many arguments they take, and of which sorts.
 
 ghost use Rattle.std.specs.Prelude.{◌≡◌};
-ghost use Rattle.term_check.specs.Operators.{core_operator, number_operator, order_operator, operator_named, least_arguments, most_arguments, wanted, is_arithmetic, is_division, is_product, is_choice, is_distinct};
+ghost use Rattle.term_check.specs.Operators.{core_operator, number_operator, order_operator, operator_named, least_operands, most_operands, wanted, is_arithmetic, is_division, is_product, is_choice, is_distinct};
 
 use term_tree::OpKind;
 
@@ -90,8 +90,8 @@ pub fn operator_named(name: &[u8]) -> Option<OpKind>
 }
 
 /// How many arguments an operator takes at least.
-pub fn least_arguments(op: OpKind) -> usize
-    ensures { result ≡ least_arguments op }
+pub fn least_operands(op: OpKind) -> usize
+    ensures { result ≡ least_operands op }
 {
     match op {
         OpKind::Not | OpKind::And | OpKind::Or | OpKind::Add => 1,
@@ -105,8 +105,8 @@ pub fn least_arguments(op: OpKind) -> usize
 
 /// How many arguments an operator takes at most, if there is a number. That `distinct` is limited
 /// is another rule.
-pub fn most_arguments(op: OpKind) -> Option<usize>
-    ensures { result ≡ most_arguments op }
+pub fn most_operands(op: OpKind) -> Option<usize>
+    ensures { result ≡ most_operands op }
 {
     match op {
         OpKind::Not | OpKind::Abs => Some(1),

@@ -1,6 +1,6 @@
 ghost use Rattle.std.specs.Prelude.{◌≡◌, ◌+◌, ◌<◌, ◌^◌, ◌++◌, [], length, take, slice_get, Some, OnOk, IfOk};
 ghost use Rattle.term_check.specs.Reading.{scope_of};
-ghost use Rattle.term_check.specs.Known.{below_quantifier, below_let, outside};
+ghost use Rattle.term_check.specs.machinery.Known.{below_quantifier, below_let, outside};
 ghost use Rattle.term_check.specs.Spelling.{bound_to};
 
 use crate::bindings::Bindings;
@@ -26,7 +26,7 @@ pub struct Reader<'a> {
 }
 
 impl<'a> Model for Reader<'a> {
-    ghost use Rattle.term_check.specs.Known.{Known};
+    ghost use Rattle.term_check.specs.machinery.Known.{Known};
 
     ghost Value = { Known };
 

@@ -2,13 +2,13 @@
 //! as deep as the tree.
 
 ghost use Rattle.std.specs.Prelude.{◌≡◌, ◌+◌, ◌^◌, ◌<◌, ◌≤◌, length, IfOk, OnOk};
-ghost use Rattle.term_check.specs.Known.{IsReady};
+ghost use Rattle.term_check.specs.machinery.Known.{IsReady};
 ghost use Rattle.term_check.specs.Reading.{next_spelled, each_spelled, applied_list, any_list, IsGathered, Tells, TellsAll};
 ghost use Rattle.term_check.specs.Reading.{item_bound, all_bound, under_lets, let_list, under_variables, quantifier_list};
 ghost use Rattle.term_check.specs.Rules.{unless};
 ghost use Rattle.term_check.specs.Spelling.{spelled, nothing_yet, quantifier_fault, Gathered};
 ghost use Rattle.term_check.specs.Term.{Keeps};
-ghost use Rattle.term_check.specs.Weight.{weight, weights};
+ghost use Rattle.term_check.specs.machinery.Weight.{weight, weights};
 
 use crate::apply::{add_binding, add_quantifier, apply, read_leaf};
 use crate::binders::{binder_fault, items_of, let_names_fault, sorts_bound, variables_fault};

@@ -5,15 +5,13 @@ ghost use Rattle.term_check.specs.Rules.{fault, number_fault, same_sort, first_n
 ghost use Rattle.term_check.specs.Reading.{divisor_of};
 
 use crate::operators::{
-    Sorts, is_arithmetic, is_choice, is_distinct, is_division, is_product, least_arguments,
-    most_arguments, wanted,
+    Sorts, is_arithmetic, is_choice, is_distinct, is_division, is_product, least_operands,
+    most_operands, wanted,
 };
 use crate::part::{Fault, Part};
 use crate::values::{narrow_product, narrow_value, varying};
+use base::MOST_DISTINCT;
 use term_tree::{Kind, OpKind, Sort};
-
-/// How many terms `distinct` may have.
-const MOST_DISTINCT: usize = 64;
 
 /// The fault of that kind at an offset.
 pub fn fault(kind: Kind, offset: u32) -> Fault
@@ -26,10 +24,10 @@ pub fn fault(kind: Kind, offset: u32) -> Fault
 pub fn number_fault(op: OpKind, start: u32, number: usize) -> Option<Fault>
     ensures { result ≡ number_fault op start number }
 {
-    if number < least_arguments(op) {
+    if number < least_operands(op) {
         return Some(fault(Kind::Arity, start));
     }
-    match most_arguments(op) {
+    match most_operands(op) {
         Some(most) if most < number => Some(fault(Kind::Arity, start)),
         _ if is_distinct(op) && MOST_DISTINCT < number => Some(fault(Kind::Count, start)),
         _ => None,

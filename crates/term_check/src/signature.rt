@@ -19,7 +19,7 @@ pub struct Signature {
 impl Model for Signature {
     ghost use Rattle.std.specs.Prelude.{List, ◌≡◌, ◌<◌, ◌^◌, vec_len, map};
     ghost use Rattle.term_tree.specs.declared.script.Pred.{Pred as APred};
-    ghost use Rattle.term_check.specs.Numbers.{numbered};
+    ghost use Rattle.term_check.specs.machinery.Numbers.{numbered};
 
     ghost Value = { List APred };
 

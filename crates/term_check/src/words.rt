@@ -2,7 +2,7 @@
 
 ghost use Rattle.std.specs.Prelude.{◌≡◌};
 ghost use Rattle.term_check.specs.Words.{is_among, reserved_words};
-ghost use Rattle.term_check.specs.WordLengths.{between};
+ghost use Rattle.term_check.specs.machinery.WordLengths.{between};
 
 /// Whether it is a reserved word of one to three bytes.
 fn is_of_1_to_3(word: &[u8]) -> bool

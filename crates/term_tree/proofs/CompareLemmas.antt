@@ -8,7 +8,7 @@ use Rattle.std.specs.List.{list_all}
 use Rattle.term_tree.specs.declared.node.TermId.{TermId}
 use Rattle.term_tree.specs.declared.node.Node.{Node}
 use Rattle.term_tree.specs.Arena.{is_below, has_parts_below}
-use Rattle.term_tree.specs.Pairs.{is_before}
+use Rattle.term_tree.specs.machinery.Pairs.{is_before}
 use Rattle.term_tree.specs.Same.{is_alike, parts_of, same_parts, same_node, node_is_same, is_same_tree}
 use Rattle.term_tree.proofs.EachLemmas.{all_below, same_at}
 use Rattle.term_tree.proofs.FoldLemmas.{told_past}

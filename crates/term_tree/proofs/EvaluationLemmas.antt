@@ -16,9 +16,9 @@ use Rattle.term_tree.specs.Arena.{has_parts_below}
 use Rattle.term_tree.specs.Operators.{result_of, divides, integer}
 use Rattle.term_tree.specs.Subterms.{is_among, is_part, IsSubterm, itself, inside}
 use Rattle.term_tree.specs.Value.{Environment, Worth, node_worth, value_of}
-use Rattle.term_tree.specs.Walk.{has_number, IsClosed}
+use Rattle.term_tree.specs.machinery.Walk.{has_number, IsClosed}
 use Rattle.term_tree.specs.Width.{is_narrow, narrow_result, is_wide, IsWideTerm}
-use Rattle.term_tree.specs.Known.{known_worth, AreKnown, narrow_worth}
+use Rattle.term_tree.specs.machinery.Known.{known_worth, AreKnown, narrow_worth}
 use Rattle.term_tree.proofs.ValueLemmas.{value_at}
 
 own_number : (k : ℕ) → (k == k) ≡ true

@@ -9,6 +9,7 @@ pub mod MeaningLemmas
 pub mod OperatorLemmas
 pub mod PairLemmas
 pub mod PlainLemmas
+pub mod Public
 pub mod SameLemmas
 pub mod ValueLemmas
 pub mod WalkLemmas

@@ -7,7 +7,7 @@ use Rattle.std.specs.Ordering.{nat_cmp, ordering_then, match_ordering}
 use Rattle.std.specs.BTreeMap.Range.{IsLtBy}
 use Rattle.std.specs.BTreeSet.{insert_key}
 use Rattle.term_tree.specs.declared.node.TermId.{TermId}
-use Rattle.term_tree.specs.Pairs.{is_before}
+use Rattle.term_tree.specs.machinery.Pairs.{is_before}
 use Rattle.term_tree.specs.Same.{same_parts}
 use Rattle.term_tree.proofs.PlainLemmas.{same_number}
 

@@ -8,7 +8,7 @@ use Rattle.std.specs.Prelude.{slice_get, Some}
 use Rattle.term_tree.specs.declared.node.Node.{Node}
 use Rattle.term_tree.specs.Arena.{has_parts_below}
 use Rattle.term_tree.specs.Subterms.{is_part, IsSubterm, itself, inside}
-use Rattle.term_tree.specs.Walk.{has_number, IsClosed, IsWalk}
+use Rattle.term_tree.specs.machinery.Walk.{has_number, IsClosed, IsWalk}
 use Rattle.term_tree.proofs.PlainLemmas.{part_below}
 
 either : (a b : Bool) → (a || b) ≡ true → (a ≡ true) ⊎ (b ≡ true)

@@ -3,6 +3,7 @@
 use Rattle.std.specs.Prelude.{ℕ, ◌+◌, ◌^◌, ◌∷◌, List, [], map, length, slice_get, ℤ, pos, nat_abs, ◌*ℤ◌, Option, Some, None, option_map, Bool, true, false, not, ◌&&◌, nat_le, nat_lt, int_lt, if◌then◌else◌}
 use Rattle.std.specs.List.{list_all}
 use Rattle.std.specs.Ordering.{int_eq}
+pub use Rattle.base.specs.Widths.{is_short}
 use Rattle.term_tree.specs.declared.node.OpKind.{OpKind}
 use Rattle.term_tree.specs.declared.node.OpKind.TheVariants.{Add, Mul, Sub, Abs, Div, Mod}
 use Rattle.term_tree.specs.declared.node.Node.{Node}
@@ -46,10 +47,6 @@ node_constant part _ = None
 -- the value of a term that is a constant
 abbrev pub constant_of : List Node → ℕ → Option ℤ
 constant_of = told_of None node_constant
-
--- strictly between -2^63 and 2^63
-abbrev pub is_short : ℤ → Bool
-is_short n = nat_lt (nat_abs n) (2 ^ 63)
 
 abbrev pub is_short_constant : Option ℤ → Bool
 is_short_constant None = true

@@ -1,14 +1,11 @@
-pub mod Agreement
 pub mod Arena
 pub mod Constants
 pub mod Division
 pub mod Fold
 pub mod Head
 pub mod Kind
-pub mod Known
 pub mod Legal
 pub mod Operators
-pub mod Pairs
 pub mod Relations
 pub mod Same
 pub mod Solution
@@ -16,5 +13,5 @@ pub mod Sorts
 pub mod Subterms
 pub mod Truth
 pub mod Value
-pub mod Walk
 pub mod Width
+pub mod machinery

@@ -4,9 +4,9 @@ ghost use Rattle.term_tree.specs.declared.scalar.Value.TheVariants.{Bool as Trut
 ghost use Rattle.term_tree.specs.Operators.{divides, integer};
 ghost use Rattle.term_tree.specs.Subterms.{IsSubterm};
 ghost use Rattle.term_tree.specs.Value.{environment_of, node_worth, value_of};
-ghost use Rattle.term_tree.specs.Walk.{has_number, IsClosed};
+ghost use Rattle.term_tree.specs.machinery.Walk.{has_number, IsClosed};
 ghost use Rattle.term_tree.specs.Width.{is_wide, IsWideTerm};
-ghost use Rattle.term_tree.specs.Known.{known_worth, narrow_worth, AreKnown};
+ghost use Rattle.term_tree.specs.machinery.Known.{known_worth, narrow_worth, AreKnown};
 
 use crate::arithmetic::remainder;
 use crate::logic::integer;

@@ -10,7 +10,7 @@ ghost use Rattle.term_tree.specs.declared.scalar.Value.{Value};
 ghost use Rattle.term_tree.specs.Arena.{IsArena};
 ghost use Rattle.term_tree.specs.Value.{Environment, node_worth, value_of};
 ghost use Rattle.term_tree.specs.Truth.{Interpretation, HasValue, node_meaning};
-ghost use Rattle.term_tree.specs.Agreement.{AgreeEverywhere, IsTrueBelow, all_true, all_positive};
+ghost use Rattle.term_tree.specs.machinery.Agreement.{AgreeEverywhere, IsTrueBelow, all_true, all_positive};
 ghost use Rattle.term_tree.specs.Legal.{Scope, is_scoped, node_is_scoped, next_variable, node_numbers};
 ghost use Rattle.term_tree.specs.Same.{is_alike, is_same_tree, parts_of, same_parts};
 ghost use Rattle.term_tree.specs.Head.{has_head, node_has_head};

@@ -1,7 +1,7 @@
 ghost use Rattle.std.specs.Prelude.{◌≡◌, ◌==◌, ◌&&◌, ◌++◌, ◌∷◌, ℕ, Bool, [], length, true, IfOk, OnOk, IfSome, IfNone};
 ghost use Rattle.std.specs.List.{list_all};
 ghost use Rattle.std.specs.BTreeSet.{keys};
-ghost use Rattle.term_tree.specs.Pairs.{is_before};
+ghost use Rattle.term_tree.specs.machinery.Pairs.{is_before};
 ghost use Rattle.term_tree.specs.Same.{same_parts};
 
 use crate::node::TermId;

@@ -1,6 +1,6 @@
 ghost use Rattle.std.specs.Prelude.{◌≡◌, ◌<◌, ℕ, length, IfOk, true, false};
 ghost use Rattle.term_tree.specs.Subterms.{IsSubterm};
-ghost use Rattle.term_tree.specs.Walk.{IsClosed, has_number};
+ghost use Rattle.term_tree.specs.machinery.Walk.{IsClosed, has_number};
 
 use crate::node::TermId;
 use crate::pending::{put_parts, take_greatest};

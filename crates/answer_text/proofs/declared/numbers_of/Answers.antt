@@ -1,7 +1,7 @@
 use Rattle.std.proofs.Common.{◌≡◌, ◌+◌, ◌-◌, ◌<◌, ℕ, List, ◌∷◌, drop, length, sym, ap, subst, ◌∙◌, arith}
 use Rattle.std.proofs.lemmas.List.{drop_more}
 use Rattle.term_tree.specs.declared.script.Pred.{Pred}
-use Rattle.answer_text.specs.Places.{AreNumbers}
+use Rattle.answer_text.specs.machinery.Places.{AreNumbers}
 use Rattle.answer_text.proofs.NameLemmas.{number_added}
 use Rattle.answer_text.proofs.declared.numbers_of.Goals as goal
 

@@ -1,5 +1,5 @@
 use Rattle.std.proofs.Common.{◌≤◌, length, drop}
-use Rattle.answer_text.specs.Places.{AreNumbers}
+use Rattle.answer_text.specs.machinery.Places.{AreNumbers}
 use Rattle.answer_text.proofs.declared.numbers_of.Given as goal
 
 abbrev pub invariant-loop-number : goal.invariant-loop-number

@@ -1,5 +1,5 @@
 use Rattle.std.proofs.Common.{◌-◌, ◌≤◌, length}
-use Rattle.answer_text.specs.Places.{AreEmpty}
+use Rattle.answer_text.specs.machinery.Places.{AreEmpty}
 use Rattle.answer_text.proofs.definitions.empty_places.Given as goal
 
 abbrev pub invariant-loop-places : goal.invariant-loop-places

@@ -1,7 +1,7 @@
 use Rattle.std.proofs.Common.{◌≡◌, ◌++◌, ◌-◌, ℕ, List, [], ◌∷◌, map, reverse, take, sym, ap, ◌∙◌}
 use Rattle.std.specs.Prelude.{Option, Some, None}
 use Rattle.term_tree.specs.declared.definition.Definition.{Definition}
-use Rattle.answer_text.specs.Places.{gathered}
+use Rattle.answer_text.specs.machinery.Places.{gathered}
 use Rattle.answer_text.proofs.PlaceLemmas.{all_there, one_missing, append_one}
 use Rattle.answer_text.proofs.definitions.gathered.Goals as goal
 

@@ -1,6 +1,6 @@
 use Rattle.std.proofs.Common.{◌≡◌, ◌++◌, map, length, reverse}
 use Rattle.std.specs.Prelude.{Some}
-use Rattle.answer_text.specs.Places.{gathered}
+use Rattle.answer_text.specs.machinery.Places.{gathered}
 use Rattle.answer_text.proofs.definitions.gathered.Given as goal
 
 abbrev pub invariant-loop-definition : goal.invariant-loop-definition

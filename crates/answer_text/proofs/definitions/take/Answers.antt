@@ -1,7 +1,7 @@
 use Rattle.std.proofs.Common.{ℕ, subst, arith}
 use Rattle.std.specs.Prelude.{Result}
 use Rattle.answer_text.specs.Reading.{Defined}
-use Rattle.answer_text.specs.Places.{Took}
+use Rattle.answer_text.specs.machinery.Places.{Took}
 use Rattle.answer_text.proofs.DefinitionLemmas.{items_weigh, definition-List}
 use Rattle.answer_text.proofs.definitions.take.Goals as goal
 

@@ -1,5 +1,5 @@
 use Rattle.std.proofs.Common.{drop}
-use Rattle.answer_text.specs.Places.{IsSoFar}
+use Rattle.answer_text.specs.machinery.Places.{IsSoFar}
 use Rattle.answer_text.proofs.definitions.take_all.Given as goal
 
 abbrev pub invariant-loop-tree : goal.invariant-loop-tree

@@ -1,6 +1,6 @@
 use Rattle.std.proofs.Common.{◌≡◌, [], ◌∷◌, ◌++◌, false, sym, ap, subst, ◌∙◌, arith, ◌<◌, length}
 use Rattle.answer_text.specs.Reading.{is_defined}
-use Rattle.answer_text.specs.Places.{ArePlaces}
+use Rattle.answer_text.specs.machinery.Places.{ArePlaces}
 use Rattle.answer_text.proofs.PlaceLemmas.{one_more}
 use Rattle.answer_text.proofs.DefinitionLemmas.{goes}
 use Rattle.answer_text.proofs.definitions.take_one.Goals as goal

@@ -2,7 +2,7 @@ use Rattle.std.proofs.Common.{◌≡◌, ℕ, [], ◌∷◌, Bool, true, sym, ap
 use Rattle.std.specs.Prelude.{Result, codes}
 use Rattle.term_check.specs.Spelling.{is_word}
 use Rattle.answer_text.specs.Reading.{Defined, provided, definition_by, definition_of}
-use Rattle.answer_text.specs.Places.{Took}
+use Rattle.answer_text.specs.machinery.Places.{Took}
 use Rattle.answer_text.proofs.DefinitionLemmas.{five}
 use Rattle.answer_text.proofs.definitions.take_parts.Goals as goal
 

@@ -1,5 +1,5 @@
 use Rattle.std.proofs.Common.{arith}
-use Rattle.term_check.proofs.LightLemmas.{reading_weighs}
+use Rattle.term_check.proofs.Public.{reading_weighs}
 use Rattle.answer_text.proofs.read.read_answer.Goals as goal
 
 pub reply-requires-clause-weight : goal.reply-requires-clause-weight

@@ -2,7 +2,7 @@ use Rattle.std.proofs.Common.{List, length, subst, ap, ◌∙◌, arith}
 use Rattle.term_tree.specs.declared.definition.Definition.{Definition}
 use Rattle.answer_text.specs.declared.answer.Answer.TheVariants.{Sat}
 use Rattle.answer_text.specs.Printable.{IsPrintable, IsAnswerText}
-use Rattle.chc_cli.specs.Model.{true_definitions}
+use Rattle.chc_cli.specs.machinery.Model.{true_definitions}
 use Rattle.chc_cli.proofs.AnswerLemmas.{stopped, finished, answered}
 use Rattle.chc_cli.proofs.answer.answer_to.Goals as goal
 

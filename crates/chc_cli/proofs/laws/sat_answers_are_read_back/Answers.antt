@@ -1,4 +1,4 @@
-use Rattle.answer_text.proofs.ModelLemmas.{read_as}
+use Rattle.answer_text.proofs.Public.{read_as}
 use Rattle.chc_cli.proofs.DeclaredLemmas.{names_law}
 use Rattle.chc_cli.proofs.laws.sat_answers_are_read_back.Goals as goal
 

@@ -1,5 +1,4 @@
-use Rattle.answer_text.proofs.LawLemmas.{alone_law}
-use Rattle.answer_text.proofs.StepLemmas.{read_back}
+use Rattle.answer_text.proofs.Public.{alone_law, read_back}
 use Rattle.chc_cli.proofs.DeclaredLemmas.{names_law}
 use Rattle.chc_cli.proofs.laws.unsat_answers_are_read_back.Goals as goal
 

@@ -1,5 +1,5 @@
 use Rattle.std.proofs.Common.{◌≡◌, ◌++◌, drop}
-use Rattle.chc_cli.specs.Model.{true_definitions}
+use Rattle.chc_cli.specs.machinery.Model.{true_definitions}
 use Rattle.chc_cli.proofs.model.all_true.Given as goal
 
 -- the definitions so far, and those to come

@@ -1,6 +1,6 @@
 use Rattle.std.proofs.Common.{◌≡◌, ◌++◌, map, drop}
 use Rattle.std.specs.List.{enumerate_from}
-use Rattle.chc_cli.specs.Model.{parameter}
+use Rattle.chc_cli.specs.machinery.Model.{parameter}
 use Rattle.chc_cli.proofs.model.parameters.Given as goal
 
 -- the names so far, and those to come

@@ -1,5 +1,5 @@
 use Rattle.std.proofs.Common.{◌≡◌, ◌≤◌}
-use Rattle.farkas_proof.specs.Copying.{pending, plug_all}
+use Rattle.farkas_proof.specs.machinery.Copying.{pending, plug_all}
 use Rattle.farkas_proof.proofs.copying.ascend.Given as goal
 
 -- the whole stays, and no more is ahead

@@ -1,5 +1,5 @@
 use Rattle.std.proofs.Common.{◌≡◌, ◌+◌}
-use Rattle.farkas_proof.specs.Copying.{ahead, pending, reached}
+use Rattle.farkas_proof.specs.machinery.Copying.{ahead, pending, reached}
 use Rattle.farkas_proof.proofs.copying.copied.Given as goal
 
 -- the whole is the tree

@@ -1,8 +1,8 @@
 use Rattle.std.proofs.Common.{◌≡◌, ◌+◌, ◌∙◌, ap, arith, sym, FitsSigned, rules}
 use Rattle.std.specs.Int.{w64}
 use Rattle.std.proofs.lemmas.Int.{to_z-of_z}
-use Rattle.farkas_proof.specs.Copying.{pending, plug_all}
-use Rattle.farkas_proof.specs.Walk.{size}
+use Rattle.farkas_proof.specs.machinery.Copying.{pending, plug_all}
+use Rattle.farkas_proof.specs.machinery.Walk.{size}
 use Rattle.farkas_proof.specs.declared.tree.Refutation.{Refutation}
 use Rattle.farkas_proof.specs.declared.tree.Refutation.TheViews.{Cases, Split}
 use Rattle.farkas_proof.proofs.CopyLemmas.{cases-first, cases-none, first-pending, first-smaller, size-Quotient, size-Round, size-Split, went-down, went-less}

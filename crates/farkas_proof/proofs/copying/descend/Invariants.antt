@@ -1,6 +1,6 @@
 use Rattle.std.proofs.Common.{◌≡◌, ◌+◌, ◌≤◌}
-use Rattle.farkas_proof.specs.Copying.{pending, plug_all}
-use Rattle.farkas_proof.specs.Walk.{size}
+use Rattle.farkas_proof.specs.machinery.Copying.{pending, plug_all}
+use Rattle.farkas_proof.specs.machinery.Walk.{size}
 use Rattle.farkas_proof.proofs.copying.descend.Given as goal
 
 -- the whole stays, and less is ahead

@@ -1,5 +1,5 @@
 use Rattle.std.proofs.Common.{◌∙◌, ap, sym}
-use Rattle.farkas_proof.specs.Copying.{plug, plug_all}
+use Rattle.farkas_proof.specs.machinery.Copying.{plug, plug_all}
 use Rattle.farkas_proof.specs.declared.copying.Frame.{Frame}
 use Rattle.farkas_proof.specs.declared.tree.Refutation.{Refutation}
 use Rattle.farkas_proof.specs.declared.copying.Frame.TheVariants.{Above}

@@ -1,5 +1,5 @@
 use Rattle.std.proofs.Common.{ap, sym, ◌∙◌}
-use Rattle.farkas_proof.specs.Walk.{opened}
+use Rattle.farkas_proof.specs.machinery.Walk.{opened}
 use Rattle.farkas_proof.proofs.FlattenLemmas.{disjunctions-And, disjunctions-Or}
 use Rattle.farkas_proof.proofs.WalkLemmas.{opened-push}
 use Rattle.farkas_proof.proofs.flatten.+disjunctions.Goals as goal

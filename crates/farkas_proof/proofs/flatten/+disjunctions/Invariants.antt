@@ -1,7 +1,7 @@
 use Rattle.std.proofs.Common.{◌≡◌, ◌++◌, take}
 use Rattle.std.specs.List.{flat_map}
 use Rattle.farkas_proof.specs.Flatten.{disjunctions}
-use Rattle.farkas_proof.specs.Walk.{opened}
+use Rattle.farkas_proof.specs.machinery.Walk.{opened}
 use Rattle.farkas_proof.proofs.flatten.+disjunctions.Given as goal
 
 -- what the parts so far give was put behind

@@ -1,5 +1,5 @@
 use Rattle.std.proofs.Common.{◌≡◌, take}
-use Rattle.farkas_proof.specs.Walk.{opened}
+use Rattle.farkas_proof.specs.machinery.Walk.{opened}
 use Rattle.farkas_proof.proofs.flatten.copies.Given as goal
 
 abbrev pub invariant-loop-parts : goal.invariant-loop-parts

@@ -1,5 +1,5 @@
 use Rattle.std.proofs.Common.{◌≡◌, ◌-◌, length, take}
-use Rattle.farkas_proof.specs.Ends.{ends_from}
+use Rattle.farkas_proof.specs.machinery.Ends.{ends_from}
 use Rattle.farkas_proof.proofs.known.complete.Given as goal
 
 -- the numbers are those of the first literals

@@ -3,7 +3,7 @@ use Rattle.std.specs.Prelude.{ℤ, pos}
 use Rattle.std.specs.Int.{w64, w128}
 use Rattle.std.proofs.lemmas.Int.{to_z-of_z}
 use Rattle.lin_atoms.specs.Algebra.{scaled_terms, term_on}
-use Rattle.lin_atoms.proofs.MergeLemmas.{push-term, scaled-drop, scaled-end}
+use Rattle.lin_atoms.proofs.Public.{push-term, scaled-drop, scaled-end}
 use Rattle.farkas_proof.proofs.narrow.push_multiples.Goals as goal
 
 pub loop-variable-preserved : goal.loop-variable-preserved

@@ -1,7 +1,7 @@
 use Rattle.std.proofs.Common.{◌≡◌, take, drop, map}
 use Rattle.std.specs.Int.{int_div_euclid}
 use Rattle.std.specs.List.{list_all}
-use Rattle.lin_atoms.specs.Accumulator.{is_multiple}
+use Rattle.lin_atoms.specs.Multiples.{is_multiple}
 use Rattle.farkas_proof.proofs.narrow.wholes.Given as goal
 
 -- the terms so far are divided, and those to come decide

@@ -2,9 +2,9 @@ use Rattle.std.proofs.Common.{◌≡◌, ◌<◌, ◌+◌, ◌++◌, ◌∷◌, 
 use Rattle.std.specs.Prelude.{ℤ}
 use Rattle.std.specs.Int.{int_div_euclid, w64}
 use Rattle.std.proofs.lemmas.Int.{to_z-of_z}
-use Rattle.lin_atoms.specs.Accumulator.{Total}
-use Rattle.lin_atoms.specs.Linear.{are_small, is_small}
-use Rattle.farkas_proof.specs.Sum.{seen}
+use Rattle.lin_atoms.specs.machinery.Accumulator.{Total}
+use Rattle.lin_atoms.specs.Linear.{are_short, is_short}
+use Rattle.farkas_proof.specs.machinery.Sum.{seen}
 use Rattle.farkas_proof.proofs.SumLemmas.{divided-more, divided-rest}
 use Rattle.farkas_proof.proofs.rounding.quotients.Goals as goal
 
@@ -24,8 +24,8 @@ loop-term-preserved c =
     let made = simp to_z-of_z at c.loop-term.invariant.made in
     let told = simp to_z-of_z at c.loop-term.invariant.told in
     let pair : (item.0, c.in-Some.quotient) ≡ f ((get_or ts i item).0, (get_or ts i item).1.value) = ap (λ q. (item.0, q)) known ∙ ap (λ (t : ℕ × Total). (t.0, int_div_euclid t.1.value d)) c.term-item.is in
-    let fits : is_small (int_div_euclid (get_or ts i item).1.value d) ≡ true = ap (λ (t : ℕ × Total). is_small (int_div_euclid t.1.value d)) (sym c.term-item.is) ∙ small in
+    let fits : is_short (int_div_euclid (get_or ts i item).1.value d) ≡ true = ap (λ (t : ℕ × Total). is_short (int_div_euclid t.1.value d)) (sym c.term-item.is) ∙ small in
     simp to_z-of_z (record {
       made = pushed ∙ ap (λ (us : List (ℕ × ℤ)). us ++ (item.0, c.in-Some.quotient) ∷ []) made ∙ ap (λ (e : ℕ × ℤ). map f (seen (take i ts)) ++ e ∷ []) pair ∙ sym (divided-more f ts i item h);
-      told = sym (ap are_small (divided-rest f ts i item h) ∙ ap (λ b. b && are_small (map f (seen (drop (i + 1) ts)))) fits) ∙ told;
+      told = sym (ap are_short (divided-rest f ts i item h) ∙ ap (λ b. b && are_short (map f (seen (drop (i + 1) ts)))) fits) ∙ told;
     })

@@ -3,7 +3,7 @@ use Rattle.std.specs.Prelude.{IfSome}
 use Rattle.std.specs.Int.{w64, w128}
 use Rattle.std.proofs.lemmas.Int.{to_z-of_z}
 use Rattle.lin_atoms.specs.Linear.{Linear, are_ordered, fits}
-use Rattle.farkas_proof.specs.Sum.{seen}
+use Rattle.farkas_proof.specs.machinery.Sum.{seen}
 use Rattle.farkas_proof.proofs.SumLemmas.{form-is, ordered-divided}
 use Rattle.farkas_proof.proofs.rounding.rounded_from.Goals as goal
 

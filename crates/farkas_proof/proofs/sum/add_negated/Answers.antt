@@ -2,7 +2,7 @@ use Rattle.std.proofs.Common.{arith, ap, ◌∙◌, ◌≡◌, FitsSigned}
 use Rattle.std.specs.Prelude.{pos, neg_ℤ, ◌-ℤ◌, ◌+ℤ◌, ◌*ℤ◌}
 use Rattle.std.specs.Int.{w64, w128}
 use Rattle.std.proofs.lemmas.Int.{ints, to_z-of_z}
-use Rattle.base.proofs.IntLemmas.{neg_ℤ-*ℤ}
+use Rattle.base.proofs.Public.{neg_ℤ-*ℤ}
 use Rattle.farkas_proof.proofs.sum.add_negated.Goals as goal
 
 pub returns-clause-value : goal.returns-clause-value

@@ -3,9 +3,9 @@ use Rattle.std.specs.Prelude.{nat_abs, ◌*ℤ◌}
 use Rattle.std.specs.Int.{w64}
 use Rattle.std.proofs.lemmas.Bool.{eqb-true, eqb-false}
 use Rattle.std.proofs.lemmas.Int.{to_z-of_z}
-use Rattle.lin_atoms.specs.Accumulator.{Total}
+use Rattle.lin_atoms.specs.machinery.Accumulator.{Total}
 use Rattle.lin_atoms.specs.Algebra.{with_term}
-use Rattle.farkas_proof.specs.Sum.{are_counted, seen}
+use Rattle.farkas_proof.specs.machinery.Sum.{are_counted, seen}
 use Rattle.farkas_proof.proofs.SumLemmas.{counted-at, counted-gone, counted-put, counted-set, counted-weaker, free-put, met-gone, met-set, removed, set-gone, stood}
 use Rattle.farkas_proof.proofs.sum.add_product.Goals as goal
 

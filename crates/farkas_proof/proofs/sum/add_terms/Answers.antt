@@ -3,7 +3,7 @@ use Rattle.std.specs.Prelude.{pos}
 use Rattle.std.specs.Int.{w64}
 use Rattle.std.proofs.lemmas.Int.{to_z-of_z}
 use Rattle.lin_atoms.specs.Algebra.{collected, scaled_terms}
-use Rattle.farkas_proof.specs.Sum.{seen}
+use Rattle.farkas_proof.specs.machinery.Sum.{seen}
 use Rattle.farkas_proof.proofs.SumLemmas.{ordered-made, scaled-none, scaled-step}
 use Rattle.farkas_proof.proofs.sum.add_terms.Goals as goal
 

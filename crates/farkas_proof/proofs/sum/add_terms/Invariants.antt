@@ -1,6 +1,6 @@
 use Rattle.std.proofs.Common.{◌≡◌, ◌≤◌, ◌^◌, ◌++◌, true, drop, length}
 use Rattle.lin_atoms.specs.Algebra.{collected, scaled_terms}
-use Rattle.farkas_proof.specs.Sum.{are_counted, seen}
+use Rattle.farkas_proof.specs.machinery.Sum.{are_counted, seen}
 use Rattle.farkas_proof.proofs.sum.add_terms.Given as goal
 
 -- the terms from the number on were added

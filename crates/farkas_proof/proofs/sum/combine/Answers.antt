@@ -5,7 +5,7 @@ use Rattle.std.proofs.lemmas.Int.{to_z-of_z}
 use Rattle.lin_atoms.specs.Algebra.{added, scaled}
 use Rattle.lin_atoms.specs.Linear.{Linear}
 use Rattle.farkas_proof.specs.Combination.{are_multipliers, combined, linear_at}
-use Rattle.farkas_proof.specs.Sum.{standing}
+use Rattle.farkas_proof.specs.machinery.Sum.{standing}
 use Rattle.farkas_proof.proofs.SumLemmas.{combined-more, multipliers-fail, multipliers-more}
 use Rattle.farkas_proof.proofs.sum.combine.Goals as goal
 

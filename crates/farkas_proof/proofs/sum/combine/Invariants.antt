@@ -1,6 +1,6 @@
 use Rattle.std.proofs.Common.{◌≡◌, ◌≤◌, true, drop, length}
 use Rattle.farkas_proof.specs.Combination.{are_multipliers, combined}
-use Rattle.farkas_proof.specs.Sum.{IsSum, standing}
+use Rattle.farkas_proof.specs.machinery.Sum.{IsSum, standing}
 use Rattle.farkas_proof.proofs.sum.combine.Given as goal
 
 -- the multiples from the number on were added up

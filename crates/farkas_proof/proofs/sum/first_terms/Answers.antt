@@ -1,7 +1,7 @@
 use Rattle.std.proofs.Common.{◌+◌, ap, arith, FitsSigned}
 use Rattle.std.specs.Int.{w64}
 use Rattle.std.proofs.lemmas.Int.{to_z-of_z}
-use Rattle.farkas_proof.specs.Sum.{seen}
+use Rattle.farkas_proof.specs.machinery.Sum.{seen}
 use Rattle.farkas_proof.proofs.SumLemmas.{counted-weaker, first-sum}
 use Rattle.farkas_proof.proofs.sum.first_terms.Goals as goal
 

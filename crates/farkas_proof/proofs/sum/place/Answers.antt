@@ -1,6 +1,6 @@
 use Rattle.std.proofs.Common.{◌≡◌, ◌<◌, ◌≤◌, ◌+◌, ◌-◌, ◌/◌, ◌∙◌, ℕ, ap, arith, get_or, length}
 use Rattle.std.specs.Prelude.{ℤ}
-use Rattle.lin_atoms.specs.Accumulator.{Total}
+use Rattle.lin_atoms.specs.machinery.Accumulator.{Total}
 use Rattle.farkas_proof.proofs.SumLemmas.{place-before, place-found, place-met, place-more, seen-at}
 use Rattle.farkas_proof.proofs.sum.place.Goals as goal
 

@@ -1,8 +1,8 @@
 use Rattle.std.proofs.Common.{◌≡◌, ◌<◌, ◌≤◌, ◌++◌, ◌-◌, ℕ, take, drop, length, get_or}
 use Rattle.std.specs.Prelude.{ℤ}
-use Rattle.lin_atoms.specs.Accumulator.{Total}
+use Rattle.lin_atoms.specs.machinery.Accumulator.{Total}
 use Rattle.lin_atoms.specs.Algebra.{with_term}
-use Rattle.farkas_proof.specs.Sum.{seen}
+use Rattle.farkas_proof.specs.machinery.Sum.{seen}
 use Rattle.farkas_proof.proofs.sum.place.Given as goal
 
 -- the terms before `low` stay before the new one, and that at `high` stays behind it

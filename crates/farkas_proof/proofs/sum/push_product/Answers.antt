@@ -3,7 +3,7 @@ use Rattle.std.specs.Prelude.{nat_abs, ◌*ℤ◌}
 use Rattle.std.specs.Int.{w64}
 use Rattle.std.proofs.lemmas.Bool.{eqb-true, eqb-false}
 use Rattle.std.proofs.lemmas.Int.{to_z-of_z}
-use Rattle.farkas_proof.specs.Sum.{are_counted}
+use Rattle.farkas_proof.specs.machinery.Sum.{are_counted}
 use Rattle.farkas_proof.proofs.SumLemmas.{counted-push, product-none, product-put}
 use Rattle.farkas_proof.proofs.sum.push_product.Goals as goal
 

@@ -3,8 +3,8 @@ use Rattle.std.specs.Prelude.{ℤ, pos, ◌*ℤ◌}
 use Rattle.std.specs.Int.{w64}
 use Rattle.std.proofs.lemmas.Int.{to_z-of_z}
 use Rattle.lin_atoms.specs.Algebra.{scaled_terms}
-use Rattle.lin_atoms.proofs.MergeLemmas.{push-term, scaled-drop, scaled-end}
-use Rattle.farkas_proof.specs.Sum.{seen}
+use Rattle.lin_atoms.proofs.Public.{push-term, scaled-drop, scaled-end}
+use Rattle.farkas_proof.specs.machinery.Sum.{seen}
 use Rattle.farkas_proof.proofs.sum.put_terms.Goals as goal
 
 pub loop-variable-preserved : goal.loop-variable-preserved

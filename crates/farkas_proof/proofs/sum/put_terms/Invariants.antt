@@ -1,6 +1,6 @@
 use Rattle.std.proofs.Common.{◌≡◌, ◌++◌, drop, true}
 use Rattle.lin_atoms.specs.Algebra.{scaled_terms}
-use Rattle.farkas_proof.specs.Sum.{are_counted, seen}
+use Rattle.farkas_proof.specs.machinery.Sum.{are_counted, seen}
 use Rattle.farkas_proof.proofs.sum.put_terms.Given as goal
 
 -- what is there, and what is to come

@@ -1,7 +1,7 @@
 use Rattle.std.proofs.Common.{◌≡◌}
 use Rattle.lin_atoms.specs.Denial.{lit_fits}
 use Rattle.farkas_proof.specs.Refutation.{judged}
-use Rattle.farkas_proof.specs.Walk.{found, weight}
+use Rattle.farkas_proof.specs.machinery.Walk.{found, weight}
 use Rattle.farkas_proof.proofs.walk.judge.Given as goal
 
 -- what is found in all that waits is what is found in the tree

@@ -3,9 +3,9 @@ use Rattle.std.specs.Prelude.{pos}
 use Rattle.std.specs.Int.{w64, w128}
 use Rattle.std.proofs.lemmas.Int.{to_z-of_z}
 use Rattle.std.proofs.lemmas.List.{get_or_default}
-use Rattle.lin_atoms.specs.Linear.{is_small}
+use Rattle.lin_atoms.specs.Linear.{is_short}
 use Rattle.int_rows.specs.Pivot.{combined, reduced}
-use Rattle.int_rows.specs.Rows.{are_small}
+use Rattle.int_rows.specs.Rows.{are_short}
 use Rattle.int_rows.proofs.CombineLemmas.{length-reduced, reduced-at, small-end, small-more, small-test}
 use Rattle.int_rows.proofs.combine.wide_entry.Goals as goal
 
@@ -46,8 +46,8 @@ loop-i-preserved c =
     let within : i < length whole = omega (arith, c.loop-i-test.true, length-reduced c.args.divisor c.args.p c.args.q xs ys c.requires.same) in
     let is : get_or whole i (pos 0) ≡ c.quotient-entry.result = reduced-at c.args.divisor c.args.p c.args.q xs ys i (pos 0) c.loop-i-test.true c.requires.same ∙ sym value in
     let less : nat_abs c.quotient-entry.result < 2 ^ 63 = omega (arith, size, c.if-unsigned_abs.false) in
-    let small : is_small (get_or whole i (pos 0)) ≡ true = ap is_small is ∙ small-test c.quotient-entry.result less in
-    simp to_z-of_z (sym (small-more whole i (pos 0) within ∙ ap (λ b. b && are_small (drop (i + 1) whole)) small) ∙ before)
+    let small : is_short (get_or whole i (pos 0)) ≡ true = ap is_short is ∙ small-test c.quotient-entry.result less in
+    simp to_z-of_z (sym (small-more whole i (pos 0) within ∙ ap (λ b. b && are_short (drop (i + 1) whole)) small) ∙ before)
 
 pub returns-clause-none : goal.returns-clause-none
 returns-clause-none c _ =

@@ -1,8 +1,8 @@
 use Rattle.std.proofs.Common.{◌≡◌, drop}
-use Rattle.int_rows.specs.Rows.{are_small}
+use Rattle.int_rows.specs.Rows.{are_short}
 use Rattle.int_rows.specs.Pivot.{combined, reduced}
 use Rattle.int_rows.proofs.combine.wide_entry.Given as goal
 
 -- the entries to come decide
 abbrev pub invariant-loop-i : goal.invariant-loop-i
-invariant-loop-i l = are_small (drop l.i (reduced l.divisor (combined l.p l.q l.row l.other))) ≡ are_small (reduced l.divisor (combined l.p l.q l.row l.other))
+invariant-loop-i l = are_short (drop l.i (reduced l.divisor (combined l.p l.q l.row l.other))) ≡ are_short (reduced l.divisor (combined l.p l.q l.row l.other))

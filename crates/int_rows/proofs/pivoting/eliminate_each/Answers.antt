@@ -3,7 +3,7 @@ use Rattle.std.specs.Vec.{with_items}
 use Rattle.std.proofs.lemmas.List.{get_or-map, length-map, map-set}
 use Rattle.std.proofs.lemmas.List.Edits.{map_over_more}
 use Rattle.int_rows.specs.Pivot.{CanCross, eliminated}
-use Rattle.int_rows.specs.Rows.{are_small}
+use Rattle.int_rows.specs.Rows.{are_short}
 use Rattle.int_rows.proofs.PivotedLemmas.{length-eliminated, over-end, over-read, refilled}
 use Rattle.int_rows.proofs.pivoting.eliminate_each.Goals as goal
 
@@ -33,7 +33,7 @@ pub eliminate-requires-clause-some : goal.eliminate-requires-clause-some
 eliminate-requires-clause-some c = (cross c).some
 
 pub eliminate-requires-clause-room : goal.eliminate-requires-clause-room
-eliminate-requires-clause-room c = subst (λ (r : List ℤ). are_small (eliminated c.args.column c.args.other.now r) ≡ true) (sym (row-is c)) (c.requires.room c.loop-i.i c.index-rows-i.result c.loop-i-test.true)
+eliminate-requires-clause-room c = subst (λ (r : List ℤ). are_short (eliminated c.args.column c.args.other.now r) ≡ true) (sym (row-is c)) (c.requires.room c.loop-i.i c.index-rows-i.result c.loop-i-test.true)
 
 same : (c : goal.After-rows-1) → length c.as_mut_slice.result.now ≡ length c.args.other.now
 same c =

@@ -3,7 +3,7 @@ use Rattle.std.specs.Prelude.{IfSome, IsNone}
 use Rattle.std.specs.List.{Contains}
 use Rattle.std.proofs.lemmas.List.{get_or-map, length-map}
 use Rattle.int_rows.specs.Pivot.{CanCross, eliminated}
-use Rattle.int_rows.specs.Rows.{are_small}
+use Rattle.int_rows.specs.Rows.{are_short}
 use Rattle.int_rows.specs.Table.{pivoted, row_at}
 use Rattle.int_rows.proofs.PivotedLemmas.{facing-small, pivoted-other, pivoted-own}
 use Rattle.int_rows.proofs.pivoting.wide_at.Goals as goal
@@ -13,8 +13,8 @@ returns-then-i-pivot-clause-none c = λ none.
     let rows : List (List ℤ) = map (λ r. r.items) c.args.rows.now in
     let pivot = c.args.pivot in
     let column = c.args.column in
-    ap (λ j. are_small (row_at (pivoted pivot column rows) j)) c.if-i-pivot.true
-    ∙ ap are_small (pivoted-own pivot column rows c.requires.can.within)
+    ap (λ j. are_short (row_at (pivoted pivot column rows) j)) c.if-i-pivot.true
+    ∙ ap are_short (pivoted-own pivot column rows c.requires.can.within)
     ∙ facing-small column (row_at rows pivot) c.requires.can.small
 
 row-is : (c : goal.After-as_slice-2) → c.as_slice.result.now ≡ row_at (map (λ r. r.items) c.args.rows.now) c.args.i
@@ -36,7 +36,7 @@ pub wide_elimination-requires-clause-row : goal.wide_elimination-requires-clause
 wide_elimination-requires-clause-row c = (cross c).small
 
 pub wide_elimination-requires-clause-other : goal.wide_elimination-requires-clause-other
-wide_elimination-requires-clause-other c = ap are_small (other-is c) ∙ c.requires.can.small
+wide_elimination-requires-clause-other c = ap are_short (other-is c) ∙ c.requires.can.small
 
 pub wide_elimination-requires-clause-same : goal.wide_elimination-requires-clause-same
 wide_elimination-requires-clause-same c = (cross c).same
@@ -61,4 +61,4 @@ pub returns-clause-some : goal.returns-clause-some
 returns-clause-some c = subst (λ (r : List ℤ). IfSome c.wide_elimination.result (λ wide. Contains r wide × (2 ^ 63 ≤ nat_abs wide))) (after-is c) c.wide_elimination.ensures.some
 
 pub returns-clause-none : goal.returns-clause-none
-returns-clause-none c = subst (λ (r : List ℤ). IsNone c.wide_elimination.result → are_small r ≡ true) (after-is c) c.wide_elimination.ensures.none
+returns-clause-none c = subst (λ (r : List ℤ). IsNone c.wide_elimination.result → are_short r ≡ true) (after-is c) c.wide_elimination.ensures.none

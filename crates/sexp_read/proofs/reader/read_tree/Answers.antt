@@ -1,7 +1,7 @@
 use Rattle.std.proofs.Common.{◌≡◌, ◌+◌, ◌-◌, ◌<◌, ◌≤◌, ◌++◌, ◌∷◌, length, take, drop, vec_len, [], sym, ap, ◌∙◌, subst, rules, arith}
 use Rattle.sexp_read.specs.declared.tree.Tree.{Tree}
 use Rattle.sexp_read.specs.declared.tree.Tree.TheViews.{List as ListTree}
-use Rattle.sexp_read.specs.Opened.{outermost_start, stop_at_end}
+use Rattle.sexp_read.specs.machinery.Opened.{outermost_start, stop_at_end}
 use Rattle.sexp_read.specs.Trees.{most_open}
 use Rattle.sexp_read.proofs.Reaches.{Reached, shorter, longer, Fits, reached_none, reached_leaf, reached_open, reached_close, fits_within, fits_more, fits_open, fits_close_at, before_within, reads_bad, reads_unclosed, reads_deep, reads_close, reads_end, reads_leaf, reads_list, ahead_open, ahead_close, ahead_leaf}
 use Rattle.sexp_read.proofs.reader.read_tree.Goals as goal

@@ -1,5 +1,5 @@
 use Rattle.std.proofs.Common.{refl}
-use Rattle.int_rows.proofs.SpaceLemmas.{same-reflexive}
+use Rattle.int_rows.proofs.Public.{same-reflexive}
 use Rattle.simplex_core.proofs.EndLemmas.{run-means}
 use Rattle.simplex_core.proofs.FollowingLemmas.{stopped}
 use Rattle.simplex_core.proofs.following.feasible.Goals as goal

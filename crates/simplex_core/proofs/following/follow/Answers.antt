@@ -2,12 +2,12 @@ use Rattle.std.proofs.Common.{◌≡◌, ◌<◌, ◌+◌, ◌-◌, ◌^◌, ◌
 use Rattle.std.specs.List.{Contains}
 use Rattle.std.proofs.lemmas.List.{length-append}
 use Rattle.int_rows.specs.Table.{Table}
-use Rattle.int_rows.proofs.PivotedLemmas.{refilled}
+use Rattle.int_rows.proofs.Public.{refilled}
 use Rattle.base.specs.declared.memory.Memory.{Memory}
 use Rattle.simplex_core.specs.Answer.{Steps, basis}
-use Rattle.simplex_core.specs.Following.{IsFollowing}
+use Rattle.simplex_core.specs.machinery.Following.{IsFollowing}
 use Rattle.simplex_core.specs.Run.{Moment, Next, columns, coordinates, first_standings, moment, next}
-use Rattle.simplex_core.specs.Visited.{Lists}
+use Rattle.simplex_core.specs.machinery.Visited.{Lists}
 use Rattle.simplex_core.specs.declared.answer.Feasible.{Feasible}
 use Rattle.simplex_core.specs.declared.standing.Standing.{Standing}
 use Rattle.simplex_core.proofs.FollowingLemmas.{following-good, following-more, met-same, same-met, started, stopped, tells-end}

@@ -1,5 +1,5 @@
 use Rattle.std.proofs.Common.{◌≡◌, ◌-◌, ◌^◌, length}
-use Rattle.simplex_core.specs.Following.{IsFollowing}
+use Rattle.simplex_core.specs.machinery.Following.{IsFollowing}
 use Rattle.simplex_core.specs.Run.{coordinates, moment}
 use Rattle.simplex_core.proofs.following.follow.Given as goal
 

@@ -1,5 +1,5 @@
 use Rattle.std.proofs.Common.{◌≡◌, drop}
-use Rattle.simplex_core.specs.Packed.{are_packed}
+use Rattle.simplex_core.specs.machinery.Packed.{are_packed}
 use Rattle.simplex_core.proofs.packed.are_words_of.Given as goal
 
 abbrev pub invariant-loop-word : goal.invariant-loop-word

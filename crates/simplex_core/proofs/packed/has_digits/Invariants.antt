@@ -1,5 +1,5 @@
 use Rattle.std.proofs.Common.{◌≡◌, drop}
-use Rattle.simplex_core.specs.Packed.{are_digits}
+use Rattle.simplex_core.specs.machinery.Packed.{are_digits}
 use Rattle.simplex_core.proofs.packed.has_digits.Given as goal
 
 abbrev pub invariant-loop-standing : goal.invariant-loop-standing

@@ -1,5 +1,5 @@
 use Rattle.std.proofs.Common.{◌≡◌, ◌≤◌, drop, length}
-use Rattle.simplex_core.specs.Packed.{mark}
+use Rattle.simplex_core.specs.machinery.Packed.{mark}
 use Rattle.simplex_core.proofs.packed.mark.Given as goal
 
 abbrev pub invariant-loop-at : goal.invariant-loop-at

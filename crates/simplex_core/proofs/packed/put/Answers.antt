@@ -1,8 +1,8 @@
 use Rattle.std.proofs.Common.{◌≡◌, ◌+◌, ◌-◌, ◌++◌, [], ◌∷◌, ◌∙◌, ap, arith, cond, List, ℕ, take}
 use Rattle.std.specs.Result.{is_ok}
 use Rattle.std.specs.Vec.{vec_len}
-use Rattle.simplex_core.specs.Packed.{packed}
-use Rattle.simplex_core.specs.Standing.{number}
+use Rattle.simplex_core.specs.machinery.Packed.{packed}
+use Rattle.simplex_core.specs.machinery.Standing.{number}
 use Rattle.simplex_core.proofs.PackedLemmas.{put-more}
 use Rattle.simplex_core.proofs.packed.put.Goals as goal
 

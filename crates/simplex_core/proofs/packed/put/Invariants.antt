@@ -1,6 +1,6 @@
 use Rattle.std.proofs.Common.{◌≡◌, ◌≤◌, ◌+◌, ◌-◌, ◌++◌}
 use Rattle.std.specs.Vec.{vec_capacity, vec_len}
-use Rattle.simplex_core.specs.Packed.{packed}
+use Rattle.simplex_core.specs.machinery.Packed.{packed}
 use Rattle.simplex_core.proofs.packed.put.Given as goal
 
 abbrev pub invariant-loop-word : goal.invariant-loop-word

@@ -1,5 +1,5 @@
 use Rattle.std.proofs.Common.{◌≡◌, ◌≤◌, drop, length}
-use Rattle.simplex_core.specs.Standing.{number}
+use Rattle.simplex_core.specs.machinery.Standing.{number}
 use Rattle.simplex_core.proofs.packed.word.Given as goal
 
 abbrev pub invariant-loop-at : goal.invariant-loop-at

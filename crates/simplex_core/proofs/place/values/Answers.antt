@@ -4,7 +4,7 @@ use Rattle.std.specs.List.{list_all, range_with_len}
 use Rattle.std.proofs.lemmas.Bool.{and_from, lt-ltb}
 use Rattle.std.proofs.lemmas.Int.{to_z-of_z}
 use Rattle.std.proofs.lemmas.List.Folds.{list_all-append}
-use Rattle.lin_atoms.specs.Linear.{is_constant}
+use Rattle.lin_atoms.specs.Linear.{is_long}
 use Rattle.simplex_core.specs.Run.{moment, stood_at, values}
 use Rattle.simplex_core.proofs.RangeLemmas.{made-more}
 use Rattle.simplex_core.proofs.place.values.Goals as goal
@@ -14,10 +14,10 @@ loop-column-preserved c =
     let m = moment c.args.t.now c.args.standings.now in
     let fits : FitsSigned w128 c.stood_at.result = search rules in
     let pushed = simp to_z-of_z at c.in_ok-push.ensures.items in
-    let one : is_constant c.stood_at.result ≡ true = lt-ltb _ _ c.stood_at.ensures.small in
+    let one : is_long c.stood_at.result ≡ true = lt-ltb _ _ c.stood_at.ensures.small in
     record {
       is = pushed ∙ made-more (stood_at m) c.loop-column.column c.loop-column.made.items c.stood_at.result c.loop-column.invariant.is c.stood_at.ensures.is;
-      small = ap (list_all is_constant) pushed ∙ list_all-append is_constant c.loop-column.made.items (c.stood_at.result ∷ []) ∙ and_from _ _ c.loop-column.invariant.small (and_from _ _ one refl);
+      small = ap (list_all is_long) pushed ∙ list_all-append is_long c.loop-column.made.items (c.stood_at.result ∷ []) ∙ and_from _ _ c.loop-column.invariant.small (and_from _ _ one refl);
     }
 
 pub returns-clause-is : goal.returns-clause-is

@@ -1,5 +1,5 @@
 use Rattle.std.proofs.Common.{drop}
-use Rattle.sort_check.specs.Progress.{IsSoFar}
+use Rattle.sort_check.specs.machinery.Progress.{IsSoFar}
 use Rattle.sort_check.proofs.script.check_script.Given as goal
 
 abbrev pub invariant-loop-tree : goal.invariant-loop-tree

@@ -1,5 +1,5 @@
 use Rattle.std.proofs.Common.{◌≤◌, ◌-◌, length}
-use Rattle.sort_check.specs.Progress.{IsReadSoFar}
+use Rattle.sort_check.specs.machinery.Progress.{IsReadSoFar}
 use Rattle.sort_check.proofs.script.check_text.Given as goal
 
 abbrev pub invariant-loop-reader : goal.invariant-loop-reader

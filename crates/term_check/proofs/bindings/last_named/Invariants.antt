@@ -1,5 +1,5 @@
 use Rattle.std.proofs.Common.{◌≡◌, ◌≤◌, take, map, length}
-use Rattle.term_check.specs.Meanings.{named_as}
+use Rattle.term_check.specs.machinery.Meanings.{named_as}
 use Rattle.term_check.specs.Spelling.{bound_to}
 use Rattle.term_check.proofs.bindings.last_named.Given as goal
 

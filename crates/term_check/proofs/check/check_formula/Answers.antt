@@ -1,6 +1,6 @@
 use Rattle.std.proofs.Common.{sym, ap, ◌∙◌, subst, [], false, length, List, ℕ}
 use Rattle.term_check.specs.Formula.{params_from}
-use Rattle.term_check.specs.Known.{Known}
+use Rattle.term_check.specs.machinery.Known.{Known}
 use Rattle.term_check.specs.Reading.{scope_of, Tells}
 use Rattle.term_check.specs.Spelling.{spelled}
 use Rattle.term_check.proofs.FormulaLemmas.{ready_at_first, no_lets, no_lets_below, no_formula, reader_is}

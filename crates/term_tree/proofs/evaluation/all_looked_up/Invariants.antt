@@ -1,6 +1,6 @@
 use Rattle.std.proofs.Common.{◌≡◌, map, take}
 use Rattle.term_tree.specs.declared.node.TermId.{TermId}
-use Rattle.term_tree.specs.Known.{known_worth}
+use Rattle.term_tree.specs.machinery.Known.{known_worth}
 use Rattle.term_tree.proofs.evaluation.all_looked_up.Given as goal
 
 abbrev pub invariant-loop-id : goal.invariant-loop-id

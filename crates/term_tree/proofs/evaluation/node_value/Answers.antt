@@ -4,7 +4,7 @@ use Rattle.term_tree.specs.declared.node.TermId.{TermId}
 use Rattle.std.specs.Prelude.{map}
 use Rattle.term_tree.specs.Value.{Environment, environment_of}
 use Rattle.term_tree.specs.Width.{narrow_result}
-use Rattle.term_tree.specs.Known.{known_worth, narrow_worth}
+use Rattle.term_tree.specs.machinery.Known.{known_worth, narrow_worth}
 use Rattle.term_tree.proofs.EvaluationLemmas.{operation}
 use Rattle.term_tree.proofs.evaluation.node_value.Goals as goal
 

@@ -4,7 +4,7 @@ use Rattle.std.specs.BTreeMap.{BTreeMap}
 use Rattle.term_tree.specs.declared.scalar.Value.{Value}
 use Rattle.term_tree.specs.declared.evaluation.ValueStop.{ValueStop}
 use Rattle.term_tree.specs.declared.evaluation.ValueStop.TheVariants.{ValueWide}
-use Rattle.term_tree.specs.Walk.{has_number}
+use Rattle.term_tree.specs.machinery.Walk.{has_number}
 use Rattle.term_tree.proofs.EvaluationLemmas.{all_met}
 use Rattle.term_tree.proofs.evaluation.value.Goals as goal
 

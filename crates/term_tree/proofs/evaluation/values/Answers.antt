@@ -2,8 +2,8 @@ use Rattle.std.proofs.Common.{◌≡◌, ◌+◌, ◌-◌, ◌<◌, ℕ, length,
 use Rattle.std.specs.Prelude.{Some, None}
 use Rattle.term_tree.specs.declared.node.TermId.{TermId}
 use Rattle.term_tree.specs.Value.{environment_of}
-use Rattle.term_tree.specs.Known.{AreKnown, known_worth, narrow_worth}
-use Rattle.term_tree.specs.Walk.{has_number}
+use Rattle.term_tree.specs.machinery.Known.{AreKnown, known_worth, narrow_worth}
+use Rattle.term_tree.specs.machinery.Walk.{has_number}
 use Rattle.term_tree.specs.Width.{IsWideTerm}
 use Rattle.term_tree.proofs.EvaluationLemmas.{known_more, narrow_more, wide_here, has_at}
 use Rattle.term_tree.proofs.evaluation.values.Goals as goal

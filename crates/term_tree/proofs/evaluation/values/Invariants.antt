@@ -1,7 +1,7 @@
 use Rattle.std.proofs.Common.{◌≡◌, ◌≤◌, ℕ, length, drop, true}
 use Rattle.term_tree.specs.Value.{environment_of}
-use Rattle.term_tree.specs.Known.{AreKnown}
-use Rattle.term_tree.specs.Walk.{has_number}
+use Rattle.term_tree.specs.machinery.Known.{AreKnown}
+use Rattle.term_tree.specs.machinery.Walk.{has_number}
 use Rattle.term_tree.specs.Width.{IsWideTerm}
 use Rattle.term_tree.proofs.evaluation.values.Given as goal
 

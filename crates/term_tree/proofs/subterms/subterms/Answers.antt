@@ -4,7 +4,7 @@ use Rattle.std.specs.Ordering.{nat_cmp}
 use Rattle.std.specs.BTreeMap.{is_at}
 use Rattle.std.specs.BTreeSet.{contains}
 use Rattle.term_tree.specs.Subterms.{is_part}
-use Rattle.term_tree.specs.Walk.{IsWalk}
+use Rattle.term_tree.specs.machinery.Walk.{IsWalk}
 use Rattle.term_tree.proofs.WalkLemmas.{walk_begins, walk_goes_on, walk_ends, waited}
 use Rattle.term_tree.proofs.subterms.subterms.Goals as goal
 

@@ -1,6 +1,6 @@
 use Rattle.std.specs.Ordering.{nat_cmp}
 use Rattle.std.specs.BTreeSet.{contains}
-use Rattle.term_tree.specs.Walk.{IsWalk}
+use Rattle.term_tree.specs.machinery.Walk.{IsWalk}
 use Rattle.term_tree.proofs.subterms.subterms.Given as goal
 
 abbrev pub invariant-loop-id : goal.invariant-loop-id

@@ -1,6 +1,6 @@
 use Rattle.std.proofs.Common.{List, [], ◌∷◌, take, length, ap, sym, ◌∙◌}
 use Rattle.lin_atoms.specs.declared.lit.Lit.{Lit}
-use Rattle.farkas_proof.specs.Ends.{ends_from}
+use Rattle.farkas_proof.specs.machinery.Ends.{ends_from}
 use Rattle.farkas_proof.proofs.KnownLemmas.{kept-push}
 use Rattle.farkas_proof.proofs.known.Known.push.Goals as goal
 

@@ -1,6 +1,6 @@
 use Rattle.std.proofs.Common.{List, ℕ, take, length, ap, sym, ◌∙◌}
 use Rattle.lin_atoms.specs.declared.lit.Lit.{Lit}
-use Rattle.farkas_proof.specs.Ends.{ends_from}
+use Rattle.farkas_proof.specs.machinery.Ends.{ends_from}
 use Rattle.farkas_proof.proofs.KnownLemmas.{kept-truncate}
 use Rattle.farkas_proof.proofs.known.Known.truncate.Goals as goal
 

@@ -1,7 +1,7 @@
 use Rattle.std.proofs.Common.{◌≡◌, ◌≤◌, true, drop, length}
 use Rattle.lin_atoms.specs.Linear.{are_ordered}
 use Rattle.farkas_proof.specs.Combination.{are_multipliers, combined}
-use Rattle.farkas_proof.specs.Narrow.{sum_of}
+use Rattle.farkas_proof.specs.machinery.Narrow.{sum_of}
 use Rattle.farkas_proof.proofs.narrow.Narrow.combine.Given as goal
 
 -- the multiples from the number on were added up

@@ -4,7 +4,7 @@ use Rattle.std.specs.Int.{w64, w128}
 use Rattle.std.proofs.lemmas.Int.{ints, to_z-of_z}
 use Rattle.lin_atoms.specs.Algebra.{collected, scaled_terms}
 use Rattle.lin_atoms.specs.Linear.{Linear}
-use Rattle.farkas_proof.specs.Sum.{seen}
+use Rattle.farkas_proof.specs.machinery.Sum.{seen}
 use Rattle.farkas_proof.proofs.SumLemmas.{counted-weaker, negated-sum, ordered-made}
 use Rattle.farkas_proof.proofs.sum.Sum.add_multiple.Goals as goal
 

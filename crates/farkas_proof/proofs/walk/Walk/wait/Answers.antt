@@ -1,4 +1,4 @@
-use Rattle.farkas_proof.specs.Walk.{opened}
+use Rattle.farkas_proof.specs.machinery.Walk.{opened}
 use Rattle.farkas_proof.specs.declared.walk.Work.TheVariants.{Under}
 use Rattle.farkas_proof.proofs.WalkLemmas.{left_to-push}
 use Rattle.farkas_proof.proofs.walk.Walk.wait.Goals as goal

@@ -2,7 +2,7 @@ use Rattle.std.proofs.Common.{◌≡◌, ◌<◌, ◌++◌, ap, sym, ◌∙◌, 
 use Rattle.std.specs.Prelude.{ℤ, pos}
 use Rattle.std.specs.List.{list_all}
 use Rattle.std.proofs.lemmas.List.{length-map}
-use Rattle.int_rows.specs.Rows.{are_small, entry}
+use Rattle.int_rows.specs.Rows.{are_short, entry}
 use Rattle.int_rows.specs.Space.{SameSpace}
 use Rattle.int_rows.specs.Table.{CanPivot, HasWide, IsTable, Table, pivoted, row_at, width}
 use Rattle.int_rows.specs.declared.tableau.Tableau.TheInside.{Inside}
@@ -41,7 +41,7 @@ news_are t row column news rows =
     ap lines (refilled t.rows.len news t.rows.items long whole) ∙ rows
 
 made : (t : Inside) (self : Table) (row column : ℕ) (news : List (Vec ℤ Global)) → table t ≡ self → IsTable (table t) → row < length self.rows → column < width self → (entry (row_at self.rows row) column ≡ pos 0 → ⊥)
-    → list_all are_small (pivoted row column (lines t.rows.items)) ≡ true → lines news ≡ pivoted row column (lines t.rows.items)
+    → list_all are_short (pivoted row column (lines t.rows.items)) ≡ true → lines news ≡ pivoted row column (lines t.rows.items)
     → IsTable (record { variables = t.variables; rows = lines (take t.rows.len (news ++ drop (length news) t.rows.items)); basic = set t.basic.items row column; lower = t.lower.items; upper = t.upper.items })
 made t self row column news is legal h there factor room rows =
     subst (λ (rs : List (List ℤ)). IsTable (record { variables = t.variables; rows = rs; basic = set t.basic.items row column; lower = t.lower.items; upper = t.upper.items })) (sym (news_are t row column news rows))
@@ -53,7 +53,7 @@ made t self row column news is legal h there factor room rows =
 
 pub invariant_of-self : goal.invariant_of-self
 invariant_of-self c =
-    let room = ap (λ (rs : List (Vec ℤ Global)). list_all are_small (pivoted c.args.row c.args.column (lines rs))) (sym c.as_slice.ensures.value) ∙ c.in_default.ensures.none refl in
+    let room = ap (λ (rs : List (Vec ℤ Global)). list_all are_short (pivoted c.args.row c.args.column (lines rs))) (sym c.as_slice.ensures.value) ∙ c.in_default.ensures.none refl in
     let rows = c.pivot_rows.ensures ∙ ap (λ (rs : List (Vec ℤ Global)). pivoted c.args.row c.args.column (lines rs)) c.as_mut_slice.ensures.value in
     made c.self.inside c.args.self.now c.args.row c.args.column c.pivot_rows.new.rows c.self.view_is c.self.invariant c.requires.row c.requires.column c.requires.entry room rows
 

@@ -4,7 +4,7 @@ use Rattle.std.specs.Int.{w64, IsGcd, cast_signed}
 use Rattle.std.proofs.lemmas.Int.{ints, to_z-of_z}
 use Rattle.std.proofs.lemmas.Nat.Gcd.{le_of_dvd}
 use Rattle.lin_atoms.specs.Ratio.{Fraction}
-use Rattle.lin_atoms.proofs.RatioLemmas.{divisor-some, gcd_of_rest}
+use Rattle.lin_atoms.proofs.Public.{divisor-some, gcd_of_rest}
 use Rattle.simplex_core.proofs.coordinate.Coordinate.common_divisor.Goals as goal
 
 pub overflow_cast-result : goal.overflow_cast-result

@@ -4,7 +4,7 @@ use Rattle.std.specs.Int.{w64, w128, int_div_euclid}
 use Rattle.std.proofs.lemmas.Bool.{le-leb}
 use Rattle.std.proofs.lemmas.Int.{to_z-of_z}
 use Rattle.lin_atoms.specs.Ratio.{Fraction}
-use Rattle.lin_atoms.proofs.RatioLemmas.{wide_where}
+use Rattle.lin_atoms.proofs.Public.{wide_where}
 use Rattle.simplex_core.proofs.FractionLemmas.{wide_quotient}
 use Rattle.simplex_core.proofs.coordinate.Coordinate.is_wide_reduced.Goals as goal
 

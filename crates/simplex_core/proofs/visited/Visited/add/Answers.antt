@@ -2,8 +2,8 @@ use Rattle.std.proofs.Common.{◌≡◌, ℕ, ◌+◌, List, [], ◌∷◌, ◌+
 use Rattle.std.specs.List.{Contains}
 use Rattle.std.proofs.lemmas.List.{length_push}
 use Rattle.simplex_core.specs.declared.standing.Standing.{Standing}
-use Rattle.simplex_core.specs.Packed.{AreKept, all_unpacked, mark, packed, words_for}
-use Rattle.simplex_core.specs.Visited.{Lists}
+use Rattle.simplex_core.specs.machinery.Packed.{AreKept, all_unpacked, mark, packed, words_for}
+use Rattle.simplex_core.specs.machinery.Visited.{Lists}
 use Rattle.simplex_core.proofs.PackedLemmas.{kept-push}
 use Rattle.simplex_core.proofs.visited.Visited.add.Goals as goal
 

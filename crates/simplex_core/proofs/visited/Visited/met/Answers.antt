@@ -1,8 +1,8 @@
 use Rattle.std.proofs.Common.{◌≡◌, ℕ, ◌+◌, ◌*◌, ◌<◌, ◌≤◌, ◌-◌, ◌&&◌, List, ◌∙◌, ap, sym, subst, length, get_or, take, drop, ◌^◌, below_more, true, false, arith, rules, eqb}
 use Rattle.std.specs.List.{Contains}
 use Rattle.simplex_core.specs.declared.standing.Standing.{Standing}
-use Rattle.simplex_core.specs.Packed.{all_unpacked, are_packed, mark, words_for}
-use Rattle.simplex_core.specs.Visited.{Lists}
+use Rattle.simplex_core.specs.machinery.Packed.{all_unpacked, are_packed, mark, words_for}
+use Rattle.simplex_core.specs.machinery.Visited.{Lists}
 use Rattle.simplex_core.proofs.PackedLemmas.{length-all, list_there, test_there}
 use Rattle.simplex_core.proofs.VisitedLemmas.{few}
 use Rattle.simplex_core.proofs.visited.Visited.met.Goals as goal

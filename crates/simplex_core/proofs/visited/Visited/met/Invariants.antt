@@ -1,6 +1,6 @@
 use Rattle.std.proofs.Common.{◌≡◌, ◌<◌, ℕ, List, length, get_or}
 use Rattle.simplex_core.specs.declared.standing.Standing.{Standing}
-use Rattle.simplex_core.specs.Packed.{all_unpacked}
+use Rattle.simplex_core.specs.machinery.Packed.{all_unpacked}
 use Rattle.simplex_core.proofs.visited.Visited.met.Given as goal
 
 abbrev pub invariant-loop-row : goal.invariant-loop-row

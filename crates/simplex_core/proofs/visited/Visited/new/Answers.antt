@@ -1,5 +1,5 @@
 use Rattle.std.proofs.Common.{sym, subst, List, ℕ, []}
-use Rattle.simplex_core.specs.Packed.{AreKept}
+use Rattle.simplex_core.specs.machinery.Packed.{AreKept}
 use Rattle.simplex_core.proofs.PackedLemmas.{kept-none}
 use Rattle.simplex_core.proofs.visited.Visited.new.Goals as goal
 

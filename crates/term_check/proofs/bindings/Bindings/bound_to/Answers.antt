@@ -1,5 +1,5 @@
 use Rattle.std.proofs.Common.{map, sym, ap, ◌∙◌}
-use Rattle.term_check.specs.Meanings.{named_as}
+use Rattle.term_check.specs.machinery.Meanings.{named_as}
 use Rattle.term_check.specs.Operators.{first_of}
 use Rattle.term_check.specs.Spelling.{bound_to}
 use Rattle.term_check.proofs.FewLemmas.{bound_appended}

@@ -1,5 +1,5 @@
 use Rattle.std.proofs.Common.{rules, ◌≡◌, ◌++◌, ◌-◌, length, take, map, sym, ap, ◌∙◌}
-use Rattle.term_check.specs.Meanings.{named_as}
+use Rattle.term_check.specs.machinery.Meanings.{named_as}
 use Rattle.term_check.proofs.FewLemmas.{left}
 use Rattle.term_check.proofs.bindings.Bindings.leave.Goals as goal
 

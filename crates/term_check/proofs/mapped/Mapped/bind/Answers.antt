@@ -1,6 +1,6 @@
 use Rattle.std.proofs.Common.{rules, ◌≡◌, ◌++◌, [], ◌∷◌, ap, refl, ◌∙◌}
 use Rattle.term_check.specs.declared.scope.Binding.{Binding}
-use Rattle.term_check.specs.Meanings.{joined}
+use Rattle.term_check.specs.machinery.Meanings.{joined}
 use Rattle.term_check.proofs.MeaningLemmas.{binding_added}
 use Rattle.term_check.proofs.mapped.Mapped.bind.Goals as goal
 

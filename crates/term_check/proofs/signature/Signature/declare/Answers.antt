@@ -2,7 +2,7 @@ use Rattle.std.proofs.Common.{◌≡◌, ◌++◌, [], ◌∷◌, length, None, 
 use Rattle.term_tree.specs.declared.script.Pred.{Pred}
 use Rattle.indexmap.specs.IndexMap.{get}
 use Rattle.indexmap.proofs.CallerLemmas.{insert_entry-new}
-use Rattle.term_check.specs.Numbers.{numbered}
+use Rattle.term_check.specs.machinery.Numbers.{numbered}
 use Rattle.term_check.specs.Spelling.{pred_from}
 use Rattle.term_check.proofs.NumberLemmas.{lookup_numbered, numbered_added, same_name}
 use Rattle.term_check.proofs.signature.Signature.declare.Goals as goal

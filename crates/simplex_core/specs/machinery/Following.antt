@@ -2,9 +2,9 @@
 use Rattle.std.specs.Prelude.{◌≡◌, ℕ, ◌^◌, ◌<◌, [], length, slice_index_or}
 use Rattle.int_rows.specs.Table.{IsTable, Table, width}
 use Rattle.simplex_core.specs.Answer.{AreSame}
-use Rattle.simplex_core.specs.Kept.{AreStandings}
+use Rattle.simplex_core.specs.machinery.Kept.{AreStandings}
 use Rattle.simplex_core.specs.Run.{Moment, Next, run}
-use Rattle.simplex_core.specs.Visited.{Lists}
+use Rattle.simplex_core.specs.machinery.Visited.{Lists}
 
 -- the run from the table has come to the moment. The standings of all moments before it were met, in this order, and no two of them were the same
 pub record IsFollowing (t : Table) (last : Moment) (met : Lists) : Type 0 where

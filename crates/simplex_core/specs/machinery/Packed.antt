@@ -1,7 +1,7 @@
 -- Lists of standings in words of 64 bits, each of 32 digits in base 4.
 use Rattle.std.specs.Prelude.{◌≡◌, ℕ, zero, suc, ◌+◌, ◌-◌, ◌*◌, ◌/◌, ◌%◌, min, List, [], ◌∷◌, ◌++◌, length, take, drop, map, Bool, true, ◌&&◌, ◌==◌}
-use Rattle.simplex_core.specs.Standing.{code, number, standings_of}
-use Rattle.simplex_core.specs.Visited.{AreDistinct}
+use Rattle.simplex_core.specs.machinery.Standing.{code, number, standings_of}
+use Rattle.simplex_core.specs.machinery.Visited.{AreDistinct}
 use Rattle.simplex_core.specs.declared.standing.Standing.{Standing}
 
 -- the words of a list: 32 standings in each, and what is left in the last

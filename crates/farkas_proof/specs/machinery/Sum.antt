@@ -1,7 +1,7 @@
 -- What a sum in the making stands for.
 use Rattle.std.specs.Prelude.{◌≡◌, ℕ, ◌^◌, ◌≤◌, List, ℤ, map, nat_le, neg_ℤ, Bool, true}
 use Rattle.std.specs.List.{list_all}
-use Rattle.lin_atoms.specs.Accumulator.{Total}
+use Rattle.lin_atoms.specs.machinery.Accumulator.{Total}
 use Rattle.lin_atoms.specs.Linear.{Linear, are_ordered}
 
 abbrev pub seen : List (ℕ × Total) → List (ℕ × ℤ)

@@ -1,7 +1,7 @@
 -- A copy in the making: the nodes above the tree that is copied.
 use Rattle.std.specs.Prelude.{ℕ, ◌+◌, List, [], ◌∷◌, ◌++◌, map, drop, length}
 use Rattle.std.specs.List.{sum_by}
-use Rattle.farkas_proof.specs.Walk.{size, sizes}
+use Rattle.farkas_proof.specs.machinery.Walk.{size, sizes}
 use Rattle.farkas_proof.specs.declared.copying.Frame.{Frame}
 use Rattle.farkas_proof.specs.declared.copying.Frame.TheVariants as frame
 use Rattle.farkas_proof.specs.declared.copying.Next.{Next}

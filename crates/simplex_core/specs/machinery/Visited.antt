@@ -1,7 +1,7 @@
 -- Lists of standings that were met: no two of them are equal, so there are at most 4 ^ n of n columns.
 use Rattle.std.specs.Prelude.{◌≡◌, ℕ, List, length, map, nat_eq}
 use Rattle.std.specs.List.{All, IsDistinct}
-use Rattle.simplex_core.specs.Standing.{number}
+use Rattle.simplex_core.specs.machinery.Standing.{number}
 use Rattle.simplex_core.specs.declared.standing.Standing.{Standing}
 
 -- lists of standings, one standing for each column, in the order in which they were met

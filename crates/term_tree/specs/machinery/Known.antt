@@ -6,7 +6,7 @@ use Rattle.term_tree.specs.declared.node.Node.{Node}
 use Rattle.term_tree.specs.declared.scalar.Value.{Value}
 use Rattle.term_tree.specs.declared.scalar.Value.TheVariants.{Bool as Truth}
 use Rattle.term_tree.specs.Value.{Environment, Worth, node_worth, value_of}
-use Rattle.term_tree.specs.Walk.{has_number}
+use Rattle.term_tree.specs.machinery.Walk.{has_number}
 use Rattle.term_tree.specs.Width.{is_wide}
 
 abbrev pub known_worth : BTreeMap ℕ Value → ℕ → Value

@@ -1,0 +1,9 @@
+-- What the code keeps for itself: no rule cites it.
+pub mod Copying
+pub mod Ends
+pub mod Kept
+pub mod KeptEvidence
+pub mod Narrow
+pub mod Sum
+pub mod Tells
+pub mod Walk

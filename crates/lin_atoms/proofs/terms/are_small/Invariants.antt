@@ -1,7 +1,0 @@
-use Rattle.std.proofs.Common.{◌≡◌, drop}
-use Rattle.lin_atoms.specs.Linear.{are_small}
-use Rattle.lin_atoms.proofs.terms.are_small.Given as goal
-
--- the terms to come decide
-abbrev pub invariant-loop-coefficient : goal.invariant-loop-coefficient
-invariant-loop-coefficient l = are_small (drop l.coefficient-index l.terms) ≡ are_small l.terms

@@ -1,0 +1,8 @@
+-- What the code keeps for itself: no rule cites it.
+pub mod Known
+pub mod Legality
+pub mod Meanings
+pub mod Numbers
+pub mod TellsFormula
+pub mod Weight
+pub mod WordLengths

@@ -1,0 +1,5 @@
+-- What the code keeps for itself: no rule cites it.
+pub mod Agreement
+pub mod Known
+pub mod Pairs
+pub mod Walk
