@@ -15,7 +15,7 @@ use Rattle.term_tree.specs.Operators.{integer, sum_of, difference_of, on_two, fi
 use Rattle.term_tree.specs.Width.{prefix_results}
 use Rattle.term_check.specs.declared.part.Part.{Part}
 use Rattle.term_check.specs.declared.part.Fault.{Fault}
-use Rattle.term_check.specs.Rules.{number_fault, linear_fault, product_fault, divisor_fault, divisor_fault_by, is_constant, varying, is_narrow, narrow, multiplied, narrow_product, worth_of, worth, quotient, remainder, value_at, wide_unless, without_value, product_constant, constant_of}
+use Rattle.term_check.specs.Rules.{number_fault, linear_fault, product_fault, divisor_fault, divisor_fault_by, is_constant, varying, is_short, narrow, multiplied, narrow_product, worth_of, worth, quotient, remainder, value_at, wide_unless, without_value, product_constant, constant_of}
 use Rattle.term_check.proofs.OutcomeLemmas.{both_are, not_if, not_below, up_to, same_numbers, other_numbers}
 use Rattle.term_check.proofs.SortLemmas.{right_number}
 
@@ -88,7 +88,7 @@ arithmetic : (start : ℕ) (f g : List ℤ → ℤ) (ps : List Part) (c : Option
 arithmetic start f g ps c true e same h =
     let none = same_numbers (varying ps) 0 e in
     let through = let_through start (narrow (g (map worth ps))) c h in
-    let short = narrow_by (is_narrow (g (map worth ps))) (g (map worth ps)) through.0 through.1 in
+    let short = narrow_by (is_short (g (map worth ps))) (g (map worth ps)) through.0 through.1 in
     let is : Some (g (map worth ps)) ≡ c = ap (λ (k : ℤ). Some k) short.1 ∙ sym through.2 in (
       ap (λ (o : Option (List ℤ)). option_map f o) (all_are ps none) ∙ ap (λ (k : ℤ). Some k) (same none) ∙ is,
       short_value (g (map worth ps)) c short.0 is,
