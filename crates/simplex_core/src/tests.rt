@@ -198,7 +198,6 @@ enum Found {
     Conflict,
     WideRow(i128),
     WideCoordinate(u32),
-    Again,
     Wrong,
     Memory,
 }
@@ -225,7 +224,6 @@ fn solved(alloc: Global, t: &mut Tableau, coefficients: &[[i64; 4]]) -> Found {
         Ok(Feasible::Wide(WideEvidence::Coordinate { variable, .. })) => {
             Found::WideCoordinate(variable)
         }
-        Ok(Feasible::Again(_)) => Found::Again,
         Err(_) => Found::Memory,
     }
 }

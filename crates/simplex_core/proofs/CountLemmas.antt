@@ -10,9 +10,17 @@ use Rattle.std.proofs.lemmas.Map.Views.{Contains-from_any}
 use Rattle.std.proofs.lemmas.Bool.{eqb-true, false_from_ne_true}
 use Rattle.std.proofs.lemmas.Cmp.{nat_eq_equiv}
 use Rattle.simplex_core.specs.machinery.Standing.{number}
-use Rattle.simplex_core.specs.machinery.Visited.{AreDistinct}
 use Rattle.simplex_core.specs.declared.standing.Standing.{Standing}
 use Rattle.simplex_core.proofs.StandingLemmas.{number-below, number-same}
+
+-- each list has a standing for each column, and no two lists are equal: they have different numbers
+pub record AreDistinct (columns : ℕ) (lists : List (List Standing)) : Type 0 where
+  pub each : All (λ standings. length standings ≡ columns) lists
+  pub distinct : IsDistinct nat_eq (map number lists)
+
+pub distinct-none : (columns : ℕ) → AreDistinct columns []
+unfolding IsDistinct
+distinct-none columns = record { each = λ k d h. absurd (omega arith); distinct = tt }
 
 below_all : (lists : List (List Standing)) (columns : ℕ) → All (λ ss. length ss ≡ columns) lists → All (λ m. m < 4 ^ columns) (map number lists)
 below_all lists columns each =
@@ -39,7 +47,7 @@ distinct-push columns lists ss are e unmet =
     }
 
 -- lists that are all different are no more than all that there can be
-pub at_most_all : (columns : ℕ) (lists : List (List Standing)) → AreDistinct columns lists → length lists ≤ 4 ^ columns
+at_most_all : (columns : ℕ) (lists : List (List Standing)) → AreDistinct columns lists → length lists ≤ 4 ^ columns
 at_most_all columns lists are =
     let below : (q : ℕ) → list_any (nat_eq q) (map number lists) ≡ true → q < 4 ^ columns =
     λ q h. All-contains (λ m. m < 4 ^ columns) (map number lists) q (below_all lists columns are.each) (Contains-from_any same_number q (map number lists) h) in
