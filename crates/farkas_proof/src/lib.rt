@@ -22,7 +22,7 @@ mod sum;
 mod tree;
 mod walk;
 
-pub use checker::check;
+pub use checker::{check, check_owned};
 pub use evidence::Evidence;
 pub use evidence_laws::{
     a_half_is_split, a_large_multiple_has_a_wide_floor, a_quotient_is_split, all_literals_may_join,

@@ -5,6 +5,7 @@ mod basis_laws;
 mod bounds;
 mod combine;
 mod content;
+mod copies;
 mod eliminate;
 mod equation;
 mod follow_laws;
