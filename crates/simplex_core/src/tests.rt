@@ -336,7 +336,10 @@ fn many_columns_have_each_answer(rt: HostRuntime) -> Result<(), Fail> {
     for variable in 0..3 {
         between(&mut t, variable, most, most);
     }
-    assert_eq!(rt; solved(rt.alloc(), &mut t, &rows), Found::WideCoordinate(67));
+    assert_eq!(rt;
+        solved(rt.alloc(), &mut t, &rows),
+        Found::WideCoordinate(67)
+    );
     Ok(())
 }
 
