@@ -2,7 +2,6 @@
 use Rattle.std.proofs.Common.{◌≡◌, ℕ, suc, zero, List, [], ◌∷◌, map, refl, ap, sym, ◌∙◌, arith, ◌<◌, ◌≤◌, ◌+◌, ◌*◌, ◌^◌, length, ◌&&◌, true, false, Bool}
 use Rattle.std.specs.Prelude.{ℤ, nat_abs, nat_le, nat_lt}
 use Rattle.std.specs.List.{list_all}
-use Rattle.std.proofs.lemmas.List.{length-map}
 use Rattle.std.proofs.lemmas.Bool.{leb-true, ltb-true, lt-ltb}
 use Rattle.base.specs.Widths.{is_long, is_short}
 use Rattle.lin_atoms.specs.Algebra.{are_within, collected, name_in}
@@ -33,6 +32,10 @@ within-named : (m : ℕ) (f : ℕ → ℕ) (ts : List (ℕ × ℤ)) → are_with
 within-named m f [] = refl
 within-named m f (t ∷ ts) = ap (λ b. nat_le (nat_abs t.1) m && b) (within-named m f ts)
 
+length-named : (f : ℕ → ℕ) (ts : List (ℕ × ℤ)) → length {A = ℕ × ℤ} (map (λ t. (f t.0, t.1)) ts) ≡ length ts
+length-named f [] = refl
+length-named f (t ∷ ts) = ap (λ n. suc n) (length-named f ts)
+
 within-short : (m : ℕ) (ts : List (ℕ × ℤ)) → m < 2 ^ 63 → are_within m ts ≡ true → are_short ts ≡ true
 within-short m [] h is = refl
 within-short m (t ∷ ts) h is =
@@ -45,10 +48,13 @@ lin-room : (args : List ℕ) (lin : Linear) → length args ≤ 256 → is_linea
 lin-room args lin few legal below narrow =
     let parts = both_true (are_ordered 0 lin.terms) _ legal in
     let long = (both_true (are_short lin.terms) (is_long lin.constant) parts.1).1 in
-    let terms = map (λ (t : ℕ × ℤ). (name_in args t.0, t.1)) lin.terms in
-    let count : length terms ≤ 256 = (let same = length-map lin.terms (λ (t : ℕ × ℤ). (name_in args t.0, t.1)) in let most = few_terms (length args) 0 lin.terms (omega arith) parts.0 below in omega arith) in
-    let within = within-collected (2 ^ 54) terms (within-named (2 ^ 54) (name_in args) lin.terms ∙ narrow) in
-    both (are_short (collected terms)) (is_long lin.constant) (within-short (length terms * 2 ^ 54) (collected terms) (omega arith) within) long
+    let terms : List (ℕ × ℤ) = map (λ (t : ℕ × ℤ). (name_in args t.0, t.1)) lin.terms in
+    let same : length terms ≡ length lin.terms = length-named (name_in args) lin.terms in
+    let most : 0 + length lin.terms ≤ length args = few_terms (length args) 0 lin.terms (omega arith) parts.0 below in
+    let count : length terms ≤ 256 = omega (arith, same, most, few) in
+    let within : are_within (length terms * 2 ^ 54) (collected terms) ≡ true = within-collected (2 ^ 54) terms (within-named (2 ^ 54) (name_in args) lin.terms ∙ narrow) in
+    let room : length terms * 2 ^ 54 < 2 ^ 63 = omega (arith, count) in
+    both (are_short (collected terms)) (is_long lin.constant) (within-short (length terms * 2 ^ 54) (collected terms) room within) long
 
 lit-room : (args : List ℕ) (lit : Lit) → length args ≤ 256 → lit_is_narrow lit ≡ true → lit_is_below (length args) lit ≡ true → lit_fits (lit_at args lit) ≡ true
 lit-room args (Le lin) few is below = (let parts = both_true (is_linear lin) _ is in lin-room args lin few parts.0 below parts.1)
