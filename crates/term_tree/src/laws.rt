@@ -86,7 +86,7 @@ pub fn head_of_nodes()
         has_head n nodes id ≡ node_has_head n nodes (has_head n nodes) node }
 {}
 
-/// A solution stays one when each definition is replaced by one by a formula that has the same value everywhere.
+/// A solution stays one when each definition is replaced by a formula that has the same value everywhere.
 pub fn same_values_same_solution()
     ensures { (script : Script) (old new : List Definition) →
         AgreeEverywhere (interpretation_of old) (interpretation_of new) → DefinesEach 0 script.preds new → AreFormulas script.preds new →
