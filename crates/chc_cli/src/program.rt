@@ -35,7 +35,7 @@ pub fn chc_main<S: Source, K: Sink>(
     // What `chc_run` says of each status.
     ensures answered { result.status ≡ 0 → Answers result.read.items (K.held sink.old) (K.held sink.new) }
     ensures answers_all { result.status ≡ 0 → IfSome (S.left source.old) (λ bytes. result.read.items ≡ bytes) }
-    ensures refused { IfSome result.refusal (λ refusal. Refuses (S.left source.old) result.read.items refusal (K.held sink.old) (K.held sink.new)) }
+    ensures refused { IfSome result.refusal (λ refusal. Refuses (S.left source.old) (S.ends source.old) (S.ends source.new) result.read.items refusal (K.held sink.old) (K.held sink.new)) }
     ensures refuses_all { IfSome result.refusal (ReadsInput (S.left source.old) result.read.items) }
     ensures refusal { IsSome result.refusal ↔ (result.status ≡ 1) }
     ensures usage { result.status ≡ 2 → Appends usage_text (K.held sink.old) (K.held sink.new) }

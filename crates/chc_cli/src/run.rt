@@ -4,7 +4,6 @@ ghost use Rattle.outside_io.specs.Bytes.{Appends};
 ghost use Rattle.outside_io.specs.Counts.{counted};
 ghost use Rattle.outside_io.specs.declared.turn.Turn.TheVariants.{Fault};
 ghost use Rattle.term_tree.specs.declared.refusal.Refusal.{Refusal};
-ghost use Rattle.term_tree.specs.declared.refusal.Kind.TheVariants.{TooLong};
 ghost use Rattle.sort_check.specs.Commands.{Command};
 ghost use Rattle.sort_check.specs.Scripts.{IsScript, IsRefused};
 ghost use Rattle.chc_cli.specs.Headline.{is_solve, Answers, Refuses, ReadsInput, WritesPart, EndsOnce};
@@ -54,10 +53,9 @@ pub fn chc_run<S: Source, K: Sink>(
     ensures answers_all { result.status ≡ 0 → IfSome (S.left source.old) (λ bytes. result.read.items ≡ bytes) }
 
     // 1: it is the line of the one refusal of the bytes.
-    ensures refused { IfSome result.refusal (λ refusal. Refuses (S.left source.old) result.read.items refusal (K.held sink.old) (K.held sink.new)) }
+    ensures refused { IfSome result.refusal (λ refusal. Refuses (S.left source.old) (S.ends source.old) (S.ends source.new) result.read.items refusal (K.held sink.old) (K.held sink.new)) }
     ensures refuses_all { IfSome result.refusal (ReadsInput (S.left source.old) result.read.items) }
     ensures refusal { IsSome result.refusal ↔ (result.status ≡ 1) }
-    ensures too_long { IfSome result.refusal (λ refusal. refusal.kind ≡ TooLong → S.ends source.new ≡ S.ends source.old) }
 
     // Both exactly: of bytes that are a script no refusal is told, and bytes that are refused are not answered.
     ensures answers_scripts { IfSome (S.left source.old) (λ bytes. (commands : List Command) → IsScript bytes commands → result.status ≢ 1) }
@@ -82,7 +80,7 @@ pub fn chc_run<S: Source, K: Sink>(
     ensures sink_faults { result.status ≢ 4 → K.faults sink.new ≡ K.faults sink.old }
     ensures write_fault { result.status ≡ 4 → K.faults sink.new ≡ counted (K.faults sink.old) }
     ensures stops_writing { result.status ≡ 4 → K.last sink.new ≡ Fault }
-    ensures writes_part { result.status ≡ 4 → WritesPart (map string_bytes words.now) (S.left source.old) result.read.items (K.held sink.old) (K.held sink.new) }
+    ensures writes_part { result.status ≡ 4 → WritesPart (map string_bytes words.now) (S.left source.old) (S.ends source.old) (S.ends source.new) result.read.items (K.held sink.old) (K.held sink.new) }
 
     // 5: want of memory.
     ensures memory { result.status ≡ 5 → Appends memory_text (K.held sink.old) (K.held sink.new) }
@@ -130,6 +128,18 @@ pub fn chc_run<S: Source, K: Sink>(
             Err(_) => Report {
                 status: 4,
                 read,
+                refusal: None,
+            },
+        },
+        Plan::Overlong { refusal, line } => match write_all(sink, line.as_slice()) {
+            Ok(()) => Report {
+                status: 1,
+                read: Vec::new(alloc),
+                refusal: Some(refusal),
+            },
+            Err(_) => Report {
+                status: 4,
+                read: Vec::new(alloc),
                 refusal: None,
             },
         },
