@@ -10,8 +10,7 @@ use Rattle.term_check.specs.declared.check.FormulaStop.TheVariants.{Memory as Ou
 use Rattle.term_check.specs.declared.scope.Named.{Named}
 use Rattle.term_check.specs.machinery.Known.{Known, IsReady, are_lets_below}
 use Rattle.term_check.specs.Formula.{params_from}
-use Rattle.term_check.specs.Reading.{scope_of}
-use Rattle.term_check.specs.Spelling.{Scope, lets_in}
+use Rattle.term_check.specs.Spelling.{Scope, lets_in, scope_of}
 use Rattle.term_check.specs.Term.{Term, IsAligned}
 use Rattle.term_check.specs.machinery.TellsFormula.{TellsFormula}
 

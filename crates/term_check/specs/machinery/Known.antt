@@ -1,4 +1,4 @@
--- What a reader knows: the text, what a term may use, and the terms that let binds around it, by number.
+-- What a context knows: the text, what a term may use, and the terms that let binds around it, by number.
 use Rattle.std.specs.Prelude.{◌≡◌, ℕ, ◌+◌, ◌<◌, ◌^◌, List, ◌++◌, length, take, Bool, true, nat_lt}
 use Rattle.std.specs.List.{list_all}
 use Rattle.term_tree.specs.declared.node.TermId.{TermId}
