@@ -58,7 +58,7 @@ module _ (preds : List Pred) (names : AreNames preds) (d : Definition) (stored :
       let term = made.term in
       shows_same (ReadsAs d.terms.nodes stored.arena sorts (params_from 0 (params_at 0 sorts)) params (length (params_at 0 sorts)) BoolSort None d.body.0) IsTerm 2 (term_text d.terms.nodes d.body.0)
       (λ text tree r. (r.found.term, ap bool_term r.is ∙ ap (λ (p : Rattle.term_check.specs.declared.part.Part.Part). cond (Rattle.term_check.specs.Rules.same_sort p.sort BoolSort) (Ok r.found.term) (Err p.start)) r.part, r.like))
-      (defining_reads d.terms.nodes stored.arena stored.numbers sorts few (params_from 0 (params_at 0 sorts)) params (length (params_at 0 sorts)) 2 d.body (omega arith) term)
+      (defining_reads d.terms.nodes stored.arena sorts few (params_from 0 (params_at 0 sorts)) params (length (params_at 0 sorts)) 2 d.body (omega arith) term)
 
   abbrev Parts : List ℕ → List Tree → Type 0
   Parts = FirstAnd (IsLeaf Symbol (codes "define-fun")) (FirstAnd (IsPred preds names d.pred) (FirstAnd (λ text tree. parameters text sorts tree ≡ Ok (params_at 0 sorts))

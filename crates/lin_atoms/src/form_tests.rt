@@ -172,6 +172,30 @@ fn denial_stops_where_the_constant_has_no_room(rt: HostRuntime) -> Result<(), Fa
     Ok(())
 }
 
+#[test]
+fn denial_of_an_equality_stops_on_either_side(rt: HostRuntime) -> Result<(), Fail> {
+    for (constant, wanted) in [(WIDE - 1, true), (1 - WIDE, true), (WIDE - 2, false)] {
+        let lit = Lit::Eq(lin(rt.alloc(), &[(0, 2)], constant)?);
+        let stopped = matches!(denied(rt.alloc(), &lit), Err(WideStop::Wide));
+        assert_eq!(rt; stopped, wanted, "at {constant}");
+    }
+    Ok(())
+}
+
+/// Whether the sum of two forms with these constants has no room.
+fn sum_stops(alloc: Global, a: i128, b: i128) -> Result<bool, Fail> {
+    let sum = lin(alloc, &[(0, 2)], a)?.added(alloc, &lin(alloc, &[(1, 3)], b)?);
+    Ok(matches!(sum, Err(WideStop::Wide)))
+}
+
+#[test]
+fn sums_stop_where_the_constant_has_no_room(rt: HostRuntime) -> Result<(), Fail> {
+    assert!(rt; sum_stops(rt.alloc(), WIDE - 1, 1)?);
+    assert!(rt; sum_stops(rt.alloc(), 1 - WIDE, -1)?);
+    assert!(rt; !sum_stops(rt.alloc(), WIDE - 1, 0)?);
+    Ok(())
+}
+
 /// x is at most y, or 3 doesn't divide y.
 fn sample(alloc: Global) -> Result<Form, Fail> {
     let three = Divisor::new(3).ok_or("no divisor")?;

@@ -126,7 +126,7 @@ fn bytes_that_meet_no_room_are_a_fault(rt: HostRuntime) -> Result<(), Fail> {
     Ok(())
 }
 
-/// Reads give its last byte, and writes take two at a time. The call numbered `bad_call` fails, and
+/// Reads give its last two bytes, the last first, and writes take two at a time. The call numbered `bad_call` fails, and
 /// the flush after `bad_flush` calls, and the writes from `stuck_at` on take nothing.
 #[derive(Drop)]
 struct Pipe {
@@ -155,16 +155,13 @@ impl Read for Pipe {
         if self.calls == self.bad_call {
             return Err(io::ErrorKind::Other.into());
         }
-        if buf.is_empty() {
-            return Ok(0);
-        }
-        match self.bytes.pop() {
-            Some(byte) => {
-                buf[0] = byte;
-                Ok(1)
+        let count = buf.len().min(2).min(self.bytes.len());
+        for slot in &mut buf[..count] {
+            if let Some(byte) = self.bytes.pop() {
+                *slot = byte;
             }
-            None => Ok(0),
         }
+        Ok(count)
     }
 }
 

@@ -1,30 +1,36 @@
 -- What an answer at the end of a run says of the tableau that was handed in.
-use Rattle.std.proofs.Common.{◌≡◌, ℕ, List, ap, sym, ◌∙◌, arith, ◌<◌, ◌^◌, true, false, Bool, cond, get_or, Some, subst, ⊎_elim, take, Result, Ok, Err, IfOk}
-use Rattle.std.specs.Prelude.{ℤ, pos}
+use Rattle.std.proofs.Common.{◌≡◌, ℕ, List, ap, sym, ◌∙◌, arith, ◌<◌, ◌^◌, true, false, Bool, cond, get_or, refl, Some, None, subst, ⊎_elim, take, Result, Ok, Err, IfOk}
+use Rattle.std.specs.Prelude.{ℤ, pos, not, nat_abs, ◌*ℤ◌, ◌<ℤ◌}
+use Rattle.std.specs.Int.{int_div_euclid}
 use Rattle.std.specs.List.{list_all}
+use Rattle.std.proofs.lemmas.Int.{ints}
 use Rattle.std.proofs.lemmas.List.{get_or-take, length-take-le}
+use Rattle.lin_atoms.specs.Linear.{is_short}
 use Rattle.lin_atoms.specs.Ratio.{Fraction}
+use Rattle.lin_atoms.proofs.Public.{positive}
 use Rattle.base.specs.declared.memory.Memory.{Memory}
 use Rattle.int_rows.specs.Basis.{IsWideCoordinate, IsWideRow}
 use Rattle.int_rows.specs.Rows.{are_short}
 use Rattle.int_rows.specs.Space.{SameSpace}
 use Rattle.int_rows.specs.Table.{IsTable, Table, pivoted, width}
 use Rattle.int_rows.proofs.Public.{same-symmetric}
-use Rattle.simplex_core.specs.Answer.{IsEnd, IsRun, Tells, basis, crossing, multipliers, outer}
+use Rattle.simplex_core.specs.Answer.{AreCoordinates, IsEnd, IsRun, basis, crossing, multipliers, outer}
 use Rattle.simplex_core.specs.machinery.Kept.{AreStandings}
-use Rattle.simplex_core.specs.Meaning.{HasSameBounds, IsConflict, Means, system_of}
+use Rattle.simplex_core.specs.Meaning.{HasSameBounds, HasShortFloors, IsConflict, Means, system_of}
 use Rattle.simplex_core.specs.Run.{Moment, Next, Ended, after, columns, coordinate_at, coordinates, has_wide_floor, is_wide, next, outcome, turn, wide, wide_floor}
 use Rattle.simplex_core.specs.declared.answer.Feasible.{Feasible}
-use Rattle.simplex_core.specs.declared.answer.Feasible.TheVariants.{Vertex as AtVertex, Conflict as InConflict, Wide as IsWide, Again}
+use Rattle.simplex_core.specs.declared.answer.Feasible.TheVariants.{Vertex as AtVertex, Conflict as InConflict, Wide as IsWide}
 use Rattle.simplex_core.specs.declared.answer.WideEvidence.TheVariants.{Row, Coordinate}
 use Rattle.simplex_core.specs.declared.turn.Side.{Side}
 use Rattle.simplex_core.specs.declared.turn.Turn.{Turn}
 use Rattle.simplex_core.specs.declared.turn.Turn.TheVariants.{Crossed, Wide, Vertex, Conflict, Pivot}
+use Rattle.simplex_core.proofs.FractionLemmas.{floor_elsewhere}
 use Rattle.simplex_core.proofs.GoodLemmas.{IsGood, leaves-row, pivots-row, restood-legal, run-good}
 use Rattle.simplex_core.proofs.ConflictLemmas.{crossed-means}
 use Rattle.simplex_core.proofs.MeansLemmas.{AreAlike, conflict-moves, coordinate-moves, floor-means, row-means, row-moves, vertex-moves, wide-means}
 use Rattle.simplex_core.proofs.MomentLemmas.{coordinates-at, coordinates-length}
-use Rattle.simplex_core.proofs.RangeLemmas.{position-some}
+use Rattle.simplex_core.proofs.PointLemmas.{den-positive}
+use Rattle.simplex_core.proofs.RangeLemmas.{position-none, position-some}
 use Rattle.simplex_core.proofs.StuckLemmas.{stuck-means}
 use Rattle.simplex_core.proofs.TurnLemmas.{turn-conflicts, turn-crosses, turn-vertex, turn-wides}
 use Rattle.simplex_core.proofs.VertexLemmas.{vertex-means}
@@ -97,23 +103,53 @@ end-means t m (IsWide (Coordinate columns_in outside c)) good is =
     subst (λ (b : List ℕ). IsWideCoordinate (system_of t) b outside.items c) (sym is.1)
     (subst (λ (o : List ℤ). IsWideCoordinate (system_of t) (basis (columns m.table) m.standings) o c) (sym is.2)
     (coordinate-moves m.table t (basis (columns m.table) m.standings) (outer m) c (good-alike t m good) (coordinate-means m c good.table good.legal (end-turn m (Wide c) is.0))))
-end-means t m (Again columns_in) good is = tt
 
-answer-means : (t : Table) (k : ℕ) (last : Moment) (answer : Feasible) → IsGood t last → Tells t k last (Ok answer) → Means t answer
-answer-means t k last (AtVertex ratios) good is = end-means t last (AtVertex ratios) good is.0
-answer-means t k last (InConflict ms) good is = end-means t last (InConflict ms) good is.0
-answer-means t k last (IsWide evidence) good is = end-means t last (IsWide evidence) good is.0
-answer-means t k last (Again columns_in) good is = tt
+shown-short : (b : Bool) → not b ≡ false → b ≡ true
+shown-short true h = refl
+shown-short false h = absurd (cc)
 
-result-means : (t : Table) (k : ℕ) (last : Moment) (r : Result Feasible Memory) → IsGood t last → Tells t k last r → IfOk r (Means t)
-result-means t k last (Ok answer) good is = answer-means t k last answer good is
-result-means t k last (Err stop) good is = tt
+-- the floor of a variable that is no slack, at a vertex
+floor-short : (m : Moment) (v : ℕ) → IsTable m.table → wide_floor m ≡ None → v < m.table.variables → is_short (int_div_euclid (coordinate_at m v).num (coordinate_at m v).den) ≡ true
+unfolding wide_floor
+floor-short m v is none h =
+    let d : Fraction = record { num = pos 0; den = pos 1 } in
+    let count = coordinates-length m in
+    let size = length-take-le m.table.variables (coordinates m) (omega (arith, count)) in
+    let same : get_or (take m.table.variables (coordinates m)) v d ≡ coordinate_at m v = get_or-take m.table.variables (coordinates m) v d h ∙ coordinates-at m v d (omega (arith, h)) in
+    shown-short _ (ap has_wide_floor (sym same) ∙ position-none has_wide_floor (take m.table.variables (coordinates m)) v d none (omega (arith, h, size)))
+
+fraction-short : (q r : Fraction) → pos 0 <ℤ q.den → pos 0 <ℤ r.den → r.num *ℤ q.den ≡ q.num *ℤ r.den → is_short (int_div_euclid q.num q.den) ≡ true → is_short (int_div_euclid r.num r.den) ≡ true
+fraction-short q r some more same h =
+    let e = nat_abs r.den in
+    let den : r.den ≡ pos e = positive r.den more in
+    let some' : 0 < e = omega (arith, ints) in
+    let turned : q.num *ℤ pos e ≡ r.num *ℤ q.den = ap (λ z. q.num *ℤ z) (sym den) ∙ sym same in
+    ap (λ z. is_short (int_div_euclid r.num z)) den ∙ ap is_short (floor_elsewhere q r.num e some some' turned) ∙ h
+
+vertex-floors : (t : Table) (m : Moment) (qs : List Fraction) → IsGood t m → next m ≡ Ended Vertex → AreCoordinates m qs → (v : ℕ) (d : Fraction) → v < t.variables → is_short (int_div_euclid (get_or qs v d).num (get_or qs v d).den) ≡ true
+vertex-floors t m qs good is are v d h =
+    let at = turn-vertex m (end-turn m Vertex is) in
+    let here : v < m.table.variables = omega (arith, h, good.variables) in
+    let within : v < width m.table = omega (arith, here) in
+    fraction-short (coordinate_at m v) (get_or qs v d) (den-positive m.table m.standings v good.table good.legal within) (are.positive v d within) (are.same v d within) (floor-short m v good.table at.floors here)
+
+-- at a vertex the floors of the variables that are no slacks have room
+floors-end : (t : Table) (m : Moment) (answer : Feasible) → IsGood t m → IsEnd m answer → HasShortFloors t answer
+floors-end t m (AtVertex ratios) good is = vertex-floors t m ratios.items good is.0 is.1
+floors-end t m (InConflict ms) good is = tt
+floors-end t m (IsWide evidence) good is = tt
+
+result-means : (t : Table) (last : Moment) (r : Result Feasible Memory) → IsGood t last → IfOk r (IsEnd last) → IfOk r (Means t) × IfOk r (HasShortFloors t)
+result-means t last (Ok answer) good is = (end-means t last answer good is, floors-end t last answer good is)
+result-means t last (Err stop) good is = (tt, tt)
 
 -- what a run that was followed says
-pub run-means : (old new : Table) (r : Result Feasible Memory) → IsTable old → width old < 2 ^ 32 → IsRun old new r → IfOk r (Means old) × SameSpace old.rows new.rows × HasSameBounds old new
+pub run-means : (old new : Table) (r : Result Feasible Memory) → IsTable old → width old < 2 ^ 32 → IsRun old new r → IfOk r (Means old) × IfOk r (HasShortFloors old) × SameSpace old.rows new.rows × HasSameBounds old new
 run-means old new r table few is =
-    let good = run-good old table few is.steps is.last is.reached in (
-      result-means old is.steps is.last r good is.tells,
+    let good = run-good old table few is.steps is.last is.reached in
+    let told = result-means old is.last r good is.ends in (
+      told.0,
+      told.1,
       subst (λ (t : Table). SameSpace old.rows t.rows) (sym is.table) good.space,
       subst (HasSameBounds old) (sym is.table) (record { variables = good.variables; lower = good.lower; upper = good.upper }),
     )

@@ -3,6 +3,7 @@ pub mod BlandLemmas
 pub mod ClashLemmas
 pub mod ConflictLemmas
 pub mod CoordinateLemmas
+pub mod CountLemmas
 pub mod EndLemmas
 pub mod FollowingLemmas
 pub mod FormLemmas
@@ -13,7 +14,6 @@ pub mod MeansLemmas
 pub mod MomentLemmas
 pub mod OnceLemmas
 pub mod OuterLemmas
-pub mod PackedLemmas
 pub mod PairLemmas
 pub mod PointLemmas
 pub mod RangeLemmas
@@ -25,4 +25,3 @@ pub mod StuckLemmas
 pub mod SumLemmas
 pub mod TurnLemmas
 pub mod VertexLemmas
-pub mod VisitedLemmas

@@ -114,6 +114,7 @@ vertex-moves t old qs alike h =
       is_basic = basic-rows t old h.basis h.outside h.point alike h.is_basic;
       meets = record { lower = h.meets.lower; upper = h.meets.upper };
       each = h.each;
+      positive = h.positive;
       same = h.same;
     } in
     subst (λ (s : System). IsVertex s qs) (system-alike t old alike) other

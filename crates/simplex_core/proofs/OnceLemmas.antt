@@ -35,7 +35,7 @@ unfolding run
 one-more t k = refl
 
 -- the moments before a moment
-before : (t : Table) (j k : ℕ) (m : Moment) → run t j ≡ Next m → k ≤ j → (a : Moment) × (run t k ≡ Next a)
+pub before : (t : Table) (j k : ℕ) (m : Moment) → run t j ≡ Next m → k ≤ j → (a : Moment) × (run t k ≡ Next a)
 before t zero k m e h = let same : k ≡ 0 = omega arith in (m, ap (run t) same ∙ e)
 before t (suc j) k m e h =
     let last = proceeds (run t j) m (sym (one-more t j) ∙ e) in

@@ -169,5 +169,6 @@ vertex-means t standings qs is are uncrossed settled those =
       is_basic = basic-point t standings is are;
       meets = vertex-meets t standings is are uncrossed settled;
       each = those.each;
+      positive = those.positive;
       same = λ c d h. same-three (get_or qs c d) (coordinate_at m c) (entry (point_of m).nums c) (point_of m).den (den-positive t standings c is are h) (those.same c d h) (point-at t standings c is are h);
     }

@@ -1,5 +1,5 @@
 -- What the end of a run is told by: a vertex, multipliers of bounds that contradict (Farkas, Theorie der einfachen Ungleichungen, 1902), or evidence that a number has no room.
-use Rattle.std.specs.Prelude.{◌≡◌, ℕ, ◌<◌, List, [], ◌∷◌, ℤ, pos, neg_ℤ, ◌*ℤ◌, int_lt, not, Bool, ◌==◌, length, map, filter, slice_index_or, Option, Some, None, Result, Ok, Err, if◌then◌else◌, ◌⊎◌}
+use Rattle.std.specs.Prelude.{◌≡◌, ℕ, ◌<◌, List, [], ◌∷◌, ℤ, pos, neg_ℤ, ◌*ℤ◌, ◌<ℤ◌, IfOk, int_lt, not, Bool, ◌==◌, length, map, filter, slice_index_or, Option, Some, None, Result, Ok, Err, if◌then◌else◌, ◌⊎◌}
 use Rattle.std.specs.List.{flat_map}
 use Rattle.lin_atoms.specs.Ratio.{Fraction}
 use Rattle.int_rows.specs.Rows.{entry}
@@ -7,7 +7,7 @@ use Rattle.int_rows.specs.Table.{HasWide, Table, basic_at, pivoted, row_at, widt
 use Rattle.base.specs.declared.memory.Memory.{Memory}
 use Rattle.simplex_core.specs.Run.{Moment, Next, Ended, columns, coordinate_at, is_basic, next, restood, run, seen_from, standing_at, stood_at}
 use Rattle.simplex_core.specs.declared.answer.Feasible.{Feasible}
-use Rattle.simplex_core.specs.declared.answer.Feasible.TheVariants.{Vertex as AtVertex, Conflict as InConflict, Wide as IsWide, Again}
+use Rattle.simplex_core.specs.declared.answer.Feasible.TheVariants.{Vertex as AtVertex, Conflict as InConflict, Wide as IsWide}
 use Rattle.simplex_core.specs.declared.answer.WideEvidence.TheVariants.{Row, Coordinate}
 use Rattle.simplex_core.specs.declared.standing.Standing.{Standing}
 use Rattle.simplex_core.specs.declared.turn.Side.{Side}
@@ -48,6 +48,7 @@ crossing t column = flat_map (crossing_at column) (columns t)
 -- whether the fractions are the values of the columns
 pub record AreCoordinates (m : Moment) (qs : List Fraction) : Type 0 where
   pub each : length qs ≡ width m.table
+  pub positive : (c : ℕ) (d : Fraction) → c < width m.table → pos 0 <ℤ (slice_index_or qs c d).den
   pub same : (c : ℕ) (d : Fraction) → c < width m.table → (slice_index_or qs c d).num *ℤ (coordinate_at m c).den ≡ (coordinate_at m c).num *ℤ (slice_index_or qs c d).den
 
 -- whether the run ends at the moment with this answer
@@ -56,7 +57,6 @@ IsEnd m (AtVertex ratios) = (next m ≡ Ended Vertex) × AreCoordinates m ratios
 IsEnd m (InConflict ms) = ((c : ℕ) × (next m ≡ Ended (Crossed c)) × (ms.items ≡ crossing m.table c)) ⊎ ((i : ℕ) × (side : Side) × (next m ≡ Ended (Conflict i side)) × (ms.items ≡ multipliers m.table i side))
 IsEnd m (IsWide (Row columns_in wide)) = (i : ℕ) × (c : ℕ) × (side : Side) × (j : ℕ) × (next m ≡ Ended (Pivot i c side)) × (columns_in.items ≡ basis (columns m.table) (restood m.table m.standings (basic_at m.table.basic i) c side)) × HasWide (pivoted i c m.table.rows) j wide
 IsEnd m (IsWide (Coordinate columns_in outside c)) = (next m ≡ Ended (Wide c)) × (columns_in.items ≡ basis (columns m.table) m.standings) × (outside.items ≡ outer m)
-IsEnd m (Again columns_in) = ⊥
 
 -- one step of the run: the next moment, or an answer where it ends
 abbrev pub Steps : Moment → Moment → Result (Option Feasible) Memory → Type 0
@@ -69,17 +69,10 @@ pub record AreSame (a b : Moment) : Type 0 where
   pub basic : basis (columns a.table) a.standings ≡ basis (columns b.table) b.standings
   pub outside : outer a ≡ outer b
 
--- what an answer tells of the last moment of the run: the run ends there and no moment came twice, or this one came before
-abbrev pub Tells : Table → ℕ → Moment → Result Feasible Memory → Type 0
-Tells t steps last (Ok (Again columns_in)) = (i : ℕ) × (a : Moment) × (i < steps) × (run t i ≡ Next a) × AreSame a last × (columns_in.items ≡ basis (columns last.table) last.standings)
-Tells t steps last (Ok answer) = IsEnd last answer × ((i : ℕ) (a : Moment) → i < steps → run t i ≡ Next a → AreSame a last → ⊥)
-Tells t steps last (Err stop) = Unit {0}
-
--- the run was followed to a moment, whose tableau is left. No moment before it came twice
+-- the run was followed to a moment, whose tableau is left. With an answer it ends there
 pub record IsRun (old new : Table) (result : Result Feasible Memory) : Type 0 where
   pub steps : ℕ
   pub last : Moment
   pub reached : run old steps ≡ Next last
   pub table : new ≡ last.table
-  pub distinct : (i j : ℕ) (a b : Moment) → i < j → j < steps → run old i ≡ Next a → run old j ≡ Next b → AreSame a b → ⊥
-  pub tells : Tells old steps last result
+  pub ends : IfOk result (IsEnd last)

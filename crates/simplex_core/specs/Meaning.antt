@@ -1,16 +1,17 @@
 -- What an answer says of the equations and bounds of a tableau.
 use Rattle.std.specs.Prelude.{◌≡◌, ℕ, ◌+◌, ◌*◌, ◌<◌, List, ℤ, pos, ◌+ℤ◌, ◌-ℤ◌, ◌*ℤ◌, ◌<ℤ◌, int_le, length, map, None, slice_index_or, true}
+use Rattle.std.specs.Int.{int_div_euclid}
 use Rattle.std.specs.List.{list_all, range_with_len}
 use Rattle.std.specs.Option.{unwrap_or}
 use Rattle.lin_atoms.specs.Dot.{dot}
-use Rattle.lin_atoms.specs.Linear.{Linear}
+use Rattle.lin_atoms.specs.Linear.{Linear, is_short}
 use Rattle.lin_atoms.specs.Ratio.{Fraction}
 use Rattle.int_rows.specs.Basis.{IsBasicPoint, IsWideCoordinate, IsWideRow, MeetsBounds, Point, System, bound}
 use Rattle.int_rows.specs.Node.{coefficient}
 use Rattle.int_rows.specs.Rows.{Follows, entry}
 use Rattle.int_rows.specs.Table.{Table, width}
 use Rattle.simplex_core.specs.declared.answer.Feasible.{Feasible}
-use Rattle.simplex_core.specs.declared.answer.Feasible.TheVariants.{Vertex, Conflict, Wide, Again}
+use Rattle.simplex_core.specs.declared.answer.Feasible.TheVariants.{Vertex, Conflict, Wide}
 use Rattle.simplex_core.specs.declared.answer.WideEvidence.TheVariants.{Row, Coordinate}
 
 -- the equations and bounds of a tableau
@@ -49,6 +50,7 @@ pub record IsVertex (system : System) (qs : List Fraction) : Type 0 where
   pub is_basic : IsBasicPoint system basis outside point
   pub meets : MeetsBounds system point
   pub each : length qs ≡ system.columns
+  pub positive : (c : ℕ) (d : Fraction) → c < system.columns → pos 0 <ℤ (slice_index_or qs c d).den
   pub same : (c : ℕ) (d : Fraction) → c < system.columns → (slice_index_or qs c d).num *ℤ pos point.den ≡ entry point.nums c *ℤ (slice_index_or qs c d).den
 
 -- what an answer says of the tableau that was handed in
@@ -57,7 +59,12 @@ Means t (Vertex ratios) = IsVertex (system_of t) ratios.items
 Means t (Conflict ms) = IsConflict t ms.items
 Means t (Wide (Row basis wide)) = IsWideRow (width t) t.rows basis.items wide
 Means t (Wide (Coordinate basis outside c)) = IsWideCoordinate (system_of t) basis.items outside.items c
-Means t (Again basis) = Unit {0}
+
+-- at a vertex each variable that is no slack, rounded down, is below 2 ^ 63 in magnitude
+abbrev pub HasShortFloors : Table → Feasible → Type 0
+HasShortFloors t (Vertex ratios) = (v : ℕ) (d : Fraction) → v < t.variables → is_short (int_div_euclid (slice_index_or ratios.items v d).num (slice_index_or ratios.items v d).den) ≡ true
+HasShortFloors t (Conflict ms) = Unit {0}
+HasShortFloors t (Wide evidence) = Unit {0}
 
 -- the same variables and bounds
 pub record HasSameBounds (old new : Table) : Type 0 where

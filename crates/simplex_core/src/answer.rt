@@ -11,8 +11,6 @@ pub enum Feasible {
     Conflict(Vec<i64>),
     /// A number has no room.
     Wide(WideEvidence),
-    /// The run came to this basis twice, with the same values of all variables outside it.
-    Again(Vec<u32>),
 }
 
 /// Which number has no room.

@@ -78,7 +78,9 @@ pub(crate) fn ratios(
 {
     let mut made = Vec::with_capacity(alloc, values.len())?;
     for value in values {
-        made.push(value.lowest())?;
+        let ratio = value.lowest();
+        let _num = ratio.num();
+        made.push(ratio)?;
     }
     Ok(made)
 }

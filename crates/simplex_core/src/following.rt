@@ -4,18 +4,16 @@ ghost use Rattle.std.specs.Prelude.{◌≡◌, ◌<◌, ◌^◌, IfOk};
 ghost use Rattle.int_rows.specs.Space.{SameSpace};
 ghost use Rattle.int_rows.specs.Table.{width};
 ghost use Rattle.simplex_core.specs.Answer.{IsRun};
-ghost use Rattle.simplex_core.specs.Meaning.{HasSameBounds, Means};
+ghost use Rattle.simplex_core.specs.Meaning.{HasSameBounds, HasShortFloors, Means};
 
 use crate::answer::Feasible;
-use crate::ends::basis;
 use crate::place::{coordinates, first_standings, width};
 use crate::stepping::step;
-use crate::visited::Visited;
 use base::Memory;
 use int_rows::Tableau;
 use std::alloc::Global;
 
-/// Follows the run to its end, or to a moment that is the same as one before.
+/// Follows the run to its end. No moment comes twice, and there are finitely many, so it has one.
 fn follow(alloc: Global, t: &mut Tableau, columns: usize) -> Result<Feasible, Memory>
     requires columns { columns ≡ width t.old }
     requires few { width t.old < 2 ^ 32 }
@@ -31,13 +29,7 @@ fn follow(alloc: Global, t: &mut Tableau, columns: usize) -> Result<Feasible, Me
         Ok(kept) => kept,
         Err(stop) => return Err(stop),
     };
-    let mut visited = Visited::new(alloc, columns);
     'run: loop {
-        if visited.met(standings.as_slice()) {
-            let met = basis(alloc, t, standings.as_slice())?;
-            return Ok(Feasible::Again(met));
-        }
-        visited.add(standings.as_slice())?;
         if let Some(answer) = step(alloc, t, standings.as_mut_slice(), kept.as_mut_slice())? {
             return Ok(answer);
         }
@@ -46,12 +38,13 @@ fn follow(alloc: Global, t: &mut Tableau, columns: usize) -> Result<Feasible, Me
 
 /// Whether the equations of a tableau have a solution within all bounds: follows the run of the
 /// simplex from the tableau under the rule of the least number. It ends with the values of a vertex,
-/// with multipliers of bounds that contradict, with a number without room, or at a moment that came
-/// before. The tableau is then that of the last moment: it has the same solutions and bounds, so a
-/// later call goes on from there. A tableau with 2^32 columns or more counts as want of memory.
+/// with multipliers of bounds that contradict, or with a number without room. The tableau is then
+/// that of the last moment: it has the same solutions and bounds, so a later call goes on from there.
+/// A tableau with 2^32 columns or more counts as want of memory.
 pub fn feasible(alloc: Global, t: &mut Tableau) -> Result<Feasible, Memory>
     ensures run { IsRun t.old t.new result }
     ensures means { IfOk result (λ answer. Means t.old answer) }
+    ensures floors { IfOk result (λ answer. HasShortFloors t.old answer) }
     ensures space { SameSpace t.old.rows t.new.rows }
     ensures bounds { HasSameBounds t.old t.new }
 {

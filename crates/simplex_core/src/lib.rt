@@ -7,30 +7,22 @@ mod choosing;
 mod coordinate;
 mod ends;
 mod following;
-mod packed;
+mod laws;
 mod place;
-mod point_laws;
 mod refresh;
 mod standing;
 mod stepping;
 mod turn;
-mod visited;
 
 pub use answer::{Feasible, WideEvidence};
-pub use coordinate::Coordinate;
 pub use following::feasible;
-pub use point_laws::{
+pub use laws::{
     conflicts_are_of_the_forms, coordinates_without_room_are_evidence,
     crossed_bounds_are_a_conflict, moments_are_basic_points, moments_come_once,
     stuck_rows_are_a_conflict, vertices_meet_all_bounds,
 };
-pub use standing::Standing;
-pub use turn::{Side, Turn};
-pub use visited::Visited;
 
 #[cfg(test)]
 mod coordinate_tests;
 #[cfg(test)]
 mod tests;
-#[cfg(test)]
-mod visited_tests;

@@ -108,7 +108,6 @@ fn solve(
             Ok(CONFLICT)
         }
         Feasible::Wide(_) => Ok(OTHER),
-        Feasible::Again(_) => Ok(OTHER),
     }
 }
 

@@ -12,7 +12,7 @@ use Rattle.term_tree.specs.Operators.{result_of, divides, integer, first_of_all}
 use Rattle.term_tree.specs.Value.{Environment}
 use Rattle.term_tree.specs.Truth.{Interpretation, Meaning, AreKnown, Completes, Determines, HoldsForAll, HoldsForSome, bound_from, node_meaning, meaning_in, meanings_from, HasValue}
 use Rattle.term_tree.specs.machinery.Agreement.{AgreeEverywhere}
-use Rattle.term_tree.specs.Solution.{interpretation_of, DefinesEach, IsSolution}
+use Rattle.term_tree.specs.Solution.{interpretation_of, DefinesEach, AreFormulas, IsSolution}
 use Rattle.term_tree.specs.declared.definition.Definition.{Definition}
 use Rattle.term_tree.specs.declared.script.Assertion.{Assertion}
 use Rattle.term_tree.specs.declared.script.Script.{Script}
@@ -171,9 +171,10 @@ all_same_under I J script (a ∷ asserts) agree h =
     (λ env. same_under I J script.terms.nodes a.term.0 env (Truth true) agree (h.0 env), all_same_under I J script asserts agree h.1)
 
 -- a solution stays one under definitions with the same values
-pub still_solution : (script : Script) (ds es : List Definition) → AgreeEverywhere (interpretation_of ds) (interpretation_of es) → DefinesEach 0 script.preds es
+pub still_solution : (script : Script) (ds es : List Definition) → AgreeEverywhere (interpretation_of ds) (interpretation_of es) → DefinesEach 0 script.preds es → AreFormulas script.preds es
     → IsSolution script ds → IsSolution script es
-still_solution script ds es agree defines solution = record {
+still_solution script ds es agree defines formed solution = record {
   defined = defines;
+  formed = formed;
   satisfied = all_same_under (interpretation_of ds) (interpretation_of es) script script.asserts agree solution.satisfied;
 }

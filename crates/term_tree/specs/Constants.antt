@@ -1,6 +1,6 @@
 -- Constants, and which products and divisions are linear. A constant is a numeral, one of `+ - * abs div mod` of
 -- constants, a name that a `let` binds to a constant, or a `let` whose body is one.
-use Rattle.std.specs.Prelude.{ℕ, ◌+◌, ◌^◌, ◌∷◌, List, [], map, length, slice_get, ℤ, pos, nat_abs, ◌*ℤ◌, Option, Some, None, option_map, Bool, true, false, not, ◌&&◌, nat_le, nat_lt, int_lt, if◌then◌else◌}
+use Rattle.std.specs.Prelude.{ℕ, ◌+◌, ◌∷◌, List, [], map, length, slice_get, ℤ, pos, ◌*ℤ◌, Option, Some, None, option_map, Bool, true, false, not, ◌&&◌, nat_le, int_lt, if◌then◌else◌}
 use Rattle.std.specs.List.{list_all}
 use Rattle.std.specs.Ordering.{int_eq}
 pub use Rattle.base.specs.Widths.{is_short}

@@ -1,12 +1,20 @@
 -- When definitions of the predicates are a solution of a script.
-use Rattle.std.specs.Prelude.{◌≡◌, ℕ, ◌+◌, List, [], ◌∷◌, length, slice_get, Option, Some, None, true, false}
+use Rattle.std.specs.Prelude.{◌≡◌, ℕ, ◌+◌, List, [], ◌∷◌, length, slice_get, Option, Some, None, Bool, true, false}
 use Rattle.std.specs.List.{AllByRecursion}
+use Rattle.term_tree.specs.declared.sort.Sort.{Sort}
+use Rattle.term_tree.specs.declared.sort.Sort.TheVariants.{Bool as BoolSort}
+use Rattle.term_tree.specs.declared.node.Node.{Node}
+use Rattle.term_tree.specs.declared.node.Node.TheVariants.{Divisible}
 use Rattle.term_tree.specs.declared.definition.Definition.{Definition}
 use Rattle.term_tree.specs.declared.script.Pred.{Pred}
 use Rattle.term_tree.specs.declared.script.Assertion.{Assertion}
 use Rattle.term_tree.specs.declared.script.Script.{Script}
 use Rattle.term_tree.specs.declared.scalar.Value.{Value}
 use Rattle.term_tree.specs.declared.scalar.Value.TheVariants.{Bool as Truth}
+use Rattle.term_tree.specs.Arena.{IsArena}
+use Rattle.term_tree.specs.Constants.{is_short}
+use Rattle.term_tree.specs.Subterms.{EverySubterm, IsPlain}
+use Rattle.term_tree.specs.Legal.{IsLegal}
 use Rattle.term_tree.specs.Value.{Environment, environment_of, value_of}
 use Rattle.term_tree.specs.Truth.{Interpretation, HasValue}
 
@@ -25,12 +33,29 @@ DefinesEach number (p ∷ preds) (d ∷ definitions) = (d.pred ≡ number) × (l
 DefinesEach number [] (d ∷ definitions) = ⊥
 DefinesEach number (p ∷ preds) [] = ⊥
 
+abbrev pub has_short_divisor : Node → Bool
+has_short_divisor (Divisible by arg) = is_short by
+has_short_divisor _ = true
+
+-- a formula over parameters of these sorts: a legal Bool term without predicates and quantifiers, each part before what it is a part of
+pub record IsFormula (sorts : List Sort) (nodes : List Node) (id : ℕ) : Type 0 where
+  pub arena : IsArena nodes
+  pub legal : IsLegal [] nodes sorts BoolSort id
+  pub plain : IsPlain nodes id
+  pub divisors : EverySubterm has_short_divisor nodes id
+
+-- the defining terms are formulas over the arguments of the predicates, in order
+abbrev pub AreFormulas : List Pred → List Definition → Type 0
+AreFormulas (p ∷ preds) (d ∷ definitions) = IsFormula p.args d.terms.nodes d.body.0 × AreFormulas preds definitions
+AreFormulas _ _ = Unit {0}
+
 -- the assertion is true under the definitions
 abbrev pub IsTrueUnder : List Definition → Script → Assertion → Type 0
 IsTrueUnder definitions script assertion =
     (env : Environment) → HasValue (interpretation_of definitions) script.terms.nodes assertion.term.0 env (Truth true)
 
--- every declared predicate is defined once, and under these definitions every assertion is true
+-- every declared predicate is defined once, by a formula over its arguments, and under these definitions every assertion is true
 pub record IsSolution (script : Script) (definitions : List Definition) : Type 0 where
   pub defined : DefinesEach 0 script.preds definitions
+  pub formed : AreFormulas script.preds definitions
   pub satisfied : AllByRecursion (IsTrueUnder definitions script) script.asserts

@@ -16,7 +16,7 @@ ghost use Rattle.term_tree.specs.Same.{is_alike, is_same_tree, parts_of, same_pa
 ghost use Rattle.term_tree.specs.Head.{has_head, node_has_head};
 ghost use Rattle.term_tree.specs.Division.{IsDivision};
 ghost use Rattle.term_tree.specs.Operators.{result_of};
-ghost use Rattle.term_tree.specs.Solution.{DefinesEach, IsSolution, interpretation_of};
+ghost use Rattle.term_tree.specs.Solution.{AreFormulas, DefinesEach, IsSolution, interpretation_of};
 ghost use Rattle.term_tree.specs.Subterms.{IsPlain};
 ghost use Rattle.term_tree.specs.declared.script.Pred.{Pred as Declared};
 ghost use Rattle.term_tree.specs.Sorts.{node_sort, sort_of};
@@ -86,10 +86,10 @@ pub fn head_of_nodes()
         has_head n nodes id ≡ node_has_head n nodes (has_head n nodes) node }
 {}
 
-/// A solution stays one when each definition is replaced by one that has the same value everywhere.
+/// A solution stays one when each definition is replaced by a formula that has the same value everywhere.
 pub fn same_values_same_solution()
     ensures { (script : Script) (old new : List Definition) →
-        AgreeEverywhere (interpretation_of old) (interpretation_of new) → DefinesEach 0 script.preds new →
+        AgreeEverywhere (interpretation_of old) (interpretation_of new) → DefinesEach 0 script.preds new → AreFormulas script.preds new →
         IsSolution script old → IsSolution script new }
 {}
 

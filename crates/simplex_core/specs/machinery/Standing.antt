@@ -1,5 +1,5 @@
--- Where the columns of a simplex tableau with bounds stand (Dantzig, Linear Programming and Extensions, chapter 18), and lists of standings as numbers in base 4.
-use Rattle.std.specs.Prelude.{ℕ, zero, suc, ◌+◌, ◌*◌, ◌/◌, ◌%◌, List, [], ◌∷◌}
+-- Lists of standings as numbers in base 4.
+use Rattle.std.specs.Prelude.{ℕ, zero, suc, ◌+◌, ◌*◌, List, [], ◌∷◌}
 use Rattle.simplex_core.specs.declared.standing.Standing.{Standing}
 use Rattle.simplex_core.specs.declared.standing.Standing.TheVariants.{Basic, AtLower, AtUpper, AtZero}
 
@@ -21,8 +21,3 @@ of_code (suc (suc (suc n))) = AtZero
 abbrev pub number : List Standing → ℕ
 number [] = 0
 number (s ∷ standings) = code s + 4 * number standings
-
--- so many digits of a number, from the lowest on
-abbrev pub standings_of : ℕ → ℕ → List Standing
-standings_of zero word = []
-standings_of (suc n) word = of_code (word % 4) ∷ standings_of n (word / 4)

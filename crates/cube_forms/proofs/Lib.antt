@@ -1,0 +1,5 @@
+pub mod BlockLemmas
+pub mod CubeLemmas
+pub mod Public
+pub mod RoomLemmas
+pub mod TruthLemmas
