@@ -9,7 +9,8 @@ use Rattle.term_tree.specs.declared.script.Pred.{Pred}
 use Rattle.term_tree.specs.declared.script.Assertion.{Assertion}
 use Rattle.term_check.specs.declared.part.Fault.{Fault}
 use Rattle.term_check.specs.Rules.{unless}
-use Rattle.term_check.specs.Term.{Term, IsTermAt, IsAligned, Keeps}
+use Rattle.term_check.specs.Found.{IsAligned, Keeps}
+use Rattle.term_check.specs.Term.{Term, IsTermAt}
 use Rattle.term_check.proofs.Public.{term_stays}
 use Rattle.sexp_read.specs.declared.tree.Tree.{Tree}
 use Rattle.term_check.specs.Spelling.{Spelled, spelled, ◌>>=◌, scope_of}

@@ -2,7 +2,8 @@
 
 ghost use Rattle.std.specs.Prelude.{◌≡◌, ◌+◌, ◌≤◌, ◌<◌, ◌^◌, List, [], ◌∷◌, length, IfOk};
 ghost use Rattle.term_check.specs.Spelling.{Spelled};
-ghost use Rattle.term_check.specs.Term.{IsTermAt, IsAligned};
+ghost use Rattle.term_check.specs.Found.{IsAligned};
+ghost use Rattle.term_check.specs.Term.{IsTermAt};
 ghost use Rattle.term_check.specs.machinery.Weight.{weight, weights};
 ghost use Rattle.sort_check.specs.Commands.{Command, set_logic, inform, check_sat, get_model, exit, declaration, declare_function, declare_constant, assertion, assert_term, plain, worded, command};
 ghost use Rattle.sort_check.specs.Scripts.{IsScriptOf, end_fault, refusal_at};

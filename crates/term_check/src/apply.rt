@@ -8,7 +8,8 @@ ghost use Rattle.term_tree.specs.declared.sort.Sort.TheVariants.{Bool as BoolSor
 ghost use Rattle.term_check.specs.machinery.Known.{IsReady};
 ghost use Rattle.term_check.specs.machinery.Reading.{IsAdded, IsGathered, Tells, quantifier_node};
 ghost use Rattle.term_check.specs.Spelling.{leaf_term, head_fault, Gathered, Spelled, application, let_spelled, quantified, quantifier};
-ghost use Rattle.term_check.specs.Term.{IsAligned, Keeps, AreTermsAt, IsTermAt};
+ghost use Rattle.term_check.specs.Found.{IsAligned, Keeps};
+ghost use Rattle.term_check.specs.Term.{AreTermsAt, IsTermAt};
 
 use crate::context::Context;
 use crate::found::{Found, FoundAll};

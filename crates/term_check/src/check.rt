@@ -3,10 +3,10 @@
 ghost use Rattle.std.specs.Prelude.{◌≡◌, ℕ, ◌+◌, ◌<◌, ◌^◌, length, IfOk, IsErrOf, Result, Ok, Err, true, []};
 ghost use Rattle.term_tree.specs.Arena.{Arena};
 ghost use Rattle.term_check.specs.declared.part.Fault.{Fault as AFault};
-ghost use Rattle.term_check.specs.Term.{Term, IsAligned, IsTermAt, Keeps};
+ghost use Rattle.term_check.specs.Term.{Term, IsTermAt};
 ghost use Rattle.term_check.specs.Spelling.{Spelled, spelled, scope_of};
 ghost use Rattle.term_check.specs.machinery.Weight.{weight};
-ghost use Rattle.term_check.specs.Found.{IsFound};
+ghost use Rattle.term_check.specs.Found.{IsFound, IsAligned, Keeps};
 ghost use Rattle.term_check.specs.machinery.Reading.{Tells};
 ghost use Rattle.term_check.specs.Formula.{bool_term, formula};
 ghost use Rattle.term_check.specs.machinery.TellsFormula.{TellsFormula};

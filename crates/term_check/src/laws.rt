@@ -8,14 +8,14 @@ ghost use Rattle.sexp_read.specs.Trees.{IsReading};
 ghost use Rattle.term_check.specs.machinery.Weight.{weight};
 ghost use Rattle.term_tree.specs.declared.node.TermId.{TermId};
 ghost use Rattle.term_tree.specs.Arena.{Arena, IsArena};
-ghost use Rattle.term_check.specs.Term.{Term, IsTermAt, Keeps};
+ghost use Rattle.term_check.specs.Term.{Term, IsTermAt};
 ghost use Rattle.term_tree.specs.declared.script.Pred.{Pred as Predicates};
 ghost use Rattle.term_tree.specs.declared.sort.Sort.{Sort};
 ghost use Rattle.term_tree.specs.Legal.{IsLegal};
 ghost use Rattle.term_tree.specs.Subterms.{IsPlain};
 ghost use Rattle.term_check.specs.declared.part.Part.{Part};
 ghost use Rattle.term_check.specs.machinery.Legality.{AreParameters};
-ghost use Rattle.term_check.specs.Found.{IsFound};
+ghost use Rattle.term_check.specs.Found.{IsFound, Keeps};
 ghost use Rattle.term_check.specs.Spelling.{Scope, Spelled, spelled, scope_of};
 
 /// A term of an arena stays that term as the arena grows.

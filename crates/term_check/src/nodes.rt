@@ -2,7 +2,8 @@
 
 ghost use Rattle.std.specs.Prelude.{◌≡◌, length, IfOk, IsTrue, true};
 ghost use Rattle.term_tree.specs.Arena.{has_parts_below};
-ghost use Rattle.term_check.specs.Term.{IsNodeAt, IsAligned, Keeps};
+ghost use Rattle.term_check.specs.Found.{IsAligned, Keeps};
+ghost use Rattle.term_check.specs.Term.{IsNodeAt};
 ghost use Rattle.term_check.specs.machinery.Known.{is_atom_below};
 ghost use Rattle.term_check.specs.machinery.Reading.{IsAtomNode};
 

@@ -7,7 +7,7 @@ ghost use Rattle.term_check.specs.machinery.Reading.{next_spelled, each_spelled,
 ghost use Rattle.term_check.specs.machinery.Reading.{item_bound, all_bound, under_lets, let_list, under_variables, quantifier_list};
 ghost use Rattle.term_check.specs.Rules.{unless};
 ghost use Rattle.term_check.specs.Spelling.{spelled, nothing_yet, quantifier_fault, Gathered};
-ghost use Rattle.term_check.specs.Term.{Keeps};
+ghost use Rattle.term_check.specs.Found.{Keeps};
 ghost use Rattle.term_check.specs.machinery.Weight.{weight, weights};
 
 use crate::apply::{add_binding, add_quantifier, apply, read_leaf};

@@ -8,7 +8,7 @@ use Rattle.term_check.specs.declared.scope.Bound.TheVariants.{Variable, Let}
 use Rattle.term_check.specs.declared.scope.Named.{Named}
 use Rattle.term_check.specs.declared.atom.Atom.{Atom}
 use Rattle.term_check.specs.declared.atom.Atom.TheVariants.{LetName}
-use Rattle.term_check.specs.Term.{IsAligned}
+use Rattle.term_check.specs.Found.{IsAligned}
 use Rattle.sexp_read.specs.declared.tree.Tree.{Tree}
 use Rattle.term_check.specs.declared.part.Part.{Part}
 use Rattle.term_check.specs.Spelling.{Scope, lets_in, lets_from, with_variables}
