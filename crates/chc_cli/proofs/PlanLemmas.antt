@@ -1,5 +1,5 @@
 -- What is planned for the bytes that were read is planned for those of the source.
-use Rattle.std.proofs.Common.{◌≡◌, ℕ, ◌+◌, ◌<◌, ◌^◌, List, [], ◌++◌, length, sym, subst, arith, length-append}
+use Rattle.std.proofs.Common.{◌≡◌, ℕ, ◌+◌, ◌<◌, ◌^◌, List, ◌++◌, length, refl, sym, subst, arith, length-append}
 use Rattle.std.specs.Prelude.{Some, None, IfSome, MatchOption, ◌≢◌}
 use Rattle.std.specs.declared.option.Option.{Option}
 use Rattle.outside_io.specs.Bytes.{TakesCount}
@@ -15,18 +15,14 @@ use Rattle.chc_cli.specs.declared.answer.Answer.{Answer}
 use Rattle.chc_cli.specs.machinery.Answers.{IsAnswerTo}
 use Rattle.answer_text.specs.Lines.{error_text}
 
--- the bytes that are told of a refusal: all, or none where they are too many
-pub refuses : (bytes told : List ℕ) (refusal : Refusal) → IsRefused bytes refusal → (refusal.kind ≢ TooLong → told ≡ bytes) → (refusal.kind ≡ TooLong → told ≡ [])
-    → RefusesInput (Some bytes) told refusal × ReadsInput (Some bytes) told refusal
-refuses bytes told refusal h whole none = (
-  record { input = h; bytes = λ other. subst (λ (b : List ℕ). IsRefused b refusal) (sym (whole other)) h },
-  record { whole = whole; none = none },
-)
+-- the bytes that are kept beside a refusal that isn't for their length: all
+pub refuses : (bytes : List ℕ) (refusal : Refusal) → IsRefused bytes refusal → refusal.kind ≢ TooLong → RefusesInput (Some bytes) bytes refusal × ReadsInput (Some bytes) bytes refusal
+refuses bytes refusal h other = (record { input = h; bytes = λ _. h; long = λ is. absurd (other is) }, record { whole = λ _. refl; none = λ is. absurd (other is) })
 
 -- the bytes that were read are all that the source had, where it tells them
 pub of_source : (left : Option (List ℕ)) (read : List ℕ) (plan : Plan) → IfSome left (λ bytes. read ≡ bytes) → IsPlan (Some read) plan → IsPlan left plan
 of_source None read (Answered bytes text) same h = (h.0, tt)
-of_source None read (Refused bytes refusal line) same h = (record { input = tt; bytes = h.0.bytes }, record { whole = λ other. tt; none = h.1.none }, h.2)
+of_source None read (Refused bytes refusal line) same h = (record { input = tt; bytes = h.0.bytes; long = h.0.long }, record { whole = λ other. tt; none = h.1.none }, h.2)
 of_source None read ReadFault same h = tt
 of_source None read (OutOfMemory bytes) same h = tt
 of_source (Some all) read plan same h = subst (λ (bytes : List ℕ). IsPlan (Some bytes) plan) same h
@@ -38,13 +34,16 @@ of_too_long old (Some rest) limit plan is h told untold =
     subst (λ (left : Option (List ℕ)). IsPlan left plan) (sym h.2) (told (h.0 ++ rest) (omega (arith, h.1, length-append h.0 rest)))
 
 -- the plan for bytes that are refused
-pub refused_plan : (read bytes told : List ℕ) (answer : Answer) (refusal : Refusal) → bytes ≡ read → (refusal.kind ≢ TooLong → told ≡ read) → (refusal.kind ≡ TooLong → told ≡ [])
-    → answer.refusal ≡ Some refusal → IsAnswerTo bytes answer → RefusesInput (Some read) told refusal × ReadsInput (Some read) told refusal × (answer.text.items ≡ error_text refusal)
-refused_plan read bytes told answer refusal same whole none is h =
+pub refused_plan : (read line : List ℕ) (refusal : Refusal) → IsRefused read refusal → line ≡ error_text refusal → refusal.kind ≢ TooLong
+    → RefusesInput (Some read) read refusal × ReadsInput (Some read) read refusal × (line ≡ error_text refusal)
+refused_plan read line refusal h is other = let parts = refuses read refusal h other in (parts.0, parts.1, is)
+
+-- what an answer says of bytes that are refused
+pub answer_refuses : (read bytes : List ℕ) (answer : Answer) (refusal : Refusal) → bytes ≡ read → answer.refusal ≡ Some refusal → IsAnswerTo bytes answer → IsRefused read refusal × (answer.text.items ≡ error_text refusal)
+answer_refuses read bytes answer refusal same is h =
     let both : IsRefused bytes refusal × (answer.text.items ≡ error_text refusal) =
     subst (λ (r : Option Refusal). MatchOption r (IsSatAnswer bytes answer.text.items) (λ x. IsRefused bytes x × (answer.text.items ≡ error_text x))) is h in
-    let parts = refuses read told refusal (subst (λ (b : List ℕ). IsRefused b refusal) same both.0) whole none in
-    (parts.0, parts.1, both.1)
+    (subst (λ (b : List ℕ). IsRefused b refusal) same both.0, both.1)
 
 module _ (not_both : (text : List ℕ) (commands : List Command) (refusal : Refusal) → IsScript text commands → IsRefused text refusal → ⊥) where
   -- what is answered is not refused

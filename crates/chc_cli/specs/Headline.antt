@@ -1,8 +1,12 @@
 -- What the program's top call promises.
-use Rattle.std.specs.Prelude.{◌≡◌, ℕ, ◌<◌, List, [], ◌∷◌, length, take, Bool, IfSome, codes, true, false, ◌≢◌}
+use Rattle.std.specs.Prelude.{◌≡◌, ℕ, ◌<◌, List, [], ◌∷◌, length, take, drop, map, Bool, IfSome, codes, true, false, ◌≢◌, Some, None, Result, Ok, Err}
 use Rattle.std.specs.declared.option.Option.{Option}
 use Rattle.std.specs.Str.{bytes_eq}
+use Rattle.base.specs.Limits.{most_bytes}
 use Rattle.outside_io.specs.Bytes.{Appends}
+use Rattle.outside_io.specs.Counts.{counted}
+use Rattle.outside_io.specs.declared.turn.Turn.{Turn}
+use Rattle.outside_io.specs.declared.turn.Turn.TheVariants.{End}
 use Rattle.term_tree.specs.declared.script.Script.{Script}
 use Rattle.term_tree.specs.declared.definition.Definition.{Definition}
 use Rattle.term_tree.specs.declared.refusal.Refusal.{Refusal}
@@ -29,22 +33,28 @@ pub record IsSatAnswer (bytes : List ℕ) (text : List ℕ) : Type 0 where
   pub solution : IsSolution script definitions
   pub answer : IsAnswerText script.preds (Sat definitions) text
 
--- The refusal is that of the bytes left in the source. Where it isn't that they are too many, they are those read.
+-- The refusal is that of the bytes left in the source. Where it isn't that they are too many, they are those read, and where it is it
+-- stands at the limit.
 pub record RefusesInput (left : Option (List ℕ)) (read : List ℕ) (refusal : Refusal) : Type 0 where
   pub input : IfSome left (λ bytes. IsRefused bytes refusal)
   pub bytes : refusal.kind ≢ TooLong → IsRefused read refusal
+  pub long : refusal.kind ≡ TooLong → refusal ≡ record { kind = TooLong; offset = most_bytes; command = 0 }
 
 -- what was read are all the bytes of the source, and none where they are too many
 pub record ReadsInput (left : Option (List ℕ)) (read : List ℕ) (refusal : Refusal) : Type 0 where
   pub whole : refusal.kind ≢ TooLong → IfSome left (λ bytes. read ≡ bytes)
   pub none : refusal.kind ≡ TooLong → read ≡ []
 
+-- the end of the source was met once at most, and then in its last turn
+abbrev pub EndsOnce : ℕ → ℕ → Turn → Type 0
+EndsOnce old new last = new ≢ old → (new ≡ counted old) × (last ≡ End)
+
 -- the text that the call was to write: its kinds are told apart by the status that it was to end with
 pub data IsMeant (words : List (List ℕ)) (left : Option (List ℕ)) (read text : List ℕ) : Type 0 where
-  sat : is_solve words ≡ true → IsSatAnswer read text → IsMeant words left read text
-  error : (refusal : Refusal) → is_solve words ≡ true → RefusesInput left read refusal → text ≡ error_text refusal → IsMeant words left read text
-  usage : is_solve words ≡ false → text ≡ usage_text → IsMeant words left read text
-  memory : text ≡ memory_text → IsMeant words left read text
+  sat : is_solve words ≡ true → IsSatAnswer read text → IfSome left (λ bytes. read ≡ bytes) → IsMeant words left read text
+  error : (refusal : Refusal) → is_solve words ≡ true → RefusesInput left read refusal → ReadsInput left read refusal → text ≡ error_text refusal → IsMeant words left read text
+  usage : is_solve words ≡ false → read ≡ [] → text ≡ usage_text → IsMeant words left read text
+  memory : is_solve words ≡ true → text ≡ memory_text → IsMeant words left read text
 
 -- status 4: a prefix of the text that was meant is held, and not all of it
 pub record WritesPart (words : List (List ℕ)) (left : Option (List ℕ)) (read : List ℕ) (old new : Option (List ℕ)) : Type 0 where

@@ -1,9 +1,12 @@
-ghost use Rattle.std.specs.Prelude.{◌≡◌, ◌≢◌, [], ◌≤◌, ◌<◌, ◌^◌, List, ℕ, length, vec_len, Some, None, true, false, if◌then◌else◌};
+ghost use Rattle.std.specs.Prelude.{◌≡◌, ◌≢◌, [], ◌≤◌, ◌<◌, List, ℕ, length, vec_len, Some, None, true, false, IfSome, if◌then◌else◌};
 ghost use Rattle.base.specs.Limits.{most_bytes};
 ghost use Rattle.outside_io.specs.Counts.{counted};
 ghost use Rattle.outside_io.specs.declared.turn.Turn.TheVariants.{Fault};
 ghost use Rattle.term_tree.specs.declared.refusal.Kind.TheVariants.{TooLong};
-ghost use Rattle.chc_cli.specs.machinery.Plans.{IsPlan, is_fault};
+ghost use Rattle.sort_check.specs.Scripts.{IsRefused};
+ghost use Rattle.answer_text.specs.Lines.{error_text};
+ghost use Rattle.chc_cli.specs.Headline.{EndsOnce};
+ghost use Rattle.chc_cli.specs.machinery.Plans.{IsPlan, IsShort, is_fault, read_of};
 
 use crate::answer::answer_to;
 use crate::lines::refusal_line;
@@ -35,6 +38,12 @@ pub fn plan_for<S: Source>(alloc: Global, source: &mut S) -> Plan
     ensures plan { IsPlan (S.left source.old) result }
     ensures faults { S.faults source.new ≡ (if is_fault result then counted (S.faults source.old) else S.faults source.old) }
     ensures last { is_fault result ≡ true → S.last source.new ≡ Fault }
+
+    // All that was read is kept where the end was met, and else nothing. What ends isn't too long.
+    ensures ends { EndsOnce (S.ends source.old) (S.ends source.new) (S.last source.new) }
+    ensures whole { S.ends source.new ≢ S.ends source.old → IfSome (S.left source.old) (λ bytes. read_of result ≡ bytes) }
+    ensures none { S.ends source.new ≢ counted (S.ends source.old) → read_of result ≡ [] }
+    ensures short { S.ends source.new ≢ S.ends source.old → IsShort result }
 {
     match read_all(alloc, source, MOST_BYTES) {
         Ok(read) => plan_of(alloc, read),
@@ -51,6 +60,8 @@ fn plan_of(alloc: Global, read: Vec<u8>) -> Plan
     requires { vec_len read ≤ most_bytes }
     ensures plan { IsPlan (Some read.items) result }
     ensures fault { is_fault result ≡ false }
+    ensures read { read_of result ≡ read.items }
+    ensures short { IsShort result }
 {
     match answer_to(alloc, read.as_slice()) {
         Ok(answer) => match answer.refusal {
@@ -58,24 +69,40 @@ fn plan_of(alloc: Global, read: Vec<u8>) -> Plan
                 read,
                 text: answer.text,
             },
-            Some(refusal) => Plan::Refused {
-                read: told(alloc, read, &refusal),
-                refusal,
-                line: answer.text,
-            },
+            Some(refusal) => plan_of_refused(read, refusal, answer.text),
         },
         Err(_) => Plan::OutOfMemory { read },
     }
 }
 
-/// The bytes that are told of an input with this refusal: none where they are too many.
-fn told(alloc: Global, read: Vec<u8>, refusal: &Refusal) -> Vec<u8>
-    ensures whole { refusal.now.kind ≢ TooLong → result.items ≡ read.items }
-    ensures none { refusal.now.kind ≡ TooLong → result.items ≡ [] }
+/// Whether a refusal of that kind is for the length of the text.
+fn is_for_length(kind: Kind) -> bool
+    ensures yes { result ≡ true → kind ≡ TooLong }
+    ensures no { result ≡ false → kind ≢ TooLong }
 {
-    match refusal.kind {
-        Kind::TooLong => Vec::new(alloc),
-        _ => read,
+    match kind {
+        Kind::TooLong => true,
+        _ => false,
+    }
+}
+
+/// What is to be written for bytes that are refused. They have room, so they aren't refused for their
+/// length: that this never comes is not proved, and an answer for want of memory claims nothing.
+fn plan_of_refused(read: Vec<u8>, refusal: Refusal, line: Vec<u8>) -> Plan
+    requires refused { IsRefused read.items refusal }
+    requires line { line.items ≡ error_text refusal }
+    ensures plan { IsPlan (Some read.items) result }
+    ensures fault { is_fault result ≡ false }
+    ensures read { read_of result ≡ read.items }
+    ensures short { IsShort result }
+{
+    if is_for_length(refusal.kind) {
+        return Plan::OutOfMemory { read };
+    }
+    Plan::Refused {
+        read,
+        refusal,
+        line,
     }
 }
 
@@ -84,6 +111,7 @@ fn plan_of_too_long(alloc: Global) -> Plan
     ensures plan { (bytes : List ℕ) → most_bytes < length bytes → IsPlan (Some bytes) result }
     ensures untold { IsPlan None result }
     ensures fault { is_fault result ≡ false }
+    ensures none { read_of result ≡ [] }
 {
     let refusal = Refusal {
         kind: Kind::TooLong,

@@ -26,7 +26,7 @@ returns-in-Refused-clause-writes_part g c =
     let held = rw same at part.2 in
     λ status. record {
       text = c.in-Refused.line.items;
-      meant = error c.in-Refused.refusal (search rules) plan.0 plan.2;
+      meant = error c.in-Refused.refusal (search rules) plan.0 plan.1 plan.2;
       count = part.0;
       part = omega (arith, part.1, ap length same);
       held = held;
