@@ -18,4 +18,4 @@ pub parameter_added : (keys new : Keys) (key : Bor (List ℕ)) (params all : Lis
 parameter_added keys new key params all bytes sort is whole same found =
     name_added (λ (k : Bor (List ℕ)). k.now) (map (λ p. p.0.bytes) params) (map (λ p. p.0.bytes) all) keys new key
     (ap (λ (l : List (Name × Sort)). map (λ p. p.0.bytes) l) whole ∙ map-append (λ p. p.0.bytes) params ((record { bytes = bytes }, sort) ∷ [])
-      ∙ ap (λ (b : List ℕ). map (λ p. p.0.bytes) params ++ b ∷ []) same) is found
+    ∙ ap (λ (b : List ℕ). map (λ p. p.0.bytes) params ++ b ∷ []) same) is found

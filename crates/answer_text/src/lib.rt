@@ -8,11 +8,11 @@ mod definitions;
 mod derivation;
 mod found;
 mod laws;
-mod notices;
-mod printed_model;
 mod names;
+mod notices;
 mod parameters;
 mod pieces;
+mod printed_model;
 mod read;
 #[cfg(test)]
 mod read_tests;

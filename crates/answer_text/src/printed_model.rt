@@ -98,7 +98,7 @@ fn push_head(out: &mut Vec<u8>, preds: &Items<Pred>, pred: u32) -> Result<(), Me
 }
 
 /// The line of a definition.
-#[tactic(auto, unfolding(crate::specs::Answers::definition_text))]
+#[tactic(auto, unfolding(crate::specs::AnswerTexts::definition_text))]
 pub fn push_definition(
     out: &mut Vec<u8>,
     preds: &Items<Pred>,

@@ -14,7 +14,7 @@ pub returns-in-Some-clause-within : goal.returns-in-Some-clause-within
 returns-in-Some-clause-within c =
     found_there c.args.name.now c.args.self.now c.in-Some.number.now
     (sym (ap (λ (ps : List Pred). pred_from 0 c.args.name.now ps) c.self.view_is) ∙ sym (c.self.invariant.1 c.args.name.now)
-      ∙ sym (lookup_ordered (λ k. k.now) c.self.inside.numbers.entries c.args.name.now) ∙ sym c.in-Some.ensures.value)
+    ∙ sym (lookup_ordered (λ k. k.now) c.self.inside.numbers.entries c.args.name.now) ∙ sym c.in-Some.ensures.value)
 
 pub returns-in-None-clause-number : goal.returns-in-None-clause-number
 returns-in-None-clause-number c =
