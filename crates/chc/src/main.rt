@@ -1,14 +1,24 @@
 //! The program `chc`: its words, standard input and standard output, handed to the top call.
 #![tactic(auto)]
 
+mod stack;
+
+use crate::stack::take_stack;
 use chc_cli::chc_main;
 use outside_io::{StdSink, StdSource};
-use std::env;
+use std::env::{self, Args};
+use std::io;
 use std::process::ExitCode;
+
+/// The program's words, once the stack has room for the deepest text.
+fn words(rt: &HostRuntime) -> io::Result<Args> {
+    take_stack(rt.alloc())?;
+    env::args(rt)
+}
 
 fn main(rt: HostRuntime) -> ExitCode {
     let mut source = StdSource::new(rt.stdin());
     let mut sink = StdSink::new(rt.stdout());
-    let report = chc_main(rt.alloc(), env::args(&rt), &mut source, &mut sink);
+    let report = chc_main(rt.alloc(), words(&rt), &mut source, &mut sink);
     ExitCode::from(report.status)
 }

@@ -24,10 +24,10 @@ use Rattle.term_tree.specs.Solution.{interpretation_of, DefinesEach, AreFormulas
 use Rattle.term_tree.proofs.Public.{headed}
 use Rattle.term_tree.specs.Head.{has_head}
 use Rattle.term_tree.specs.declared.node.Node.{Node}
-use Rattle.sort_check.specs.Scripts.{HasHead}
+use Rattle.sort_check.specs.Properties.{HasHead}
 use Rattle.answer_text.specs.declared.answer.Answer.TheVariants.{Sat}
 use Rattle.answer_text.specs.Terms.{parameter_name}
-use Rattle.answer_text.specs.Answers.{sorts_in}
+use Rattle.term_check.specs.Spelling.{sorts_in}
 use Rattle.answer_text.specs.Printable.{IsMadeOfLemmas, IsPrintable}
 use Rattle.chc_cli.specs.machinery.Model.{parameter, true_definitions}
 
