@@ -131,18 +131,21 @@ pub fn chc_run<S: Source, K: Sink>(
                 refusal: None,
             },
         },
-        Plan::Overlong { refusal, line } => match write_all(sink, line.as_slice()) {
-            Ok(()) => Report {
-                status: 1,
-                read: Vec::new(alloc),
-                refusal: Some(refusal),
-            },
-            Err(_) => Report {
-                status: 4,
-                read: Vec::new(alloc),
-                refusal: None,
-            },
-        },
+        Plan::Overlong { refusal, line } => {
+            let read = Vec::new(alloc);
+            match write_all(sink, line.as_slice()) {
+                Ok(()) => Report {
+                    status: 1,
+                    read,
+                    refusal: Some(refusal),
+                },
+                Err(_) => Report {
+                    status: 4,
+                    read,
+                    refusal: None,
+                },
+            }
+        }
         Plan::ReadFault => Report {
             status: 3,
             read: Vec::new(alloc),

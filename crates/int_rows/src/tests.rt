@@ -187,6 +187,13 @@ fn has_bounds(t: &Tableau, variable: usize, lower: Option<i128>, upper: Option<i
     }
 }
 
+/// Gives a variable both bounds.
+fn fasten(t: &mut Tableau, variable: usize) {
+    if variable < t.columns() || variable - t.columns() < t.rows() {
+        t.set_bounds(variable, Some(-5), Some(7));
+    }
+}
+
 /// Takes the lower bound of a variable away, and gives it another upper one.
 fn loosen(t: &mut Tableau, variable: usize) {
     if variable < t.columns() || variable - t.columns() < t.rows() {
@@ -205,7 +212,7 @@ fn copies_are_equal(alloc: Global, count: usize) -> Result<bool, Fail> {
         return Ok(false);
     }
     let mut t = Tableau::new(alloc, forms.as_slice(), 1)?;
-    t.set_bounds(count, Some(-5), Some(7));
+    fasten(&mut t, count);
     if pivot(&mut t, count - 1, 0) != Some(Ok(())) {
         return Ok(false);
     }
