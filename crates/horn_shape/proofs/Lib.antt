@@ -1,0 +1,4 @@
+pub mod ClauseLemmas
+pub mod FlagLemmas
+pub mod GatherLemmas
+pub mod ShapeLemmas

@@ -1,5 +1,5 @@
 -- The Horn clause of an assertion, or the subterm for which it has none.
-use Rattle.std.specs.Prelude.{◌≡◌, ◌≤◌, ℕ, [], slice_get, length, Some, Ok, Err}
+use Rattle.std.specs.Prelude.{◌≡◌, ◌≤◌, ℕ, [], slice_get, length, Option, Some, None, Ok, Err, Bool, false, ◌&&◌, nat_lt}
 use Rattle.std.specs.List.{AllByRecursion}
 use Rattle.term_tree.specs.declared.sort.Sort.TheVariants.{Bool as BoolSort}
 use Rattle.term_tree.specs.declared.node.TermId.{TermId}
@@ -15,6 +15,14 @@ pub record IsLegalScript (script : Script) : Type 0 where
   pub few_asserts : length script.asserts ≤ 65536
   pub few_preds : length script.preds ≤ 4096
   pub few_args : AllByRecursion (λ p. length p.args ≤ 256) script.preds
+
+abbrev pub is_in : Script → Option Assertion → Bool
+is_in script None = false
+is_in script (Some a) = nat_lt a.term.0 (length script.terms.nodes)
+
+-- the assertion of that number is there, and its term is
+abbrev pub has_assertion : Script → ℕ → Bool
+has_assertion script index = nat_lt index 65536 && is_in script (slice_get script.asserts index)
 
 -- the assertion's term as a clause
 abbrev pub assertion_reading : Script → Assertion → Reading

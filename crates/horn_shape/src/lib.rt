@@ -2,8 +2,16 @@
 //! and derivations.
 #![tactic(auto)]
 
+mod body;
 mod clause;
+mod disjunct;
+mod gather;
+mod plain;
+mod reading;
+mod shape;
 mod stop;
 
 pub use clause::{AtomUse, HornClause, Part};
+pub use plain::PlainTerms;
+pub use reading::{clause_of, clause_with, has_assertion};
 pub use stop::HornStop;
