@@ -1,3 +1,4 @@
+pub mod Breaking
 pub mod Clause
 pub mod Derivation
 pub mod Instance
