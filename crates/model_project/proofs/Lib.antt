@@ -1,0 +1,9 @@
+pub mod EliminationLemmas
+pub mod NumberLemmas
+pub mod PeriodLemmas
+pub mod PointLemmas
+pub mod RuleLemmas
+pub mod ShiftLemmas
+pub mod SolvedLemmas
+pub mod TidyLemmas
+pub mod TruthLemmas
