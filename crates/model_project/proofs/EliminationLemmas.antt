@@ -12,9 +12,9 @@ use Rattle.lin_atoms.specs.declared.lit.Lit.TheVariants.{Eq}
 use Rattle.lin_atoms.proofs.LinearLemmas.{both_true}
 use Rattle.model_project.specs.Substitution.{occurs}
 use Rattle.model_project.specs.Elimination.{divisor, has_variable, least_multiple, period, removed, tidied}
+use Rattle.model_project.specs.machinery.Steps.{has_divisor}
 use Rattle.model_project.specs.Projection.{Extends, IsProjection, are_true, eliminated, is_kept, point, projection, unless_given_up}
 use Rattle.model_project.proofs.NumberLemmas.{abs-zero, zero-abs}
-use Rattle.model_project.proofs.PeriodLemmas.{has_divisor}
 use Rattle.model_project.proofs.PointLemmas.{put, put-other}
 use Rattle.model_project.proofs.RuleLemmas.{Step, removed_step}
 use Rattle.model_project.proofs.SolvedLemmas.{lacks}

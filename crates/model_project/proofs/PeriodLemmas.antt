@@ -10,6 +10,7 @@ use Rattle.lin_atoms.proofs.LinearLemmas.{both_true}
 use Rattle.lin_atoms.specs.declared.lit.Lit.{Lit}
 use Rattle.model_project.specs.Elimination.{divisor, gcd_in, greatest_divisor, least_multiple, period}
 use Rattle.model_project.specs.Substitution.{occurs}
+use Rattle.model_project.specs.machinery.Steps.{has_divisor}
 
 gcd_step : (turns a b : ℕ) (c : Bool) → (b == 0) ≡ c → b < suc turns → ((x y : ℕ) → y < turns → IsGcd x y (gcd_in turns x y)) → IsGcd a b (cond c a (gcd_in turns b (a % b)))
 gcd_step turns a b true e h rest = IsGcd-from_zero a b (eqb-true _ _ e)
@@ -84,9 +85,6 @@ period_divides v [] = tt
 period_divides v (lit ∷ lits) = period_here v lit lits (occurs v lit) refl (period_divides v lits)
 
 -- the divisors are above 0, and so is the period
-abbrev pub has_divisor : Lit → Bool
-has_divisor lit = nat_lt 0 (divisor lit)
-
 period_above : (v : ℕ) (lit : Lit) (lits : List Lit) (b : Bool) → 0 < divisor lit → 0 < period v lits → 0 < cond b (least_multiple (period v lits) (divisor lit)) (period v lits)
 period_above v lit lits true some rest = let le = least_multiple-le (period v lits) (divisor lit) some in omega (arith, le, rest)
 period_above v lit lits false some rest = rest

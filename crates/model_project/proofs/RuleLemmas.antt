@@ -19,9 +19,10 @@ use Rattle.lin_atoms.proofs.DivisionLemmas.{quotient-rest}
 use Rattle.lin_atoms.proofs.LinearLemmas.{both_true}
 use Rattle.model_project.specs.Substitution.{coefficient, coefficient_in, equation_in, is_equation, lin_has, occurs, solved}
 use Rattle.model_project.specs.Elimination.{by_bound, by_bounds, by_nearest, by_rest, gap, gaps_are_small, has_variable, is_bound, is_narrow, nearer, nearest, is_nearer, on_side, period, put_before, removed, rest_equation, tidied}
+use Rattle.model_project.specs.machinery.Steps.{has_divisor}
 use Rattle.model_project.specs.Projection.{are_true}
 use Rattle.model_project.proofs.NumberLemmas.{abs-zero, le-true, lt-false, lt-true, product_low, zero-times}
-use Rattle.model_project.proofs.PeriodLemmas.{Divides, has_divisor, period_divides, period_some}
+use Rattle.model_project.proofs.PeriodLemmas.{Divides, period_divides, period_some}
 use Rattle.model_project.proofs.PointLemmas.{Moves, put, put-here, put-moves, put-other_value, value_moved}
 use Rattle.model_project.proofs.ShiftLemmas.{AllHold, Holds, IsNearest, Nearest, gap_is, le_of_mul, nearest_is, neither, shifted_true, side_some}
 use Rattle.model_project.proofs.SolvedLemmas.{equation_in_holds, lacks, not-false, solved_divisors, solved_extends, solved_gone, solved_lacks, solved_true, true_stays}

@@ -10,9 +10,9 @@ use Rattle.lin_atoms.specs.declared.lit.Lit.{Lit}
 use Rattle.lin_atoms.specs.declared.lit.Lit.TheVariants.{Le, Eq, Div, NDiv}
 use Rattle.lin_atoms.proofs.LinearLemmas.{both_true}
 use Rattle.model_project.specs.Substitution.{by_equation, coefficient, crossed_lit, equation_in, is_equation, left_over, lin_has, occurs, replaced, solved, substituted, upright, without}
+use Rattle.model_project.specs.machinery.Steps.{has_divisor}
 use Rattle.model_project.specs.Projection.{are_true}
 use Rattle.model_project.proofs.NumberLemmas.{abs-zero, zero-abs}
-use Rattle.model_project.proofs.PeriodLemmas.{has_divisor}
 use Rattle.std.proofs.lemmas.Int.{ints}
 use Rattle.std.proofs.lemmas.Bool.{ltb-true}
 use Rattle.std.proofs.lemmas.Bool.Decides.{nat_tests}
