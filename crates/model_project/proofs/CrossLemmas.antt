@@ -5,7 +5,7 @@ use Rattle.std.specs.List.{list_all, filter}
 use Rattle.std.proofs.lemmas.Int.{ints}
 use Rattle.std.proofs.lemmas.Bool.{eqb-true, ltb-true}
 use Rattle.std.proofs.lemmas.Bool.Decides.{nat_tests}
-use Rattle.lin_atoms.specs.Linear.{Linear, are_small, is_small}
+use Rattle.lin_atoms.specs.Linear.{Linear, are_ordered, are_small, is_linear, is_small}
 use Rattle.lin_atoms.specs.Algebra.{collected, scaled_terms}
 use Rattle.lin_atoms.specs.Denial.{linear_of}
 use Rattle.lin_atoms.specs.declared.lit.Lit.{Lit}
@@ -137,3 +137,37 @@ wide_div v l m d h wide = one_wide (Div (nat_abs (coefficient v l) * d) (crossed
 
 pub wide_ndiv : (v : ℕ) (l m : Linear) (d : ℕ) → has_variable (Eq (crossed v l m)) ≡ true → 2 ^ 63 ≤ nat_abs (coefficient v l) * d → tidied (crossed_lit v l (NDiv d m) ∷ []) ≡ None
 wide_ndiv v l m d h wide = one_wide (NDiv (nat_abs (coefficient v l) * d) (crossed v l m)) h (last_wide (are_small (crossed v l m).terms) (is_small (crossed v l m).constant) (nat_lt (nat_abs (coefficient v l) * d) (2 ^ 63)) (long_test (nat_abs (coefficient v l) * d) wide))
+
+pub product_some : (a d : ℕ) → 0 < a → 0 < d → 0 < a * d
+product_some (suc a) (suc d) h g = omega arith
+product_some zero d h g = absurd (omega arith)
+product_some (suc a) zero h g = absurd (omega arith)
+
+pub narrow_eq : (lin : Linear) → is_linear lin ≡ true → is_small lin.constant ≡ true → is_narrow (Eq lin) ≡ true
+narrow_eq lin h small =
+    let parts = both_true (are_ordered 0 lin.terms) _ h in
+    let terms = both_true (are_small lin.terms) _ parts.1 in
+    both_small (are_small lin.terms) (is_small lin.constant) terms.0 small
+
+pub has_test : (c : ℤ) → 0 < nat_abs c → nat_lt 0 (nat_abs c) ≡ true
+has_test c h = test (nat_abs c) h
+
+-- the numbers of a crossed form, as they are computed
+pub crossed_terms : (v : ℕ) (l lin : Linear) (k m c : ℤ) (ts us made : List (ℕ × ℤ)) → k ≡ coefficient v l → m ≡ neg_ℤ c → c ≡ coefficient v lin → ts ≡ lin.terms → us ≡ l.terms → made ≡ collected (scaled_terms k ts ++ scaled_terms m us) → made ≡ (crossed v l lin).terms
+crossed_terms v l lin k m c ts us made e f g h i is =
+    is ∙ ap (λ k. collected (scaled_terms k ts ++ scaled_terms m us)) e ∙ ap (λ m. collected (scaled_terms (coefficient v l) ts ++ scaled_terms m us)) (f ∙ ap neg_ℤ g)
+    ∙ ap (λ ts. collected (scaled_terms (coefficient v l) ts ++ scaled_terms (neg_ℤ (coefficient v lin)) us)) h ∙ ap (λ us. collected (scaled_terms (coefficient v l) lin.terms ++ scaled_terms (neg_ℤ (coefficient v lin)) us)) i
+
+pub crossed_constant : (v : ℕ) (l lin : Linear) (k m c a b : ℤ) → k ≡ coefficient v l → m ≡ neg_ℤ c → c ≡ coefficient v lin → a ≡ lin.constant → b ≡ l.constant → k *ℤ a +ℤ m *ℤ b ≡ (crossed v l lin).constant
+crossed_constant v l lin k m c a b e f g h i =
+    ap (λ k. k *ℤ a +ℤ m *ℤ b) e ∙ ap (λ m. coefficient v l *ℤ a +ℤ m *ℤ b) (f ∙ ap neg_ℤ g) ∙ ap (λ a. coefficient v l *ℤ a +ℤ neg_ℤ (coefficient v lin) *ℤ b) h ∙ ap (λ b. coefficient v l *ℤ lin.constant +ℤ neg_ℤ (coefficient v lin) *ℤ b) i
+
+pub true_not_false : (b : Bool) → (b ≡ false → true ≡ false) → b ≡ true
+true_not_false true h = refl
+true_not_false false h = absurd (let bad = h refl in cc)
+
+pub left_from : (v : ℕ) (l : Linear) (a constant : ℤ) (rest : List (ℕ × ℤ)) (made : Lit) → a ≡ coefficient v l → pos 0 <ℤ coefficient v l → (a ≡ pos 1 → ⊥) → nat_abs a < 2 ^ 63 → rest ≡ (without v l).terms → 0 < length rest → are_small l.terms ≡ true → constant ≡ l.constant → is_small l.constant ≡ true
+    → made ≡ Div (nat_abs a) (record { terms = rest; constant = constant }) → tidied (left_over v l) ≡ Some (one made)
+left_from v l a constant rest made e some other small f has terms g short is =
+    let same : made ≡ Div (nat_abs (coefficient v l)) (without v l) = is ∙ ap (λ z. Div (nat_abs z) (record { terms = rest; constant = constant })) e ∙ ap (λ ts. Div (nat_abs (coefficient v l)) (record { terms = ts; constant = constant })) f ∙ ap (λ k. Div (nat_abs (coefficient v l)) (record { terms = (without v l).terms; constant = k })) g in
+    left_made v l made some (λ h. other (e ∙ h)) (subst (λ z. nat_abs z < 2 ^ 63) e small) (subst (λ ts. 0 < length ts) f has) terms short same

@@ -1,18 +1,18 @@
 -- The elimination gives a projection.
-use Rattle.std.proofs.Common.{◌≡◌, ◌<◌, ◌≤◌, ◌+◌, ◌&&◌, ◌||◌, ℕ, suc, zero, List, [], ◌∷◌, refl, ap, sym, ◌∙◌, subst, arith, true, false, Bool, ◌==◌, cond, not, length, map, Option, Some, None, ⊎_elim}
+use Rattle.std.proofs.Common.{◌≡◌, ◌<◌, ◌≤◌, ◌+◌, ◌^◌, ◌&&◌, ◌||◌, ℕ, suc, zero, List, [], ◌∷◌, refl, ap, sym, ◌∙◌, subst, arith, true, false, Bool, ◌==◌, cond, not, length, map, Option, Some, None, ⊎_elim}
 use Rattle.std.specs.Prelude.{ℤ, pos, neg_ℤ, ◌+ℤ◌, ◌-ℤ◌, ◌*ℤ◌, nat_abs, nat_lt}
 use Rattle.std.specs.List.{list_all, list_any, filter}
 use Rattle.std.proofs.lemmas.Int.{ints}
 use Rattle.std.proofs.lemmas.Bool.{eqb-true, ltb-true, cases_lt}
 use Rattle.std.proofs.lemmas.Bool.Decides.{nat_tests}
-use Rattle.lin_atoms.specs.Linear.{Linear, value_at, variable_at}
+use Rattle.lin_atoms.specs.Linear.{Linear, is_small, value_at, variable_at}
 use Rattle.lin_atoms.specs.Truth.{lit_all, lit_is_below, lit_truth}
 use Rattle.lin_atoms.specs.declared.lit.Lit.{Lit}
 use Rattle.lin_atoms.specs.declared.lit.Lit.TheVariants.{Eq}
 use Rattle.lin_atoms.proofs.LinearLemmas.{both_true}
 use Rattle.model_project.specs.Substitution.{occurs}
 use Rattle.model_project.specs.Elimination.{divisor, has_variable, least_multiple, period, removed, tidied}
-use Rattle.model_project.specs.machinery.Steps.{has_divisor}
+use Rattle.model_project.specs.machinery.Steps.{are_narrow, has_divisor}
 use Rattle.model_project.specs.Projection.{Extends, IsProjection, are_true, eliminated, is_kept, point, projection, unless_given_up}
 use Rattle.model_project.proofs.NumberLemmas.{abs-zero, zero-abs}
 use Rattle.model_project.proofs.PointLemmas.{put, put-other}
@@ -146,3 +146,16 @@ by_outcome lits model keep (Some first) e t d below (Some cube) f ordered = by_e
 -- the elimination's cube is a projection, where it can be written with ordered forms
 pub projection_is : (lits : List Lit) (model : List ℤ) (keep : List ℕ) → are_true model lits ≡ true → list_all has_divisor lits ≡ true → list_all (lit_is_below (length model)) lits ≡ true → list_all lit_is_ordered (projection model keep lits) ≡ true → IsProjection lits model keep (projection model keep lits)
 projection_is lits model keep t d below ordered = by_outcome lits model keep (tidied lits) refl t d below (eliminated model keep (length model) (tidied lits)) refl ordered
+
+point_step : (m : ℤ) → is_small m ≡ true → is_small (neg_ℤ m) ≡ true
+point_step m h = let size : nat_abs (neg_ℤ m) ≡ nat_abs m = omega (arith, ints) in ap (λ n. nat_lt n (2 ^ 63)) size ∙ h
+
+value_small : (model : List ℤ) (v : ℕ) → list_all is_small model ≡ true → is_small (variable_at model v) ≡ true
+value_small [] v h = refl
+value_small (x ∷ model) zero h = (both_true (is_small x) _ h).0
+value_small (x ∷ model) (suc v) h = value_small model v (both_true (is_small x) _ h).1
+
+-- the numbers of the point are those of the model
+pub point_narrow : (model : List ℤ) (keep : List ℕ) → list_all is_small model ≡ true → are_narrow (point model keep) ≡ true
+point_narrow model [] h = refl
+point_narrow model (v ∷ keep) h = ap (λ b. b && true && are_narrow (point model keep)) (point_step (variable_at model v) (value_small model v h)) ∙ point_narrow model keep h

@@ -1,5 +1,5 @@
 -- Lists that are tidied piece by piece.
-use Rattle.std.proofs.Common.{◌≡◌, ◌<◌, ◌≤◌, ◌+◌, ◌&&◌, ◌++◌, ℕ, suc, zero, List, [], ◌∷◌, refl, ap, sym, ◌∙◌, subst, arith, true, false, Bool, ◌==◌, cond, not, length, take, drop, get_or, set, append_assoc, Option, Some, None}
+use Rattle.std.proofs.Common.{◌≡◌, ◌<◌, ◌≤◌, ◌+◌, ◌&&◌, ◌++◌, ℕ, suc, zero, List, [], ◌∷◌, refl, ap, sym, ◌∙◌, subst, arith, true, false, Bool, ◌==◌, cond, not, length, take, drop, get_or, set, append_assoc, add-one, Option, Some, None}
 use Rattle.std.specs.Prelude.{ℤ, nat_abs, nat_lt}
 use Rattle.std.specs.List.{list_all, list_any, filter}
 use Rattle.std.specs.Option.{option_map}
@@ -13,6 +13,7 @@ use Rattle.lin_atoms.proofs.LinearLemmas.{both_true}
 use Rattle.model_project.specs.Substitution.{crossed_lit, equation_in, is_equation, left_over, lin_has, occurs, replaced, solved, by_equation, substituted, upright}
 use Rattle.model_project.specs.Elimination.{has_variable, is_narrow, put_before, tidied, unless_wide}
 use Rattle.model_project.specs.machinery.Steps.{are_narrow, behind, one}
+use Rattle.model_project.proofs.TidyLemmas.{filter_all}
 
 pub one_kept : (lit : Lit) → has_variable lit ≡ true → is_narrow lit ≡ true → tidied (lit ∷ []) ≡ Some (one lit)
 one_kept lit h n =
@@ -136,19 +137,22 @@ stay_step v l came whole lits old i d h size same narrow free told =
     ap (λ xs. tidied (replaced v l came xs)) (drop_more lits i d h) ∙ ap tidied (stays_first v l came lit (drop (i + 1) lits) free) ∙ tidied-first (lit ∷ []) rest (one lit) (one_narrow lit is) in
     told ∙ ap (behind (filter has_variable (take i lits))) here ∙ behind-more (filter has_variable (take i lits)) (one lit) (tidied rest) ∙ ap (λ xs. behind xs (tidied rest)) (one_more lits i d h)
 
-drop_twice : (i : ℕ) (xs : List Lit) → drop 1 (drop i xs) ≡ drop (i + 1) xs
+drop_twice : (i : ℕ) (xs : List Lit) → drop 1 (drop i xs) ≡ drop (suc i) xs
 drop_twice zero xs = refl
 drop_twice (suc i) [] = refl
 drop_twice (suc i) (x ∷ xs) = drop_twice i xs
 
-drop_set_more : (xs : List Lit) (i : ℕ) (y : Lit) → drop (i + 1) (set xs i y) ≡ drop (i + 1) xs
-drop_set_more [] zero y = refl
-drop_set_more [] (suc i) y = refl
-drop_set_more (x ∷ xs) zero y = refl
-drop_set_more (x ∷ xs) (suc i) y = drop_set_more xs i y
+drop_set_suc : (xs : List Lit) (i : ℕ) (y : Lit) → drop (suc i) (set xs i y) ≡ drop (suc i) xs
+drop_set_suc [] zero y = refl
+drop_set_suc [] (suc i) y = refl
+drop_set_suc (x ∷ xs) zero y = refl
+drop_set_suc (x ∷ xs) (suc i) y = drop_set_suc xs i y
+
+pub drop_set_more : (xs : List Lit) (i : ℕ) (y : Lit) → drop (i + 1) (set xs i y) ≡ drop (i + 1) xs
+drop_set_more xs i y = ap (λ n. drop n (set xs i y)) (add-one i) ∙ drop_set_suc xs i y ∙ ap (λ n. drop n xs) (sym (add-one i))
 
 pub drop_same : (xs ys : List Lit) (i : ℕ) → drop i xs ≡ drop i ys → drop (i + 1) xs ≡ drop (i + 1) ys
-drop_same xs ys i e = sym (drop_twice i xs) ∙ ap (drop 1) e ∙ drop_twice i ys
+drop_same xs ys i e = ap (λ n. drop n xs) (add-one i) ∙ sym (drop_twice i xs) ∙ ap (drop 1) e ∙ drop_twice i ys ∙ ap (λ n. drop n ys) (sym (add-one i))
 
 set_at : (xs : List Lit) (i : ℕ) (y d : Lit) → i < length xs → get_or (set xs i y) i d ≡ y
 set_at [] i y d h = absurd (omega arith)
@@ -229,3 +233,15 @@ tidied-rest_wide xs ys h = joined xs ys ∙ behind_none (list_all is_narrow (fil
 
 pub put_before_rest : (v : ℕ) (e : Linear) (lits : List Lit) → lin_has v e ≡ true → tidied (replaced v (upright v e) true lits) ≡ None → put_before v e lits ≡ None
 put_before_rest v e lits has rest = both_ways (is_narrow (Eq e)) (tidied (solved v (Eq e ∷ lits))) (ap tidied (first_here v e lits has) ∙ tidied-rest_wide (left_over v (upright v e)) (replaced v (upright v e) true lits) rest)
+
+pub put_before_from : (v : ℕ) (e l : Linear) (lits new out : List Lit) (left : Lit) → l ≡ upright v e → lin_has v e ≡ true → is_narrow (Eq e) ≡ true → tidied (left_over v l) ≡ Some (one left) → tidied (replaced v l true lits) ≡ Some new → out ≡ one left ++ new → put_before v e lits ≡ Some out
+put_before_from v e l lits new out left is has n first rest joined_is =
+    put_before_is v e lits new left has n (ap (λ m. tidied (left_over v m)) (sym is) ∙ first) (ap (λ m. tidied (replaced v m true lits)) (sym is) ∙ rest) ∙ ap Some (sym joined_is)
+
+-- what holds of all literals holds of those that are left
+kept_true : (test : Lit → Bool) (X us : List Lit) (b : Bool) → list_all test X ≡ true → cond b (Some X) None ≡ Some us → list_all test us ≡ true
+kept_true test X us true h e = let same : X ≡ us = cc in ap (list_all test) (sym same) ∙ h
+kept_true test X us false h e = absurd (cc)
+
+pub tidied-all : (test : Lit → Bool) (lits us : List Lit) → list_all test lits ≡ true → tidied lits ≡ Some us → list_all test us ≡ true
+tidied-all test lits us h e = kept_true test (filter has_variable lits) us (list_all is_narrow (filter has_variable lits)) (filter_all test lits h) e

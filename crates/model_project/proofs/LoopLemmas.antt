@@ -1,6 +1,6 @@
 -- One literal more, in what is told of the rest of a list.
 use Rattle.std.proofs.Common.{◌≡◌, ◌<◌, ◌≤◌, ◌+◌, ◌-◌, ◌*◌, ◌^◌, ◌&&◌, ◌||◌, ◌++◌, ℕ, suc, zero, List, [], ◌∷◌, refl, ap, sym, ◌∙◌, subst, arith, true, false, Bool, ◌==◌, cond, not, length, take, drop, get_or, Option, Some, None}
-use Rattle.std.specs.Prelude.{ℤ, pos, nat_abs, nat_lt}
+use Rattle.std.specs.Prelude.{ℤ, pos, ◌<ℤ◌, nat_abs, nat_lt}
 use Rattle.std.specs.Option.{option_map}
 use Rattle.std.specs.List.{list_all, list_any, filter}
 use Rattle.std.proofs.lemmas.Bool.{ltb-true}
@@ -15,9 +15,10 @@ use Rattle.lin_atoms.proofs.LinearLemmas.{both_true}
 use Rattle.model_project.specs.Substitution.{coefficient, equation_in, is_equation, lin_has, occurs, replaced, solved, by_equation, upright}
 use Rattle.model_project.specs.Elimination.{by_bound, by_bounds, by_nearest, by_rest, divisor, gap, gaps_are_small, is_bound, is_narrow, least_multiple, nearer, nearest, on_side, period, put_before, removed, tidied}
 use Rattle.model_project.specs.Projection.{are_true, eliminated, is_kept, point}
-use Rattle.model_project.specs.machinery.Steps.{are_narrow, has_divisor, have_divisors}
+use Rattle.model_project.specs.machinery.Steps.{EquationIs, are_narrow, has_divisor, have_divisors}
 use Rattle.model_project.proofs.PeriodLemmas.{least_multiple-le}
-use Rattle.model_project.proofs.RuleLemmas.{Step, removed_step}
+use Rattle.model_project.proofs.SolvedLemmas.{equation_in_has}
+use Rattle.model_project.proofs.TruthLemmas.{upright_positive}
 use Rattle.model_project.proofs.ShiftLemmas.{neither, side_some}
 
 -- which rule removes a variable
@@ -62,6 +63,19 @@ removed_above model v lits some none low high = past_below model v lits some non
 
 pub removed_rest : (model : List ℤ) (v : ℕ) (lits : List Lit) → list_any (occurs v) lits ≡ true → equation_in v lits ≡ None → list_any (is_bound true v) lits ≡ false → list_any (is_bound false v) lits ≡ false → removed model v lits ≡ by_rest model v lits
 removed_rest model v lits some none low high = past_below model v lits some none low ∙ ap (λ b. cond b (by_bounds model false v lits) (by_rest model v lits)) high
+
+-- the first equation, upright
+pub equation_above : (v : ℕ) (l : Linear) (lits : List Lit) → EquationIs v l lits → pos 0 <ℤ coefficient v l
+equation_above v l lits e = subst (λ m. pos 0 <ℤ coefficient v m) (sym e.2) (upright_positive v e.0 (equation_in_has v lits e.0 e.1))
+
+pub removed_solved : (model : List ℤ) (v : ℕ) (lits : List Lit) (l : Linear) → list_any (occurs v) lits ≡ true → EquationIs v l lits → removed model v lits ≡ tidied (replaced v l false lits)
+removed_solved model v lits l some e = removed_equation model v lits e.0 some e.1 ∙ ap (λ m. tidied (replaced v m false lits)) (sym e.2)
+
+pub equation_at : (v : ℕ) (lits : List Lit) (i : ℕ) (d : Lit) → i < length lits → is_equation v (get_or lits i d) ≡ true → equation_in v (drop i lits) ≡ equation_in v lits → equation_in v lits ≡ Some (linear_of (get_or lits i d))
+equation_at v lits i d h is told = sym told ∙ ap (equation_in v) (drop_more lits i d h) ∙ ap (λ b. cond b (Some (linear_of (get_or lits i d))) (equation_in v (drop (i + 1) lits))) is
+
+pub equation_past : (v : ℕ) (lits : List Lit) (i : ℕ) (d : Lit) → i < length lits → is_equation v (get_or lits i d) ≡ false → equation_in v (drop (i + 1) lits) ≡ equation_in v (drop i lits)
+equation_past v lits i d h free = sym (ap (equation_in v) (drop_more lits i d h) ∙ ap (λ b. cond b (Some (linear_of (get_or lits i d))) (equation_in v (drop (i + 1) lits))) free)
 
 -- the period of the literals from the index on
 pub period_skip : (v : ℕ) (lits : List Lit) (i : ℕ) (d : Lit) → i < length lits → occurs v (get_or lits i d) ≡ false → period v (drop i lits) ≡ period v (drop (i + 1) lits)
@@ -162,22 +176,21 @@ pub bounds_wide : (p : List ℤ) (below : Bool) (v : ℕ) (lits : List Lit) → 
 bounds_wide p below v lits wide = ap (λ b. cond b (by_nearest p v lits (nearest p below v lits)) None) wide
 
 -- one variable more
-pub eliminated_kept : (model : List ℤ) (keep : List ℕ) (n : ℕ) (lits : List Lit) (whole : Option (List Lit)) → 0 < n → is_kept keep (n - 1) ≡ true → whole ≡ eliminated model keep n (Some lits) → whole ≡ eliminated model keep (n - 1) (Some lits)
-eliminated_kept model keep zero lits whole h is told = absurd (omega arith)
-eliminated_kept model keep (suc v) lits whole h is told = told ∙ ap (λ b. eliminated model keep v (cond b (Some lits) (removed model v lits))) is
+pub eliminated_kept : (model : List ℤ) (keep : List ℕ) (v n : ℕ) (lits : List Lit) (whole : Option (List Lit)) → n ≡ suc v → is_kept keep v ≡ true → whole ≡ eliminated model keep n (Some lits) → whole ≡ eliminated model keep v (Some lits)
+eliminated_kept model keep v n lits whole e is told = told ∙ ap (λ m. eliminated model keep m (Some lits)) e ∙ ap (λ b. eliminated model keep v (cond b (Some lits) (removed model v lits))) is
 
-pub eliminated_more : (model : List ℤ) (keep : List ℕ) (n : ℕ) (lits new : List Lit) (whole : Option (List Lit)) → 0 < n → is_kept keep (n - 1) ≡ false → removed model (n - 1) lits ≡ Some new → whole ≡ eliminated model keep n (Some lits) → whole ≡ eliminated model keep (n - 1) (Some new)
-eliminated_more model keep zero lits new whole h free is told = absurd (omega arith)
-eliminated_more model keep (suc v) lits new whole h free is told = told ∙ ap (λ b. eliminated model keep v (cond b (Some lits) (removed model v lits))) free ∙ ap (eliminated model keep v) is
+pub eliminated_more : (model : List ℤ) (keep : List ℕ) (v n : ℕ) (lits new : List Lit) (whole : Option (List Lit)) → n ≡ suc v → is_kept keep v ≡ false → removed model v lits ≡ Some new → whole ≡ eliminated model keep n (Some lits) → whole ≡ eliminated model keep v (Some new)
+eliminated_more model keep v n lits new whole e free is told = told ∙ ap (λ m. eliminated model keep m (Some lits)) e ∙ ap (λ b. eliminated model keep v (cond b (Some lits) (removed model v lits))) free ∙ ap (eliminated model keep v) is
 
 nothing : (model : List ℤ) (keep : List ℕ) (n : ℕ) → eliminated model keep n None ≡ None
 nothing model keep zero = refl
 nothing model keep (suc v) = refl
 
-pub eliminated_stop : (model : List ℤ) (keep : List ℕ) (n : ℕ) (lits : List Lit) (whole : Option (List Lit)) → 0 < n → is_kept keep (n - 1) ≡ false → removed model (n - 1) lits ≡ None → whole ≡ eliminated model keep n (Some lits) → whole ≡ None
-eliminated_stop model keep zero lits whole h free is told = absurd (omega arith)
-eliminated_stop model keep (suc v) lits whole h free is told = told ∙ ap (λ b. eliminated model keep v (cond b (Some lits) (removed model v lits))) free ∙ ap (eliminated model keep v) is ∙ nothing model keep v
+pub eliminated_stop : (model : List ℤ) (keep : List ℕ) (v n : ℕ) (lits : List Lit) (whole : Option (List Lit)) → n ≡ suc v → is_kept keep v ≡ false → removed model v lits ≡ None → whole ≡ eliminated model keep n (Some lits) → whole ≡ None
+eliminated_stop model keep v n lits whole e free is told = told ∙ ap (λ m. eliminated model keep m (Some lits)) e ∙ ap (λ b. eliminated model keep v (cond b (Some lits) (removed model v lits))) free ∙ ap (eliminated model keep v) is ∙ nothing model keep v
 
 pub eliminated_end : (model : List ℤ) (keep : List ℕ) (n : ℕ) (lits : List Lit) (whole : Option (List Lit)) → n ≡ 0 → whole ≡ eliminated model keep n (Some lits) → whole ≡ Some lits
-eliminated_end model keep zero lits whole h told = told
-eliminated_end model keep (suc v) lits whole h told = absurd (omega arith)
+eliminated_end model keep n lits whole e told = told ∙ ap (λ m. eliminated model keep m (Some lits)) e
+
+pub nothing_more : (model : List ℤ) (keep : List ℕ) (n : ℕ) (o : Option (List Lit)) → o ≡ None → eliminated model keep n o ≡ None
+nothing_more model keep n o h = ap (eliminated model keep n) h ∙ nothing model keep n

@@ -19,7 +19,8 @@ use Rattle.lin_atoms.proofs.DivisionLemmas.{quotient-rest}
 use Rattle.lin_atoms.proofs.LinearLemmas.{both_true}
 use Rattle.model_project.specs.Substitution.{coefficient, coefficient_in, equation_in, is_equation, lin_has, occurs, solved}
 use Rattle.model_project.specs.Elimination.{by_bound, by_bounds, by_nearest, by_rest, gap, gaps_are_small, has_variable, is_bound, is_narrow, nearer, nearest, is_nearer, on_side, period, put_before, removed, rest_equation, tidied}
-use Rattle.model_project.specs.machinery.Steps.{has_divisor}
+use Rattle.model_project.specs.machinery.Steps.{are_narrow, has_divisor}
+use Rattle.model_project.proofs.JudgeLemmas.{tidied-narrow}
 use Rattle.model_project.specs.Projection.{are_true}
 use Rattle.model_project.proofs.NumberLemmas.{abs-zero, le-true, lt-false, lt-true, product_low, zero-times}
 use Rattle.model_project.proofs.PeriodLemmas.{Divides, period_divides, period_some}
@@ -36,6 +37,7 @@ pub record Step (model : List ℤ) (v : ℕ) (lits new : List Lit) : Type 0 wher
   pub gone : lacks v new ≡ true
   pub others : (u : ℕ) → (u ≡ v → ⊥) → lacks u lits ≡ true → lacks u new ≡ true
   pub divisors : list_all has_divisor lits ≡ true → list_all has_divisor new ≡ true
+  pub narrow : are_narrow lits ≡ true → are_narrow new ≡ true
 
 -- an equation that holds where the model is moved in the variable alone
 pub by_solving : (model q : List ℤ) (v : ℕ) (d : ℤ) (lits new : List Lit) (e : Linear) → Moves v d model q → equation_in v lits ≡ Some e → are_true q lits ≡ true → tidied (solved v lits) ≡ Some new → Step model v lits new
@@ -51,6 +53,7 @@ by_solving model q v d lits new e mv found t h =
       gone = ap (lacks v) (sym is) ∙ filter_all (λ lit. not (occurs v lit)) s gone;
       others = λ u other lack. ap (lacks u) (sym is) ∙ filter_all (λ lit. not (occurs u lit)) s (solved_lacks u v lits e found other lack);
       divisors = λ d. ap (list_all has_divisor) (sym is) ∙ filter_all has_divisor s (solved_divisors v lits e found d);
+      narrow = λ n. tidied-narrow s new h;
     }
 
 found_first : (v : ℕ) (e : Linear) (lits : List Lit) → lin_has v e ≡ true → equation_in v (Eq e ∷ lits) ≡ Some e
@@ -71,6 +74,7 @@ by_putting model q v d lits new e mv has zero_there t lack h =
       gone = step.gone;
       others = λ u other none. step.others u other (ap (λ b. not b && lacks u lits) (lacks-zero u e (lack u other none)) ∙ none);
       divisors = λ d. step.divisors d;
+      narrow = λ n. tidied-narrow (solved v (Eq e ∷ lits)) new (put_here v e lits new (is_narrow (Eq e)) h);
     }
 
 -- from below the variable goes down, from above up
@@ -281,6 +285,7 @@ unchanged model v lits new same t lack = subst (λ xs. Step model v lits xs) sam
   gone = lack;
   others = λ u other h. h;
   divisors = λ d. d;
+  narrow = λ n. n;
 })
 
 there_here : (v : ℕ) (lit : Lit) (lits : List Lit) (b : Bool) → is_equation v lit ≡ b → (b || list_any (is_equation v) lits) ≡ true → (list_any (is_equation v) lits ≡ true → (e : Linear) × (equation_in v lits ≡ Some e)) → (e : Linear) × (cond b (Some (linear_of lit)) (equation_in v lits) ≡ Some e)

@@ -16,7 +16,7 @@ use Rattle.lin_atoms.proofs.TermLemmas.{ordered, term_on-whole}
 use Rattle.model_project.specs.Substitution.{coefficient_in}
 use Rattle.model_project.proofs.TidyLemmas.{first_has, gone_below, other_has}
 
-pub pub legal_order : (lin : Linear) → is_linear lin ≡ true → are_ordered 0 lin.terms ≡ true
+pub legal_order : (lin : Linear) → is_linear lin ≡ true → are_ordered 0 lin.terms ≡ true
 legal_order lin h = (both_true (are_ordered 0 lin.terms) _ h).0
 
 -- the term at the index has the variable

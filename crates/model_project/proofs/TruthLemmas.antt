@@ -123,6 +123,9 @@ upright_above v e false h has =
 pub upright_positive : (v : ℕ) (e : Linear) → lin_has v e ≡ true → pos 0 <ℤ coefficient v (upright v e)
 upright_positive v e has = upright_above v e (int_lt (coefficient v e) (pos 0)) refl has
 
+pub upright_from : (v : ℕ) (e made : Linear) → made ≡ upright v e → lin_has v e ≡ true → pos 0 <ℤ coefficient v made
+upright_from v e made is has = subst (λ m. pos 0 <ℤ coefficient v m) (sym is) (upright_positive v e has)
+
 upright_lacks : (u : ℕ) (e : Linear) (b : Bool) → coefficient u e ≡ pos 0 → coefficient u (cond b (negated e) e) ≡ pos 0
 upright_lacks u e true h = coefficient-negated u e ∙ ap neg_ℤ h
 upright_lacks u e false h = h

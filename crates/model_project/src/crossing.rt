@@ -7,6 +7,8 @@ ghost use Rattle.lin_atoms.specs.declared.lit.Lit.TheVariants.{Eq};
 ghost use Rattle.model_project.specs.Elimination.{has_variable, is_narrow, tidied};
 ghost use Rattle.model_project.specs.Substitution.{coefficient, crossed, crossed_lit, left_over, lin_has, occurs, upright};
 
+use crate::bounds::product;
+use crate::period::short;
 use crate::reading;
 use crate::terms;
 use base::{Copied, Memory};
@@ -67,6 +69,15 @@ fn crossed(
     }
 }
 
+/// The divisor times a number.
+fn multiple(d: Divisor, a: i64) -> u128
+    requires { pos 0 <ℤ a }
+    ensures value { result ≡ nat_abs a * d }
+    ensures some { 0 < result }
+{
+    product(a.unsigned_abs(), d.get() as u64)
+}
+
 /// The divisor times a number, unless it is wide.
 fn times(d: Divisor, a: i64) -> Option<Divisor>
     requires { pos 0 <ℤ a }
@@ -74,9 +85,8 @@ fn times(d: Divisor, a: i64) -> Option<Divisor>
     ensures narrow { IfSome result (λ n. nat_abs a * d < 2 ^ 63) }
     ensures none { IsNone result → 2 ^ 63 ≤ nat_abs a * d }
 {
-    let product = i128::from(a) * i128::from(d.get());
-    match terms::narrow(product) {
-        Some(n) => Divisor::new(n),
+    match short(multiple(d, a)) {
+        Some(n) => Divisor::new(n as i64),
         None => None,
     }
 }

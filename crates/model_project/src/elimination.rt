@@ -1,6 +1,6 @@
 //! The variables that aren't kept are removed one after another, from the greatest down.
 
-ghost use Rattle.std.specs.Prelude.{◌≡◌, length, Some, None, true, IfOk, IsErrOf, OnOk};
+ghost use Rattle.std.specs.Prelude.{◌≡◌, ◌∷◌, [], length, Some, None, true, IfOk, IsErrOf, OnOk};
 ghost use Rattle.lin_atoms.specs.Linear.{is_small};
 ghost use Rattle.model_project.specs.Elimination.{is_narrow, tidied};
 ghost use Rattle.model_project.specs.Projection.{are_true, eliminated, is_kept, point};
@@ -11,7 +11,7 @@ use crate::bounds::variable_at;
 use crate::reading;
 use crate::rules::removed;
 use crate::terms;
-use base::{Copied, Items, Memory};
+use base::{Copied, Memory};
 use lin_atoms::{Lin, Lit, WideStop};
 use std::alloc::Global;
 
@@ -77,7 +77,10 @@ pub(crate) fn eliminate(
         if is_kept(keep, variable) {
             continue;
         }
-        removed(alloc, lits, model, variable)?;
+        match removed(alloc, lits, model, variable) {
+            Ok(()) => {}
+            Err(stop) => return Err(stop),
+        }
     }
     Ok(())
 }
@@ -97,7 +100,8 @@ fn own_equation(alloc: Global, model: &[i64], variable: u32) -> Result<Lit, Memo
 
 /// The model's point: one equation for each kept variable.
 pub(crate) fn point(alloc: Global, model: &[i64], keep: &[u32]) -> Result<Vec<Lit>, Memory>
-    ensures { IfOk result (λ made. made.items ≡ point model.now keep.now) }
+    ensures is { IfOk result (λ made. made.items ≡ point model.now keep.now) }
+    ensures narrow { IfOk result (λ made. list_all is_small model.now ≡ true → are_narrow made.items ≡ true) }
 {
     let mut made = Vec::with_capacity(alloc, keep.len())?;
     for variable in keep {

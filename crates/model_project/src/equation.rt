@@ -17,7 +17,8 @@ use std::alloc::Global;
 
 /// The form with its coefficient above 0.
 pub(crate) fn upright(alloc: Global, variable: usize, lin: &Lin) -> Result<Lin, Memory>
-    ensures { IfOk result (λ made. made ≡ upright variable lin.now) }
+    ensures made { IfOk result (λ made. made ≡ upright variable lin.now) }
+    ensures above { IfOk result (λ made. lin_has variable lin.now ≡ true → pos 0 <ℤ coefficient variable made) }
 {
     if reading::coefficient(lin, variable) < 0 {
         let made = lin.negated(alloc)?;

@@ -7,15 +7,15 @@ mod crossing;
 mod elimination;
 mod equation;
 mod period;
-mod project;
 mod projected;
+mod projecting;
 mod reading;
 mod rules;
 mod substitution;
 mod terms;
 
-pub use project::project;
 pub use projected::Projected;
+pub use projecting::project;
 
 #[cfg(test)]
 mod tests;

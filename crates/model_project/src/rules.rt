@@ -32,6 +32,7 @@ fn put_before(
     ensures made { OnOk result (put_before variable equation lits.old.items ≡ Some lits.new.items) }
     ensures wide { IsErrOf result WideStop.Wide → put_before variable equation lits.old.items ≡ None }
 {
+    let _terms = equation.terms();
     if terms::narrow(equation.constant()).is_none() {
         return Err(WideStop::Wide);
     }
@@ -180,21 +181,15 @@ pub(crate) fn removed(
         return Ok(());
     }
     match equation_in(alloc, lits.as_slice(), variable)? {
-        Some(equation) => {
-            substitute(alloc, lits, variable, &equation, false)?;
-            Ok(())
-        }
+        Some(equation) => substitute(alloc, lits, variable, &equation, false),
         None => {
             if reading::has_bound(lits.as_slice(), true, variable) {
-                by_bounds(alloc, lits, model, true, variable)?;
-                return Ok(());
+                return by_bounds(alloc, lits, model, true, variable);
             }
             if reading::has_bound(lits.as_slice(), false, variable) {
-                by_bounds(alloc, lits, model, false, variable)?;
-                return Ok(());
+                return by_bounds(alloc, lits, model, false, variable);
             }
-            by_rest(alloc, lits, model, variable)?;
-            Ok(())
+            by_rest(alloc, lits, model, variable)
         }
     }
 }

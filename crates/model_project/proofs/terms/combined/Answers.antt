@@ -28,12 +28,11 @@ returns-clause-made c =
     let second = simp to_z-of_z at c.in_ok-push_rest-2.ensures in
     let first = simp to_z-of_z at c.in_ok-push_rest.ensures in
     let told = simp to_z-of_z at c.loop-i.invariant.told in
-    simp to_z-of_z (second ∙ ap (λ xs. xs ++ drop j B) first ∙ append_assoc c.loop-i.made.items (drop i A) (drop j B)
+    (second ∙ ap (λ xs. xs ++ drop j B) first ∙ append_assoc c.loop-i.made.items (drop i A) (drop j B)
     ∙ ap (λ xs. c.loop-i.made.items ++ xs) (sym ended) ∙ told)
 
 pub returns-clause-ordered : goal.returns-clause-ordered
 returns-clause-ordered c =
     let k_fits : FitsSigned w64 c.args.k = c.ranges.k in
     let m_fits : FitsSigned w64 c.args.m = c.ranges.m in
-    let made = simp to_z-of_z at (returns-clause-made c) in
-    ap (are_ordered 0) made ∙ collected-ordered (scaled_terms c.args.k c.args.ours.now ++ scaled_terms c.args.m c.args.theirs.now)
+    ap (are_ordered 0) (returns-clause-made c) ∙ collected-ordered (scaled_terms c.args.k c.args.ours.now ++ scaled_terms c.args.m c.args.theirs.now)

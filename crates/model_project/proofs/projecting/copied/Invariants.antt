@@ -1,5 +1,5 @@
 use Rattle.std.proofs.Common.{◌≡◌, take}
-use Rattle.model_project.proofs.project.copied.Given as goal
+use Rattle.model_project.proofs.projecting.copied.Given as goal
 
 -- the literals so far
 abbrev pub invariant-loop-lit : goal.invariant-loop-lit
