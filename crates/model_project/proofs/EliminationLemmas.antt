@@ -159,3 +159,12 @@ value_small (x ∷ model) (suc v) h = value_small model v (both_true (is_small x
 pub point_narrow : (model : List ℤ) (keep : List ℕ) → list_all is_small model ≡ true → are_narrow (point model keep) ≡ true
 point_narrow model [] h = refl
 point_narrow model (v ∷ keep) h = ap (λ b. b && true && are_narrow (point model keep)) (point_step (variable_at model v) (value_small model v h)) ∙ point_narrow model keep h
+
+-- copies of what was given, and the cube, are a projection
+pub kept_projection : (lits lits' : List Lit) (model model' : List ℤ) (keep keep' : List ℕ) (cube : List Lit) → lits' ≡ lits → model' ≡ model → keep' ≡ keep → cube ≡ projection model keep lits → are_true model lits ≡ true → list_all has_divisor lits ≡ true → list_all (lit_is_below (length model)) lits ≡ true
+    → list_all lit_is_ordered cube ≡ true → (cube ≡ projection model' keep' lits') × IsProjection lits' model' keep' cube
+kept_projection lits lits' model model' keep keep' cube e f g is t d below ordered =
+    let whole = projection_is lits model keep t d below (ap (list_all lit_is_ordered) (sym is) ∙ ordered) in
+    let here : IsProjection lits model keep cube = subst (λ c. IsProjection lits model keep c) (sym is) whole in
+    subst (λ l. (cube ≡ projection model' keep' l) × IsProjection l model' keep' cube) (sym e)
+        (subst (λ m. (cube ≡ projection m keep' lits) × IsProjection lits m keep' cube) (sym f) (subst (λ k. (cube ≡ projection model k lits) × IsProjection lits model k cube) (sym g) (is, here)))

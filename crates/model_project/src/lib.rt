@@ -6,6 +6,7 @@ mod bounds;
 mod crossing;
 mod elimination;
 mod equation;
+mod laws;
 mod period;
 mod projected;
 mod projecting;
@@ -14,6 +15,7 @@ mod rules;
 mod substitution;
 mod terms;
 
+pub use laws::elimination_projects;
 pub use projected::Projected;
 pub use projecting::project;
 

@@ -19,8 +19,8 @@ returns-in-Some-clause-made c =
     let k_fits : FitsSigned w128 c.constant.result = search rules in
     let other : a ≡ pos 1 → ⊥ = λ h. absurd (omega (arith, ints, h, c.if-a-eq1.false)) in
     let has : 0 < length c.in_ok-rest.rest.items = search rules in
-    let narrow = first_of (simp to_z-of_z at c.in-Some.ensures.some, c.in-Some.ensures.some) in
-    let none = first_of (simp to_z-of_z at c.in-Some.ensures.none, c.in-Some.ensures.none) in
+    let narrow : c.in-Some.constant ≡ c.constant.result = omega (arith, ints, c.in-Some.ensures.some) in
+    let none = simp to_z-of_z at c.in-Some.ensures.none in
     let short : is_small l.constant ≡ true = true_not_false (is_small l.constant) (λ h. none.1 (ap is_small c.constant.ensures.is ∙ h)) in
-    let made = first_of (simp to_z-of_z at c.of_division.ensures.made, c.of_division.ensures.made) in
+    let made = simp to_z-of_z at c.of_division.ensures.made in
     IfOk-weaker c.of_division.result _ _ (λ x is. left_from v l a c.in-Some.constant c.in_ok-rest.rest.items x c.coefficient-a.ensures.is c.requires other c.coefficient-a.ensures.small c.in_ok-rest.ensures has (legal_small l c.constant.ensures.legal) (narrow ∙ c.constant.ensures.is) short is) made
