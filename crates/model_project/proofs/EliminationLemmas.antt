@@ -167,4 +167,4 @@ kept_projection lits lits' model model' keep keep' cube e f g is t d below order
     let whole = projection_is lits model keep t d below (ap (list_all lit_is_ordered) (sym is) ∙ ordered) in
     let here : IsProjection lits model keep cube = subst (λ c. IsProjection lits model keep c) (sym is) whole in
     subst (λ l. (cube ≡ projection model' keep' l) × IsProjection l model' keep' cube) (sym e)
-        (subst (λ m. (cube ≡ projection m keep' lits) × IsProjection lits m keep' cube) (sym f) (subst (λ k. (cube ≡ projection model k lits) × IsProjection lits model k cube) (sym g) (is, here)))
+    (subst (λ m. (cube ≡ projection m keep' lits) × IsProjection lits m keep' cube) (sym f) (subst (λ k. (cube ≡ projection model k lits) × IsProjection lits model k cube) (sym g) (is, here)))

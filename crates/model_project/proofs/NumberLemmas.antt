@@ -103,11 +103,11 @@ times-multiple a d z some =
     let size : nat_abs (a *ℤ z) ≡ nat_abs z * g = unsigned_abs-mul a z ∙ omega arith in
     let turned : g * d ≡ d * g = omega arith in
     same_tests (is_multiple (pos (g * d)) (a *ℤ z)) (is_multiple (pos d) z)
-        (λ h.
-        let none : nat_abs z * g % (d * g) ≡ 0 = ap (λ n. n % (d * g)) (sym size) ∙ ap (λ n. nat_abs (a *ℤ z) % n) (sym turned) ∙ eqb-true _ _ h in
-        let whole : d * g ∣ nat_abs z * g = dvd_of_mod-eq-zero (d * g) none in
-        eq-test (nat_abs z % d) (mod-eq-zero_of_dvd d (dvd_of_mul-dvd-mul_right d above whole)))
-        (λ h.
-        let whole : d * g ∣ nat_abs z * g = mul-dvd-mul_right d (dvd_of_mod-eq-zero d (eqb-true (nat_abs z % d) 0 h)) g in
-        let none : nat_abs z * g % (d * g) ≡ 0 = mod-eq-zero_of_dvd (d * g) whole in
-        eq-test (nat_abs (a *ℤ z) % (g * d)) (ap (λ n. nat_abs (a *ℤ z) % n) turned ∙ ap (λ n. n % (d * g)) size ∙ none))
+    (λ h.
+    let none : nat_abs z * g % (d * g) ≡ 0 = ap (λ n. n % (d * g)) (sym size) ∙ ap (λ n. nat_abs (a *ℤ z) % n) (sym turned) ∙ eqb-true _ _ h in
+    let whole : d * g ∣ nat_abs z * g = dvd_of_mod-eq-zero (d * g) none in
+    eq-test (nat_abs z % d) (mod-eq-zero_of_dvd d (dvd_of_mul-dvd-mul_right d above whole)))
+    (λ h.
+    let whole : d * g ∣ nat_abs z * g = mul-dvd-mul_right d (dvd_of_mod-eq-zero d (eqb-true (nat_abs z % d) 0 h)) g in
+    let none : nat_abs z * g % (d * g) ≡ 0 = mod-eq-zero_of_dvd (d * g) whole in
+    eq-test (nat_abs (a *ℤ z) % (g * d)) (ap (λ n. nat_abs (a *ℤ z) % n) turned ∙ ap (λ n. n % (d * g)) size ∙ none))

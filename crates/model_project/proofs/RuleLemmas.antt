@@ -195,7 +195,7 @@ by_nearest_bound model below v lits new lin t free_eq free found h =
     let before = gap_is model lin near.holds in
     let sum : nat_abs c * (k * n) + r ≡ g = omega (arith, whole) in
     by_putting model q v d lits new (plus lin (pos r)) mv (some-has c some) (omega (arith, ints, moved, product, before, sum)) all (λ u other lack. nearest_lacks model below u v lits lin lack found)
-        (bound_here model v lits new n lin (nat_lt n (2 ^ 63) && nat_lt w (2 ^ 63)) h)
+    (bound_here model v lits new n lin (nat_lt n (2 ^ 63) && nat_lt w (2 ^ 63)) h)
 
 by_nearest_step : (model : List ℤ) (below : Bool) (v : ℕ) (lits new : List Lit) (o : Option Linear) → nearest model below v lits ≡ o → are_true model lits ≡ true → list_any (is_equation v) lits ≡ false → (below ≡ false → list_any (is_bound true v) lits ≡ false)
     → by_nearest model v lits o ≡ Some new → Step model v lits new
@@ -271,7 +271,7 @@ by_rest_step model v lits new divs t free low high h =
     let times : d ≡ j *ℤ pos n = omega (arith, ints, whole, turned) in
     let all = shifted_true v d j n model q lits mv times free (period_divides v lits) (all_unbound v d model lits t low high) t in
     by_putting model q v d lits new (rest_equation v r) mv (rest_has v r) (rest_value v r q (put-here v r model)) all (λ u other lack. rest_lacks u v (v == u) refl other)
-        (some_period n (nat_lt n (2 ^ 63)) new (put_before v (rest_equation v r) lits) refl h)
+    (some_period n (nat_lt n (2 ^ 63)) new (put_before v (rest_equation v r) lits) refl h)
 
 -- rule 1: nothing changes
 nowhere : (v : ℕ) (lits : List Lit) → list_any (occurs v) lits ≡ false → lacks v lits ≡ true

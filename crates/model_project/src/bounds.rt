@@ -78,12 +78,7 @@ fn is_nearer(model: &[i64], variable: usize, a: Bound<'_>, b: Bound<'_>) -> bool
 }
 
 /// The nearer of two bounds, the first of two that are as near.
-fn nearer<'a>(
-    model: &[i64],
-    variable: usize,
-    a: Bound<'a>,
-    best: Option<Bound<'a>>,
-) -> Bound<'a>
+fn nearer<'a>(model: &[i64], variable: usize, a: Bound<'a>, best: Option<Bound<'a>>) -> Bound<'a>
     requires a { a.gap ≡ gap model.now a.lin.now }
     requires best { IfSome best (λ b. b.gap ≡ gap model.now b.lin.now) }
     ensures is { Some result.lin.now ≡ nearer model.now variable a.entry.lin.now (option_map (λ b. b.lin.now) best.entry) }

@@ -9,8 +9,7 @@ ghost use Rattle.model_project.specs.Substitution.{coefficient, crossed, crossed
 
 use crate::bounds::product;
 use crate::period::short;
-use crate::reading;
-use crate::terms;
+use crate::{reading, terms};
 use base::{Copied, Memory};
 use lin_atoms::{Divisor, Lin, Lit, WideStop};
 use std::alloc::Global;

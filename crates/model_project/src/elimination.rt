@@ -8,9 +8,8 @@ ghost use Rattle.model_project.specs.machinery.Steps.{are_legal, are_narrow, hav
 ghost use Rattle.std.specs.List.{list_all};
 
 use crate::bounds::variable_at;
-use crate::reading;
 use crate::rules::removed;
-use crate::terms;
+use crate::{reading, terms};
 use base::{Copied, Memory};
 use lin_atoms::{Lin, Lit, WideStop};
 use std::alloc::Global;

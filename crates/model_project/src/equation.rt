@@ -9,8 +9,7 @@ ghost use Rattle.model_project.specs.Elimination.{has_variable, is_narrow, tidie
 ghost use Rattle.model_project.specs.Substitution.{coefficient, equation_in, left_over, lin_has, upright, without};
 
 use crate::crossing::ground;
-use crate::reading;
-use crate::terms;
+use crate::{reading, terms};
 use base::{Copied, Memory};
 use lin_atoms::{Divisor, Lin, Lit, WideStop};
 use std::alloc::Global;

@@ -33,12 +33,7 @@ fn eliminated(
 }
 
 /// The cube: the literals of the elimination, and the model's point where a number is wide.
-fn cube_of(
-    alloc: Global,
-    lits: &[Lit],
-    model: &[i64],
-    keep: &[u32],
-) -> Result<Vec<Lit>, Memory>
+fn cube_of(alloc: Global, lits: &[Lit], model: &[i64], keep: &[u32]) -> Result<Vec<Lit>, Memory>
     requires { are_true model.now lits.now ≡ true }
     ensures is { IfOk result (λ cube. cube.items ≡ projection model.now keep.now lits.now) }
     ensures narrow { IfOk result (λ cube. list_all is_small model.now ≡ true → are_narrow cube.items ≡ true) }

@@ -13,9 +13,8 @@ ghost use Rattle.model_project.specs.machinery.Steps.{are_narrow, have_divisors,
 use crate::bounds::{self, Bound};
 use crate::equation::{equation_in, left_over, upright};
 use crate::period::{period, short};
-use crate::reading;
 use crate::substitution::substitute;
-use crate::terms;
+use crate::{reading, terms};
 use base::{Copied, Memory};
 use lin_atoms::{Lin, Lit, WideStop};
 use std::alloc::Global;

@@ -137,10 +137,7 @@ pub(crate) fn narrow(n: i128) -> Option<i64>
 }
 
 /// The terms with coefficients of 64 bits, unless one is wide.
-pub(crate) fn narrowed(
-    alloc: Global,
-    terms: &[(u32, i128)],
-) -> Result<Vec<(u32, i64)>, WideStop>
+pub(crate) fn narrowed(alloc: Global, terms: &[(u32, i128)]) -> Result<Vec<(u32, i64)>, WideStop>
     ensures made { IfOk result (λ made. made.items ≡ terms.now) }
     ensures within { OnOk result (are_small terms.now ≡ true) }
     ensures wide { IsErrOf result WideStop.Wide → are_small terms.now ≡ false }

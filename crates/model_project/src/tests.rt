@@ -12,6 +12,7 @@ use std::alloc::Global;
 use std::test::Fail;
 
 const LE: i64 = 0;
+
 const EQ: i64 = -1;
 
 /// A literal: at most 0, equal to 0, or divisible by a number above 0.
@@ -90,7 +91,14 @@ fn an_equation_leaves_its_divisor_in_its_place(rt: HostRuntime) -> Result<(), Fa
     let rows = [(LE, 0, 3, -10), (EQ, 1, -2, 0), (7, 0, 1, 5)];
     let wanted = [(LE, 3, 0, -20), (2, -1, 0, 0), (14, 1, 0, 10)];
     assert!(rt; gives(alloc, &rows, &[4, 2], &wanted)?);
-    assert!(rt; gives(alloc, &[(EQ, 1, 1, -6), (LE, 1, -1, 0)], &[2, 4], &[(LE, 2, 0, -6)])?);
+    assert!(rt;
+        gives(
+            alloc,
+            &[(EQ, 1, 1, -6), (LE, 1, -1, 0)],
+            &[2, 4],
+            &[(LE, 2, 0, -6)]
+        )?
+    );
     Ok(())
 }
 
@@ -115,7 +123,14 @@ fn a_number_of_2_to_the_63_gives_the_point(rt: HostRuntime) -> Result<(), Fail> 
     assert!(rt; gives(alloc, &[(LE, 1, -1, 0)], &[-HALF, HALF], &point)?);
     assert!(rt; gives(alloc, &[(LE, 1, -1, 0)], &[1 - HALF, HALF], &[])?);
     assert!(rt; gives(alloc, &[(LE, 1, 0, -TOP)], &[5, 0], &[(EQ, 1, 0, -5)])?);
-    assert!(rt; gives(alloc, &[(LE, 1, 0, 1 - TOP)], &[5, 0], &[(LE, 1, 0, 1 - TOP)])?);
+    assert!(rt;
+        gives(
+            alloc,
+            &[(LE, 1, 0, 1 - TOP)],
+            &[5, 0],
+            &[(LE, 1, 0, 1 - TOP)]
+        )?
+    );
     let wide = [(EQ, 1, -HALF, 0), (LE, -3, 1, 0)];
     assert!(rt; gives(alloc, &wide, &[0, 0], &[(EQ, 1, 0, 0)])?);
     let periods = [(HALF, 0, 1, 0), (3, 0, 1, 0)];
