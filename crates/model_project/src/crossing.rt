@@ -64,7 +64,8 @@ fn crossed(
             }
             None => Err(WideStop::Wide),
         },
-        Err(stop) => Err(stop),
+        Err(WideStop::Wide) => Err(WideStop::Wide),
+        Err(WideStop::Memory) => Err(WideStop::Memory),
     }
 }
 

@@ -69,8 +69,8 @@ returns-in-Ok-clause-wide_number c = λ _.
     let none = simp to_z-of_z at c.in-None.ensures.none in
     second_wide (are_small (crossed v l lin).terms) (is_small (crossed v l lin).constant) (ap is_small (sym constant) ∙ none.0 refl)
 
-pub returns-clause-wide_number : goal.returns-clause-wide_number
-returns-clause-wide_number c = λ wide.
+pub returns-in-Err-Wide-clause-wide : goal.returns-in-Err-Wide-clause-wide
+returns-in-Err-Wide-clause-wide c = λ _.
     let v = c.args.variable in
     let l = c.args.equation.now in
     let lin = c.args.lin.now in
@@ -80,4 +80,19 @@ returns-clause-wide_number c = λ wide.
     let made = simp to_z-of_z at c.in_ok-terms.ensures.made in
     let minus : c.minus-m.result ≡ neg_ℤ c.coefficient.result = omega (arith, ints, c.minus-m.ensures) in
     let terms = crossed_terms v l lin c.coefficient-k.result c.minus-m.result c.coefficient.result c.terms.result.now c.terms-2.result.now c.in_ok-terms.terms.items c.coefficient-k.ensures.is minus c.coefficient.ensures.is c.terms.ensures.is c.terms-2.ensures.is made in
-    first_wide (are_small (crossed v l lin).terms) (is_small (crossed v l lin).constant) (ap are_small (sym terms ∙ sym c.as_slice.ensures.value) ∙ c.in-Err.ensures.wide wide)
+    let some : 0 < length c.in_ok-terms.terms.items = search rules in
+    some_terms c.in_ok-terms.terms.items (crossed v l lin).terms terms some
+
+pub returns-in-Err-Wide-clause-wide_number : goal.returns-in-Err-Wide-clause-wide_number
+returns-in-Err-Wide-clause-wide_number c = λ _.
+    let v = c.args.variable in
+    let l = c.args.equation.now in
+    let lin = c.args.lin.now in
+    let k_fits : FitsSigned w64 c.coefficient-k.result = search rules in
+    let m_fits : FitsSigned w64 c.minus-m.result = search rules in
+    let c_fits : FitsSigned w64 c.coefficient.result = search rules in
+    let made = simp to_z-of_z at c.in_ok-terms.ensures.made in
+    let minus : c.minus-m.result ≡ neg_ℤ c.coefficient.result = omega (arith, ints, c.minus-m.ensures) in
+    let terms = crossed_terms v l lin c.coefficient-k.result c.minus-m.result c.coefficient.result c.terms.result.now c.terms-2.result.now c.in_ok-terms.terms.items c.coefficient-k.ensures.is minus c.coefficient.ensures.is c.terms.ensures.is c.terms-2.ensures.is made in
+    let small : are_small c.as_slice.result.now ≡ false = first_of (search (rules, c.in-Err-Wide.ensures.wide), grind (arith, c.in-Err-Wide.ensures.wide)) in
+    first_wide (are_small (crossed v l lin).terms) (is_small (crossed v l lin).constant) (ap are_small (sym terms ∙ sym c.as_slice.ensures.value) ∙ small)

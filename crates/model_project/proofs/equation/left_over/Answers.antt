@@ -1,7 +1,8 @@
-use Rattle.std.proofs.Common.{◌≡◌, ◌<◌, ap, sym, ◌∙◌, arith, rules, true, false, length, FitsSigned}
+use Rattle.std.proofs.Common.{◌≡◌, ◌<◌, ap, sym, ◌∙◌, arith, rules, true, false, length, FitsSigned, not, ◌==◌}
 use Rattle.std.specs.Prelude.{ℤ, pos, nat_abs}
 use Rattle.std.specs.Int.{w64, w128}
 use Rattle.std.proofs.lemmas.Int.{ints, to_z-of_z}
+use Rattle.std.specs.List.{filter}
 use Rattle.std.proofs.lemmas.Result.{IfOk-weaker}
 use Rattle.lin_atoms.specs.Linear.{are_small, is_small}
 use Rattle.model_project.specs.Substitution.{coefficient, without}
@@ -23,4 +24,4 @@ returns-in-Some-clause-made c =
     let none = simp to_z-of_z at c.in-Some.ensures.none in
     let short : is_small l.constant ≡ true = true_not_false (is_small l.constant) (λ h. none.1 (ap is_small c.constant.ensures.is ∙ h)) in
     let made = simp to_z-of_z at c.of_division.ensures.made in
-    IfOk-weaker c.of_division.result _ _ (λ x is. left_from v l a c.in-Some.constant c.in_ok-rest.rest.items x c.coefficient-a.ensures.is c.requires other c.coefficient-a.ensures.small c.in_ok-rest.ensures has (legal_small l c.constant.ensures.legal) (narrow ∙ c.constant.ensures.is) short is) made
+    IfOk-weaker c.of_division.result _ _ (λ x is. left_from v l a c.in-Some.constant c.in_ok-rest.rest.items x c.coefficient-a.ensures.is c.requires other c.coefficient-a.ensures.small (c.in_ok-rest.ensures ∙ ap (filter (λ t. not (t.0 == v))) c.terms.ensures.is) has (legal_small l c.constant.ensures.legal) (narrow ∙ c.constant.ensures.is) short is) made
