@@ -1,0 +1,13 @@
+pub mod CrossLemmas
+pub mod EliminationLemmas
+pub mod JudgeLemmas
+pub mod LoopLemmas
+pub mod NumberLemmas
+pub mod PeriodLemmas
+pub mod PointLemmas
+pub mod RuleLemmas
+pub mod ShiftLemmas
+pub mod SolvedLemmas
+pub mod TermLemmas
+pub mod TidyLemmas
+pub mod TruthLemmas
