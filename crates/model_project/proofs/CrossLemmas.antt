@@ -1,9 +1,8 @@
 -- A form that is crossed with an equation, and what the equation leaves, by their numbers.
-use Rattle.std.proofs.Common.{◌≡◌, ◌<◌, ◌≤◌, ◌+◌, ◌*◌, ◌^◌, ◌&&◌, ◌++◌, ℕ, suc, zero, List, [], ◌∷◌, refl, ap, sym, ◌∙◌, subst, arith, true, false, Bool, ◌==◌, cond, not, length, Option, Some, None}
+use Rattle.std.proofs.Common.{◌≡◌, ◌<◌, ◌≤◌, ◌*◌, ◌^◌, ◌&&◌, ◌++◌, ℕ, suc, zero, List, [], ◌∷◌, refl, ap, sym, ◌∙◌, subst, arith, true, false, Bool, ◌==◌, cond, not, length, Some, None}
 use Rattle.std.specs.Prelude.{ℤ, pos, neg_ℤ, ◌+ℤ◌, ◌*ℤ◌, ◌<ℤ◌, nat_abs, nat_lt}
-use Rattle.std.specs.List.{list_all, filter}
+use Rattle.std.specs.List.{filter}
 use Rattle.std.proofs.lemmas.Int.{ints}
-use Rattle.std.proofs.lemmas.Bool.{eqb-true, ltb-true}
 use Rattle.std.proofs.lemmas.Bool.Decides.{nat_tests}
 use Rattle.lin_atoms.specs.Linear.{Linear, are_ordered, are_short, is_linear, is_short}
 use Rattle.lin_atoms.specs.Algebra.{collected, scaled_terms}
@@ -11,8 +10,8 @@ use Rattle.lin_atoms.specs.Denial.{linear_of}
 use Rattle.lin_atoms.specs.declared.lit.Lit.{Lit}
 use Rattle.lin_atoms.specs.declared.lit.Lit.TheVariants.{Le, Eq, Div, NDiv}
 use Rattle.lin_atoms.proofs.Public.{both_true}
-use Rattle.model_project.specs.Substitution.{coefficient, crossed, crossed_lit, left_over, lin_has, upright, without}
-use Rattle.model_project.specs.Elimination.{has_variable, is_narrow, tidied}
+use Rattle.model_project.specs.Substitution.{coefficient, crossed, crossed_lit, left_over, without}
+use Rattle.model_project.specs.Elimination.{has_variable, has_short_numbers, tidied}
 use Rattle.model_project.specs.machinery.Steps.{one}
 use Rattle.model_project.proofs.JudgeLemmas.{one_ground, one_kept, one_wide}
 
@@ -75,14 +74,14 @@ pub left_made : (v : ℕ) (l : Linear) (made : Lit) → pos 0 <ℤ coefficient v
     → tidied (left_over v l) ≡ Some (one made)
 left_made v l made some other small has terms constant e =
     let lit = Div (nat_abs (coefficient v l)) (without v l) in
-    let narrow : is_narrow lit ≡ true = three_true (are_short (without v l).terms) (is_short l.constant) (nat_lt (nat_abs (coefficient v l)) (2 ^ 63)) (filter_small (λ t. not (t.0 == v)) l.terms terms) constant (short_test (nat_abs (coefficient v l)) small) in
+    let narrow : has_short_numbers lit ≡ true = three_true (are_short (without v l).terms) (is_short l.constant) (nat_lt (nat_abs (coefficient v l)) (2 ^ 63)) (filter_small (λ t. not (t.0 == v)) l.terms terms) constant (short_test (nat_abs (coefficient v l)) small) in
     ap tidied (left_is v l some other) ∙ one_kept lit (some_terms (without v l).terms (without v l).terms refl has) narrow ∙ ap (λ x. Some (one x)) (sym e)
 
 -- a crossed literal, by its form
-pub kept_le : (v : ℕ) (l m : Linear) (made : Linear) → made ≡ crossed v l m → has_variable (Eq (crossed v l m)) ≡ true → is_narrow (Eq (crossed v l m)) ≡ true → tidied (crossed_lit v l (Le m) ∷ []) ≡ Some (one (Le made))
+pub kept_le : (v : ℕ) (l m : Linear) (made : Linear) → made ≡ crossed v l m → has_variable (Eq (crossed v l m)) ≡ true → has_short_numbers (Eq (crossed v l m)) ≡ true → tidied (crossed_lit v l (Le m) ∷ []) ≡ Some (one (Le made))
 kept_le v l m made e h n = one_kept (Le (crossed v l m)) h n ∙ ap (λ x. Some (one (Le x))) (sym e)
 
-pub kept_eq : (v : ℕ) (l m : Linear) (made : Linear) → made ≡ crossed v l m → has_variable (Eq (crossed v l m)) ≡ true → is_narrow (Eq (crossed v l m)) ≡ true → tidied (crossed_lit v l (Eq m) ∷ []) ≡ Some (one (Eq made))
+pub kept_eq : (v : ℕ) (l m : Linear) (made : Linear) → made ≡ crossed v l m → has_variable (Eq (crossed v l m)) ≡ true → has_short_numbers (Eq (crossed v l m)) ≡ true → tidied (crossed_lit v l (Eq m) ∷ []) ≡ Some (one (Eq made))
 kept_eq v l m made e h n = one_kept (Eq (crossed v l m)) h n ∙ ap (λ x. Some (one (Eq x))) (sym e)
 
 with_divisor : (a b c d : Bool) → (a && (b && c)) ≡ true → d ≡ true → (a && (b && d)) ≡ true
@@ -90,13 +89,13 @@ with_divisor true true c d h g = g
 with_divisor true false c d h g = absurd (cc)
 with_divisor false b c d h g = absurd (cc)
 
-pub kept_div : (v : ℕ) (l m : Linear) (d n : ℕ) (made : Linear) → made ≡ crossed v l m → n ≡ nat_abs (coefficient v l) * d → nat_abs (coefficient v l) * d < 2 ^ 63 → has_variable (Eq (crossed v l m)) ≡ true → is_narrow (Eq (crossed v l m)) ≡ true → tidied (crossed_lit v l (Div d m) ∷ []) ≡ Some (one (Div n made))
+pub kept_div : (v : ℕ) (l m : Linear) (d n : ℕ) (made : Linear) → made ≡ crossed v l m → n ≡ nat_abs (coefficient v l) * d → nat_abs (coefficient v l) * d < 2 ^ 63 → has_variable (Eq (crossed v l m)) ≡ true → has_short_numbers (Eq (crossed v l m)) ≡ true → tidied (crossed_lit v l (Div d m) ∷ []) ≡ Some (one (Div n made))
 kept_div v l m d n made e f small h is =
     let c = crossed v l m in
     one_kept (Div (nat_abs (coefficient v l) * d) c) h (with_divisor (are_short c.terms) (is_short c.constant) (nat_lt 1 (2 ^ 63)) (nat_lt (nat_abs (coefficient v l) * d) (2 ^ 63)) is (short_test (nat_abs (coefficient v l) * d) small))
     ∙ ap (λ x. Some (one (Div x c))) (sym f) ∙ ap (λ x. Some (one (Div n x))) (sym e)
 
-pub kept_ndiv : (v : ℕ) (l m : Linear) (d n : ℕ) (made : Linear) → made ≡ crossed v l m → n ≡ nat_abs (coefficient v l) * d → nat_abs (coefficient v l) * d < 2 ^ 63 → has_variable (Eq (crossed v l m)) ≡ true → is_narrow (Eq (crossed v l m)) ≡ true → tidied (crossed_lit v l (NDiv d m) ∷ []) ≡ Some (one (NDiv n made))
+pub kept_ndiv : (v : ℕ) (l m : Linear) (d n : ℕ) (made : Linear) → made ≡ crossed v l m → n ≡ nat_abs (coefficient v l) * d → nat_abs (coefficient v l) * d < 2 ^ 63 → has_variable (Eq (crossed v l m)) ≡ true → has_short_numbers (Eq (crossed v l m)) ≡ true → tidied (crossed_lit v l (NDiv d m) ∷ []) ≡ Some (one (NDiv n made))
 kept_ndiv v l m d n made e f small h is =
     let c = crossed v l m in
     one_kept (NDiv (nat_abs (coefficient v l) * d) c) h (with_divisor (are_short c.terms) (is_short c.constant) (nat_lt 1 (2 ^ 63)) (nat_lt (nat_abs (coefficient v l) * d) (2 ^ 63)) is (short_test (nat_abs (coefficient v l) * d) small))
@@ -118,13 +117,13 @@ wide_parts true true c d t h = absurd (cc)
 wide_parts true false c d t h = refl
 wide_parts false b c d t h = refl
 
-crossed_wide : (v : ℕ) (l : Linear) (lit : Lit) → is_narrow (Eq (crossed v l (linear_of lit))) ≡ false → is_narrow (crossed_lit v l lit) ≡ false
+crossed_wide : (v : ℕ) (l : Linear) (lit : Lit) → has_short_numbers (Eq (crossed v l (linear_of lit))) ≡ false → has_short_numbers (crossed_lit v l lit) ≡ false
 crossed_wide v l (Le m) h = h
 crossed_wide v l (Eq m) h = h
 crossed_wide v l (Div d m) h = wide_parts (are_short (crossed v l m).terms) (is_short (crossed v l m).constant) (nat_lt 1 (2 ^ 63)) (nat_lt (nat_abs (coefficient v l) * d) (2 ^ 63)) refl h
 crossed_wide v l (NDiv d m) h = wide_parts (are_short (crossed v l m).terms) (is_short (crossed v l m).constant) (nat_lt 1 (2 ^ 63)) (nat_lt (nat_abs (coefficient v l) * d) (2 ^ 63)) refl h
 
-pub wide_crossed : (v : ℕ) (l : Linear) (lit : Lit) → has_variable (Eq (crossed v l (linear_of lit))) ≡ true → is_narrow (Eq (crossed v l (linear_of lit))) ≡ false → tidied (crossed_lit v l lit ∷ []) ≡ None
+pub wide_crossed : (v : ℕ) (l : Linear) (lit : Lit) → has_variable (Eq (crossed v l (linear_of lit))) ≡ true → has_short_numbers (Eq (crossed v l (linear_of lit))) ≡ false → tidied (crossed_lit v l lit ∷ []) ≡ None
 wide_crossed v l lit h n = one_wide (crossed_lit v l lit) (crossed_has v l lit ∙ h) (crossed_wide v l lit n)
 
 last_wide : (a b d : Bool) → d ≡ false → (a && (b && d)) ≡ false
@@ -143,7 +142,7 @@ product_some (suc a) (suc d) h g = omega arith
 product_some zero d h g = absurd (omega arith)
 product_some (suc a) zero h g = absurd (omega arith)
 
-pub narrow_eq : (lin : Linear) → is_linear lin ≡ true → is_short lin.constant ≡ true → is_narrow (Eq lin) ≡ true
+pub narrow_eq : (lin : Linear) → is_linear lin ≡ true → is_short lin.constant ≡ true → has_short_numbers (Eq lin) ≡ true
 narrow_eq lin h small =
     let parts = both_true (are_ordered 0 lin.terms) _ h in
     let terms = both_true (are_short lin.terms) _ parts.1 in

@@ -1,17 +1,15 @@
 -- The elimination gives a projection.
-use Rattle.std.proofs.Common.{◌≡◌, ◌<◌, ◌≤◌, ◌+◌, ◌^◌, ◌&&◌, ◌||◌, ℕ, suc, zero, List, [], ◌∷◌, refl, ap, sym, ◌∙◌, subst, arith, true, false, Bool, ◌==◌, cond, not, length, map, Option, Some, None, ⊎_elim}
-use Rattle.std.specs.Prelude.{ℤ, pos, neg_ℤ, ◌+ℤ◌, ◌-ℤ◌, ◌*ℤ◌, nat_abs, nat_lt}
-use Rattle.std.specs.List.{list_all, list_any, filter}
+use Rattle.std.proofs.Common.{◌≡◌, ◌≤◌, ◌^◌, ◌&&◌, ◌||◌, ℕ, suc, zero, List, [], ◌∷◌, refl, ap, sym, ◌∙◌, subst, arith, true, false, Bool, ◌==◌, cond, length, Option, Some, None}
+use Rattle.std.specs.Prelude.{ℤ, pos, neg_ℤ, ◌+ℤ◌, ◌*ℤ◌, nat_abs, nat_lt}
+use Rattle.std.specs.List.{list_all, filter}
 use Rattle.std.proofs.lemmas.Int.{ints}
-use Rattle.std.proofs.lemmas.Bool.{eqb-true, ltb-true, cases_lt}
+use Rattle.std.proofs.lemmas.Bool.{eqb-true}
 use Rattle.std.proofs.lemmas.Bool.Decides.{nat_tests}
-use Rattle.lin_atoms.specs.Linear.{Linear, is_short, value_at, variable_at}
+use Rattle.lin_atoms.specs.Linear.{is_short, variable_at}
 use Rattle.lin_atoms.specs.Truth.{lit_all, lit_is_below, lit_truth}
 use Rattle.lin_atoms.specs.declared.lit.Lit.{Lit}
-use Rattle.lin_atoms.specs.declared.lit.Lit.TheVariants.{Eq}
 use Rattle.lin_atoms.proofs.Public.{both_true}
-use Rattle.model_project.specs.Substitution.{occurs}
-use Rattle.model_project.specs.Elimination.{divisor, has_variable, least_multiple, period, removed, tidied}
+use Rattle.model_project.specs.Elimination.{has_variable, removed, tidied}
 use Rattle.model_project.specs.machinery.Steps.{are_narrow, has_divisor}
 use Rattle.model_project.specs.Projection.{Extends, IsProjection, are_true, eliminated, is_kept, point, projection, unless_given_up}
 use Rattle.model_project.proofs.NumberLemmas.{abs-zero, zero-abs}

@@ -1,9 +1,7 @@
 -- Lists that are tidied piece by piece.
-use Rattle.std.proofs.Common.{◌≡◌, ◌<◌, ◌≤◌, ◌+◌, ◌&&◌, ◌++◌, ℕ, suc, zero, List, [], ◌∷◌, refl, ap, sym, ◌∙◌, subst, arith, true, false, Bool, ◌==◌, cond, not, length, take, drop, get_or, set, append_assoc, add-one, Option, Some, None}
-use Rattle.std.specs.Prelude.{ℤ, nat_abs, nat_lt}
-use Rattle.std.specs.List.{list_all, list_any, filter}
-use Rattle.std.specs.Option.{option_map}
-use Rattle.std.proofs.lemmas.List.{append-nil, drop_more, drop_all, take_more, take_all, take-append-drop, take-set, length-set}
+use Rattle.std.proofs.Common.{◌≡◌, ◌<◌, ◌≤◌, ◌+◌, ◌&&◌, ◌++◌, ℕ, suc, zero, List, [], ◌∷◌, refl, ap, sym, ◌∙◌, arith, true, false, Bool, cond, not, length, take, drop, get_or, set, append_assoc, add-one, Option, Some, None}
+use Rattle.std.specs.List.{list_all, filter}
+use Rattle.std.proofs.lemmas.List.{append-nil, drop_more, drop_all, take_more, take_all, take-set, length-set}
 use Rattle.std.proofs.lemmas.List.Elements.{filter-append}
 use Rattle.std.proofs.lemmas.List.Folds.{list_all-append}
 use Rattle.lin_atoms.specs.Linear.{Linear}
@@ -11,11 +9,11 @@ use Rattle.lin_atoms.specs.declared.lit.Lit.{Lit}
 use Rattle.lin_atoms.specs.declared.lit.Lit.TheVariants.{Le, Eq, Div, NDiv}
 use Rattle.lin_atoms.proofs.Public.{both_true}
 use Rattle.model_project.specs.Substitution.{crossed_lit, equation_in, is_equation, left_over, lin_has, occurs, replaced, solved, by_equation, substituted, upright}
-use Rattle.model_project.specs.Elimination.{has_variable, is_narrow, put_before, tidied, unless_wide}
+use Rattle.model_project.specs.Elimination.{has_variable, has_short_numbers, put_before, tidied, unless_wide}
 use Rattle.model_project.specs.machinery.Steps.{are_narrow, behind, one}
 use Rattle.model_project.proofs.TidyLemmas.{filter_all}
 
-pub one_kept : (lit : Lit) → has_variable lit ≡ true → is_narrow lit ≡ true → tidied (lit ∷ []) ≡ Some (one lit)
+pub one_kept : (lit : Lit) → has_variable lit ≡ true → has_short_numbers lit ≡ true → tidied (lit ∷ []) ≡ Some (one lit)
 one_kept lit h n =
     let e : one lit ≡ lit ∷ [] = ap (λ b. cond b (lit ∷ []) []) h in
     ap unless_wide e ∙ ap (λ b. cond (b && true) (Some (lit ∷ [])) None) n ∙ ap Some (sym e)
@@ -26,16 +24,16 @@ one_ground lit g h n =
     let f : one g ≡ [] = ap (λ b. cond b (g ∷ []) []) n in
     ap unless_wide e ∙ ap Some (sym f)
 
-pub one_wide : (lit : Lit) → has_variable lit ≡ true → is_narrow lit ≡ false → tidied (lit ∷ []) ≡ None
+pub one_wide : (lit : Lit) → has_variable lit ≡ true → has_short_numbers lit ≡ false → tidied (lit ∷ []) ≡ None
 one_wide lit h n =
     let e : one lit ≡ lit ∷ [] = ap (λ b. cond b (lit ∷ []) []) h in
     ap unless_wide e ∙ ap (λ b. cond (b && true) (Some (lit ∷ [])) None) n
 
-narrow_by : (lit : Lit) (b : Bool) → has_variable lit ≡ b → is_narrow lit ≡ true → tidied (lit ∷ []) ≡ Some (one lit)
+narrow_by : (lit : Lit) (b : Bool) → has_variable lit ≡ b → has_short_numbers lit ≡ true → tidied (lit ∷ []) ≡ Some (one lit)
 narrow_by lit true e n = one_kept lit e n
 narrow_by lit false e n = one_ground lit lit e e
 
-pub one_narrow : (lit : Lit) → is_narrow lit ≡ true → tidied (lit ∷ []) ≡ Some (one lit)
+pub one_narrow : (lit : Lit) → has_short_numbers lit ≡ true → tidied (lit ∷ []) ≡ Some (one lit)
 one_narrow lit n = narrow_by lit (has_variable lit) refl n
 
 -- a piece before a rest
@@ -48,17 +46,17 @@ none_joined : (X Y : List Lit) (b c : Bool) → cond b (Some X) None ≡ None �
 none_joined X Y true c h = absurd (cc)
 none_joined X Y false c h = refl
 
-joined : (xs ys : List Lit) → tidied (xs ++ ys) ≡ cond (list_all is_narrow (filter has_variable xs) && list_all is_narrow (filter has_variable ys)) (Some (filter has_variable xs ++ filter has_variable ys)) None
+joined : (xs ys : List Lit) → tidied (xs ++ ys) ≡ cond (list_all has_short_numbers (filter has_variable xs) && list_all has_short_numbers (filter has_variable ys)) (Some (filter has_variable xs ++ filter has_variable ys)) None
 joined xs ys =
     let parts = filter-append has_variable xs ys in
-    let narrow = list_all-append is_narrow (filter has_variable xs) (filter has_variable ys) in
+    let narrow = list_all-append has_short_numbers (filter has_variable xs) (filter has_variable ys) in
     ap unless_wide parts ∙ ap (λ b. cond b (Some (filter has_variable xs ++ filter has_variable ys)) None) narrow
 
 pub tidied-first : (xs ys us : List Lit) → tidied xs ≡ Some us → tidied (xs ++ ys) ≡ behind us (tidied ys)
-tidied-first xs ys us h = joined xs ys ∙ some_joined (filter has_variable xs) (filter has_variable ys) us (list_all is_narrow (filter has_variable xs)) (list_all is_narrow (filter has_variable ys)) h
+tidied-first xs ys us h = joined xs ys ∙ some_joined (filter has_variable xs) (filter has_variable ys) us (list_all has_short_numbers (filter has_variable xs)) (list_all has_short_numbers (filter has_variable ys)) h
 
 pub tidied-wide : (xs ys : List Lit) → tidied xs ≡ None → tidied (xs ++ ys) ≡ None
-tidied-wide xs ys h = joined xs ys ∙ none_joined (filter has_variable xs) (filter has_variable ys) (list_all is_narrow (filter has_variable xs)) (list_all is_narrow (filter has_variable ys)) h
+tidied-wide xs ys h = joined xs ys ∙ none_joined (filter has_variable xs) (filter has_variable ys) (list_all has_short_numbers (filter has_variable xs)) (list_all has_short_numbers (filter has_variable ys)) h
 
 pub behind-more : (xs ys : List Lit) (o : Option (List Lit)) → behind xs (behind ys o) ≡ behind (xs ++ ys) o
 behind-more xs ys None = refl
@@ -69,12 +67,12 @@ behind-nothing None = refl
 behind-nothing (Some ws) = refl
 
 -- what a list gives is narrow
-narrow_of : (X us : List Lit) (b : Bool) → list_all is_narrow X ≡ b → cond b (Some X) None ≡ Some us → are_narrow us ≡ true
+narrow_of : (X us : List Lit) (b : Bool) → list_all has_short_numbers X ≡ b → cond b (Some X) None ≡ Some us → are_narrow us ≡ true
 narrow_of X us true e h = let same : X ≡ us = cc in ap are_narrow (sym same) ∙ e
 narrow_of X us false e h = absurd (cc)
 
 pub tidied-narrow : (lits us : List Lit) → tidied lits ≡ Some us → are_narrow us ≡ true
-tidied-narrow lits us h = narrow_of (filter has_variable lits) us (list_all is_narrow (filter has_variable lits)) refl h
+tidied-narrow lits us h = narrow_of (filter has_variable lits) us (list_all has_short_numbers (filter has_variable lits)) refl h
 
 -- the first literal: crossed, left over, or as it is
 pub crossed_first : (v : ℕ) (l : Linear) (came : Bool) (lit : Lit) (rest : List Lit) → (not came && is_equation v lit) ≡ false → occurs v lit ≡ true → replaced v l came (lit ∷ rest) ≡ crossed_lit v l lit ∷ replaced v l came rest
@@ -113,10 +111,10 @@ pub next_left_wide : (v : ℕ) (l : Linear) (lit : Lit) (rest : List Lit) → is
 next_left_wide v l lit rest h is = ap tidied (left_first v l lit rest h) ∙ tidied-wide (left_over v l) (replaced v l true rest) is
 
 -- a literal that is as it is
-pub narrow_at : (lits : List Lit) (i : ℕ) (d : Lit) → i < length lits → are_narrow lits ≡ true → is_narrow (get_or lits i d) ≡ true
+pub narrow_at : (lits : List Lit) (i : ℕ) (d : Lit) → i < length lits → are_narrow lits ≡ true → has_short_numbers (get_or lits i d) ≡ true
 narrow_at [] i d h n = absurd (omega arith)
-narrow_at (lit ∷ lits) zero d h n = (both_true (is_narrow lit) _ n).0
-narrow_at (lit ∷ lits) (suc i) d h n = narrow_at lits i d (omega arith) (both_true (is_narrow lit) _ n).1
+narrow_at (lit ∷ lits) zero d h n = (both_true (has_short_numbers lit) _ n).0
+narrow_at (lit ∷ lits) (suc i) d h n = narrow_at lits i d (omega arith) (both_true (has_short_numbers lit) _ n).1
 
 same_rest : (xs ys : List Lit) (i : ℕ) (d : Lit) → i < length xs → i < length ys → drop i xs ≡ drop i ys → get_or xs i d ≡ get_or ys i d
 same_rest [] ys i d h g e = absurd (omega arith)
@@ -132,7 +130,7 @@ pub stay_step : (v : ℕ) (l : Linear) (came : Bool) (whole : Option (List Lit))
 stay_step v l came whole lits old i d h size same narrow free told =
     let lit = get_or lits i d in
     let rest = replaced v l came (drop (i + 1) lits) in
-    let is : is_narrow lit ≡ true = ap is_narrow (same_rest lits old i d h (omega (arith, size, h)) same) ∙ narrow_at old i d (omega (arith, size, h)) narrow in
+    let is : has_short_numbers lit ≡ true = ap has_short_numbers (same_rest lits old i d h (omega (arith, size, h)) same) ∙ narrow_at old i d (omega (arith, size, h)) narrow in
     let here : tidied (replaced v l came (drop i lits)) ≡ behind (one lit) (tidied rest) =
     ap (λ xs. tidied (replaced v l came xs)) (drop_more lits i d h) ∙ ap tidied (stays_first v l came lit (drop (i + 1) lits) free) ∙ tidied-first (lit ∷ []) rest (one lit) (one_narrow lit is) in
     told ∙ ap (behind (filter has_variable (take i lits))) here ∙ behind-more (filter has_variable (take i lits)) (one lit) (tidied rest) ∙ ap (λ xs. behind xs (tidied rest)) (one_more lits i d h)
@@ -189,7 +187,7 @@ tidied-skip lits made whole i d h free told =
     let lit = get_or lits i d in
     told ∙ ap (λ xs. behind made (tidied xs)) (drop_more lits i d h) ∙ ap (λ b. behind made (unless_wide (cond b (lit ∷ filter has_variable (drop (i + 1) lits)) (filter has_variable (drop (i + 1) lits))))) free
 
-pub tidied-push : (lits made new : List Lit) (whole : Option (List Lit)) (i : ℕ) (d : Lit) → i < length lits → has_variable (get_or lits i d) ≡ true → is_narrow (get_or lits i d) ≡ true → new ≡ made ++ get_or lits i d ∷ [] → whole ≡ behind made (tidied (drop i lits)) → whole ≡ behind new (tidied (drop (i + 1) lits))
+pub tidied-push : (lits made new : List Lit) (whole : Option (List Lit)) (i : ℕ) (d : Lit) → i < length lits → has_variable (get_or lits i d) ≡ true → has_short_numbers (get_or lits i d) ≡ true → new ≡ made ++ get_or lits i d ∷ [] → whole ≡ behind made (tidied (drop i lits)) → whole ≡ behind new (tidied (drop (i + 1) lits))
 tidied-push lits made new whole i d h has is e told =
     let lit = get_or lits i d in
     let rest = drop (i + 1) lits in
@@ -197,7 +195,7 @@ tidied-push lits made new whole i d h has is e told =
     told ∙ ap (λ xs. behind made (tidied xs)) (drop_more lits i d h) ∙ ap (behind made) (tidied-first (lit ∷ []) rest (one lit) (one_kept lit has is)) ∙ behind-more made (one lit) (tidied rest)
     ∙ ap (λ xs. behind (made ++ xs) (tidied rest)) single ∙ ap (λ xs. behind xs (tidied rest)) (sym e)
 
-pub tidied-stop : (lits made : List Lit) (whole : Option (List Lit)) (i : ℕ) (d : Lit) → i < length lits → has_variable (get_or lits i d) ≡ true → is_narrow (get_or lits i d) ≡ false → whole ≡ behind made (tidied (drop i lits)) → whole ≡ None
+pub tidied-stop : (lits made : List Lit) (whole : Option (List Lit)) (i : ℕ) (d : Lit) → i < length lits → has_variable (get_or lits i d) ≡ true → has_short_numbers (get_or lits i d) ≡ false → whole ≡ behind made (tidied (drop i lits)) → whole ≡ None
 tidied-stop lits made whole i d h has is told =
     told ∙ ap (λ xs. behind made (tidied xs)) (drop_more lits i d h) ∙ ap (behind made) (tidied-wide (get_or lits i d ∷ []) (drop (i + 1) lits) (one_wide (get_or lits i d) has is))
 
@@ -209,11 +207,11 @@ first_here : (v : ℕ) (e : Linear) (lits : List Lit) → lin_has v e ≡ true �
 first_here v e lits has =
     ap (λ o. by_equation v o (Eq e ∷ lits)) (ap (λ b. cond b (Some e) (equation_in v lits)) has) ∙ left_first v (upright v e) (Eq e) lits has
 
-pub put_before_is : (v : ℕ) (e : Linear) (lits new : List Lit) (left : Lit) → lin_has v e ≡ true → is_narrow (Eq e) ≡ true → tidied (left_over v (upright v e)) ≡ Some (one left) → tidied (replaced v (upright v e) true lits) ≡ Some new → put_before v e lits ≡ Some (one left ++ new)
+pub put_before_is : (v : ℕ) (e : Linear) (lits new : List Lit) (left : Lit) → lin_has v e ≡ true → has_short_numbers (Eq e) ≡ true → tidied (left_over v (upright v e)) ≡ Some (one left) → tidied (replaced v (upright v e) true lits) ≡ Some new → put_before v e lits ≡ Some (one left ++ new)
 put_before_is v e lits new left has n first rest =
     ap (λ b. cond b (tidied (solved v (Eq e ∷ lits))) None) n ∙ ap tidied (first_here v e lits has) ∙ tidied-first (left_over v (upright v e)) (replaced v (upright v e) true lits) (one left) first ∙ ap (behind (one left)) rest
 
-pub put_before_wide : (v : ℕ) (e : Linear) (lits : List Lit) → is_narrow (Eq e) ≡ false → put_before v e lits ≡ None
+pub put_before_wide : (v : ℕ) (e : Linear) (lits : List Lit) → has_short_numbers (Eq e) ≡ false → put_before v e lits ≡ None
 put_before_wide v e lits n = ap (λ b. cond b (tidied (solved v (Eq e ∷ lits))) None) n
 
 both_ways : (b : Bool) (o : Option (List Lit)) → o ≡ None → cond b o None ≡ None
@@ -221,7 +219,7 @@ both_ways true o h = h
 both_ways false o h = refl
 
 pub put_before_left : (v : ℕ) (e : Linear) (lits : List Lit) → lin_has v e ≡ true → tidied (left_over v (upright v e)) ≡ None → put_before v e lits ≡ None
-put_before_left v e lits has first = both_ways (is_narrow (Eq e)) (tidied (solved v (Eq e ∷ lits))) (ap tidied (first_here v e lits has) ∙ tidied-wide (left_over v (upright v e)) (replaced v (upright v e) true lits) first)
+put_before_left v e lits has first = both_ways (has_short_numbers (Eq e)) (tidied (solved v (Eq e ∷ lits))) (ap tidied (first_here v e lits has) ∙ tidied-wide (left_over v (upright v e)) (replaced v (upright v e) true lits) first)
 
 behind_none : (b : Bool) (X Y : List Lit) → cond b (Some Y) None ≡ None → (c : Bool) → cond (c && b) (Some (X ++ Y)) None ≡ None
 behind_none true X Y h c = absurd (cc)
@@ -229,12 +227,12 @@ behind_none false X Y h true = refl
 behind_none false X Y h false = refl
 
 pub tidied-rest_wide : (xs ys : List Lit) → tidied ys ≡ None → tidied (xs ++ ys) ≡ None
-tidied-rest_wide xs ys h = joined xs ys ∙ behind_none (list_all is_narrow (filter has_variable ys)) (filter has_variable xs) (filter has_variable ys) h (list_all is_narrow (filter has_variable xs))
+tidied-rest_wide xs ys h = joined xs ys ∙ behind_none (list_all has_short_numbers (filter has_variable ys)) (filter has_variable xs) (filter has_variable ys) h (list_all has_short_numbers (filter has_variable xs))
 
 pub put_before_rest : (v : ℕ) (e : Linear) (lits : List Lit) → lin_has v e ≡ true → tidied (replaced v (upright v e) true lits) ≡ None → put_before v e lits ≡ None
-put_before_rest v e lits has rest = both_ways (is_narrow (Eq e)) (tidied (solved v (Eq e ∷ lits))) (ap tidied (first_here v e lits has) ∙ tidied-rest_wide (left_over v (upright v e)) (replaced v (upright v e) true lits) rest)
+put_before_rest v e lits has rest = both_ways (has_short_numbers (Eq e)) (tidied (solved v (Eq e ∷ lits))) (ap tidied (first_here v e lits has) ∙ tidied-rest_wide (left_over v (upright v e)) (replaced v (upright v e) true lits) rest)
 
-pub put_before_from : (v : ℕ) (e l : Linear) (lits new out : List Lit) (left : Lit) → l ≡ upright v e → lin_has v e ≡ true → is_narrow (Eq e) ≡ true → tidied (left_over v l) ≡ Some (one left) → tidied (replaced v l true lits) ≡ Some new → out ≡ one left ++ new → put_before v e lits ≡ Some out
+pub put_before_from : (v : ℕ) (e l : Linear) (lits new out : List Lit) (left : Lit) → l ≡ upright v e → lin_has v e ≡ true → has_short_numbers (Eq e) ≡ true → tidied (left_over v l) ≡ Some (one left) → tidied (replaced v l true lits) ≡ Some new → out ≡ one left ++ new → put_before v e lits ≡ Some out
 put_before_from v e l lits new out left is has n first rest joined_is =
     put_before_is v e lits new left has n (ap (λ m. tidied (left_over v m)) (sym is) ∙ first) (ap (λ m. tidied (replaced v m true lits)) (sym is) ∙ rest) ∙ ap Some (sym joined_is)
 
@@ -244,4 +242,4 @@ kept_true test X us true h e = let same : X ≡ us = cc in ap (list_all test) (s
 kept_true test X us false h e = absurd (cc)
 
 pub tidied-all : (test : Lit → Bool) (lits us : List Lit) → list_all test lits ≡ true → tidied lits ≡ Some us → list_all test us ≡ true
-tidied-all test lits us h e = kept_true test (filter has_variable lits) us (list_all is_narrow (filter has_variable lits)) (filter_all test lits h) e
+tidied-all test lits us h e = kept_true test (filter has_variable lits) us (list_all has_short_numbers (filter has_variable lits)) (filter_all test lits h) e

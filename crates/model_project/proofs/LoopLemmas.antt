@@ -1,25 +1,23 @@
 -- One literal more, in what is told of the rest of a list.
-use Rattle.std.proofs.Common.{◌≡◌, ◌<◌, ◌≤◌, ◌+◌, ◌-◌, ◌*◌, ◌^◌, ◌&&◌, ◌||◌, ◌++◌, ℕ, suc, zero, List, [], ◌∷◌, refl, ap, sym, ◌∙◌, subst, arith, true, false, Bool, ◌==◌, cond, not, length, take, drop, get_or, Option, Some, None}
+use Rattle.std.proofs.Common.{◌≡◌, ◌<◌, ◌≤◌, ◌+◌, ◌*◌, ◌^◌, ◌&&◌, ◌||◌, ℕ, suc, zero, List, [], ◌∷◌, refl, ap, sym, ◌∙◌, subst, arith, true, false, Bool, cond, not, length, drop, get_or, Option, Some, None}
 use Rattle.std.specs.Prelude.{ℤ, pos, ◌<ℤ◌, nat_abs, nat_lt}
-use Rattle.std.specs.Option.{option_map}
-use Rattle.std.specs.List.{list_all, list_any, filter}
+use Rattle.std.specs.List.{list_all, list_any}
 use Rattle.std.proofs.lemmas.Bool.{ltb-true}
 use Rattle.std.proofs.lemmas.Bool.Decides.{nat_tests}
-use Rattle.std.proofs.lemmas.List.{drop_more, drop_all}
-use Rattle.lin_atoms.specs.Linear.{Linear, is_linear, is_short, are_short, are_ordered}
+use Rattle.std.proofs.lemmas.List.{drop_more}
+use Rattle.lin_atoms.specs.Linear.{Linear}
 use Rattle.lin_atoms.specs.Denial.{linear_of}
-use Rattle.lin_atoms.specs.Truth.{lit_truth}
 use Rattle.lin_atoms.specs.declared.lit.Lit.{Lit}
 use Rattle.lin_atoms.specs.declared.lit.Lit.TheVariants.{Le, Eq, Div, NDiv}
 use Rattle.lin_atoms.proofs.Public.{both_true}
-use Rattle.model_project.specs.Substitution.{coefficient, equation_in, is_equation, lin_has, occurs, replaced, solved, by_equation, upright}
-use Rattle.model_project.specs.Elimination.{by_bound, by_bounds, by_nearest, by_rest, divisor, gap, gaps_are_small, is_bound, is_narrow, least_multiple, nearer, nearest, on_side, period, put_before, removed, tidied}
-use Rattle.model_project.specs.Projection.{are_true, eliminated, is_kept, point}
-use Rattle.model_project.specs.machinery.Steps.{EquationIs, are_narrow, has_divisor, have_divisors}
+use Rattle.model_project.specs.Substitution.{coefficient, equation_in, is_equation, occurs, replaced, solved, by_equation, upright}
+use Rattle.model_project.specs.Elimination.{by_bounds, by_nearest, by_rest, divisor, gap, gaps_are_small, is_bound, least_multiple, nearer, nearest, on_side, period, removed, tidied}
+use Rattle.model_project.specs.Projection.{eliminated, is_kept}
+use Rattle.model_project.specs.machinery.Steps.{EquationIs, has_divisor, have_divisors}
 use Rattle.model_project.proofs.PeriodLemmas.{least_multiple-le}
 use Rattle.model_project.proofs.SolvedLemmas.{equation_in_has}
 use Rattle.model_project.proofs.TruthLemmas.{upright_positive}
-use Rattle.model_project.proofs.ShiftLemmas.{neither, side_some}
+use Rattle.model_project.proofs.ShiftLemmas.{side_some}
 
 -- which rule removes a variable
 pub removed_nowhere : (model : List ℤ) (v : ℕ) (lits : List Lit) → list_any (occurs v) lits ≡ false → removed model v lits ≡ Some lits

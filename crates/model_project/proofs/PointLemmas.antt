@@ -1,11 +1,11 @@
 -- Points that differ in one variable, and values of forms at them.
-use Rattle.std.proofs.Common.{◌≡◌, ◌<◌, ◌≤◌, ◌+◌, ℕ, suc, zero, List, [], ◌∷◌, ◌++◌, refl, ap, sym, ◌∙◌, arith, true, false, Bool, ◌==◌, cond, not}
-use Rattle.std.specs.Prelude.{ℤ, pos, neg_ℤ, ◌+ℤ◌, ◌-ℤ◌, ◌*ℤ◌, nat_abs}
+use Rattle.std.proofs.Common.{◌≡◌, ℕ, suc, zero, List, [], ◌∷◌, refl, ap, sym, ◌∙◌, arith, true, false, Bool, ◌==◌, cond, not}
+use Rattle.std.specs.Prelude.{ℤ, pos, neg_ℤ, ◌+ℤ◌, ◌-ℤ◌, ◌*ℤ◌}
 use Rattle.std.specs.List.{filter}
 use Rattle.std.proofs.Math.IntN.{*ℤ_comm}
 use Rattle.std.proofs.lemmas.Int.{ints}
 use Rattle.std.proofs.lemmas.Bool.{eqb-true, eqb-false}
-use Rattle.base.proofs.Public.{*ℤ-+ℤ, *ℤ_assoc, +ℤ-*ℤ, neg_ℤ-*ℤ}
+use Rattle.base.proofs.Public.{*ℤ-+ℤ, +ℤ-*ℤ, neg_ℤ-*ℤ}
 use Rattle.lin_atoms.specs.Linear.{Linear, sum_at, value_at, variable_at}
 use Rattle.lin_atoms.specs.Algebra.{added, negated, scaled}
 use Rattle.lin_atoms.proofs.Public.{value_at-added, value_at-negated, value_at-scaled}

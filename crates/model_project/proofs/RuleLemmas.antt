@@ -1,13 +1,13 @@
 -- Each rule keeps the model, and each point of the new list extends to one of the old.
-use Rattle.std.proofs.Common.{◌≡◌, ◌<◌, ◌≤◌, ◌+◌, ◌*◌, ◌/◌, ◌%◌, ◌^◌, ◌&&◌, ◌||◌, ℕ, suc, zero, List, [], ◌∷◌, refl, ap, sym, ◌∙◌, subst, arith, true, false, Bool, ◌==◌, cond, not, Option, Some, None}
+use Rattle.std.proofs.Common.{◌≡◌, ◌<◌, ◌≤◌, ◌+◌, ◌*◌, ◌/◌, ◌%◌, ◌^◌, ◌&&◌, ◌||◌, ℕ, suc, List, [], ◌∷◌, refl, ap, sym, ◌∙◌, subst, arith, true, false, Bool, ◌==◌, cond, not, Option, Some, None}
 use Rattle.std.specs.Prelude.{ℤ, pos, negsuc, neg_ℤ, ◌+ℤ◌, ◌-ℤ◌, ◌*ℤ◌, ◌≤ℤ◌, ◌<ℤ◌, int_lt, nat_abs, nat_lt}
 use Rattle.std.specs.Int.{int_div_euclid, int_rem_euclid}
 use Rattle.std.specs.List.{list_all, list_any, filter}
 use Rattle.std.proofs.Math.IntN.{*ℤ_comm}
-use Rattle.std.proofs.Math.Nat.{mul-le-mul_left, mul-le-mul_right, div-add-mod}
+use Rattle.std.proofs.Math.Nat.{mul-le-mul_right, div-add-mod}
 use Rattle.std.proofs.lemmas.Int.{ints}
 use Rattle.std.proofs.lemmas.Bool.Decides.{nat_tests}
-use Rattle.std.proofs.lemmas.Bool.{ltb-true, ltb-false, eqb-true}
+use Rattle.std.proofs.lemmas.Bool.{eqb-true}
 use Rattle.base.proofs.Public.{neg_ℤ-*ℤ}
 use Rattle.lin_atoms.specs.Linear.{Linear, value_at, variable_at}
 use Rattle.lin_atoms.specs.Algebra.{plus}
@@ -16,15 +16,15 @@ use Rattle.lin_atoms.specs.Truth.{lit_truth}
 use Rattle.lin_atoms.specs.declared.lit.Lit.{Lit}
 use Rattle.lin_atoms.specs.declared.lit.Lit.TheVariants.{Le, Eq, Div, NDiv}
 use Rattle.lin_atoms.proofs.Public.{both_true, quotient-rest}
-use Rattle.model_project.specs.Substitution.{coefficient, coefficient_in, equation_in, is_equation, lin_has, occurs, solved}
-use Rattle.model_project.specs.Elimination.{by_bound, by_bounds, by_nearest, by_rest, gap, gaps_are_small, has_variable, is_bound, is_narrow, nearer, nearest, is_nearer, on_side, period, put_before, removed, rest_equation, tidied}
+use Rattle.model_project.specs.Substitution.{coefficient, equation_in, is_equation, lin_has, occurs, solved}
+use Rattle.model_project.specs.Elimination.{by_bound, by_bounds, by_nearest, by_rest, gap, gaps_are_small, has_variable, is_bound, has_short_numbers, nearer, nearest, is_nearer, on_side, period, put_before, removed, rest_equation, tidied}
 use Rattle.model_project.specs.machinery.Steps.{are_narrow, has_divisor}
 use Rattle.model_project.proofs.JudgeLemmas.{tidied-narrow}
 use Rattle.model_project.specs.Projection.{are_true}
 use Rattle.model_project.proofs.NumberLemmas.{abs-zero, le-true, lt-false, lt-true, product_low, zero-times}
-use Rattle.model_project.proofs.PeriodLemmas.{Divides, period_divides, period_some}
+use Rattle.model_project.proofs.PeriodLemmas.{period_divides, period_some}
 use Rattle.model_project.proofs.PointLemmas.{Moves, put, put-here, put-moves, put-other_value, value_moved}
-use Rattle.model_project.proofs.ShiftLemmas.{AllHold, Holds, IsNearest, Nearest, gap_is, le_of_mul, nearest_is, neither, shifted_true, side_some}
+use Rattle.model_project.proofs.ShiftLemmas.{AllHold, Holds, IsNearest, gap_is, le_of_mul, nearest_is, neither, shifted_true, side_some}
 use Rattle.model_project.proofs.SolvedLemmas.{equation_in_holds, lacks, not-false, solved_divisors, solved_extends, solved_gone, solved_lacks, solved_true, true_stays}
 use Rattle.model_project.proofs.TidyLemmas.{filter_all, filter_true, tidied_is}
 use Rattle.model_project.proofs.TruthLemmas.{lacking, lacks-zero}
@@ -66,14 +66,14 @@ by_putting : (model q : List ℤ) (v : ℕ) (d : ℤ) (lits new : List Lit) (e :
     → put_before v e lits ≡ Some new → Step model v lits new
 by_putting model q v d lits new e mv has zero_there t lack h =
     let all : are_true q (Eq e ∷ lits) ≡ true = ap (λ b. b && are_true q lits) (abs-zero (value_at q e) zero_there) ∙ t in
-    let step = by_solving model q v d (Eq e ∷ lits) new e mv (found_first v e lits has) all (put_here v e lits new (is_narrow (Eq e)) h) in
+    let step = by_solving model q v d (Eq e ∷ lits) new e mv (found_first v e lits has) all (put_here v e lits new (has_short_numbers (Eq e)) h) in
     record {
       has_model = step.has_model;
       extends = λ p holds. let x = step.extends p holds in (x.0, (both_true (lit_truth (put v x.0 p) (Eq e)) _ x.1).1);
       gone = step.gone;
       others = λ u other none. step.others u other (ap (λ b. not b && lacks u lits) (lacks-zero u e (lack u other none)) ∙ none);
       divisors = λ d. step.divisors d;
-      narrow = λ n. tidied-narrow (solved v (Eq e ∷ lits)) new (put_here v e lits new (is_narrow (Eq e)) h);
+      narrow = λ n. tidied-narrow (solved v (Eq e ∷ lits)) new (put_here v e lits new (has_short_numbers (Eq e)) h);
     }
 
 -- from below the variable goes down, from above up

@@ -1,15 +1,13 @@
 -- A variable that is moved by a multiple of the divisors, no further than the bounds allow.
-use Rattle.std.proofs.Common.{◌≡◌, ◌<◌, ◌≤◌, ◌+◌, ◌*◌, ◌/◌, ◌%◌, ◌&&◌, ◌||◌, ℕ, suc, zero, List, [], ◌∷◌, refl, ap, sym, ◌∙◌, subst, arith, true, false, Bool, ◌==◌, cond, not, Option, Some, None, ⊎_elim}
-use Rattle.std.specs.Prelude.{ℤ, pos, negsuc, neg_ℤ, ◌+ℤ◌, ◌-ℤ◌, ◌*ℤ◌, ◌≤ℤ◌, ◌<ℤ◌, int_le, int_lt, nat_abs, nat_lt}
+use Rattle.std.proofs.Common.{◌≡◌, ◌<◌, ◌≤◌, ◌*◌, ◌/◌, ◌&&◌, ◌||◌, ℕ, suc, List, [], ◌∷◌, refl, ap, sym, ◌∙◌, subst, arith, true, false, Bool, cond, not, Option, Some, None, ⊎_elim}
+use Rattle.std.specs.Prelude.{ℤ, pos, neg_ℤ, ◌+ℤ◌, ◌*ℤ◌, ◌≤ℤ◌, nat_abs, nat_lt}
 use Rattle.std.specs.Int.{◌∣◌}
-use Rattle.std.specs.List.{list_all, list_any}
-use Rattle.std.proofs.Math.IntN.{*ℤ_comm}
-use Rattle.std.proofs.Math.Nat.{div-mul_cancel, mul-le-mul_left, mul-le-mul_right, div-add-mod}
+use Rattle.std.specs.List.{list_any}
+use Rattle.std.proofs.Math.Nat.{div-mul_cancel, mul-le-mul_right}
 use Rattle.std.proofs.lemmas.Int.{ints}
 use Rattle.std.proofs.lemmas.Bool.{ltb-true, ltb-false, cases_lt}
-use Rattle.base.proofs.Public.{*ℤ_assoc, neg_ℤ-*ℤ}
-use Rattle.lin_atoms.specs.Multiples.{is_multiple}
-use Rattle.lin_atoms.specs.Linear.{Linear, value_at, variable_at}
+use Rattle.base.proofs.Public.{*ℤ_assoc}
+use Rattle.lin_atoms.specs.Linear.{Linear, value_at}
 use Rattle.lin_atoms.specs.Denial.{linear_of}
 use Rattle.lin_atoms.specs.Truth.{lit_truth}
 use Rattle.lin_atoms.specs.declared.lit.Lit.{Lit}
@@ -18,10 +16,10 @@ use Rattle.lin_atoms.proofs.Public.{both_true}
 use Rattle.model_project.specs.Substitution.{coefficient, is_equation, lin_has, occurs}
 use Rattle.model_project.specs.Elimination.{divisor, gap, is_bound, is_nearer, nearer, nearest, on_side}
 use Rattle.model_project.specs.Projection.{are_true}
-use Rattle.model_project.proofs.NumberLemmas.{abs-zero, le-true, lt-false, lt-true, multiple-shift, product_low, true-le, zero-abs, zero-times}
+use Rattle.model_project.proofs.NumberLemmas.{abs-zero, le-true, lt-true, multiple-shift, true-le, zero-abs, zero-times}
 use Rattle.model_project.proofs.PeriodLemmas.{Divides}
 use Rattle.model_project.proofs.PointLemmas.{Moves, value_moved}
-use Rattle.model_project.proofs.TruthLemmas.{lacking, truth_by_value}
+use Rattle.model_project.proofs.TruthLemmas.{lacking}
 
 -- a bound stays true
 abbrev pub Holds : ℕ → ℤ → List ℤ → Lit → Type 0

@@ -1,18 +1,18 @@
 -- Literals without a variable, which are left out, and what the terms of an ordered form have.
-use Rattle.std.proofs.Common.{◌≡◌, ◌<◌, ◌≤◌, ◌+◌, ◌&&◌, ℕ, suc, zero, List, [], ◌∷◌, refl, ap, sym, ◌∙◌, arith, true, false, Bool, ◌==◌, cond, not, length, Option, Some, None}
+use Rattle.std.proofs.Common.{◌≡◌, ◌<◌, ◌≤◌, ◌+◌, ◌&&◌, ℕ, suc, List, [], ◌∷◌, refl, ap, sym, ◌∙◌, arith, true, false, Bool, ◌==◌, cond, not, length, Some, None}
 use Rattle.std.specs.Prelude.{ℤ, pos, ◌+ℤ◌, nat_abs, nat_lt}
 use Rattle.std.specs.List.{list_all, filter}
 use Rattle.std.proofs.lemmas.Int.{ints}
 use Rattle.std.proofs.lemmas.Bool.{eqb-true, ltb-false}
 use Rattle.std.proofs.lemmas.Bool.Decides.{nat_tests}
-use Rattle.lin_atoms.specs.Linear.{Linear, are_ordered, sum_at, value_at, variable_at}
+use Rattle.lin_atoms.specs.Linear.{are_ordered, sum_at}
 use Rattle.lin_atoms.specs.Denial.{linear_of}
 use Rattle.lin_atoms.specs.Truth.{lit_all, lit_truth}
 use Rattle.lin_atoms.specs.declared.lit.Lit.{Lit}
 use Rattle.lin_atoms.specs.declared.lit.Lit.TheVariants.{Le, Eq, Div, NDiv}
 use Rattle.lin_atoms.proofs.Public.{both_true, ordered}
-use Rattle.model_project.specs.Substitution.{coefficient, coefficient_in, lin_has, occurs}
-use Rattle.model_project.specs.Elimination.{has_variable, is_narrow, tidied, unless_wide}
+use Rattle.model_project.specs.Substitution.{coefficient_in, occurs}
+use Rattle.model_project.specs.Elimination.{has_variable, has_short_numbers, tidied}
 use Rattle.model_project.specs.Projection.{are_true}
 use Rattle.model_project.proofs.SolvedLemmas.{lacks, not-false}
 use Rattle.model_project.proofs.TruthLemmas.{lacking, truth_by_value}
@@ -54,7 +54,7 @@ narrow_here lits new true h = cc
 narrow_here lits new false h = absurd (cc)
 
 pub tidied_is : (lits new : List Lit) → tidied lits ≡ Some new → filter has_variable lits ≡ new
-tidied_is lits new h = narrow_here (filter has_variable lits) new (list_all is_narrow (filter has_variable lits)) h
+tidied_is lits new h = narrow_here (filter has_variable lits) new (list_all has_short_numbers (filter has_variable lits)) h
 
 -- variables below the first do not occur
 gone_step : (u : ℕ) (t : ℕ × ℤ) (ts : List (ℕ × ℤ)) (b : Bool) → (t.0 == u) ≡ b → u < t.0 → coefficient_in u ts ≡ pos 0 → cond b (t.1 +ℤ coefficient_in u ts) (coefficient_in u ts) ≡ pos 0

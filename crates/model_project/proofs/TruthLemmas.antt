@@ -1,11 +1,9 @@
 -- The truth of a literal under a substitution.
-use Rattle.std.proofs.Common.{◌≡◌, ◌<◌, ◌≤◌, ◌*◌, ◌&&◌, ◌++◌, ℕ, suc, zero, List, [], ◌∷◌, refl, ap, sym, ◌∙◌, subst, arith, true, false, Bool, ◌==◌, cond, not}
+use Rattle.std.proofs.Common.{◌≡◌, ◌<◌, ◌≤◌, ◌*◌, ◌&&◌, ℕ, List, [], ◌∷◌, refl, ap, sym, ◌∙◌, subst, arith, true, false, Bool, ◌==◌, cond, not}
 use Rattle.std.specs.Prelude.{ℤ, pos, neg_ℤ, ◌+ℤ◌, ◌-ℤ◌, ◌*ℤ◌, ◌<ℤ◌, int_le, int_lt, nat_abs, nat_lt}
-use Rattle.std.specs.List.{list_all}
 use Rattle.std.proofs.Math.IntN.{*ℤ_comm}
 use Rattle.std.proofs.lemmas.Int.{ints}
 use Rattle.std.proofs.lemmas.Bool.{eqb-true, ltb-true, ltb-false}
-use Rattle.std.proofs.lemmas.Bool.Decides.{nat_tests}
 use Rattle.base.proofs.Public.{neg_ℤ-*ℤ}
 use Rattle.lin_atoms.specs.Multiples.{is_multiple}
 use Rattle.lin_atoms.specs.Linear.{Linear, value_at, variable_at}
@@ -15,9 +13,9 @@ use Rattle.lin_atoms.specs.Truth.{lit_truth}
 use Rattle.lin_atoms.specs.declared.lit.Lit.{Lit}
 use Rattle.lin_atoms.specs.declared.lit.Lit.TheVariants.{Le, Eq, Div, NDiv}
 use Rattle.lin_atoms.proofs.Public.{positive, value_at-negated}
-use Rattle.model_project.specs.Substitution.{coefficient, crossed, crossed_lit, is_equation, left_over, lin_has, occurs, substituted, upright, without}
+use Rattle.model_project.specs.Substitution.{coefficient, crossed, crossed_lit, left_over, lin_has, occurs, substituted, upright, without}
 use Rattle.model_project.specs.Projection.{are_true}
-use Rattle.model_project.proofs.NumberLemmas.{abs-zero, factor, is_factor, lt-false, lt-true, times-eq, times-le, times-multiple, times-zero, zero-abs, zero-times}
+use Rattle.model_project.proofs.NumberLemmas.{factor, is_factor, lt-false, lt-true, times-eq, times-le, times-multiple, times-zero, zero-times}
 use Rattle.model_project.proofs.PointLemmas.{Moves, coefficient-crossed, coefficient-negated, crossed-gone, put, put-here, put-other_value, value_at-crossed, value_at-without, value_moved, without-gone}
 
 -- what is not there has the coefficient 0

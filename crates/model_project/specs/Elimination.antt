@@ -1,5 +1,5 @@
 -- Elimination of variables from a conjunction of literals over the integers at a model of it (Cooper 1972): the model chooses one bound in place of a disjunction over all of them (Loos and Weispfenning 1993; Bjørner and Janota 2015, Playing with quantified satisfaction; Komuravelli, Gurfinkel and Chaki 2014).
-use Rattle.std.specs.Prelude.{ℕ, zero, suc, ◌+◌, ◌*◌, ◌/◌, ◌%◌, ◌^◌, List, [], ◌∷◌, ◌++◌, map, length, Option, None, Some, ℤ, pos, ◌+ℤ◌, neg_ℤ, nat_abs, nat_lt, int_lt, ◌==◌, ◌&&◌, ◌||◌, Bool, true, false, not, if◌then◌else◌}
+use Rattle.std.specs.Prelude.{ℕ, zero, suc, ◌*◌, ◌/◌, ◌%◌, ◌^◌, List, [], ◌∷◌, length, Option, None, Some, ℤ, pos, neg_ℤ, nat_abs, nat_lt, int_lt, ◌==◌, ◌&&◌, ◌||◌, Bool, true, false, not, if◌then◌else◌}
 use Rattle.std.specs.Int.{int_rem_euclid}
 use Rattle.std.specs.List.{list_all, list_any, filter}
 use Rattle.lin_atoms.specs.Linear.{Linear, is_short, value_at, variable_at}
@@ -7,7 +7,7 @@ use Rattle.lin_atoms.specs.Algebra.{plus}
 use Rattle.lin_atoms.specs.Denial.{linear_of}
 use Rattle.lin_atoms.specs.declared.lit.Lit.{Lit}
 use Rattle.lin_atoms.specs.declared.lit.Lit.TheVariants.{Le, Eq, Div, NDiv}
-use Rattle.model_project.specs.Substitution.{coefficient, lin_has, occurs, solved, is_equation}
+use Rattle.model_project.specs.Substitution.{coefficient, occurs, solved, is_equation}
 
 -- the greatest common divisor by Euclid's algorithm (Elements, VII.2), of which each turn is one remainder
 abbrev pub gcd_in : ℕ → ℕ → ℕ → ℕ
@@ -34,15 +34,15 @@ period v [] = 1
 period v (lit ∷ lits) = if occurs v lit then least_multiple (period v lits) (divisor lit) else period v lits
 
 -- whether each number of a literal is below 2 ^ 63 in magnitude
-abbrev pub is_narrow : Lit → Bool
-is_narrow lit = list_all (λ t. is_short t.1) (linear_of lit).terms && (is_short (linear_of lit).constant && nat_lt (divisor lit) (2 ^ 63))
+abbrev pub has_short_numbers : Lit → Bool
+has_short_numbers lit = list_all (λ t. is_short t.1) (linear_of lit).terms && (is_short (linear_of lit).constant && nat_lt (divisor lit) (2 ^ 63))
 
 abbrev pub has_variable : Lit → Bool
 has_variable lit = nat_lt 0 (length (linear_of lit).terms)
 
 -- literals without a variable are left out; nothing where a number of the others is wide
 abbrev pub unless_wide : List Lit → Option (List Lit)
-unless_wide lits = if list_all is_narrow lits then Some lits else None
+unless_wide lits = if list_all has_short_numbers lits then Some lits else None
 
 abbrev pub tidied : List Lit → Option (List Lit)
 tidied lits = unless_wide (filter has_variable lits)
@@ -80,7 +80,7 @@ gaps_are_small model below v lits = list_all (λ lit. not (is_bound below v lit)
 
 -- an equation is put before the literals, and removes v
 abbrev pub put_before : ℕ → Linear → List Lit → Option (List Lit)
-put_before v equation lits = if is_narrow (Eq equation) then tidied (solved v (Eq equation ∷ lits)) else None
+put_before v equation lits = if has_short_numbers (Eq equation) then tidied (solved v (Eq equation ∷ lits)) else None
 
 -- v is put as near to a bound as the divisors allow: l + r = 0, where r is its gap modulo a * D
 abbrev pub by_bound : List ℤ → ℕ → List Lit → ℕ → Linear → Option (List Lit)

@@ -1,6 +1,6 @@
 -- An equation removes a variable from literals over the integers (Cooper 1972, Theorem proving in arithmetic without multiplication; Loos and Weispfenning 1993, Applying linear quantifier elimination).
-use Rattle.std.specs.Prelude.{ℕ, ◌*◌, ◌^◌, List, [], ◌∷◌, ◌++◌, Option, None, Some, ℤ, pos, ◌+ℤ◌, neg_ℤ, nat_abs, nat_lt, int_lt, ◌==◌, ◌&&◌, Bool, true, false, not, if◌then◌else◌}
-use Rattle.std.specs.List.{list_all, filter}
+use Rattle.std.specs.Prelude.{ℕ, ◌*◌, List, [], ◌∷◌, ◌++◌, Option, None, Some, ℤ, pos, ◌+ℤ◌, neg_ℤ, nat_abs, nat_lt, int_lt, ◌==◌, ◌&&◌, Bool, true, false, not, if◌then◌else◌}
+use Rattle.std.specs.List.{filter}
 use Rattle.lin_atoms.specs.Linear.{Linear}
 use Rattle.lin_atoms.specs.Algebra.{added, negated, scaled}
 use Rattle.lin_atoms.specs.Denial.{linear_of}

@@ -4,7 +4,7 @@ ghost use Rattle.std.specs.Prelude.{◌≡◌, ◌<◌, ◌≤◌, ◌^◌, ◌*
 ghost use Rattle.std.specs.List.{filter};
 ghost use Rattle.lin_atoms.specs.Linear.{are_ordered, is_short, of_constant};
 ghost use Rattle.lin_atoms.specs.declared.lit.Lit.TheVariants.{Eq};
-ghost use Rattle.model_project.specs.Elimination.{has_variable, is_narrow, tidied};
+ghost use Rattle.model_project.specs.Elimination.{has_variable, has_short_numbers, tidied};
 ghost use Rattle.model_project.specs.Substitution.{coefficient, crossed, crossed_lit, left_over, lin_has, occurs, upright};
 
 use crate::bounds::product;
@@ -45,10 +45,10 @@ fn crossed(
     requires here { lin_has variable lin.now ≡ true }
     ensures made { IfOk result (λ o. IfSome o (λ made. made ≡ crossed variable equation.now lin.now)) }
     ensures some { IfOk result (λ o. IfSome o (λ made. has_variable (Eq (crossed variable equation.now lin.now)) ≡ true)) }
-    ensures narrow { IfOk result (λ o. IfSome o (λ made. is_narrow (Eq (crossed variable equation.now lin.now)) ≡ true)) }
+    ensures narrow { IfOk result (λ o. IfSome o (λ made. has_short_numbers (Eq (crossed variable equation.now lin.now)) ≡ true)) }
     ensures none { IfOk result (λ o. IsNone o → has_variable (Eq (crossed variable equation.now lin.now)) ≡ false) }
     ensures wide { IsErrOf result WideStop.Wide → has_variable (Eq (crossed variable equation.now lin.now)) ≡ true }
-    ensures wide_number { IsErrOf result WideStop.Wide → is_narrow (Eq (crossed variable equation.now lin.now)) ≡ false }
+    ensures wide_number { IsErrOf result WideStop.Wide → has_short_numbers (Eq (crossed variable equation.now lin.now)) ≡ false }
 {
     let k = reading::coefficient(equation, variable);
     let m = minus(reading::coefficient(lin, variable));

@@ -2,7 +2,7 @@
 
 ghost use Rattle.std.specs.Prelude.{◌≡◌, ◌∷◌, [], length, Some, None, true, IfOk, IsErrOf, OnOk};
 ghost use Rattle.lin_atoms.specs.Linear.{is_short};
-ghost use Rattle.model_project.specs.Elimination.{is_narrow, tidied};
+ghost use Rattle.model_project.specs.Elimination.{has_short_numbers, tidied};
 ghost use Rattle.model_project.specs.Projection.{are_true, eliminated, is_kept, point};
 ghost use Rattle.model_project.specs.machinery.Steps.{are_legal, are_narrow, have_divisors};
 ghost use Rattle.std.specs.List.{list_all};
@@ -16,8 +16,8 @@ use std::alloc::Global;
 
 /// Whether each number of the literal is below 2^63 in magnitude. Its constant decides: the others
 /// are by their types.
-fn is_narrow(lit: &Lit) -> bool
-    ensures { result ≡ is_narrow lit.now }
+fn has_short_numbers(lit: &Lit) -> bool
+    ensures { result ≡ has_short_numbers lit.now }
 {
     let _divisor = reading::divisor(lit);
     let lin = reading::linear_of(lit);
@@ -35,7 +35,7 @@ pub(crate) fn tidied(alloc: Global, lits: &[Lit]) -> Result<Vec<Lit>, WideStop>
         if !reading::has_variable(lit) {
             continue;
         }
-        if !is_narrow(lit) {
+        if !has_short_numbers(lit) {
             return Err(WideStop::Wide);
         }
         let copied = lit.copy(alloc)?;

@@ -5,7 +5,7 @@ ghost use Rattle.std.specs.List.{filter, list_all};
 ghost use Rattle.lin_atoms.specs.Linear.{are_ordered, is_short};
 ghost use Rattle.lin_atoms.specs.declared.lit.Lit.TheVariants.{Div};
 ghost use Rattle.model_project.specs.machinery.Steps.{EquationIs};
-ghost use Rattle.model_project.specs.Elimination.{has_variable, is_narrow, tidied};
+ghost use Rattle.model_project.specs.Elimination.{has_variable, has_short_numbers, tidied};
 ghost use Rattle.model_project.specs.Substitution.{coefficient, equation_in, left_over, lin_has, upright, without};
 
 use crate::crossing::ground;

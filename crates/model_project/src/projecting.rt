@@ -4,7 +4,7 @@ ghost use Rattle.std.specs.Prelude.{◌≡◌, length, true, Some, None, IfOk, I
 ghost use Rattle.std.specs.List.{list_all};
 ghost use Rattle.lin_atoms.specs.Linear.{is_short};
 ghost use Rattle.lin_atoms.specs.Truth.{lit_is_below};
-ghost use Rattle.model_project.specs.Elimination.{is_narrow, tidied};
+ghost use Rattle.model_project.specs.Elimination.{has_short_numbers, tidied};
 ghost use Rattle.model_project.specs.Projection.{are_true, eliminated, projection};
 ghost use Rattle.model_project.specs.machinery.Steps.{are_narrow};
 
@@ -74,7 +74,7 @@ pub fn project(
     ensures model { IfOk result (λ p. p.model ≡ model.now) }
     ensures keep { IfOk result (λ p. p.keep ≡ keep.now) }
     ensures cube { IfOk result (λ p. p.cube ≡ projection model.now keep.now lits.now) }
-    ensures narrow { IfOk result (λ p. list_all is_short model.now ≡ true → list_all is_narrow p.cube ≡ true) }
+    ensures narrow { IfOk result (λ p. list_all is_short model.now ≡ true → list_all has_short_numbers p.cube ≡ true) }
 {
     let cube = cube_of(alloc, lits, model, keep)?;
     elimination::divisors_are_above(lits);

@@ -6,7 +6,7 @@ ghost use Rattle.std.specs.Int.{int_rem_euclid};
 ghost use Rattle.lin_atoms.specs.Algebra.{plus};
 ghost use Rattle.lin_atoms.specs.Linear.{fits, variable_at};
 ghost use Rattle.lin_atoms.specs.declared.lit.Lit.TheVariants.{Eq};
-ghost use Rattle.model_project.specs.Elimination.{by_bound, by_bounds, by_rest, gap, is_narrow, nearest, period, put_before, removed, rest_equation, tidied};
+ghost use Rattle.model_project.specs.Elimination.{by_bound, by_bounds, by_rest, gap, has_short_numbers, nearest, period, put_before, removed, rest_equation, tidied};
 ghost use Rattle.model_project.specs.Substitution.{coefficient, lin_has, solved};
 ghost use Rattle.model_project.specs.machinery.Steps.{are_narrow, have_divisors, one};
 

@@ -1,12 +1,12 @@
 -- Words for what the code keeps while it removes a variable.
-use Rattle.std.specs.Prelude.{◌≡◌, ℕ, List, [], ◌∷◌, ◌++◌, Option, None, Some, Bool, true, false, ◌&&◌, ℤ, nat_lt}
+use Rattle.std.specs.Prelude.{◌≡◌, ℕ, List, [], ◌∷◌, ◌++◌, Option, Some, Bool, nat_lt}
 use Rattle.std.specs.List.{list_all, filter}
 use Rattle.std.specs.Option.{option_map}
 use Rattle.lin_atoms.specs.Linear.{Linear, are_ordered}
 use Rattle.lin_atoms.specs.Denial.{linear_of}
 use Rattle.lin_atoms.specs.declared.lit.Lit.{Lit}
-use Rattle.model_project.specs.Substitution.{coefficient, equation_in, replaced, upright}
-use Rattle.model_project.specs.Elimination.{divisor, gap, gaps_are_small, has_variable, is_bound, is_narrow, nearest, tidied}
+use Rattle.model_project.specs.Substitution.{equation_in, upright}
+use Rattle.model_project.specs.Elimination.{divisor, has_variable, has_short_numbers}
 
 -- the first equation, made upright
 abbrev pub EquationIs : ℕ → Linear → List Lit → Type 0
@@ -22,7 +22,7 @@ one lit = filter has_variable (lit ∷ [])
 
 -- the literals that are left, all of them narrow
 abbrev pub are_narrow : List Lit → Bool
-are_narrow lits = list_all is_narrow lits
+are_narrow lits = list_all has_short_numbers lits
 
 -- divisors above 0
 abbrev pub has_divisor : Lit → Bool

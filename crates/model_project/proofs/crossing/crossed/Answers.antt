@@ -1,9 +1,9 @@
-use Rattle.std.proofs.Common.{◌≡◌, ◌<◌, ap, sym, ◌∙◌, arith, rules, true, false, refl, length, ℕ, List, FitsSigned}
-use Rattle.std.specs.Prelude.{ℤ, neg_ℤ, ◌+ℤ◌, ◌*ℤ◌}
+use Rattle.std.proofs.Common.{◌≡◌, ◌<◌, ap, sym, ◌∙◌, arith, rules, true, false, refl, length, FitsSigned}
+use Rattle.std.specs.Prelude.{neg_ℤ}
 use Rattle.std.specs.Int.{w64, w128}
 use Rattle.std.proofs.lemmas.Int.{ints, to_z-of_z}
 use Rattle.lin_atoms.specs.Linear.{are_short, is_short}
-use Rattle.model_project.specs.Substitution.{coefficient, crossed}
+use Rattle.model_project.specs.Substitution.{crossed}
 use Rattle.model_project.proofs.CrossLemmas.{both_small, crossed_constant, crossed_terms, first_wide, second_wide, some_terms, true_not_false}
 use Rattle.model_project.proofs.crossing.crossed.Goals as goal
 

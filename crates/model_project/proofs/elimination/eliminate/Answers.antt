@@ -1,4 +1,4 @@
-use Rattle.std.proofs.Common.{◌≡◌, ◌-◌, ap, sym, ◌∙◌, arith, rules, suc, true, false}
+use Rattle.std.proofs.Common.{◌≡◌, ◌-◌, sym, ◌∙◌, arith, suc, true, false}
 use Rattle.model_project.specs.Projection.{is_kept}
 use Rattle.model_project.proofs.LoopLemmas.{eliminated_kept, eliminated_more, eliminated_stop}
 use Rattle.model_project.proofs.RuleLemmas.{removed_step}

@@ -1,11 +1,10 @@
-use Rattle.std.proofs.Common.{◌≡◌, ◌<◌, ap, sym, ◌∙◌, arith, rules, true, false, length, FitsSigned, not, ◌==◌}
-use Rattle.std.specs.Prelude.{ℤ, pos, nat_abs}
+use Rattle.std.proofs.Common.{◌≡◌, ◌<◌, ap, ◌∙◌, arith, rules, true, length, FitsSigned, not, ◌==◌}
+use Rattle.std.specs.Prelude.{pos}
 use Rattle.std.specs.Int.{w64, w128}
 use Rattle.std.proofs.lemmas.Int.{ints, to_z-of_z}
 use Rattle.std.specs.List.{filter}
 use Rattle.std.proofs.lemmas.Result.{IfOk-weaker}
-use Rattle.lin_atoms.specs.Linear.{are_short, is_short}
-use Rattle.model_project.specs.Substitution.{coefficient, without}
+use Rattle.lin_atoms.specs.Linear.{is_short}
 use Rattle.model_project.proofs.CrossLemmas.{left_from, true_not_false}
 use Rattle.model_project.proofs.TermLemmas.{legal_small}
 use Rattle.model_project.proofs.equation.left_over.Goals as goal

@@ -1,4 +1,4 @@
-use Rattle.std.proofs.Common.{◌≡◌, ◌<◌, ◌*◌, ◌/◌, arith, ap, sym, ◌∙◌}
+use Rattle.std.proofs.Common.{sym}
 use Rattle.std.specs.Int.{IsGcd}
 use Rattle.lin_atoms.proofs.Public.{divisor-some}
 use Rattle.model_project.proofs.PeriodLemmas.{least_multiple_by}

@@ -1,4 +1,4 @@
-use Rattle.std.proofs.Common.{◌≡◌, ◌<◌, ◌≤◌, ◌+◌, ◌-◌, ◌^◌, ap, sym, ◌∙◌, refl, arith, drop, get_or, length, rules, true}
+use Rattle.std.proofs.Common.{◌≡◌, ◌<◌, ◌+◌, ◌-◌, ap, sym, ◌∙◌, refl, arith, drop, get_or, length, rules, true}
 use Rattle.std.proofs.lemmas.List.{get_or_default}
 use Rattle.model_project.specs.Elimination.{divisor, least_multiple, period}
 use Rattle.model_project.specs.Substitution.{occurs}

@@ -1,5 +1,4 @@
-use Rattle.std.proofs.Common.{◌≡◌, ◌<◌, ap, sym, ◌∙◌, rules, true, Some}
-use Rattle.std.specs.Prelude.{nat_abs}
+use Rattle.std.proofs.Common.{◌≡◌, ap, sym, ◌∙◌, true, Some}
 use Rattle.std.proofs.lemmas.Result.{IfOk-weaker}
 use Rattle.model_project.specs.Elimination.{nearest}
 use Rattle.model_project.specs.Substitution.{coefficient, lin_has}

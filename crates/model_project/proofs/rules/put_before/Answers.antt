@@ -1,4 +1,4 @@
-use Rattle.std.proofs.Common.{◌≡◌, ap, sym, ◌∙◌, rules, true, arith}
+use Rattle.std.proofs.Common.{◌≡◌, rules, true, arith}
 use Rattle.lin_atoms.specs.Linear.{is_short}
 use Rattle.model_project.proofs.CrossLemmas.{narrow_eq}
 use Rattle.model_project.proofs.JudgeLemmas.{put_before_from}

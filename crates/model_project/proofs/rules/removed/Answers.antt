@@ -1,9 +1,8 @@
-use Rattle.std.proofs.Common.{◌≡◌, ap, sym, ◌∙◌, subst, refl, rules, true, false, Some, None, Option, List}
-use Rattle.std.specs.Prelude.{OnOk, IsErrOf}
+use Rattle.std.proofs.Common.{◌≡◌, ap, sym, ◌∙◌, subst, refl, true, false, Some, None, Option, List}
+use Rattle.std.specs.Prelude.{OnOk}
 use Rattle.std.specs.List.{list_any}
 use Rattle.lin_atoms.specs.declared.lit.Lit.{Lit}
-use Rattle.lin_atoms.specs.declared.stop.WideStop.TheVariants.{Wide}
-use Rattle.model_project.specs.Elimination.{is_bound, removed}
+use Rattle.model_project.specs.Elimination.{is_bound}
 use Rattle.model_project.specs.Substitution.{equation_in, occurs}
 use Rattle.model_project.specs.machinery.Steps.{EquationIs}
 use Rattle.model_project.proofs.LoopLemmas.{equation_above, removed_above, removed_below, removed_rest, removed_solved}

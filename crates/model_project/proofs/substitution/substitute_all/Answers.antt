@@ -1,4 +1,4 @@
-use Rattle.std.proofs.Common.{◌≡◌, ◌<◌, ◌+◌, ap, sym, ◌∙◌, arith, drop, get_or, length, rules, true, false}
+use Rattle.std.proofs.Common.{◌≡◌, ◌<◌, ◌+◌, sym, ◌∙◌, drop, get_or, length, rules, false}
 use Rattle.std.proofs.lemmas.List.{length-set}
 use Rattle.model_project.specs.Substitution.{occurs}
 use Rattle.model_project.proofs.JudgeLemmas.{drop_same, drop_set_more, put_step, stay_step}

@@ -1,4 +1,4 @@
-use Rattle.std.proofs.Common.{◌≡◌, ◌≤◌, take, drop, length}
+use Rattle.std.proofs.Common.{◌≡◌, take, drop, length}
 use Rattle.std.specs.List.{filter}
 use Rattle.model_project.specs.Elimination.{has_variable, tidied}
 use Rattle.model_project.specs.Substitution.{replaced}

@@ -1,7 +1,7 @@
-use Rattle.std.proofs.Common.{◌≡◌, ◌<◌, ◌≤◌, ◌^◌, ap, sym, ◌∙◌, refl, arith, rules, subst, true, false, FitsSigned}
-use Rattle.std.specs.Prelude.{ℤ, ◌+ℤ◌, ◌*ℤ◌, IfSome, IsNone, nat_abs}
+use Rattle.std.proofs.Common.{◌≡◌, ap, sym, ◌∙◌, refl, rules, subst, FitsSigned}
+use Rattle.std.specs.Prelude.{ℤ, IfSome}
 use Rattle.std.specs.Int.{w64, w128}
-use Rattle.std.proofs.lemmas.Int.{ints, to_z-of_z}
+use Rattle.std.proofs.lemmas.Int.{to_z-of_z}
 use Rattle.lin_atoms.specs.Linear.{is_short}
 use Rattle.model_project.proofs.TermLemmas.{wide-not_small}
 use Rattle.model_project.proofs.terms.constant.Goals as goal

@@ -1,5 +1,5 @@
-use Rattle.std.proofs.Common.{◌≡◌, ◌++◌, ◌∷◌, [], ℕ, List, ap, sym, ◌∙◌, arith, rules, get_or, length, ◌<◌, FitsSigned}
-use Rattle.std.specs.Prelude.{ℤ, pos, ◌*ℤ◌}
+use Rattle.std.proofs.Common.{◌++◌, ◌∷◌, [], ap, ◌∙◌, arith, rules, get_or, length, ◌<◌, FitsSigned}
+use Rattle.std.specs.Prelude.{pos}
 use Rattle.std.specs.Int.{w64, w128}
 use Rattle.std.proofs.lemmas.Int.{to_z-of_z}
 use Rattle.model_project.proofs.TermLemmas.{multiple-end, multiple-more}
