@@ -144,8 +144,8 @@ fn a_projection_keeps_what_it_was_given(rt: HostRuntime) -> Result<(), Fail> {
     let lits = list(alloc, &[(LE, 1, -2, 0), (LE, 0, 1, -7)])?;
     let made = projected(alloc, lits.as_slice(), &[3, 5])?.copy(alloc)?;
     assert!(rt; are_equal(made.lits(), lits.as_slice()));
-    assert!(rt; made.model() == [3, 5]);
-    assert!(rt; made.keep() == [0]);
+    assert!(rt; made.model() == [3, 5].as_slice());
+    assert!(rt; made.keep() == [0].as_slice());
     assert!(rt; made.cube().len() == 2);
     Ok(())
 }
