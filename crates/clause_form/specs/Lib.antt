@@ -1,2 +1,3 @@
 pub mod Kept
+pub mod Normal
 pub mod System
