@@ -9,7 +9,7 @@ use Rattle.lin_atoms.specs.Multiples.{is_multiple}
 use Rattle.lin_atoms.specs.Algebra.{term_on, with_term, collected, scaled_terms}
 use Rattle.lin_atoms.specs.Linear.{Linear, are_ordered}
 use Rattle.lin_atoms.proofs.Public.{both-ordered, collected-same, ordered-at, ordered-cons, ordered-drop, ordered-weaker, scaled-drop, scaled-ordered, second-first, term_on-whole, with_term-front, with_term-same}
-use Rattle.farkas_proof.specs.Combination.{rounded}
+use Rattle.int_rows.specs.Ready.{rounded}
 use Rattle.farkas_proof.proofs.SumLemmas.{term_step}
 
 -- what is left begins above a number

@@ -16,7 +16,8 @@ use Rattle.lin_atoms.specs.Truth.{lit_truth}
 use Rattle.lin_atoms.specs.declared.lit.Lit.{Lit}
 use Rattle.lin_atoms.specs.declared.lit.Lit.TheVariants.{Le, Eq, Div, NDiv}
 use Rattle.lin_atoms.proofs.Public.{both_true, multiple_where, positive, quotient-greatest, quotient-rest, value_at-added, value_at-negated, value_at-scaled}
-use Rattle.farkas_proof.specs.Combination.{are_multipliers, combined, is_above_zero, is_divided_by, is_multiplier, linear_at, may_be_multiplied, one_minus, rounded}
+use Rattle.farkas_proof.specs.Combination.{are_multipliers, combined, is_above_zero, is_divided_by, is_multiplier, linear_at, may_be_multiplied, one_minus}
+use Rattle.int_rows.specs.Ready.{rounded}
 
 pub le-true : (a b : ℤ) → int_le a b ≡ true → a ≤ℤ b
 le-true a b h = grind (arith, ints)

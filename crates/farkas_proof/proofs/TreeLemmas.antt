@@ -12,7 +12,8 @@ use Rattle.lin_atoms.specs.declared.lit.Lit.{Lit}
 use Rattle.lin_atoms.specs.declared.lit.Lit.TheVariants.{Le}
 use Rattle.lin_atoms.specs.declared.form.Form.{Form}
 use Rattle.lin_atoms.proofs.Public.{both_true}
-use Rattle.farkas_proof.specs.Combination.{are_multipliers, combined, is_above_zero, is_divided_by, is_division, lits_end, one_minus, quotient, rounded, terms_end}
+use Rattle.farkas_proof.specs.Combination.{are_multipliers, combined, is_above_zero, is_divided_by, is_division, lits_end, one_minus, quotient, terms_end}
+use Rattle.int_rows.specs.Ready.{rounded}
 use Rattle.farkas_proof.specs.Flatten.{disjunctions, literals}
 use Rattle.farkas_proof.specs.Refutation.{Finding, Sound, Illegal, Wide, HasNoPoint, Judge, checked, each_part, followed_by, form_end, has_parts, has_quotient, is_sound, judge_step, judged, judged_at, new_variable, quotient_at}
 use Rattle.farkas_proof.specs.declared.tree.Refutation.{Refutation, map-Refutation}

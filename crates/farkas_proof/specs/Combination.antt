@@ -1,6 +1,5 @@
 -- Sums of multiples of literals (Farkas), and what follows from them over the integers by rounding (Chvátal, Gomory).
-use Rattle.std.specs.Prelude.{ℕ, ◌+◌, max, List, [], ◌∷◌, ◌++◌, map, ℤ, pos, ◌-ℤ◌, neg_ℤ, int_le, int_lt, nat_lt, Bool, true, false, ◌&&◌, slice_get, length, ◌==◌}
-use Rattle.std.specs.Int.{int_div_euclid}
+use Rattle.std.specs.Prelude.{ℕ, ◌+◌, max, List, [], ◌∷◌, ℤ, pos, ◌-ℤ◌, int_le, int_lt, nat_lt, Bool, true, false, ◌&&◌, slice_get, length, ◌==◌}
 use Rattle.std.specs.List.{list_all}
 use Rattle.std.specs.Option.{option_map_or}
 use Rattle.lin_atoms.specs.Multiples.{is_multiple}
@@ -9,6 +8,7 @@ use Rattle.lin_atoms.specs.Denial.{linear_of}
 use Rattle.lin_atoms.specs.Linear.{Linear, is_short, of_constant}
 use Rattle.lin_atoms.specs.declared.lit.Lit.{Lit}
 use Rattle.lin_atoms.specs.declared.lit.Lit.TheVariants.{Le, Eq, Div, NDiv}
+use Rattle.int_rows.specs.Ready.{less_multiple}
 
 -- what a literal may be multiplied by: `<=` by a number that isn't negative, `=` by any
 abbrev pub may_be_multiplied : ℤ → Lit → Bool
@@ -40,17 +40,9 @@ is_above_zero lin = (length lin.terms == 0) && int_lt (pos 0) lin.constant
 abbrev pub is_divided_by : ℤ → Linear → Bool
 is_divided_by d lin = list_all (λ t. is_multiple d t.1) lin.terms
 
--- of S + c at most 0, where d divides S: S / d is at most c / d rounded down, with the other sign
-abbrev pub rounded : ℤ → Linear → Linear
-rounded d lin = record { terms = map (λ t. (t.0, int_div_euclid t.1 d)) lin.terms; constant = neg_ℤ (int_div_euclid (neg_ℤ lin.constant) d) }
-
 -- 1 - l, which is at most 0 where l isn't
 abbrev pub one_minus : Linear → Linear
 one_minus lin = plus (negated lin) (pos 1)
-
--- l - n * q, where q is above every variable of l
-abbrev pub less_multiple : ℕ → ℕ → Linear → Linear
-less_multiple n q lin = record { terms = lin.terms ++ (q, neg_ℤ (pos n)) ∷ []; constant = lin.constant }
 
 -- what is known of q as the quotient of l by n: the remainder is 0, or lies between 1 and n - 1
 abbrev pub quotient : ℕ → Lit → List Lit

@@ -9,7 +9,8 @@ use Rattle.lin_atoms.specs.declared.lit.Lit.TheVariants.{Le}
 use Rattle.lin_atoms.specs.declared.form.Form.{Form}
 use Rattle.lin_atoms.specs.declared.form.Form.TheOpen.{Form-F}
 use Rattle.lin_atoms.specs.declared.form.Form.TheFolds.{fold-Form}
-use Rattle.farkas_proof.specs.Combination.{are_multipliers, combined, is_above_zero, is_divided_by, is_division, lits_end, one_minus, quotient, rounded, terms_end}
+use Rattle.farkas_proof.specs.Combination.{are_multipliers, combined, is_above_zero, is_divided_by, is_division, lits_end, one_minus, quotient, terms_end}
+use Rattle.int_rows.specs.Ready.{rounded}
 use Rattle.farkas_proof.specs.Flatten.{disjunctions, literals}
 use Rattle.farkas_proof.specs.declared.tree.Refutation.{Refutation}
 use Rattle.farkas_proof.specs.declared.tree.Refutation.TheOpen.{Refutation-F}

@@ -7,7 +7,6 @@ mod copying;
 mod division;
 mod ends;
 mod evidence;
-mod evidence_laws;
 mod flatten;
 mod gave_up;
 mod known;
@@ -22,16 +21,16 @@ mod sum;
 mod tree;
 mod walk;
 
-pub use checker::check;
+pub use checker::{check, check_owned};
 pub use evidence::Evidence;
-pub use evidence_laws::{
-    a_half_is_split, a_large_multiple_has_a_wide_floor, a_quotient_is_split, all_literals_may_join,
-    large_equations_have_a_wide_row, many_rows_are_given_up, nothing_is_not_given_up,
-    one_literal_has_no_wide_row, quotients_keep_their_numbers, trees_stand_side_by_side,
-};
 pub use flatten::{Flat, flattened};
 pub use gave_up::GaveUp;
-pub use laws::refuted_forms_have_no_point;
+pub use laws::{
+    a_half_is_split, a_large_multiple_has_a_wide_floor, a_quotient_is_split, all_literals_may_join,
+    large_equations_have_a_wide_row, many_rows_are_given_up, nothing_is_not_given_up,
+    one_literal_has_no_wide_row, quotients_keep_their_numbers, refuted_forms_have_no_point,
+    trees_stand_side_by_side,
+};
 pub use refuted::Refuted;
 pub use stop::CheckStop;
 pub use tree::Refutation;

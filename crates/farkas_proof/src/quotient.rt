@@ -8,7 +8,8 @@ ghost use Rattle.std.specs.List.{list_all};
 ghost use Rattle.lin_atoms.specs.Algebra.{plus};
 ghost use Rattle.lin_atoms.specs.Denial.{linear_of, lit_fits};
 ghost use Rattle.lin_atoms.specs.Linear.{Linear, fits, is_linear};
-ghost use Rattle.farkas_proof.specs.Combination.{is_division, less_multiple, one_minus, quotient, terms_end};
+ghost use Rattle.farkas_proof.specs.Combination.{is_division, one_minus, quotient, terms_end};
+ghost use Rattle.int_rows.specs.Ready.{less_multiple};
 
 use crate::known::Known;
 use crate::stop::CheckStop;

@@ -1,15 +1,19 @@
-ghost use Rattle.farkas_proof.specs.Refutation.{HasNoPoint};
+ghost use Rattle.std.specs.Prelude.{◌≡◌, true};
+ghost use Rattle.lin_atoms.specs.Denial.{lit_fits};
+ghost use Rattle.farkas_proof.specs.Refutation.{HasNoPoint, is_refutation, is_sound, judged};
 
 use crate::tree::Refutation;
 use base::Memory;
 use lin_atoms::Form;
 use std::alloc::Global;
 
-/// A form that no integer point satisfies, with its proof. Only `check` makes one.
+/// A form that no integer point satisfies, with its proof: each node is legal, and each literal that
+/// it derives has room. Only `check` and `check_owned` make one.
 #[derive(Debug, Drop)]
 pub struct Refuted {
     pub(crate) form: Form,
     pub(crate) proof: Refutation,
+    pub ghost narrow: { is_sound (judged lit_fits form proof) ≡ true },
     pub ghost no_point: { HasNoPoint form },
 }
 
@@ -29,6 +33,15 @@ impl Refuted {
         ensures { result.now ≡ proof_of self.now }
     {
         &self.proof
+    }
+
+    /// What the proof is, for callers that need it.
+    pub fn is_refuted(&self)
+        ensures narrow { is_sound (judged lit_fits (form_of self.now) (proof_of self.now)) ≡ true }
+        ensures legal { is_refutation (form_of self.now) (proof_of self.now) ≡ true }
+        ensures no_point { HasNoPoint (form_of self.now) }
+    {
+        let _form = &self.form;
     }
 
     /// The same form and proof.

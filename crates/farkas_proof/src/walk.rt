@@ -3,7 +3,8 @@
 ghost use Rattle.std.specs.Prelude.{◌≡◌, ℕ, ◌+◌, ◌<◌, ◌≤◌, ◌++◌, ◌∷◌, [], ◌&&◌, List, IfOk, OnOk, IfSome, IsSome, IsNone, int_le, length, map, pos, slice_index_or, true, false};
 ghost use Rattle.lin_atoms.specs.Denial.{lit_fits};
 ghost use Rattle.lin_atoms.specs.declared.lit.Lit.TheVariants.{Le};
-ghost use Rattle.farkas_proof.specs.Combination.{are_multipliers, combined, is_above_zero, is_divided_by, one_minus, rounded};
+ghost use Rattle.farkas_proof.specs.Combination.{are_multipliers, combined, is_above_zero, is_divided_by, one_minus};
+ghost use Rattle.int_rows.specs.Ready.{rounded};
 ghost use Rattle.farkas_proof.specs.Refutation.{Sound, checked, each_part, followed_by, has_parts, has_quotient, judged, judged_at, new_variable, quotient_at};
 ghost use Rattle.farkas_proof.specs.machinery.Tells.{Tells};
 ghost use Rattle.lin_atoms.specs.declared.form.Form.{Form};

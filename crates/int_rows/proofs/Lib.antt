@@ -9,3 +9,4 @@ pub mod Public
 pub mod QuotientLemmas
 pub mod ReadyLemmas
 pub mod SpaceLemmas
+pub mod WritingLemmas

@@ -5,3 +5,4 @@ pub mod Ready
 pub mod Rows
 pub mod Space
 pub mod Table
+pub mod machinery

@@ -3,10 +3,12 @@ ghost use Rattle.std.specs.List.{Contains, list_all};
 ghost use Rattle.base.specs.Limits.{most_rows};
 ghost use Rattle.lin_atoms.specs.Linear.{lin_is_below};
 ghost use Rattle.int_rows.specs.Basis.{IsWideRow, bound, in_order};
+ghost use Rattle.int_rows.specs.Ready.{bound_fits};
 ghost use Rattle.int_rows.specs.Rows.{are_short, entry, SolvesAll};
 ghost use Rattle.int_rows.specs.Space.{SameSpace};
 ghost use Rattle.int_rows.specs.Table.{HasWide, IsTable, basic_at, first_table, pivoted, row_at, width};
 
+use crate::copies::{copy_bounds, copy_numbers, copy_rows};
 use crate::equation::{equations, no_bounds, numbers};
 use crate::pivoting::{first_wide, pivot_rows};
 use crate::stop::{RowStop, RowWide};
@@ -117,6 +119,35 @@ impl Tableau {
         ensures { self.new ≡ record self.old { upper = slice_set self.old.upper variable (Some bound) } }
     {
         self.upper[variable] = Some(bound);
+    }
+
+    /// Gives a variable the two bounds, or none, in place of those it has.
+    pub fn set_bounds(&mut self, variable: usize, lower: Option<i128>, upper: Option<i128>)
+        requires variable { variable < width self.old }
+        requires lower { bound_fits lower ≡ true }
+        requires upper { bound_fits upper ≡ true }
+        ensures { self.new ≡ record self.old { lower = slice_set self.old.lower variable lower; upper = slice_set self.old.upper variable upper } }
+    {
+        self.lower[variable] = lower;
+        self.upper[variable] = upper;
+    }
+
+    /// An equal tableau.
+    pub fn copy(&self, alloc: Global) -> Result<Tableau, Memory>
+        ensures { IfOk result (λ copied. copied ≡ self.now) }
+    {
+        let variables = self.variables;
+        let rows = copy_rows(alloc, self.rows.as_slice())?;
+        let basic = copy_numbers(alloc, self.basic.as_slice())?;
+        let lower = copy_bounds(alloc, self.lower.as_slice())?;
+        let upper = copy_bounds(alloc, self.upper.as_slice())?;
+        Ok(Tableau {
+            variables,
+            rows,
+            basic,
+            lower,
+            upper,
+        })
     }
 
     /// Solves a row for another variable, which becomes basic in it, and frees the other rows of

@@ -4,8 +4,8 @@ ghost use Rattle.std.specs.Prelude.{◌≡◌};
 ghost use Rattle.std.specs.List.{list_all};
 ghost use Rattle.lin_atoms.specs.Linear.{lin_is_below};
 
-use crate::{RowStop, RowWide, Tableau};
-use lin_atoms::Lin;
+use crate::{Ready, ReadyStop, RowStop, RowWide, Tableau, ready};
+use lin_atoms::{Divisor, Lin, Lit};
 use std::alloc::Global;
 use std::test::Fail;
 
@@ -120,5 +120,97 @@ fn are_too_many(alloc: Global, count: usize) -> Result<bool, Fail> {
 fn more_than_1024_forms_are_too_many(rt: HostRuntime) -> Result<(), Fail> {
     assert!(rt; !are_too_many(rt.alloc(), 1024)?);
     assert!(rt; are_too_many(rt.alloc(), 1025)?);
+    Ok(())
+}
+
+/// The form of so many variables, each with this coefficient.
+fn form(alloc: Global, variables: u32, coefficient: i64, constant: i128) -> Result<Lin, Fail> {
+    let mut terms = Vec::new(alloc);
+    for variable in 0..variables {
+        terms.push((variable, coefficient))?;
+    }
+    Ok(Lin::new(terms, constant)?)
+}
+
+/// What is said of a form of a literal below 1,000: how many terms it has, the first coefficient, and
+/// two bounds.
+fn said(alloc: Global, lit: &Lit) -> Result<(usize, i64, Option<i128>, Option<i128>), ReadyStop> {
+    if !lit.is_below(1000) {
+        return Ok((0, 0, None, None));
+    }
+    match ready(alloc, lit, 1000)? {
+        Ready::Truth(truth) => Ok((0, i64::from(truth), None, None)),
+        Ready::Bounds(made) => {
+            let terms = made.form.terms();
+            let first = terms.first().map_or(0, |(_, a)| *a);
+            Ok((terms.len(), first, made.lower, made.upper))
+        }
+    }
+}
+
+/// Whether the literal of so many variables says what it is to say.
+fn are_ready(alloc: Global, count: u32) -> Result<bool, Fail> {
+    let n = count as usize;
+    let Some(divisor) = Divisor::new(5) else {
+        return Ok(false);
+    };
+    let le = Lit::Le(form(alloc, count, 6, 7)?);
+    let eq = Lit::Eq(form(alloc, count, -6, 7)?);
+    let div = Lit::Div(divisor, form(alloc, count, 6, 7)?);
+    let rest = Lit::NDiv(divisor, form(alloc, count, 6, 7)?);
+    let wide = Lit::NDiv(divisor, form(alloc, count, 1, 1 - (1 << 64))?);
+    Ok(
+        said(alloc, &le)? == (n, 1, None, Some(-2))
+            && said(alloc, &eq)? == (n, -1, Some(-1), Some(-2))
+            && said(alloc, &div)? == (n + 1, 6, Some(-7), Some(-7))
+            && said(alloc, &rest)? == (n + 1, 6, Some(-6), Some(-3))
+            && matches!(said(alloc, &wide), Err(ReadyStop::Wide)),
+    )
+}
+
+#[test]
+fn literals_are_made_ready_at_small_and_large_sizes(rt: HostRuntime) -> Result<(), Fail> {
+    let truth = Lit::Le(Lin::of_constant(rt.alloc(), 1));
+    assert!(rt; said(rt.alloc(), &truth)? == (0, 0, None, None));
+    for count in [1, 2, 300] {
+        assert!(rt; are_ready(rt.alloc(), count)?, "{count}");
+    }
+    Ok(())
+}
+
+/// A tableau of so many forms of one variable, pivoted once, where a copy is equal and keeps bounds
+/// of its own.
+fn copies_are_equal(alloc: Global, count: usize) -> Result<bool, Fail> {
+    let mut forms = Vec::new(alloc);
+    for _ in 0..count {
+        forms.push(form(alloc, 1, 3, 0)?)?;
+    }
+    if count == 0 || !are_below(forms.as_slice(), 1) {
+        return Ok(false);
+    }
+    let mut t = Tableau::new(alloc, forms.as_slice(), 1)?;
+    t.set_bounds(count, Some(-5), Some(7));
+    if pivot(&mut t, count - 1, 0) != Some(Ok(())) {
+        return Ok(false);
+    }
+    let mut copied = t.copy(alloc)?;
+    let same = copied.rows() == count
+        && copied.columns() == 1
+        && copied.basic(count - 1) == 0
+        && copied.row(count - 1) == t.row(count - 1)
+        && copied.lower(count) == Some(-5)
+        && copied.upper(count) == Some(7);
+    copied.set_bounds(count, None, Some(8));
+    let apart = copied.lower(count).is_none()
+        && copied.upper(count) == Some(8)
+        && t.lower(count) == Some(-5)
+        && t.upper(count) == Some(7);
+    Ok(same && apart)
+}
+
+#[test]
+fn copies_are_equal_at_small_and_large_sizes(rt: HostRuntime) -> Result<(), Fail> {
+    assert!(rt; copies_are_equal(rt.alloc(), 1)?);
+    assert!(rt; copies_are_equal(rt.alloc(), 200)?);
     Ok(())
 }

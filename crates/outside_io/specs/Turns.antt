@@ -4,7 +4,8 @@ use Rattle.std.specs.List.{list_any}
 use Rattle.std.specs.declared.option.Option.{Option}
 use Rattle.std.specs.declared.result.Result.{Result}
 use Rattle.outside_io.specs.declared.turn.Turn.{Turn}
-use Rattle.outside_io.specs.declared.turn.Turn.TheVariants.{Moved, End, Fault}
+use Rattle.outside_io.specs.declared.turn.Turn.TheVariants.{Before, Moved, End, Fault}
+use Rattle.outside_io.specs.Counts.{counted}
 
 -- the turn of a `take` that gave this many bytes: none, into a buffer that has room, is the end
 abbrev pub given_turn : ℕ → List ℕ → Turn
@@ -15,6 +16,13 @@ given_turn n (b ∷ bs) = if n == 0 then End else Moved
 abbrev pub taken_turn : {E : Type 0} → Result ℕ E → List ℕ → Turn
 taken_turn (Err e) buffer = Fault
 taken_turn (Ok n) buffer = given_turn n buffer
+
+-- the count of ends after a turn: it rises exactly where the turn was one
+abbrev pub ends_after : Turn → ℕ → ℕ
+ends_after Before n = n
+ends_after Moved n = n
+ends_after End n = counted n
+ends_after Fault n = n
 
 -- the turn of a `put`
 abbrev pub put_turn : {T E : Type 0} → Result T E → Turn

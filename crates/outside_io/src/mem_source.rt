@@ -14,6 +14,7 @@ pub struct MemSource {
     turns: u64,
     faults: u64,
     last: Turn,
+    ends: u64,
     ghost some: { 0 < step },
     ghost within: { at ≤ length bytes.items },
 }
@@ -27,6 +28,7 @@ impl MemSource {
         ensures faults { ⟦<MemSource as Source>⟧.faults result ≡ 0 }
         ensures turns { ⟦<MemSource as Source>⟧.turns result ≡ 0 }
         ensures last { ⟦<MemSource as Source>⟧.last result ≡ Before }
+        ensures ends { ⟦<MemSource as Source>⟧.ends result ≡ 0 }
         ensures fails { ⟦<MemSource as Source>⟧.fails result ≡ Some fails.items }
         ensures step { ⟦<MemSource as Source>⟧.step result ≡ Some step }
     {
@@ -38,6 +40,7 @@ impl MemSource {
             turns: 0,
             faults: 0,
             last: Turn::Before,
+            ends: 0,
         }
     }
 }
@@ -50,6 +53,8 @@ impl Source for MemSource {
     ghost turns = { λ s. s.turns };
 
     ghost last = { λ s. s.last };
+
+    ghost ends = { λ s. s.ends };
 
     ghost fails = { λ s. Some s.fails.items };
 
@@ -67,6 +72,7 @@ impl Source for MemSource {
         into[..count].copy_from_slice(&rest[..count]);
         self.at += count;
         self.last = Turn::of_take(count, into);
+        self.ends = self.last.counted_in(self.ends);
         Ok(count)
     }
 }

@@ -1,5 +1,6 @@
 ghost use Rattle.std.specs.Prelude.{◌≡◌, ◌+◌, ◌≤◌, vec_len, IfOk, OnOk, OnErr, IfSome, IsErrOf, IsTrue};
 ghost use Rattle.outside_io.specs.Bytes.{Takes, TakesCount, TakesAtMost, IsAtEnd};
+ghost use Rattle.outside_io.specs.Counts.{counted};
 ghost use Rattle.outside_io.specs.Stops.{faults_after_reading};
 ghost use Rattle.outside_io.specs.Turns.{is_named};
 ghost use Rattle.outside_io.specs.declared.turn.Turn.TheVariants.{End, Fault};
@@ -45,12 +46,14 @@ impl From<Failed> for ReadStop {
     }
 }
 
-/// All the bytes up to the end, where these are at most `limit`. It stops at the first fault, and at
-/// byte `limit + 1`. After want of memory the bytes that were taken are lost.
+/// All the bytes up to the end, where these are at most `limit`. It stops at the end, at the first
+/// fault, and at byte `limit + 1`. After want of memory the bytes that were taken are lost.
 pub fn read_all<S: Source>(alloc: Global, src: &mut S, limit: usize) -> Result<Vec<u8>, ReadStop>
     ensures all { IfOk result (λ bytes. IfSome (S.left src.old) (λ left. bytes.items ≡ left)) }
     ensures taken { IfOk result (λ bytes. Takes bytes.items (S.left src.old) (S.left src.new)) }
     ensures end { OnOk result (S.last src.new ≡ End) }
+    ensures once { OnOk result (S.ends src.new ≡ counted (S.ends src.old)) }
+    ensures unended { OnErr result (S.ends src.new ≡ S.ends src.old) }
     ensures at_end { OnOk result (IsAtEnd (S.left src.new)) }
     ensures within { IfOk result (λ bytes. vec_len bytes ≤ limit) }
 

@@ -2,7 +2,7 @@ ghost use Rattle.std.specs.Prelude.{◌≡◌, ◌<◌, ◌≤◌, ℕ, List, le
 ghost use Rattle.std.specs.declared.option.Option.{Option};
 ghost use Rattle.outside_io.specs.Bytes.{moved, Takes, IsAtEnd};
 ghost use Rattle.outside_io.specs.Counts.{counted, faults_after};
-ghost use Rattle.outside_io.specs.Turns.{taken_turn, has_failed, is_named};
+ghost use Rattle.outside_io.specs.Turns.{taken_turn, ends_after, has_failed, is_named};
 ghost use Rattle.outside_io.specs.declared.turn.Turn.{Turn};
 
 use crate::turn::Failed;
@@ -21,6 +21,9 @@ pub trait Source {
     /// How the last turn went.
     ghost last: { Self → Turn };
 
+    /// How often it was at its end.
+    ghost ends: { Self → ℕ };
+
     /// The numbers of the turns that fail, where it tells them.
     ghost fails: { Self → Option (List ℕ) } = { λ _. None };
 
@@ -37,6 +40,7 @@ pub trait Source {
         ensures faults { faults self.new ≡ faults_after result (faults self.old) }
         ensures turns { turns self.new ≡ counted (turns self.old) }
         ensures last { last self.new ≡ taken_turn result into.new }
+        ensures ends { ends self.new ≡ ends_after (last self.new) (ends self.old) }
 
         // Where it tells which turns fail, exactly those do.
         ensures named { fails self.new ≡ fails self.old }

@@ -12,6 +12,7 @@ pub struct StdSource<R> {
     turns: u64,
     faults: u64,
     last: Turn,
+    ends: u64,
 }
 
 impl<R: Read> StdSource<R> {
@@ -20,12 +21,14 @@ impl<R: Read> StdSource<R> {
         ensures faults { ⟦<StdSource<R> as Source>⟧.faults result ≡ 0 }
         ensures turns { ⟦<StdSource<R> as Source>⟧.turns result ≡ 0 }
         ensures last { ⟦<StdSource<R> as Source>⟧.last result ≡ Before }
+        ensures ends { ⟦<StdSource<R> as Source>⟧.ends result ≡ 0 }
     {
         StdSource {
             inner,
             turns: 0,
             faults: 0,
             last: Turn::Before,
+            ends: 0,
         }
     }
 }
@@ -39,11 +42,14 @@ impl<R: Read> Source for StdSource<R> {
 
     ghost last = { λ s. s.last };
 
+    ghost ends = { λ s. s.ends };
+
     fn take(&mut self, into: &mut [u8]) -> Result<usize, Failed> {
         self.turns = self.turns.saturating_add(1);
         match self.inner.read(into) {
             Ok(count) => {
                 self.last = Turn::of_take(count, into);
+                self.ends = self.last.counted_in(self.ends);
                 Ok(count)
             }
             Err(_) => {

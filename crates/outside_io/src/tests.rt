@@ -126,7 +126,7 @@ fn bytes_that_meet_no_room_are_a_fault(rt: HostRuntime) -> Result<(), Fail> {
     Ok(())
 }
 
-/// Reads give its last byte, and writes take two at a time. The call numbered `bad_call` fails, and
+/// Reads give its last two bytes, the last first, and writes take two at a time. The call numbered `bad_call` fails, and
 /// the flush after `bad_flush` calls, and the writes from `stuck_at` on take nothing.
 #[derive(Drop)]
 struct Pipe {
@@ -155,16 +155,15 @@ impl Read for Pipe {
         if self.calls == self.bad_call {
             return Err(io::ErrorKind::Other.into());
         }
-        if buf.is_empty() {
-            return Ok(0);
-        }
-        match self.bytes.pop() {
-            Some(byte) => {
-                buf[0] = byte;
-                Ok(1)
+        let mut count = 0;
+        for slot in buf.iter_mut().take(2) {
+            match self.bytes.pop() {
+                Some(byte) => *slot = byte,
+                None => break,
             }
-            None => Ok(0),
+            count += 1;
         }
+        Ok(count)
     }
 }
 

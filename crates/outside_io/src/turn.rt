@@ -1,5 +1,5 @@
 ghost use Rattle.std.specs.Prelude.{◌≡◌};
-ghost use Rattle.outside_io.specs.Turns.{given_turn};
+ghost use Rattle.outside_io.specs.Turns.{given_turn, ends_after};
 
 use thiserror::Error;
 
@@ -30,6 +30,16 @@ impl Turn {
             Turn::End
         } else {
             Turn::Moved
+        }
+    }
+
+    /// How often a source was at its end, after this turn of it.
+    pub(crate) fn counted_in(self, ends: u64) -> u64
+        ensures { result ≡ ends_after self ends }
+    {
+        match self {
+            Turn::End => ends.saturating_add(1),
+            _ => ends,
         }
     }
 }

@@ -5,7 +5,7 @@ ghost use Rattle.lin_atoms.specs.Linear.{is_long};
 ghost use Rattle.int_rows.specs.Rows.{entry};
 
 use super::*;
-use crate::coordinate::held;
+use crate::coordinate::{Coordinate, held};
 use std::alloc::Global;
 use std::cmp::Ordering;
 use std::test::Fail;

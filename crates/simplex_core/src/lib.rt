@@ -7,8 +7,8 @@ mod choosing;
 mod coordinate;
 mod ends;
 mod following;
+mod laws;
 mod place;
-mod point_laws;
 mod refresh;
 mod standing;
 mod stepping;
@@ -16,7 +16,7 @@ mod turn;
 
 pub use answer::{Feasible, WideEvidence};
 pub use following::feasible;
-pub use point_laws::{
+pub use laws::{
     conflicts_are_of_the_forms, coordinates_without_room_are_evidence,
     crossed_bounds_are_a_conflict, moments_are_basic_points, moments_come_once,
     stuck_rows_are_a_conflict, vertices_meet_all_bounds,

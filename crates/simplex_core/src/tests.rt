@@ -306,6 +306,43 @@ fn coordinates_without_room_are_named(rt: HostRuntime) -> Result<(), Fail> {
     Ok(())
 }
 
+/// Sixty-four forms of the first two variables, each their sum but for the last two.
+fn many_forms(a: i64) -> [[i64; 4]; 64] {
+    let mut rows = [[1, 1, 0, 0]; 64];
+    rows[62] = [a, 1, 0, 0];
+    rows[63] = [1, a, 0, 0];
+    rows
+}
+
+#[test]
+fn many_columns_have_each_answer(rt: HostRuntime) -> Result<(), Fail> {
+    let rows = many_forms(2);
+    let mut t = of_forms(rt.alloc(), &rows)?;
+    between(&mut t, 66, 4, 4);
+    between(&mut t, 67, 5, 5);
+    assert_eq!(rt; solved(rt.alloc(), &mut t, &rows), Found::Vertex);
+    between(&mut t, 4, 4, 4);
+    assert_eq!(rt; solved(rt.alloc(), &mut t, &rows), Found::Conflict);
+    let rows = many_forms((1 << 62) + 1);
+    let mut t = of_forms(rt.alloc(), &rows)?;
+    between(&mut t, 66, 3, 3);
+    between(&mut t, 67, 5, 5);
+    let entry = (1 << 124) + (1 << 63);
+    assert_eq!(rt; solved(rt.alloc(), &mut t, &rows), Found::WideRow(-entry));
+    let mut rows = many_forms(1);
+    rows[63] = [1 << 62, 1 << 62, 1 << 62, 0];
+    let mut t = of_forms(rt.alloc(), &rows)?;
+    let most = (1 << 64) - 1;
+    for variable in 0..3 {
+        between(&mut t, variable, most, most);
+    }
+    assert_eq!(rt;
+        solved(rt.alloc(), &mut t, &rows),
+        Found::WideCoordinate(67)
+    );
+    Ok(())
+}
+
 /// What is answered for programs that cycle under the greatest-coefficient rule, where the last form
 /// is to be at most, or at least, a number.
 fn found_of_optimum(

@@ -44,9 +44,9 @@ module _ (A X : Type 0) (none : A → X) (step : (ℕ → A → X) → Node → 
       let x : A → X = step (λ id. get_or earlier id none) node in
       at_node (earlier ++ x ∷ []) nodes i n d a (omega (arith, length-append earlier (x ∷ []))) (omega arith) below
 
-  pub told_at : (nodes : List Node) (id : ℕ) (node : Node) (a : A) → slice_get nodes id ≡ Some node → has_parts_below id node ≡ true
+  pub told_at_each : (nodes : List Node) (id : ℕ) (node : Node) (a : A) → slice_get nodes id ≡ Some node → has_parts_below id node ≡ true
       → told_of none step nodes id a ≡ step (told_of none step nodes) node a
-  told_at nodes id node a is below =
+  told_at_each nodes id node a is below =
       let same : get_or nodes id node ≡ node = get_or_from_slice_get nodes id node node is in
       at_node [] nodes id id node a (omega arith) (slice_get_within nodes id node is) (subst (λ (m : Node). has_parts_below id m ≡ true) (sym same) below)
       ∙ ap (λ (m : Node). step (told_of none step nodes) m a) same
@@ -147,14 +147,14 @@ trees_rest others p q n node id same below = by_other (slice_get others id)
 -- whether a term's names are bound, by its node
 pub scoped_at : (nodes : List Node) (id : ℕ) (node : Node) (scope : Scope) → slice_get nodes id ≡ Some node → has_parts_below id node ≡ true
     → is_scoped nodes id scope ≡ node_is_scoped (is_scoped nodes) node scope
-scoped_at nodes id node scope is below = told_at Scope Bool (λ s. false) node_is_scoped scopes_rest nodes id node scope is below
+scoped_at nodes id node scope is below = told_at_each Scope Bool (λ s. false) node_is_scoped scopes_rest nodes id node scope is below
 
 -- the number of the next variable, by the term's node
 pub numbered_at : (nodes : List Node) (id : ℕ) (node : Node) (next : ℕ) → slice_get nodes id ≡ Some node → has_parts_below id node ≡ true
     → next_variable nodes id next ≡ node_numbers (next_variable nodes) node next
-numbered_at nodes id node next is below = told_at ℕ (Option ℕ) (λ n. None) node_numbers numbers_rest nodes id node next is below
+numbered_at nodes id node next is below = told_at_each ℕ (Option ℕ) (λ n. None) node_numbers numbers_rest nodes id node next is below
 
 -- equality of trees, by the nodes
 pub same_at : (nodes others : List Node) (id other : ℕ) (node : Node) → slice_get nodes id ≡ Some node → has_parts_below id node ≡ true
     → is_same_tree nodes id others other ≡ node_is_same others (λ i. is_same_tree nodes i others) node other
-same_at nodes others id other node is below = told_at ℕ Bool (λ j. false) (node_is_same others) (trees_rest others) nodes id node other is below
+same_at nodes others id other node is below = told_at_each ℕ Bool (λ j. false) (node_is_same others) (trees_rest others) nodes id node other is below

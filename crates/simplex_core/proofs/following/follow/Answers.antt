@@ -4,7 +4,7 @@ use Rattle.int_rows.proofs.Public.{refilled}
 use Rattle.base.specs.declared.memory.Memory.{Memory}
 use Rattle.simplex_core.specs.Answer.{Steps}
 use Rattle.simplex_core.specs.machinery.Following.{IsFollowing, left}
-use Rattle.simplex_core.specs.Run.{Moment, Next, coordinates, first_standings, moment, next}
+use Rattle.simplex_core.specs.Run.{Next, coordinates, first_standings, moment, next}
 use Rattle.simplex_core.specs.declared.answer.Feasible.{Feasible}
 use Rattle.simplex_core.specs.declared.standing.Standing.{Standing}
 use Rattle.simplex_core.proofs.FollowingLemmas.{fewer-left, following-more, started, stopped}

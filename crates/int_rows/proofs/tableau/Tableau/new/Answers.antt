@@ -1,10 +1,11 @@
-use Rattle.std.proofs.Common.{◌≡◌, ◌≤◌, ◌+◌, ap, sym, ◌∙◌, subst, List, ℕ, length, map, replicate}
+use Rattle.std.proofs.Common.{arith, ◌≡◌, ◌≤◌, ◌+◌, ap, sym, ◌∙◌, subst, List, ℕ, length, map, replicate}
 use Rattle.std.specs.Prelude.{ℤ, Option, None}
 use Rattle.std.specs.List.{range_with_len}
 use Rattle.lin_atoms.specs.Linear.{Linear}
 use Rattle.int_rows.specs.Node.{equations}
 use Rattle.int_rows.specs.Table.{IsTable, Table, first_table}
 use Rattle.int_rows.proofs.EquationLemmas.{first-solved}
+use Rattle.int_rows.proofs.WritingLemmas.{all-below}
 use Rattle.int_rows.proofs.tableau.Tableau.new.Goals as goal
 
 pub invariant_of-result : goal.invariant_of-result
@@ -27,3 +28,6 @@ invariant_of-result c =
     ∙ ap (λ ls. table all numbers ls upper) c.in_ok-lower.ensures
     ∙ ap (λ us. table all numbers none us) c.in_ok-upper.ensures in
     subst IsTable (sym is) (first-solved v lins c.requires.below c.in_ok-rows.ensures.legal few)
+
+pub equations-requires-clause-below : goal.equations-requires-clause-below
+equations-requires-clause-below c = all-below c.args.variables (c.args.variables + length c.args.lins.now) c.args.lins.now (omega arith) c.requires.below

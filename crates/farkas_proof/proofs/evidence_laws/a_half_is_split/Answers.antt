@@ -1,5 +1,0 @@
-use Rattle.farkas_proof.proofs.HalfLemmas.{half-given-up}
-use Rattle.farkas_proof.proofs.evidence_laws.a_half_is_split.Goals as goal
-
-pub returns : goal.returns
-returns c = half-given-up

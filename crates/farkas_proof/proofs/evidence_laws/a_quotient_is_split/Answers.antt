@@ -1,5 +1,0 @@
-use Rattle.farkas_proof.proofs.HalfLemmas.{quotient-given-up}
-use Rattle.farkas_proof.proofs.evidence_laws.a_quotient_is_split.Goals as goal
-
-pub returns : goal.returns
-returns c = quotient-given-up

@@ -1,5 +1,0 @@
-use Rattle.farkas_proof.proofs.NodeLemmas.{many-rows}
-use Rattle.farkas_proof.proofs.evidence_laws.many_rows_are_given_up.Goals as goal
-
-pub returns : goal.returns
-returns c = many-rows

@@ -1,5 +1,0 @@
-use Rattle.farkas_proof.proofs.LoneLemmas.{lone-narrow}
-use Rattle.farkas_proof.proofs.evidence_laws.one_literal_has_no_wide_row.Goals as goal
-
-pub returns : goal.returns
-returns c = lone-narrow

@@ -1,8 +1,0 @@
-use Rattle.int_rows.proofs.FollowLemmas.{follows-own, follows-trans}
-use Rattle.int_rows.proofs.follow_laws.following_is_a_preorder.Goals as goal
-
-pub returns-clause-own : goal.returns-clause-own
-returns-clause-own c = follows-own
-
-pub returns-clause-transitive : goal.returns-clause-transitive
-returns-clause-transitive c = follows-trans

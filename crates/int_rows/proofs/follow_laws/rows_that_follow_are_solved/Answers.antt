@@ -1,5 +1,0 @@
-use Rattle.int_rows.proofs.FollowLemmas.{follows-solved}
-use Rattle.int_rows.proofs.follow_laws.rows_that_follow_are_solved.Goals as goal
-
-pub returns : goal.returns
-returns c = follows-solved

@@ -1,0 +1,11 @@
+use Rattle.int_rows.proofs.SpaceLemmas.{same-reflexive, same-symmetric, same-transitive}
+use Rattle.int_rows.proofs.laws.same_space_is_an_equivalence.Goals as goal
+
+pub returns-clause-reflexive : goal.returns-clause-reflexive
+returns-clause-reflexive c = same-reflexive
+
+pub returns-clause-symmetric : goal.returns-clause-symmetric
+returns-clause-symmetric c = same-symmetric
+
+pub returns-clause-transitive : goal.returns-clause-transitive
+returns-clause-transitive c = same-transitive

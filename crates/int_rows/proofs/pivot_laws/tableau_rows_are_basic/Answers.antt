@@ -1,5 +1,0 @@
-use Rattle.int_rows.proofs.FollowLemmas.{table-basic}
-use Rattle.int_rows.proofs.pivot_laws.tableau_rows_are_basic.Goals as goal
-
-pub returns : goal.returns
-returns c = table-basic

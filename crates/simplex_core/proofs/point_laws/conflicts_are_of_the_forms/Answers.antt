@@ -1,5 +1,0 @@
-use Rattle.simplex_core.proofs.FormLemmas.{conflict-forms}
-use Rattle.simplex_core.proofs.point_laws.conflicts_are_of_the_forms.Goals as goal
-
-pub returns : goal.returns
-returns c = conflict-forms

@@ -1,5 +1,0 @@
-use Rattle.simplex_core.proofs.MeansLemmas.{floor-means, wide-means}
-use Rattle.simplex_core.proofs.point_laws.coordinates_without_room_are_evidence.Goals as goal
-
-pub returns : goal.returns
-returns c = record { wide = wide-means; floor = floor-means }

@@ -1,5 +1,0 @@
-use Rattle.simplex_core.proofs.ConflictLemmas.{crossed-means}
-use Rattle.simplex_core.proofs.point_laws.crossed_bounds_are_a_conflict.Goals as goal
-
-pub returns : goal.returns
-returns c = crossed-means

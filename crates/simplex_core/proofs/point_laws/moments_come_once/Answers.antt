@@ -1,5 +1,0 @@
-use Rattle.simplex_core.proofs.OnceLemmas.{once}
-use Rattle.simplex_core.proofs.point_laws.moments_come_once.Goals as goal
-
-pub returns : goal.returns
-returns c = once
