@@ -1,0 +1,25 @@
+use base::{Copied, Items, Memory, Same};
+use std::alloc::Global;
+
+/// A predicate, numbered from 0 in the order of the declarations, at variables of its clause.
+#[derive(Debug, Drop)]
+pub struct Atom {
+    pub pred: u32,
+    pub args: Items<u32>,
+}
+
+impl Same for Atom {
+    fn equals(&self, other: &Atom) -> bool {
+        self.pred == other.pred && self.args.equals(&other.args)
+    }
+}
+
+impl Copied for Atom {
+    fn copy(&self, alloc: Global) -> Result<Atom, Memory> {
+        let args = self.args.copy(alloc)?;
+        Ok(Atom {
+            pred: self.pred,
+            args,
+        })
+    }
+}

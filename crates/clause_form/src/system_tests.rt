@@ -1,0 +1,66 @@
+//! Systems that keep what a system keeps, and some that don't.
+
+use crate::{Atom, Clause, System};
+use base::{Copied, Items, Same};
+use lin_atoms::{Divisor, Form, Lin, Lit};
+use std::alloc::Global;
+use std::test::Fail;
+use term_tree::Sort;
+
+/// A divisibility of the first variable and a constant.
+fn guard(alloc: Global, constant: i128) -> Result<Form, Fail> {
+    let mut terms = Vec::new(alloc);
+    terms.push((0, 1))?;
+    let divisor = Divisor::new(2).ok_or("no divisor")?;
+    Ok(Form::Lit(Lit::Div(divisor, Lin::new(terms, constant)?)))
+}
+
+/// One clause over a predicate 0 of one integer: its guard, and a head at this variable.
+fn system(alloc: Global, pred: u32, variable: u32, constant: i128) -> Result<Option<System>, Fail> {
+    let atom = Atom {
+        pred,
+        args: Items::from_slice(alloc, &[variable])?,
+    };
+    let mut clauses = Items::new(alloc);
+    clauses.push(Clause {
+        assertion: 0,
+        user: 1,
+        sorts: Items::from_slice(alloc, &[Sort::Int, Sort::Int])?,
+        atoms: Items::new(alloc),
+        guard: guard(alloc, constant)?,
+        head: Some(atom),
+    })?;
+    let mut preds = Items::new(alloc);
+    preds.push(Items::from_slice(alloc, &[Sort::Int])?)?;
+    Ok(System::new(clauses, preds))
+}
+
+#[test]
+fn a_clause_names_its_own_variables_and_predicates_that_are_there(
+    rt: HostRuntime,
+) -> Result<(), Fail> {
+    for (pred, variable, constant, is_one) in [
+        (0, 1, 0, true),
+        (1, 1, 0, false),
+        (0, 2, 0, false),
+        (0, 0, i128::from(i64::MAX), true),
+        (0, 0, 1 << 63, false),
+    ] {
+        let made = system(rt.alloc(), pred, variable, constant)?;
+        assert_eq!(rt; made.is_some(), is_one, "{pred} {variable} {constant}");
+    }
+    Ok(())
+}
+
+#[test]
+fn a_copy_is_the_same_system(rt: HostRuntime) -> Result<(), Fail> {
+    let made = system(rt.alloc(), 0, 1, 5)?.ok_or("no system")?;
+    let copied = made.copy(rt.alloc())?;
+    assert!(rt; copied.equals(&made));
+    let other = system(rt.alloc(), 0, 1, 6)?.ok_or("no system")?;
+    assert!(rt; !copied.equals(&other));
+    assert_eq!(rt; copied.clauses().len(), 1);
+    assert_eq!(rt; copied.preds().len(), 1);
+    assert_eq!(rt; copied.clause(0).user, 1);
+    Ok(())
+}

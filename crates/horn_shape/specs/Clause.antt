@@ -1,0 +1,39 @@
+-- The Horn clause of an assertion, or the subterm for which it has none.
+use Rattle.std.specs.Prelude.{◌≡◌, ◌≤◌, ℕ, [], slice_get, length, Some, Ok, Err}
+use Rattle.std.specs.List.{AllByRecursion}
+use Rattle.term_tree.specs.declared.sort.Sort.TheVariants.{Bool as BoolSort}
+use Rattle.term_tree.specs.declared.node.TermId.{TermId}
+use Rattle.term_tree.specs.declared.script.Assertion.{Assertion}
+use Rattle.term_tree.specs.declared.script.Script.{Script}
+use Rattle.term_tree.specs.Legal.{IsLegal}
+use Rattle.horn_shape.specs.declared.clause.HornClause.{HornClause}
+use Rattle.horn_shape.specs.Shape.{Content, Reading, clause_reading}
+
+-- every assertion is a closed Bool term over the declared predicates, and there are few enough of each
+pub record IsLegalScript (script : Script) : Type 0 where
+  pub asserts : AllByRecursion (λ a. IsLegal script.preds script.terms.nodes [] BoolSort a.term.0) script.asserts
+  pub few_asserts : length script.asserts ≤ 65536
+  pub few_preds : length script.preds ≤ 4096
+  pub few_args : AllByRecursion (λ p. length p.args ≤ 256) script.preds
+
+-- the assertion's term as a clause
+abbrev pub assertion_reading : Script → Assertion → Reading
+assertion_reading script a = clause_reading script.terms.nodes a.term.0 (record { term = a.term; lets = [] })
+
+abbrev pub content_of : HornClause → Content
+content_of clause = record { vars = clause.vars; atoms = clause.atoms; guards = clause.guards; head = clause.head }
+
+-- the clause of the assertion of that number
+pub record IsClauseOf (script : Script) (index : ℕ) (clause : HornClause) : Type 0 where
+  pub assertion : Assertion
+  pub there : slice_get script.asserts index ≡ Some assertion
+  pub reading : assertion_reading script assertion ≡ Ok (content_of clause)
+  pub number : clause.assertion ≡ index
+
+-- the assertion of that number has no clause, because of the subterm that starts there
+pub record IsNotHornAt (script : Script) (index offset : ℕ) : Type 0 where
+  pub assertion : Assertion
+  pub there : slice_get script.asserts index ≡ Some assertion
+  pub misfit : TermId
+  pub reading : assertion_reading script assertion ≡ Err misfit
+  pub start : slice_get script.terms.offsets misfit.0 ≡ Some offset
