@@ -16,7 +16,7 @@ use Rattle.term_check.specs.Term.{Term}
 use Rattle.answer_text.specs.declared.answer.Answer.{Answer}
 use Rattle.answer_text.specs.declared.answer.Answer.TheVariants.{Sat, Unsat, Unknown}
 use Rattle.answer_text.specs.Terms.{parameter_name, term_text}
-use Rattle.answer_text.specs.Answers.{sorts_in, pred_text, parameters_text, definition_text, answer_text}
+use Rattle.answer_text.specs.AnswerTexts.{pred_text, parameters_text, definition_text, answer_text}
 use Rattle.answer_text.specs.Printable.{IsMadeOfLemmas, IsAnswerText}
 use Rattle.answer_text.specs.machinery.ReadBack.{AreNames, IsStored, AreSameDefinitions, IsSameModel, IsReadAs}
 use Rattle.answer_text.specs.Reading.{◌>>=◌, provided, said_by, has_sort, parameters, Defined, defined, is_defined, definition_by, definition_of, definition, definitions_from, definition_for, and_then, in_order, Reply, complete, model_listed, model_of, claim, evidence, unless_at, reply}
@@ -30,13 +30,6 @@ use Rattle.answer_text.proofs.ShowLemmas.{Shows, ShowsRow, FirstAnd, Within, IsL
 use Rattle.answer_text.proofs.SpellLemmas.{Only, row_last, row_spaced, shows_symbol, symbol_is}
 use Rattle.answer_text.proofs.StepLemmas.{same_number, IsPred, shows_pred}
 use Rattle.answer_text.proofs.TermShowLemmas.{ReadsAs, word_is}
-
-same_sorts : (preds : List Pred) (n : ℕ) → sorts_in (slice_get preds n) ≡ sorts_of preds n
-same_sorts preds n = by (slice_get preds n)
-  where
-    by : (o : Option Pred) → sorts_in o ≡ Rattle.term_check.specs.Spelling.sorts_in o
-    by None = refl
-    by (Some p) = refl
 
 -- what is read of a definition: its predicate, its parameters and a term that is alike
 pub record IsMatch (preds : List Pred) (d : Definition) (r : Defined) : Type 0 where
@@ -62,10 +55,10 @@ module _ (preds : List Pred) (names : AreNames preds) (d : Definition) (stored :
   shows_term : Shows IsTerm 2 (term_text d.terms.nodes d.body.0)
   shows_term =
       let params = are_parameters sorts few in
-      let term = subst (λ (l : List Sort). Rattle.answer_text.specs.Lemmas.IsDefiningTerm d.terms.nodes l d.body) (same_sorts preds d.pred) made.term in
+      let term = made.term in
       shows_same (ReadsAs d.terms.nodes stored.arena sorts (params_from 0 (params_at 0 sorts)) params (length (params_at 0 sorts)) BoolSort None d.body.0) IsTerm 2 (term_text d.terms.nodes d.body.0)
       (λ text tree r. (r.found.term, ap bool_term r.is ∙ ap (λ (p : Rattle.term_check.specs.declared.part.Part.Part). cond (Rattle.term_check.specs.Rules.same_sort p.sort BoolSort) (Ok r.found.term) (Err p.start)) r.part, r.like))
-      (defining_reads d.terms.nodes stored.arena stored.numbers sorts few (params_from 0 (params_at 0 sorts)) params (length (params_at 0 sorts)) 2 d.body (omega arith) term)
+      (defining_reads d.terms.nodes stored.arena sorts few (params_from 0 (params_at 0 sorts)) params (length (params_at 0 sorts)) 2 d.body (omega arith) term)
 
   abbrev Parts : List ℕ → List Tree → Type 0
   Parts = FirstAnd (IsLeaf Symbol (codes "define-fun")) (FirstAnd (IsPred preds names d.pred) (FirstAnd (λ text tree. parameters text sorts tree ≡ Ok (params_at 0 sorts))
@@ -92,7 +85,7 @@ module _ (preds : List Pred) (names : AreNames preds) (d : Definition) (stored :
       (found, record { pred_is = refl; params_are = refl; like = like }, reads)
 
   abbrev params_list : List ℕ
-  params_list = codes "(" ++ parameters_text (sorts_in (slice_get preds d.pred)) ++ codes ")"
+  params_list = codes "(" ++ parameters_text (sorts_of preds d.pred) ++ codes ")"
 
   abbrev pub definition_row : List ℕ
   definition_row =
@@ -100,7 +93,7 @@ module _ (preds : List Pred) (names : AreNames preds) (d : Definition) (stored :
 
   row_of_definition : ShowsRow Parts 2 definition_row
   row_of_definition =
-      let params = subst (λ (l : List Sort). Shows (λ text tree. parameters text sorts tree ≡ Ok (params_at 0 sorts)) 2 (codes "(" ++ parameters_text l ++ codes ")")) (sym (same_sorts preds d.pred)) (shows_parameters 2 sorts (omega arith) few) in
+      let params = shows_parameters 2 sorts (omega arith) few in
       row_spaced _ _ 2 (codes "define-fun") _ (shows_symbol 2 100 (codes "efine-fun") refl refl)
       (row_spaced _ _ 2 (pred_text preds d.pred) _ (shows_pred preds names 2 d.pred within)
       (row_spaced _ _ 2 params_list _ params
@@ -119,8 +112,8 @@ module _ (preds : List Pred) (names : AreNames preds) (d : Definition) (stored :
   pub definition_printed : definition_text preds d ≡ (codes "(" ++ definition_row ++ codes ")") ++ codes "\n"
   unfolding definition_text
   definition_printed =
-      text_pieces (codes "(define-fun ") (pred_text preds d.pred) (codes " (") (parameters_text (sorts_in (slice_get preds d.pred))) (codes ") Bool ") (term_text d.terms.nodes d.body.0) (codes ")\n")
-      ∙ sym (row_pieces (codes "(") (codes "define-fun") (codes " ") (pred_text preds d.pred) (parameters_text (sorts_in (slice_get preds d.pred))) (codes ")") (codes "Bool") (term_text d.terms.nodes d.body.0) (codes "\n"))
+      text_pieces (codes "(define-fun ") (pred_text preds d.pred) (codes " (") (parameters_text (sorts_of preds d.pred)) (codes ") Bool ") (term_text d.terms.nodes d.body.0) (codes ")\n")
+      ∙ sym (row_pieces (codes "(") (codes "define-fun") (codes " ") (pred_text preds d.pred) (parameters_text (sorts_of preds d.pred)) (codes ")") (codes "Bool") (term_text d.terms.nodes d.body.0) (codes "\n"))
 
 -- Definitions in order.
 
@@ -263,7 +256,7 @@ same_models preds number [] (r ∷ rs) es good matches are = absurd matches
 same_models preds number (d ∷ ds) [] es good matches are = absurd matches
 same_models preds number (d ∷ ds) (r ∷ rs) [] good matches are = absurd are
 same_models preds number (d ∷ ds) (r ∷ rs) (e ∷ es) (g, good) (m, matches) (a, are) =
-    let named = params_named 0 (sorts_of preds d.pred) d.params (subst (λ (l : List Sort). map (λ name. name.bytes) d.params ≡ map (λ p. parameter_name p.0) (enumerate_from 0 l)) (same_sorts preds d.pred) g.made.names) in (
+    let named = params_named 0 (sorts_of preds d.pred) d.params g.made.names in (
       record {
         pred = sym (a.pred ∙ m.pred_is);
         params = named ∙ sym (a.params ∙ ap (λ (l : List (Name × Sort)). map (λ p. p.0) l) m.params_are);

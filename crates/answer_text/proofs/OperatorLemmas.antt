@@ -10,7 +10,7 @@ use Rattle.term_tree.specs.declared.node.OpKind.TheVariants.{Not, And, Or, Xor, 
 use Rattle.term_tree.specs.declared.refusal.Kind.TheVariants.{Arity, SortMismatch}
 use Rattle.term_check.specs.declared.part.Part.{Part}
 use Rattle.term_check.specs.Operators.{operator_named}
-use Rattle.term_check.specs.Rules.{fault, unless, worth, value_at, number_fault, first_not, constant_of, part_of, wide_unless, without_value, narrow, multiplied, varying, same_sort, applied}
+use Rattle.term_check.specs.Rules.{fault, unless, worth, value_at, number_fault, first_not, constant_of, part_of, wide_unless, without_value, if_short, multiplied, varying, same_sort, applied}
 use Rattle.term_check.specs.Words.{is_among, reserved_words}
 use Rattle.term_check.proofs.Public.{below_is}
 use Rattle.answer_text.specs.Terms.{operator_word}
@@ -126,12 +126,12 @@ three_starts P f (a ∷ b ∷ []) e = absurd (omega (arith, e))
 three_starts P f (a ∷ b ∷ c ∷ []) e = f a b c
 three_starts P f (a ∷ b ∷ c ∷ d ∷ starts) e = absurd (omega (arith, e))
 
-narrow_is : (k : ℤ) → nat_abs k < 2 ^ 63 → narrow k ≡ Some k
-narrow_is k h = ap (λ t. cond t (Some k) None) (below_is (nat_abs k) (2 ^ 63) h)
+if_short_is : (k : ℤ) → nat_abs k < 2 ^ 63 → if_short k ≡ Some k
+if_short_is k h = ap (λ t. cond t (Some k) None) (below_is (nat_abs k) (2 ^ 63) h)
 
 pub takes_sub : (n : ℕ) → suc n < 2 ^ 63 → Takes Sub ((IntSort, Some (pos (suc n))) ∷ []) (IntSort, Some (negsuc n))
 takes_sub n h start = one_start (λ l. applied Sub start (parts_at l ((IntSort, Some (pos (suc n))) ∷ [])) ≡ Ok (part_at start (IntSort, Some (negsuc n))))
-    (λ a. ap (λ o. part_of start IntSort (wide_unless start o)) (narrow_is (negsuc n) h))
+    (λ a. ap (λ o. part_of start IntSort (wide_unless start o)) (if_short_is (negsuc n) h))
 
 pub takes_ite : Takes Ite ((BoolSort, None) ∷ (IntSort, Some (pos 1)) ∷ (IntSort, Some (pos 0)) ∷ []) (IntSort, None)
 takes_ite start = three_starts (λ l. applied Ite start (parts_at l ((BoolSort, None) ∷ (IntSort, Some (pos 1)) ∷ (IntSort, Some (pos 0)) ∷ [])) ≡ Ok (part_at start (IntSort, None))) (λ a b c. refl)
@@ -141,7 +141,7 @@ one_times k = omega (arith, ints)
 
 pub takes_mul : (k : ℤ) → nat_abs k < 2 ^ 63 → Takes Mul ((IntSort, Some k) ∷ (IntSort, None) ∷ []) (IntSort, None)
 takes_mul k h start = two_starts (λ l. applied Mul start (parts_at l ((IntSort, Some k) ∷ (IntSort, None) ∷ [])) ≡ Ok (part_at start (IntSort, None)))
-    (λ a b. ap (λ o. part_of start IntSort (without_value (wide_unless start (multiplied o None)))) (ap narrow (one_times k) ∙ narrow_is k h))
+    (λ a b. ap (λ o. part_of start IntSort (without_value (wide_unless start (multiplied o None)))) (ap if_short (one_times k) ∙ if_short_is k h))
 
 pub takes_le : (c d : Option ℤ) → Takes Le ((IntSort, c) ∷ (IntSort, d) ∷ []) (BoolSort, None)
 takes_le c d start = two_starts (λ l. applied Le start (parts_at l ((IntSort, c) ∷ (IntSort, d) ∷ [])) ≡ Ok (part_at start (BoolSort, None))) (λ a b. refl)
@@ -163,4 +163,4 @@ takes_add kinds all start [] many = absurd (omega (arith, many))
 takes_add kinds all start (a ∷ starts) many =
     let ps : List Part = parts_at starts kinds in
     ap (λ o. unless o (part_of start IntSort (constant_of Add start (part_at a (IntSort, None) ∷ ps)))) (all_of_sort IntSort starts kinds all)
-    ∙ ap (λ t. part_of start IntSort (cond t (wide_unless start (narrow (value_at Add (map worth (part_at a (IntSort, None) ∷ ps))))) (Ok None))) (varies (varying ps))
+    ∙ ap (λ t. part_of start IntSort (cond t (wide_unless start (if_short (value_at Add (map worth (part_at a (IntSort, None) ∷ ps))))) (Ok None))) (varies (varying ps))

@@ -16,7 +16,7 @@ use Rattle.term_check.specs.Operators.{first_of}
 use Rattle.term_check.specs.Spelling.{bound_to, is_symbol, start_of}
 use Rattle.answer_text.specs.Names.{after_spaces}
 use Rattle.answer_text.specs.Terms.{parameter_name}
-use Rattle.answer_text.specs.Answers.{sort_text, parameter_text, parameters_text}
+use Rattle.answer_text.specs.AnswerTexts.{sort_text, parameter_text, parameters_text}
 use Rattle.answer_text.specs.Reading.{◌>>=◌, provided, said_by, is_sort, has_sort, is_new, parameter_of, parameter, parameters_from, parameters_of, parameters}
 use Rattle.answer_text.proofs.DecimalLemmas.{decimal_is}
 use Rattle.answer_text.proofs.PieceLemmas.{ends_word}

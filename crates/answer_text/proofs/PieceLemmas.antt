@@ -7,7 +7,7 @@ use Rattle.sexp_read.specs.declared.tree.LeafKind.TheVariants.{Quoted}
 use Rattle.sexp_read.specs.declared.token.Token.{Token}
 use Rattle.sexp_read.specs.declared.token.Token.TheVariants as token
 use Rattle.sexp_read.specs.Leaves.{between}
-use Rattle.sexp_read.specs.Lexicon.{after_gap, after_comment, after_word, after_plain, word_kind, word_of, word_at, quoted_of, quoted_at, literal_at, keyword_at, token_by, token_at, next_token}
+use Rattle.sexp_read.specs.Lexicon.{after_gap, after_comment, after_word, after_plain, word_kind, kind_token, word_at, quoted_of, quoted_at, literal_at, keyword_at, token_by, token_at, next_token}
 use Rattle.term_tree.proofs.Public.{both_true}
 
 -- no word goes on there
@@ -113,9 +113,9 @@ word_token text at b bs rest kind is all sort ends =
     let symbol = (both_true (is_symbol_byte b) (list_all is_symbol_byte bs) all).0 in
     let end : after_word at (drop at text) ≡ at + length (b ∷ bs) = ap (after_word at) is ∙ after_word_is (b ∷ bs) rest at all ends in
     here text at b (bs ++ rest) is (not_white b symbol) (differs b 59 symbol refl) ∙ by_byte text at b (bs ++ rest) symbol
-    ∙ ap (λ (e : ℕ). word_of at e (word_kind (take (e - at) (drop at text)))) end
-    ∙ ap (λ (bytes : List ℕ). word_of at (at + length (b ∷ bs)) (word_kind bytes)) (cut text (b ∷ bs) rest at is)
-    ∙ ap (word_of at (at + length (b ∷ bs))) sort
+    ∙ ap (λ (e : ℕ). kind_token at e (word_kind (take (e - at) (drop at text)))) end
+    ∙ ap (λ (bytes : List ℕ). kind_token at (at + length (b ∷ bs)) (word_kind bytes)) (cut text (b ∷ bs) rest at is)
+    ∙ ap (kind_token at (at + length (b ∷ bs))) sort
 
 -- Symbols between bars.
 

@@ -7,7 +7,7 @@ use Rattle.sexp_read.specs.declared.tree.LeafKind.{LeafKind}
 use Rattle.sexp_read.specs.declared.tree.LeafKind.TheVariants.{Symbol, Quoted, Numeral, Decimal}
 use Rattle.sexp_read.specs.declared.tree.Tree.{Tree, items_hidden-the_row-Tree-0}
 use Rattle.sexp_read.specs.declared.tree.Tree.TheVariants.{Leaf as LeafTree}
-use Rattle.sexp_read.specs.Leaves.{small, numeral_value, symbol_bytes}
+use Rattle.sexp_read.specs.Leaves.{short_number, numeral_value, symbol_bytes}
 use Rattle.sexp_read.specs.Lexicon.{word_kind, number_kind, is_decimal}
 use Rattle.sexp_read.specs.Trees.{most_open}
 use Rattle.term_tree.specs.declared.scalar.Value.{Value}
@@ -17,7 +17,7 @@ use Rattle.term_check.specs.Words.{is_among, reserved_words}
 use Rattle.term_check.specs.Spelling.{is_symbol, is_spelled, name_of}
 use Rattle.term_check.proofs.Public.{below_is}
 use Rattle.answer_text.specs.Names.{is_simple, is_bare, name_text, number_text, value_text, after_spaces, spaced}
-use Rattle.answer_text.specs.Printable.{IsSmallValue}
+use Rattle.answer_text.specs.Printable.{IsShortValue}
 use Rattle.answer_text.specs.machinery.ReadBack.{is_quotable}
 use Rattle.answer_text.specs.Reading.{◌>>=◌, in_list, each, said_by, number, integer, negated, negation, value_of, value}
 use Rattle.answer_text.proofs.PieceLemmas.{ends_word, not_true}
@@ -67,12 +67,12 @@ shows_digits depth n (d ∷ ds) s =
     ap (λ t. cond t (number_kind (d ∷ ds)) (Some Symbol)) first ∙ ap (λ t. cond t (Some Numeral) (cond (is_decimal (d ∷ ds)) (Some Decimal) None)) s.numeral in
     shows_word depth d ds Numeral (λ text start end. refl) (digits_are_symbols (d ∷ ds) s.digits) sort
 
-pub small_is : (n : ℕ) → n < 2 ^ 63 → small n ≡ Some n
-small_is n h = ap (λ t. cond t (Some n) None) (below_is n (2 ^ 63) h)
+pub short_number_is : (n : ℕ) → n < 2 ^ 63 → short_number n ≡ Some n
+short_number_is n h = ap (λ t. cond t (Some n) None) (below_is n (2 ^ 63) h)
 
 pub numeral_is : (n : ℕ) (text : List ℕ) (tree : Tree) → n < 2 ^ 63 → IsLeaf Numeral (decimal n) text tree → numeral_value text tree ≡ Some n
 numeral_is n text tree h leaf =
-    ap (λ (t : Tree). numeral_value text t) leaf.2 ∙ ap (λ (b : List ℕ). small (number_of b)) leaf.3 ∙ ap small (decimal_is n (omega arith)).value ∙ small_is n h
+    ap (λ (t : Tree). numeral_value text t) leaf.2 ∙ ap (λ (b : List ℕ). short_number (number_of b)) leaf.3 ∙ ap short_number (decimal_is n (omega arith)).value ∙ short_number_is n h
 
 pub shows_numeral : (depth n : ℕ) → n < 2 ^ 63 → Shows (IsLeaf Numeral (decimal n)) depth (decimal n)
 shows_numeral depth n h = shows_digits depth n (decimal n) (decimal_is n (omega arith))
@@ -129,7 +129,7 @@ minus_is n text tree h (items, start, end, is, (minus, others, all, sign, (digit
     ∙ ap (λ t. cond t (negated (numeral_value text digits)) None) (symbol_is (codes "-") (codes "-") text minus sign)
     ∙ ap negated (numeral_is (suc n) text digits h numeral) ∙ negated_is n
 
-pub shows_value : (depth : ℕ) (v : Value) → depth < most_open → IsSmallValue v → Shows (IsValue v) depth (value_text v)
+pub shows_value : (depth : ℕ) (v : Value) → depth < most_open → IsShortValue v → Shows (IsValue v) depth (value_text v)
 shows_value depth (Int (pos n)) below h =
     subst (λ (l : List ℕ). Shows (IsValue (Int (pos n))) depth l) (sym (plain_text n))
     (shows_same (IsLeaf Numeral (decimal n)) (IsValue (Int (pos n))) depth (decimal n)

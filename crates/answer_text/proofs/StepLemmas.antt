@@ -12,8 +12,8 @@ use Rattle.term_check.specs.Spelling.{is_symbol, pred_from, sorts_of}
 use Rattle.answer_text.specs.declared.answer.Line.{Line}
 use Rattle.answer_text.specs.declared.answer.Answer.TheVariants.{Unsat}
 use Rattle.answer_text.specs.Names.{name_text, value_text, after_spaces, spaced}
-use Rattle.answer_text.specs.Answers.{name_in, sorts_in, pred_text, atom_text, conclusion_text, step_text, answer_text}
-use Rattle.answer_text.specs.Printable.{IsSmall, IsSmallValue, IsConclusion, IsStep, IsAnswerText}
+use Rattle.answer_text.specs.AnswerTexts.{name_in, pred_text, atom_text, conclusion_text, step_text, answer_text}
+use Rattle.answer_text.specs.Printable.{IsShort, IsShortValue, IsConclusion, IsStep, IsAnswerText}
 use Rattle.answer_text.specs.machinery.ReadBack.{is_quotable, AreNames}
 use Rattle.answer_text.specs.Reading.{◌>>=◌, provided, said_by, in_list, each, number, value, declared_by, pred, arity, bare, with_values, applied, atom, conclusion, step_of, step, derivation_of, derivation, claim, evidence, unless_at, reply}
 use Rattle.answer_text.specs.Reading.Reply.{refutation}
@@ -73,13 +73,6 @@ module _ (preds : List Pred) (names : AreNames preds) where
       ))
       (shows_name depth name (got (λ q. is_quotable q.name.bytes ≡ true) preds n p.0 names.symbols p.1)))
 
-  same_sorts : (n : ℕ) → sorts_in (slice_get preds n) ≡ sorts_of preds n
-  same_sorts n = by (slice_get preds n)
-    where
-      by : (o : Option Pred) → sorts_in o ≡ Rattle.term_check.specs.Spelling.sorts_in o
-      by None = refl
-      by (Some p) = refl
-
   -- Conclusions.
 
   abbrev IsHead : Option (ℕ × List Value) → List ℕ → Tree → Type 0
@@ -116,14 +109,14 @@ module _ (preds : List Pred) (names : AreNames preds) where
 
   shows_atom : (depth n : ℕ) (values : List Value) → depth + 1 < most_open → IsConclusion preds (Some (n, values)) → Shows (IsHead (Some (n, values))) depth (atom_text (pred_text preds n) values)
   shows_atom depth n [] below h =
-      shows_same (IsPred n) (IsHead (Some (n, []))) depth (pred_text preds n) (λ text tree p. bare_head n text tree (empty (sorts_of preds n) (ap length (sym (same_sorts n)) ∙ sym h.1)) p) (shows_pred depth n h.0)
+      shows_same (IsPred n) (IsHead (Some (n, []))) depth (pred_text preds n) (λ text tree p. bare_head n text tree (empty (sorts_of preds n) (sym h.1)) p) (shows_pred depth n h.0)
     where
       empty : {X : Type 0} (l : List X) → length l ≡ 0 → l ≡ []
       empty [] e = refl
       empty (x ∷ l) e = absurd (omega (arith, e))
   shows_atom depth n (v ∷ values) below h =
-      let many : length (sorts_of preds n) ≡ length (v ∷ values) = ap length (sym (same_sorts n)) ∙ sym h.1 in
-      let row = rows_after value value_text IsSmallValue (depth + 1) (λ w small. shows_value (depth + 1) w below small) (v ∷ values) h.2 in
+      let many : length (sorts_of preds n) ≡ length (v ∷ values) = sym h.1 in
+      let row = rows_after value value_text IsShortValue (depth + 1) (λ w small. shows_value (depth + 1) w below small) (v ∷ values) h.2 in
       shows_same (Within (Applied n (v ∷ values))) (IsHead (Some (n, v ∷ values))) depth (atom_text (pred_text preds n) (v ∷ values)) (λ text tree w. applied_head n v values text tree many w)
       (subst (λ (l : List ℕ). Shows (Within (Applied n (v ∷ values))) depth l) (sym (ap (λ (l : List ℕ). l ++ codes ")") (append_assoc (codes "(") (pred_text preds n) (after_spaces value_text (v ∷ values)))))
       (shows_list (Applied n (v ∷ values)) depth (pred_text preds n ++ after_spaces value_text (v ∷ values)) (omega (arith, below))
@@ -164,9 +157,9 @@ module _ (preds : List Pred) (names : AreNames preds) where
         (row_spaced _ _ 2 (decimal line.number) _ (shows_number 2 line.number is.number)
         (row_spaced _ _ 2 (decimal line.assertion) _ (shows_number 2 line.assertion is.assertion)
         (row_spaced _ _ 2 values_list _ (shows_list (AreRead value line.values) 2 (spaced value_text line.values) (omega arith)
-        (rows_spaced value value_text IsSmallValue 3 (λ v small. shows_value 3 v (omega arith) small) line.values is.values))
+        (rows_spaced value value_text IsShortValue 3 (λ v small. shows_value 3 v (omega arith) small) line.values is.values))
         (row_spaced _ _ 2 premises_list _ (shows_list (AreRead number line.premises) 2 (spaced decimal line.premises) (omega arith)
-        (rows_spaced number decimal IsSmall 3 (λ n small. shows_number 3 n small) line.premises is.premises))
+        (rows_spaced number decimal IsShort 3 (λ n small. shows_number 3 n small) line.premises is.premises))
         (row_last (IsHead line.head) 2 (conclusion_text preds line.head) (shows_conclusion 2 line.head (omega arith) is.conclusion))))))
 
     step_is : (text : List ℕ) (tree : Tree) → Within Parts text tree → step text preds tree ≡ Ok line

@@ -3,7 +3,7 @@ use Rattle.std.proofs.Common.{ℕ, suc, ℤ, pos, ◌≡◌, ◌+◌, ◌^◌, �
 use Rattle.base.specs.Numeral.{number_of}
 use Rattle.sexp_read.specs.declared.tree.LeafKind.TheVariants.{Symbol, Numeral}
 use Rattle.sexp_read.specs.declared.tree.Tree.{Tree}
-use Rattle.sexp_read.specs.Leaves.{small, numeral_value}
+use Rattle.sexp_read.specs.Leaves.{short_number, numeral_value}
 use Rattle.sexp_read.specs.Trees.{most_open}
 use Rattle.term_tree.specs.declared.sort.Sort.{Sort}
 use Rattle.term_tree.specs.declared.sort.Sort.TheVariants.{Int as IntSort, Bool as BoolSort}
@@ -22,9 +22,9 @@ use Rattle.term_check.specs.declared.atom.Atom.{Atom}
 use Rattle.term_check.specs.declared.scope.Bound.TheVariants.{Variable}
 use Rattle.term_check.specs.declared.scope.Named.{Named}
 use Rattle.term_check.specs.Words.{is_among, reserved_words}
-use Rattle.term_check.specs.Rules.{fault, unless, narrow, number_fault, applied, first_not, divisible_fault, divisibility_fault}
-use Rattle.term_check.specs.Reading.{scope_of, next_spelled, each_spelled, applied_list, any_list}
-use Rattle.term_check.specs.Spelling.{Scope, Spelled, Gathered, ◌>>=◌, is_spelled, is_word, is_symbol, bound_to, bound_symbol, symbol_atom, narrow_number, numeral_atom, spelled_atom, leaf_atom, operator_or, head_of, head_fault, list_head, with_part, application, spells, number_or_0, the_argument, added, nothing_yet, spelled}
+use Rattle.term_check.specs.Rules.{fault, unless, if_short, number_fault, applied, first_not, divisible_fault, divisibility_fault}
+use Rattle.term_check.specs.machinery.Reading.{next_spelled, each_spelled, applied_list, any_list}
+use Rattle.term_check.specs.Spelling.{Scope, Spelled, Gathered, ◌>>=◌, is_spelled, is_word, is_symbol, bound_to, bound_symbol, symbol_atom, numeral_if_short, numeral_atom, spelled_atom, leaf_atom, operator_or, head_of, head_fault, list_head, with_part, application, spells, number_or_0, the_argument, added, nothing_yet, spelled, scope_of}
 use Rattle.term_check.specs.Term.{operation, divisible, Terms, none, more}
 use Rattle.term_check.proofs.Public.{below_is, head_of-List, spelled-List}
 use Rattle.answer_text.specs.Names.{after_spaces}
@@ -34,7 +34,7 @@ use Rattle.answer_text.proofs.LikeLemmas.{IsLike, AreLike, like_last}
 use Rattle.answer_text.proofs.OperatorLemmas.{Kind, part_at, parts_at, Takes, Counts, shows_operator, operator_is}
 use Rattle.answer_text.proofs.PieceLemmas.{ends_word}
 use Rattle.answer_text.proofs.ShowLemmas.{Shows, ShowsRow, FirstAnd, Within, IsLeaf, shows_same, row_same, row_none, row_more, row_behind, shows_list}
-use Rattle.answer_text.proofs.SpellLemmas.{Only, row_last, row_spaced, shows_symbol, symbol_is, small_is, numeral_is, shows_numeral, plain_text, digits_are_symbols}
+use Rattle.answer_text.proofs.SpellLemmas.{Only, row_last, row_spaced, shows_symbol, symbol_is, short_number_is, numeral_is, shows_numeral, plain_text, digits_are_symbols}
 use Rattle.answer_text.proofs.TermLemmas.{text_at}
 
 -- names that stand for parameters
@@ -80,11 +80,11 @@ module _ (nodes : List Node) (arena : IsArena nodes) (sorts : List Sort) (names 
     where
       reads : (text : List ℕ) (tree : Tree) → IsLeaf Numeral (decimal n) text tree → ReadsAs IntSort (Some (pos n)) id text tree
       reads text tree leaf =
-          let value : narrow_number (small (number_of (decimal n))) ≡ Some (pos n) =
-          ap (λ k. narrow_number (small k)) (decimal_is n (omega arith)).value ∙ ap narrow_number (small_is n fits) ∙ ap (λ t. cond t (Some (pos n)) None) (below_is n (2 ^ 63) fits) in
+          let value : numeral_if_short (short_number (number_of (decimal n))) ≡ Some (pos n) =
+          ap (λ k. numeral_if_short (short_number k)) (decimal_is n (omega arith)).value ∙ ap numeral_if_short (short_number_is n fits) ∙ ap (λ t. cond t (Some (pos n)) None) (below_is n (2 ^ 63) fits) in
           record {
             found = spelled_atom next leaf.0 (Rattle.term_check.specs.declared.atom.Atom.TheVariants.Number (pos n));
-            is = ap (spelled text scope next) leaf.2 ∙ ap (λ (bytes : List ℕ). numeral_atom leaf.0 (narrow_number (small (number_of bytes))) >>= λ atom. Ok (spelled_atom next leaf.0 atom)) leaf.3
+            is = ap (spelled text scope next) leaf.2 ∙ ap (λ (bytes : List ℕ). numeral_atom leaf.0 (numeral_if_short (short_number (number_of bytes))) >>= λ atom. Ok (spelled_atom next leaf.0 atom)) leaf.3
                 ∙ ap (λ o. numeral_atom leaf.0 o >>= λ atom. Ok (spelled_atom next leaf.0 atom)) value;
             start = leaf.0;
             part = refl;

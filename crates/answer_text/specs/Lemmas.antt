@@ -1,5 +1,5 @@
 -- The terms that defining terms are: conjunctions of lemmas, each the negation of a cube of linear literals over the
--- arguments. Every term is one of SMT-LIB's theory Ints.
+-- arguments, in numbers below 2^63. Every term is one of SMT-LIB's theory Ints.
 use Rattle.std.specs.Prelude.{◌≡◌, ℕ, ◌+◌, ◌^◌, ◌<◌, ◌≤◌, ◌⊎◌, List, [], ◌∷◌, ◌++◌, length, Option, Some, None, slice_get, ℤ, pos, negsuc, nat_abs}
 use Rattle.std.specs.List.{AllByRecursion}
 use Rattle.term_tree.specs.declared.sort.Sort.{Sort}
@@ -62,6 +62,7 @@ pub record IsShifted (nodes : List Node) (sorts : List Sort) (id : TermId) : Typ
   pub terms : List (ℕ × ℤ)
   pub items : List TermId
   pub constant : ℤ
+  pub short : nat_abs constant < 2 ^ 63
   pub ordered : AreTerms 0 terms
   pub products : AreProducts nodes sorts terms items
   pub sum : ((constant ≡ pos 0) × IsSum nodes items id) ⊎ ((constant ≡ pos 0 → ⊥) × ((k : TermId) × IsNumber nodes constant k × IsSum nodes (items ++ k ∷ []) id))
@@ -71,6 +72,7 @@ pub record IsComparison (nodes : List Node) (sorts : List Sort) (op : OpKind) (i
   pub left : TermId
   pub right : TermId
   pub number : ℤ
+  pub short : nat_abs number < 2 ^ 63
   pub linear : IsLinear nodes sorts left
   pub constant : IsNumber nodes number right
   pub node : IsNode nodes id (Op op (left ∷ right ∷ []))
@@ -80,6 +82,7 @@ pub record IsDivisibility (nodes : List Node) (sorts : List Sort) (id : TermId) 
   pub divisor : ℕ
   pub sum : TermId
   pub positive : 0 < divisor
+  pub short : divisor < 2 ^ 63
   pub shifted : IsShifted nodes sorts sum
   pub node : IsNode nodes id (Divisible (pos divisor) sum)
 

@@ -1,4 +1,4 @@
-pub mod Answers
+pub mod AnswerTexts
 pub mod Lemmas
 pub mod Lines
 pub mod Names

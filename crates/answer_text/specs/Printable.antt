@@ -1,40 +1,41 @@
 -- The answers that are printed: models whose definitions are made of lemmas, and derivations in numbers that fit.
-use Rattle.std.specs.Prelude.{◌≡◌, ℕ, ◌^◌, ◌<◌, List, length, map, Option, Some, None, slice_get, nat_abs}
+use Rattle.std.specs.Prelude.{◌≡◌, ℕ, ◌^◌, ◌<◌, List, length, map, Option, Some, None, nat_abs}
 use Rattle.std.specs.List.{AllByRecursion, enumerate_from}
 use Rattle.term_tree.specs.declared.scalar.Value.{Value}
 use Rattle.term_tree.specs.declared.scalar.Value.TheVariants.{Int, Bool as Truth}
 use Rattle.term_tree.specs.declared.script.Pred.{Pred}
 use Rattle.term_tree.specs.declared.definition.Definition.{Definition}
 use Rattle.term_tree.specs.Solution.{DefinesEach}
+use Rattle.term_check.specs.Spelling.{sorts_of}
 use Rattle.answer_text.specs.declared.answer.Line.{Line}
 use Rattle.answer_text.specs.declared.answer.Answer.{Answer}
 use Rattle.answer_text.specs.declared.answer.Answer.TheVariants.{Sat, Unsat, Unknown}
 use Rattle.answer_text.specs.Terms.{parameter_name}
-use Rattle.answer_text.specs.Answers.{sorts_in, answer_text}
+use Rattle.answer_text.specs.AnswerTexts.{answer_text}
 use Rattle.answer_text.specs.Lemmas.{IsDefiningTerm}
 
 -- the parameters are x0, x1, .., and the term is made of lemmas
 pub record IsMadeOfLemmas (preds : List Pred) (d : Definition) : Type 0 where
-  pub names : map (λ name. name.bytes) d.params ≡ map (λ p. parameter_name p.0) (enumerate_from 0 (sorts_in (slice_get preds d.pred)))
-  pub term : IsDefiningTerm d.terms.nodes (sorts_in (slice_get preds d.pred)) d.body
+  pub names : map (λ name. name.bytes) d.params ≡ map (λ p. parameter_name p.0) (enumerate_from 0 (sorts_of preds d.pred))
+  pub term : IsDefiningTerm d.terms.nodes (sorts_of preds d.pred) d.body
 
-abbrev pub IsSmall : ℕ → Type 0
-IsSmall n = n < 2 ^ 63
+abbrev pub IsShort : ℕ → Type 0
+IsShort n = n < 2 ^ 63
 
-abbrev pub IsSmallValue : Value → Type 0
-IsSmallValue (Int n) = IsSmall (nat_abs n)
-IsSmallValue (Truth b) = Unit {0}
+abbrev pub IsShortValue : Value → Type 0
+IsShortValue (Int n) = IsShort (nat_abs n)
+IsShortValue (Truth b) = Unit {0}
 
 -- false, or a predicate that is there with as many values as it has arguments
 abbrev pub IsConclusion : List Pred → Option (ℕ × List Value) → Type 0
 IsConclusion preds None = Unit {0}
-IsConclusion preds (Some head) = (head.0 < length preds) × (length head.1 ≡ length (sorts_in (slice_get preds head.0))) × AllByRecursion IsSmallValue head.1
+IsConclusion preds (Some head) = (head.0 < length preds) × (length head.1 ≡ length (sorts_of preds head.0)) × AllByRecursion IsShortValue head.1
 
 pub record IsStep (preds : List Pred) (line : Line) : Type 0 where
-  pub number : IsSmall line.number
-  pub assertion : IsSmall line.assertion
-  pub values : AllByRecursion IsSmallValue line.values
-  pub premises : AllByRecursion IsSmall line.premises
+  pub number : IsShort line.number
+  pub assertion : IsShort line.assertion
+  pub values : AllByRecursion IsShortValue line.values
+  pub premises : AllByRecursion IsShort line.premises
   pub conclusion : IsConclusion preds line.head
 
 abbrev pub IsPrintable : List Pred → Answer → Type 0

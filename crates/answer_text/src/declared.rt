@@ -5,17 +5,17 @@ ghost use Rattle.answer_text.specs.machinery.Places.{AreNumbers};
 ghost use Rattle.answer_text.specs.Reading.{arity};
 
 use base::Memory;
-use indexmap::IndexMap;
 use std::alloc::Global;
+use std::collections::BTreeMap;
 use std::marker::Model;
 use term_tree::{Pred, Sort};
 
-/// The declared predicates, by number, and each found by its name in time that doesn't grow with
-/// their number.
+/// The declared predicates, by number, and each found by its name, in an ordered map, so that no choice
+/// of names makes it slow.
 #[derive(Drop)]
 pub struct Declared<'a> {
     preds: &'a [Pred],
-    numbers: IndexMap<&'a [u8], u32>,
+    numbers: BTreeMap<&'a [u8], u32>,
 }
 
 impl<'a> Model for Declared<'a> {
@@ -76,11 +76,11 @@ impl<'a> Declared<'a> {
 }
 
 /// The numbers of the predicates by their names. The first of a name is the last that is put in.
-fn numbers_of<'a>(alloc: Global, preds: &'a [Pred]) -> Result<IndexMap<&'a [u8], u32>, Memory>
+fn numbers_of<'a>(alloc: Global, preds: &'a [Pred]) -> Result<BTreeMap<&'a [u8], u32>, Memory>
     requires { length preds.now < 2 ^ 32 }
     ensures { IfOk result (λ numbers. AreNumbers 0 preds.now numbers.entries) }
 {
-    let mut numbers = IndexMap::with_capacity(alloc, preds.len())?;
+    let mut numbers = BTreeMap::new(alloc);
     let mut number = preds.len();
     while number > 0 {
         number -= 1;

@@ -1,11 +1,11 @@
 //! The steps of a derivation.
 
 ghost use Rattle.std.specs.Prelude.{◌≡◌, ◌++◌, OnOk};
-ghost use Rattle.answer_text.specs.Answers.{pred_text, atom_text, conclusion_text, step_numbers, step_lists, step_text};
+ghost use Rattle.answer_text.specs.AnswerTexts.{pred_text, atom_text, conclusion_text, step_numbers, step_lists, step_text};
 
 use crate::answer::Line;
-use crate::model::push_pred;
 use crate::pieces::{push_after_spaces, push_numeral, push_numerals, push_values};
+use crate::printed_model::push_pred;
 use base::{Items, Memory};
 use term_tree::{Pred, Value};
 

@@ -2,29 +2,30 @@ ghost use Rattle.std.specs.Prelude.{◌≡◌, ◌++◌, [], ◌∷◌, true, On
 ghost use Rattle.answer_text.specs.Reading.{is_new};
 
 use base::{Items, Memory};
-use indexmap::IndexSet;
 use std::alloc::Global;
+use std::collections::BTreeSet;
 use std::marker::Model;
 use term_tree::{Name, Sort};
 
-/// The parameters of a definition so far, each found by its name in time that doesn't grow with
-/// their number.
+/// The parameters of a definition so far, each found by its name, in an ordered set, so that no choice
+/// of names makes it slow.
 #[derive(Drop)]
 pub struct Found<'a> {
     params: Vec<(Name, Sort)>,
-    names: IndexSet<&'a [u8]>,
+    names: BTreeSet<&'a [u8]>,
 }
 
 impl<'a> Model for Found<'a> {
-    ghost use Rattle.std.specs.Prelude.{List, ◌≡◌, map};
+    ghost use Rattle.std.specs.Prelude.{List, map};
     ghost use Rattle.term_tree.specs.declared.script.Name.{Name as AName};
     ghost use Rattle.term_tree.specs.declared.sort.Sort.{Sort as ASort};
+    ghost use Rattle.term_check.specs.machinery.Numbers.{AreNames};
 
     ghost Value = { List (AName × ASort) };
 
     ghost view = { λ f. f.params.items };
 
-    ghost invariant = { λ f. map (λ name. name.now) f.names.keys ≡ map (λ p. p.0.bytes) f.params.items };
+    ghost invariant = { λ f. AreNames (λ key. key.now) (map (λ p. p.0.bytes) f.params.items) f.names.keys };
 }
 
 impl<'a> Found<'a> {
@@ -34,7 +35,7 @@ impl<'a> Found<'a> {
     {
         Found {
             params: Vec::new(alloc),
-            names: IndexSet::new(alloc),
+            names: BTreeSet::new(alloc),
         }
     }
 

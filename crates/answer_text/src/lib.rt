@@ -8,11 +8,11 @@ mod definitions;
 mod derivation;
 mod found;
 mod laws;
-mod lines;
-mod model;
 mod names;
+mod notices;
 mod parameters;
 mod pieces;
+mod printed_model;
 mod read;
 #[cfg(test)]
 mod read_tests;
@@ -30,7 +30,7 @@ pub use laws::{
     every_text_claims_or_is_bad, no_answer_is_bad, one_derivation, one_fault,
     printed_derivations_are_read_back, printed_models_are_read_back,
 };
-pub use lines::{error_line, level_line, memory_line, usage_line};
+pub use notices::{error_line, level_line, memory_line, usage_line};
 pub use read::read_answer;
 pub use stop::AnswerStop;
 pub use term::push_parameter_name;

@@ -2,14 +2,14 @@
 
 ghost use Rattle.std.specs.Prelude.{◌≡◌, ◌++◌, IfOk, OnOk};
 ghost use Rattle.std.specs.List.{flat_map};
-ghost use Rattle.answer_text.specs.Answers.{definition_text, step_text, answer_text};
+ghost use Rattle.answer_text.specs.AnswerTexts.{definition_text, step_text, answer_text};
 ghost use Rattle.answer_text.specs.Lines.{level_text};
 ghost use Rattle.answer_text.specs.Printable.{IsPrintable, IsAnswerText};
 
 use crate::answer::{Answer, Line, UnknownCause};
 use crate::derivation::push_step;
-use crate::lines::level_line;
-use crate::model::push_definition;
+use crate::notices::level_line;
+use crate::printed_model::push_definition;
 use base::{Items, Memory};
 use std::alloc::Global;
 use term_tree::{Definition, Pred, Script};

@@ -10,7 +10,9 @@ use Rattle.term_tree.specs.declared.script.Script.{Script}
 use Rattle.term_tree.specs.declared.refusal.Refusal.{Refusal}
 use Rattle.term_tree.specs.declared.refusal.Checked.{Checked}
 use Rattle.sort_check.specs.Commands.{Command}
-use Rattle.sort_check.specs.Scripts.{Outcome, IsScript, IsScriptOf, IsRefused, IsChecked, HasHead}
+use Rattle.sort_check.specs.Checked.{IsChecked}
+use Rattle.sort_check.specs.Properties.{HasHead}
+use Rattle.sort_check.specs.Scripts.{Outcome, IsScript, IsScriptOf, IsRefused}
 use Rattle.sort_check.specs.Scripts.IsRefused.{illegal}
 use Rattle.answer_text.specs.declared.answer.Answer.TheVariants.{Sat}
 use Rattle.answer_text.specs.Printable.{IsPrintable, IsAnswerText}

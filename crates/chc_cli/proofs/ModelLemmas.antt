@@ -1,5 +1,5 @@
 -- Where every predicate is defined as `true`, every assertion of a script is true; and these definitions are printed.
-use Rattle.std.proofs.Common.{◌≡◌, ℕ, zero, suc, ◌+◌, ◌<◌, List, [], ◌∷◌, ◌++◌, length, true, map, refl, ap, sym, ◌∙◌, arith, inl}
+use Rattle.std.proofs.Common.{◌≡◌, ℕ, zero, suc, ◌+◌, ◌<◌, List, [], ◌∷◌, ◌++◌, length, true, Bool, map, refl, ap, sym, subst, ◌∙◌, arith, inl}
 use Rattle.std.proofs.lemmas.List.{length-map, append_assoc, at_drop_more}
 use Rattle.std.proofs.lemmas.List.FromFn.{length-enumerate_from}
 use Rattle.std.specs.Prelude.{slice_get, Option, Some, drop, IsTrue}
@@ -16,14 +16,18 @@ use Rattle.term_tree.specs.Arena.{IsArena}
 use Rattle.term_tree.specs.machinery.Agreement.{IsTrueBelow}
 use Rattle.term_tree.specs.Value.{Environment}
 use Rattle.term_tree.specs.Truth.{Interpretation, HasValue}
-use Rattle.term_tree.specs.Solution.{interpretation_of, DefinesEach, IsSolution}
+use Rattle.term_tree.specs.declared.node.Node.TheVariants.{True}
+use Rattle.term_tree.specs.declared.sort.Sort.TheVariants.{Bool as BoolSort}
+use Rattle.term_tree.specs.Subterms.{IsSubterm, is_part, EverySubterm}
+use Rattle.term_tree.specs.Subterms.IsSubterm.{itself, inside}
+use Rattle.term_tree.specs.Solution.{interpretation_of, DefinesEach, AreFormulas, IsFormula, IsSolution}
 use Rattle.term_tree.proofs.Public.{headed}
 use Rattle.term_tree.specs.Head.{has_head}
 use Rattle.term_tree.specs.declared.node.Node.{Node}
-use Rattle.sort_check.specs.Scripts.{HasHead}
+use Rattle.sort_check.specs.Properties.{HasHead}
 use Rattle.answer_text.specs.declared.answer.Answer.TheVariants.{Sat}
 use Rattle.answer_text.specs.Terms.{parameter_name}
-use Rattle.answer_text.specs.Answers.{sorts_in}
+use Rattle.term_check.specs.Spelling.{sorts_in}
 use Rattle.answer_text.specs.Printable.{IsMadeOfLemmas, IsPrintable}
 use Rattle.chc_cli.specs.machinery.Model.{parameter, true_definitions}
 
@@ -72,9 +76,38 @@ module _ (I : Interpretation) (n : ℕ) (all : IsTrueBelow n I) (nodes : List No
   hold [] h = tt
   hold (a ∷ asserts) h = (λ env. headed I n nodes arena all a.term.0 env h.0, hold asserts h.1)
 
+-- The term `true` alone.
+
+abbrev truth : List Node
+truth = True ∷ []
+
+at_truth : (id : ℕ) (node : Node) → slice_get truth id ≡ Some node → node ≡ True
+at_truth zero node h = cc
+at_truth (suc id) node h = absurd (cc)
+
+every_truth : (test : Node → Bool) → IsTrue (test True) → (top : ℕ) → EverySubterm test truth top
+every_truth test h top id node sub there = subst (λ (n : Node). IsTrue (test n)) (sym (at_truth id node there)) h
+
+truth_arena : IsArena truth
+truth_arena zero d within = refl
+truth_arena (suc i) d within = absurd (omega (arith, within))
+
+formula : (sorts : List Sort) → IsFormula sorts truth 0
+formula sorts = record {
+  arena = truth_arena;
+  legal = record { sorted = refl; scoped = refl; numbered = refl; linear = every_truth _ refl 0; short = every_truth _ refl 0 };
+  plain = every_truth _ refl 0;
+  divisors = every_truth _ refl 0;
+}
+
+formulas : (number : ℕ) (preds : List Pred) → AreFormulas preds (true_definitions number preds)
+formulas number [] = tt
+formulas number (p ∷ preds) = (formula p.args, formulas (number + 1) preds)
+
 -- the definitions are a solution of a script whose assertions all end in a predicate
 pub solves : (script : Script) → IsArena script.terms.nodes → AllByRecursion (HasHead script) script.asserts → IsSolution script (true_definitions 0 script.preds)
 solves script arena h = record {
   defined = defines 0 script.preds;
+  formed = formulas 0 script.preds;
   satisfied = hold (interpretation_of (true_definitions 0 script.preds)) (length script.preds) (λ pred values within. gives_true 0 script.preds pred values within) script.terms.nodes arena script.asserts h;
 }

@@ -1,7 +1,9 @@
--- A name that may be declared joins those before it: it can be printed, and read back.
-use Rattle.std.proofs.Common.{◌≡◌, ℕ, zero, suc, ◌+◌, List, [], ◌∷◌, ◌++◌, length, Bool, true, false, cond, ◌||◌, ◌⊎◌, inl, inr, refl, sym, ap, ◌∙◌, arith, codes}
+-- A predicate that may be declared joins those before it: its name can be printed and read back, and its arguments are few.
+use Rattle.std.proofs.Common.{◌≡◌, ℕ, zero, suc, ◌+◌, ◌≤◌, List, [], ◌∷◌, ◌++◌, length, Bool, true, false, not, cond, ◌||◌, ◌⊎◌, inl, inr, refl, sym, ap, ◌∙◌, arith, codes}
+use Rattle.std.proofs.lemmas.Bool.{ltb-false}
+use Rattle.std.proofs.lemmas.List.{length-map}
 use Rattle.std.proofs.lemmas.Slice.Eq.{bytes_eq-Decides}
-use Rattle.std.specs.Prelude.{Option, None, Some, slice_get, if◌then◌else◌}
+use Rattle.std.specs.Prelude.{Option, None, Some, slice_get, nat_lt, take, if◌then◌else◌}
 use Rattle.std.specs.List.{AllByRecursion}
 use Rattle.std.specs.Str.{bytes_eq}
 use Rattle.sexp_read.specs.declared.tree.LeafKind.TheVariants.{Symbol, Quoted, Numeral, Decimal, Text, Keyword}
@@ -11,9 +13,9 @@ use Rattle.term_tree.specs.declared.script.Pred.{Pred}
 use Rattle.term_check.specs.declared.part.Fault.{Fault}
 use Rattle.term_check.specs.Operators.{first_of, operator_named}
 use Rattle.term_check.specs.Rules.{or_else}
-use Rattle.term_check.specs.Spelling.{is_some, name_of, name_or_none, pred_from, start_of}
+use Rattle.term_check.specs.Spelling.{is_some, name_of, name_or_none, pred_from, sort_named, sort_or_bool, start_of}
 use Rattle.term_check.specs.Words.{is_among, reserved_words}
-use Rattle.sort_check.specs.Commands.{declaration_fault, form_fault, order_fault, predicate_named, taken_fault}
+use Rattle.sort_check.specs.Commands.{count_fault, declaration_fault, form_fault, most_arguments, order_fault, predicate_named, sorts_fault, taken_fault}
 use Rattle.answer_text.specs.machinery.ReadBack.{AreNames, is_quotable}
 use Rattle.chc_cli.proofs.SymbolLemmas.{HasQuotable, IsQuotable}
 
@@ -91,13 +93,35 @@ untaken false false true o f h = absurd (cc)
 untaken false false false None f h = (refl, refl)
 untaken false false false (Some n) f h = absurd (cc)
 
+abbrev pub HasFewArguments : Pred → Type 0
+HasFewArguments p = length p.args ≤ most_arguments
+
+-- predicates whose names can be printed and read back, and which have few arguments
+pub record AreDeclared (ps : List Pred) : Type 0 where
+  pub names : AreNames ps
+  pub few : AllByRecursion HasFewArguments ps
+
+few_sorts : (start most n : ℕ) → count_fault start (not (nat_lt most n)) ≡ None → n ≤ most
+few_sorts start most n h = by (nat_lt most n) refl h
+  where
+    by : (b : Bool) → nat_lt most n ≡ b → count_fault start (not b) ≡ None → n ≤ most
+    by true is e = absurd (cc)
+    by false is e = ltb-false most n is
+
 -- a predicate that may be declared joins them
-pub declared_joins : (text : List ℕ) (may : Bool) (ps : List Pred) (start : ℕ) (name : Tree) (sorts : List Tree) (result : Tree) → AreNames ps → HasQuotable text name
-    → declaration_fault text may ps start name sorts result ≡ None → AreNames (ps ++ predicate_named text name sorts ∷ [])
-declared_joins text may ps start name sorts result names quotable h =
+pub declared_joins : (text : List ℕ) (may : Bool) (ps : List Pred) (start : ℕ) (name : Tree) (sorts : List Tree) (result : Tree) → AreDeclared ps → HasQuotable text name
+    → declaration_fault text may ps start name sorts result ≡ None → AreDeclared (ps ++ predicate_named text name sorts ∷ [])
+declared_joins text may ps start name sorts result declared quotable h =
     let bytes : List ℕ = name_or_none (name_of text name) in
     let form = neither (form_fault name (is_some (name_of text name))) _ h in
     let order = neither (order_fault start may) _ form.1 in
     let taken = neither (taken_fault ps (start_of name) bytes) _ order.1 in
     let new = untaken (bytes_eq bytes (codes "true")) (bytes_eq bytes (codes "false")) (is_some (operator_named bytes)) (pred_from 0 bytes ps) _ taken.0 in
-    joins ps (predicate_named text name sorts) names (named text name quotable (formed (is_some (name_of text name)) _ form.0)) new.1 new.0
+    let kinds = neither (sorts_fault text (take most_arguments sorts)) _ taken.1 in
+    let counts = neither (count_fault start (not (nat_lt most_arguments (length sorts)))) _ kinds.1 in
+    let few = few_sorts start most_arguments (length sorts) counts.0 in
+    let same = length-map sorts (λ sort. sort_or_bool (sort_named text sort)) in
+    record {
+      names = joins ps (predicate_named text name sorts) declared.names (named text name quotable (formed (is_some (name_of text name)) _ form.0)) new.1 new.0;
+      few = all_and HasFewArguments ps (predicate_named text name sorts) declared.few (omega (arith, few, same));
+    }

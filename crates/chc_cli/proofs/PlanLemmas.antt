@@ -1,35 +1,46 @@
 -- What is planned for the bytes that were read is planned for those of the source.
-use Rattle.std.proofs.Common.{◌≡◌, ℕ, ◌+◌, ◌<◌, ◌^◌, List, [], ◌++◌, length, sym, subst, arith, length-append}
+use Rattle.std.proofs.Common.{◌≡◌, ℕ, ◌+◌, ◌<◌, ◌^◌, List, ◌++◌, length, sym, subst, ap, arith, length-append}
 use Rattle.std.specs.Prelude.{Some, None, IfSome, MatchOption, ◌≢◌}
 use Rattle.std.specs.declared.option.Option.{Option}
+use Rattle.base.specs.Limits.{most_bytes}
 use Rattle.outside_io.specs.Bytes.{TakesCount}
+use Rattle.outside_io.specs.Counts.{counted}
 use Rattle.term_tree.specs.declared.refusal.Refusal.{Refusal}
 use Rattle.term_tree.specs.declared.refusal.Kind.TheVariants.{TooLong}
 use Rattle.sort_check.specs.Commands.{Command}
 use Rattle.sort_check.specs.Scripts.{IsScript, IsRefused}
 use Rattle.chc_cli.specs.declared.plan.Plan.{Plan}
-use Rattle.chc_cli.specs.declared.plan.Plan.TheVariants.{Answered, Refused, ReadFault, OutOfMemory}
-use Rattle.chc_cli.specs.Headline.{IsSatAnswer, RefusesInput, ReadsInput}
+use Rattle.chc_cli.specs.declared.plan.Plan.TheVariants.{Answered, Refused, Overlong, ReadFault, OutOfMemory}
+use Rattle.chc_cli.specs.Headline.{IsSatAnswer, RefusesInput}
 use Rattle.chc_cli.specs.machinery.Plans.{IsPlan}
 use Rattle.chc_cli.specs.declared.answer.Answer.{Answer}
 use Rattle.chc_cli.specs.machinery.Answers.{IsAnswerTo}
 use Rattle.answer_text.specs.Lines.{error_text}
 
--- the bytes that are told of a refusal: all, or none where they are too many
-pub refuses : (bytes told : List ℕ) (refusal : Refusal) → IsRefused bytes refusal → (refusal.kind ≢ TooLong → told ≡ bytes) → (refusal.kind ≡ TooLong → told ≡ [])
-    → RefusesInput (Some bytes) told refusal × ReadsInput (Some bytes) told refusal
-refuses bytes told refusal h whole none = (
-  record { input = h; bytes = λ other. subst (λ (b : List ℕ). IsRefused b refusal) (sym (whole other)) h },
-  record { whole = whole; none = none },
-)
+-- a refusal of what was read is one of all that the source had, where it tells its bytes
+pub input_of : (left : Option (List ℕ)) (read : List ℕ) (refusal : Refusal) → IfSome left (λ bytes. read ≡ bytes) → IsRefused read refusal → IfSome left (λ bytes. IsRefused bytes refusal)
+input_of None read refusal same h = tt
+input_of (Some bytes) read refusal same h = subst (λ (b : List ℕ). IsRefused b refusal) same h
 
 -- the bytes that were read are all that the source had, where it tells them
 pub of_source : (left : Option (List ℕ)) (read : List ℕ) (plan : Plan) → IfSome left (λ bytes. read ≡ bytes) → IsPlan (Some read) plan → IsPlan left plan
 of_source None read (Answered bytes text) same h = (h.0, tt)
-of_source None read (Refused bytes refusal line) same h = (record { input = tt; bytes = h.0.bytes }, record { whole = λ other. tt; none = h.1.none }, h.2)
+of_source None read (Refused bytes refusal line) same h = (h.0, tt, h.2)
+of_source None read (Overlong refusal line) same h = (h.0, tt, h.2)
 of_source None read ReadFault same h = tt
 of_source None read (OutOfMemory bytes) same h = tt
 of_source (Some all) read plan same h = subst (λ (bytes : List ℕ). IsPlan (Some bytes) plan) same h
+
+-- a refusal of bytes that were read to their end
+pub refused_read : (left : Option (List ℕ)) (old new : ℕ) (read : List ℕ) (refusal : Refusal) → IsRefused read refusal → IfSome left (λ bytes. read ≡ bytes) → (new ≢ counted old → ⊥) → RefusesInput left old new read refusal
+refused_read left old new read refusal h same ends =
+    record { input = input_of left read refusal same h; ended = λ _. h; long = λ other. absurd (ends other); bytes = λ _. h }
+
+-- a refusal of bytes that are too many
+pub refused_long : (left : Option (List ℕ)) (old new : ℕ) (read : List ℕ) (refusal : Refusal) → refusal ≡ record { kind = TooLong; offset = most_bytes; command = 0 }
+    → IfSome left (λ bytes. IsRefused bytes refusal) → (new ≢ old → ⊥) → RefusesInput left old new read refusal
+refused_long left old new read refusal is input ends =
+    record { input = input; ended = λ other. absurd (ends other); long = λ _. is; bytes = λ other. absurd (other (ap (λ (r : Refusal). r.kind) is)) }
 
 -- more bytes were taken than an input may have
 pub of_too_long : (old new : Option (List ℕ)) (limit : ℕ) (plan : Plan) → limit ≡ 2 ^ 24 → TakesCount (limit + 1) old new → ((bytes : List ℕ) → 2 ^ 24 < length bytes → IsPlan (Some bytes) plan) → IsPlan None plan → IsPlan old plan
@@ -37,14 +48,12 @@ of_too_long old None limit plan is h told untold = subst (λ (left : Option (Lis
 of_too_long old (Some rest) limit plan is h told untold =
     subst (λ (left : Option (List ℕ)). IsPlan left plan) (sym h.2) (told (h.0 ++ rest) (omega (arith, h.1, length-append h.0 rest)))
 
--- the plan for bytes that are refused
-pub refused_plan : (read bytes told : List ℕ) (answer : Answer) (refusal : Refusal) → bytes ≡ read → (refusal.kind ≢ TooLong → told ≡ read) → (refusal.kind ≡ TooLong → told ≡ [])
-    → answer.refusal ≡ Some refusal → IsAnswerTo bytes answer → RefusesInput (Some read) told refusal × ReadsInput (Some read) told refusal × (answer.text.items ≡ error_text refusal)
-refused_plan read bytes told answer refusal same whole none is h =
+-- what an answer says of bytes that are refused
+pub answer_refuses : (read bytes : List ℕ) (answer : Answer) (refusal : Refusal) → bytes ≡ read → answer.refusal ≡ Some refusal → IsAnswerTo bytes answer → IsRefused read refusal × (answer.text.items ≡ error_text refusal)
+answer_refuses read bytes answer refusal same is h =
     let both : IsRefused bytes refusal × (answer.text.items ≡ error_text refusal) =
     subst (λ (r : Option Refusal). MatchOption r (IsSatAnswer bytes answer.text.items) (λ x. IsRefused bytes x × (answer.text.items ≡ error_text x))) is h in
-    let parts = refuses read told refusal (subst (λ (b : List ℕ). IsRefused b refusal) same both.0) whole none in
-    (parts.0, parts.1, both.1)
+    (subst (λ (b : List ℕ). IsRefused b refusal) same both.0, both.1)
 
 module _ (not_both : (text : List ℕ) (commands : List Command) (refusal : Refusal) → IsScript text commands → IsRefused text refusal → ⊥) where
   -- what is answered is not refused
@@ -54,7 +63,7 @@ module _ (not_both : (text : List ℕ) (commands : List Command) (refusal : Refu
   answered_only (Some bytes) read text status h same = λ refusal refused e. not_both bytes h.commands refusal (subst (λ (b : List ℕ). IsScript b h.commands) same h.is_script) refused
 
   -- what is refused is no script
-  pub refused_only : (left : Option (List ℕ)) (read : List ℕ) (refusal : Refusal) (status : ℕ) → RefusesInput left read refusal
+  pub refused_only : (left : Option (List ℕ)) (refusal : Refusal) (status : ℕ) → IfSome left (λ bytes. IsRefused bytes refusal)
       → IfSome left (λ bytes. (commands : List Command) → IsScript bytes commands → status ≢ 1)
-  refused_only None read refusal status h = tt
-  refused_only (Some bytes) read refusal status h = λ commands is_script e. not_both bytes commands refusal is_script h.input
+  refused_only None refusal status h = tt
+  refused_only (Some bytes) refusal status h = λ commands is_script e. not_both bytes commands refusal is_script h

@@ -11,7 +11,7 @@ use Rattle.sexp_read.specs.declared.tree.Tree.{Tree, items_hidden-the_row-Tree-0
 use Rattle.sexp_read.specs.declared.token.Token.{Token}
 use Rattle.sexp_read.specs.declared.token.Token.TheVariants as token
 use Rattle.sexp_read.specs.Leaves.{symbol_of, symbol_bytes}
-use Rattle.sexp_read.specs.Lexicon.{after_gap, after_word, after_plain, after_literal, is_decimal, number_kind, word_kind, word_of, word_at, keyword_at, quoted_of, quoted_at, literal_of, literal_at, token_by, next_token}
+use Rattle.sexp_read.specs.Lexicon.{after_gap, after_word, after_plain, after_literal, is_decimal, number_kind, word_kind, kind_token, word_at, keyword_at, quoted_of, quoted_at, literal_of, literal_at, token_by, next_token}
 use Rattle.sexp_read.specs.Trees.{IsTree, AreTrees, leaf, list, none, more}
 use Rattle.sexp_read.proofs.Public.{plain_spans, word_spans}
 use Rattle.term_check.specs.Spelling.{items_of}
@@ -80,15 +80,15 @@ IsQuotableToken text (token.Close start) = Unit {0}
 IsQuotableToken text (token.BadByte offset) = Unit {0}
 IsQuotableToken text (token.Unclosed start) = Unit {0}
 
-number_quotable : (text bytes : List ℕ) (start end : ℕ) → IsQuotableToken text (word_of start end (number_kind bytes))
+number_quotable : (text bytes : List ℕ) (start end : ℕ) → IsQuotableToken text (kind_token start end (number_kind bytes))
 number_quotable text bytes start end =
-    let P : Option LeafKind → Type 0 = λ kind. IsQuotableToken text (word_of start end kind) in
+    let P : Option LeafKind → Type 0 = λ kind. IsQuotableToken text (kind_token start end kind) in
     either P (is_numeral bytes) (Some Numeral) (cond (is_decimal bytes) (Some Decimal) None) tt (either P (is_decimal bytes) (Some Decimal) None tt tt)
 
-kind_quotable : (text bytes : List ℕ) (start end : ℕ) → IsQuotableToken text (token.Leaf Symbol start end) → IsQuotableToken text (word_of start end (word_kind bytes))
+kind_quotable : (text bytes : List ℕ) (start end : ℕ) → IsQuotableToken text (token.Leaf Symbol start end) → IsQuotableToken text (kind_token start end (word_kind bytes))
 kind_quotable text [] start end h = tt
 kind_quotable text (b ∷ rest) start end h =
-    either (λ kind. IsQuotableToken text (word_of start end kind)) (is_digit b) (number_kind (b ∷ rest)) (Some Symbol) (number_quotable text (b ∷ rest) start end) h
+    either (λ kind. IsQuotableToken text (kind_token start end kind)) (is_digit b) (number_kind (b ∷ rest)) (Some Symbol) (number_quotable text (b ∷ rest) start end) h
 
 word_quotable : (text : List ℕ) (start : ℕ) → IsQuotableToken text (word_at text start)
 word_quotable text start =

@@ -1,4 +1,5 @@
-ghost use Rattle.std.specs.Prelude.{◌≤◌, ◌^◌, length, IfOk};
+ghost use Rattle.std.specs.Prelude.{◌≤◌, length, IfOk};
+ghost use Rattle.base.specs.Limits.{most_bytes};
 ghost use Rattle.chc_cli.specs.machinery.Answers.{IsAnswerTo};
 
 use crate::lines::refusal_line;

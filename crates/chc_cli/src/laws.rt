@@ -10,8 +10,12 @@ ghost use Rattle.answer_text.specs.declared.answer.Line.{Line};
 ghost use Rattle.answer_text.specs.declared.answer.Answer.{Answer};
 ghost use Rattle.answer_text.specs.declared.answer.Answer.TheVariants.{Sat, Unsat};
 ghost use Rattle.answer_text.specs.Printable.{IsAnswerText};
-ghost use Rattle.answer_text.specs.Read.{Spells};
-ghost use Rattle.answer_text.specs.machinery.ReadBack.{AreNames, IsStored, IsReadAs};
+ghost use Rattle.answer_text.specs.Read.{Spells, IsBad};
+ghost use Rattle.answer_text.specs.machinery.ReadBack.{AreNames, IsSameModel, IsStored, IsReadAs};
+ghost use Rattle.term_tree.specs.Solution.{AreFormulas, IsSolution};
+ghost use Rattle.chc_cli.specs.Headline.{IsSatAnswer};
+
+use term_tree::{same_tree_same_value, same_values_same_solution};
 
 /// The predicates of a script have names that can be printed and read back: no bar and no backslash
 /// stands in one, they differ, and none is `false`.
@@ -26,6 +30,19 @@ pub fn unsat_answers_are_read_back()
     ensures alone { (text : List ℕ) (commands : List Command) (script : Script) (lines : List Line) (printed : List ℕ) (answer : Answer) → IsScript text commands → IsScriptOf commands script
         → IsAnswerText script.preds (Unsat lines) printed → Spells script.preds printed answer → answer ≡ Unsat lines }
 {}
+
+/// What is printed under status 0 is accepted by the reader of answers, and read as the same model; and
+/// where what is read are formulas over the predicates' arguments, it is a solution of the script. So the
+/// text itself is the certificate.
+pub fn printed_models_are_solutions()
+    ensures accepted { (bytes printed : List ℕ) → (h : IsSatAnswer bytes printed) → (offset : ℕ) → IsBad h.script.preds printed offset → ⊥ }
+    ensures same { (bytes printed : List ℕ) → (h : IsSatAnswer bytes printed) → (answer : Answer) → Spells h.script.preds printed answer → IsSameModel h.definitions answer }
+    ensures solution { (bytes printed : List ℕ) → (h : IsSatAnswer bytes printed) → (definitions : List Definition) → Spells h.script.preds printed (Sat definitions)
+        → AreFormulas h.script.preds definitions → IsSolution h.script definitions }
+{
+    same_tree_same_value();
+    same_values_same_solution();
+}
 
 /// The printed text of a model of a script is accepted, and whatever it spells is the same model.
 pub fn sat_answers_are_read_back()

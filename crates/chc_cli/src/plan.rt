@@ -1,9 +1,9 @@
-ghost use Rattle.std.specs.Prelude.{◌≡◌, ◌≢◌, [], ◌≤◌, ◌<◌, ◌^◌, List, ℕ, length, vec_len, Some, None, true, false, if◌then◌else◌};
+ghost use Rattle.std.specs.Prelude.{◌≡◌, ◌≢◌, [], ◌≤◌, ◌<◌, List, ℕ, length, vec_len, Some, None, true, false, IfSome, if◌then◌else◌};
 ghost use Rattle.base.specs.Limits.{most_bytes};
 ghost use Rattle.outside_io.specs.Counts.{counted};
 ghost use Rattle.outside_io.specs.declared.turn.Turn.TheVariants.{Fault};
-ghost use Rattle.term_tree.specs.declared.refusal.Kind.TheVariants.{TooLong};
-ghost use Rattle.chc_cli.specs.machinery.Plans.{IsPlan, is_fault};
+ghost use Rattle.chc_cli.specs.Headline.{EndsOnce};
+ghost use Rattle.chc_cli.specs.machinery.Plans.{IsPlan, IsEnded, IsUnended, is_fault, read_of};
 
 use crate::answer::answer_to;
 use crate::lines::refusal_line;
@@ -24,6 +24,10 @@ pub enum Plan {
         refusal: Refusal,
         line: Vec<u8>,
     },
+    Overlong {
+        refusal: Refusal,
+        line: Vec<u8>,
+    },
     ReadFault,
     OutOfMemory {
         read: Vec<u8>,
@@ -35,6 +39,13 @@ pub fn plan_for<S: Source>(alloc: Global, source: &mut S) -> Plan
     ensures plan { IsPlan (S.left source.old) result }
     ensures faults { S.faults source.new ≡ (if is_fault result then counted (S.faults source.old) else S.faults source.old) }
     ensures last { is_fault result ≡ true → S.last source.new ≡ Fault }
+
+    // All that was read is kept where the end was met, and else nothing. What ends isn't too long, and what is too long doesn't end.
+    ensures ends { EndsOnce (S.ends source.old) (S.ends source.new) (S.last source.new) }
+    ensures whole { S.ends source.new ≢ S.ends source.old → IfSome (S.left source.old) (λ bytes. read_of result ≡ bytes) }
+    ensures none { S.ends source.new ≢ counted (S.ends source.old) → read_of result ≡ [] }
+    ensures ended { S.ends source.new ≢ S.ends source.old → IsEnded result }
+    ensures unended { S.ends source.new ≢ counted (S.ends source.old) → IsUnended result }
 {
     match read_all(alloc, source, MOST_BYTES) {
         Ok(read) => plan_of(alloc, read),
@@ -51,6 +62,8 @@ fn plan_of(alloc: Global, read: Vec<u8>) -> Plan
     requires { vec_len read ≤ most_bytes }
     ensures plan { IsPlan (Some read.items) result }
     ensures fault { is_fault result ≡ false }
+    ensures read { read_of result ≡ read.items }
+    ensures ended { IsEnded result }
 {
     match answer_to(alloc, read.as_slice()) {
         Ok(answer) => match answer.refusal {
@@ -59,7 +72,7 @@ fn plan_of(alloc: Global, read: Vec<u8>) -> Plan
                 text: answer.text,
             },
             Some(refusal) => Plan::Refused {
-                read: told(alloc, read, &refusal),
+                read,
                 refusal,
                 line: answer.text,
             },
@@ -68,35 +81,23 @@ fn plan_of(alloc: Global, read: Vec<u8>) -> Plan
     }
 }
 
-/// The bytes that are told of an input with this refusal: none where they are too many.
-fn told(alloc: Global, read: Vec<u8>, refusal: &Refusal) -> Vec<u8>
-    ensures whole { refusal.now.kind ≢ TooLong → result.items ≡ read.items }
-    ensures none { refusal.now.kind ≡ TooLong → result.items ≡ [] }
-{
-    match refusal.kind {
-        Kind::TooLong => Vec::new(alloc),
-        _ => read,
-    }
-}
-
 /// What is to be written where the input has too many bytes.
 fn plan_of_too_long(alloc: Global) -> Plan
     ensures plan { (bytes : List ℕ) → most_bytes < length bytes → IsPlan (Some bytes) result }
     ensures untold { IsPlan None result }
     ensures fault { is_fault result ≡ false }
+    ensures none { read_of result ≡ [] }
+    ensures unended { IsUnended result }
 {
     let refusal = Refusal {
         kind: Kind::TooLong,
         offset: MOST_BYTES as u64,
         command: 0,
     };
-    let read = Vec::new(alloc);
     match refusal_line(alloc, &refusal) {
-        Ok(line) => Plan::Refused {
-            read,
-            refusal,
-            line,
+        Ok(line) => Plan::Overlong { refusal, line },
+        Err(_) => Plan::OutOfMemory {
+            read: Vec::new(alloc),
         },
-        Err(_) => Plan::OutOfMemory { read },
     }
 }

@@ -6,7 +6,7 @@ ghost use Rattle.outside_io.specs.declared.turn.Turn.TheVariants.{Fault};
 ghost use Rattle.term_tree.specs.declared.refusal.Refusal.{Refusal};
 ghost use Rattle.sort_check.specs.Commands.{Command};
 ghost use Rattle.sort_check.specs.Scripts.{IsScript, IsRefused};
-ghost use Rattle.chc_cli.specs.Headline.{is_solve, Answers, Refuses, ReadsInput, WritesPart};
+ghost use Rattle.chc_cli.specs.Headline.{is_solve, Answers, Refuses, ReadsInput, WritesPart, EndsOnce};
 ghost use Rattle.answer_text.specs.Lines.{usage_text, memory_text};
 
 use crate::plan::{Plan, plan_for};
@@ -30,7 +30,7 @@ use term_tree::Refusal;
 #[derive(Drop)]
 pub struct Report {
     pub status: u8,
-    /// The bytes that were read. None where reading stopped before the end, or the words are no command.
+    /// The bytes that were read, all of them. None where the end wasn't met, or the words are no command.
     pub read: Vec<u8>,
     /// The refusal, exactly under status 1.
     pub refusal: Option<Refusal>,
@@ -53,7 +53,7 @@ pub fn chc_run<S: Source, K: Sink>(
     ensures answers_all { result.status ≡ 0 → IfSome (S.left source.old) (λ bytes. result.read.items ≡ bytes) }
 
     // 1: it is the line of the one refusal of the bytes.
-    ensures refused { IfSome result.refusal (λ refusal. Refuses (S.left source.old) result.read.items refusal (K.held sink.old) (K.held sink.new)) }
+    ensures refused { IfSome result.refusal (λ refusal. Refuses (S.left source.old) (S.ends source.old) (S.ends source.new) result.read.items refusal (K.held sink.old) (K.held sink.new)) }
     ensures refuses_all { IfSome result.refusal (ReadsInput (S.left source.old) result.read.items) }
     ensures refusal { IsSome result.refusal ↔ (result.status ≡ 1) }
 
@@ -66,6 +66,7 @@ pub fn chc_run<S: Source, K: Sink>(
     ensures solves { is_solve (map string_bytes words.now) ≡ true → result.status ≢ 2 }
     ensures other_words { is_solve (map string_bytes words.now) ≡ false → result.status ≢ 4 → result.status ≡ 2 }
     ensures unread { is_solve (map string_bytes words.now) ≡ false → S.turns source.new ≡ S.turns source.old }
+    ensures other_read { result.status ≡ 2 → result.read.items ≡ [] }
 
     // 3: exactly where the source has failed, and then nothing is written.
     ensures source_faults { result.status ≢ 3 → S.faults source.new ≡ S.faults source.old }
@@ -73,24 +74,31 @@ pub fn chc_run<S: Source, K: Sink>(
     ensures stops_reading { result.status ≡ 3 → S.last source.new ≡ Fault }
     ensures unwritten { result.status ≡ 3 → K.turns sink.new ≡ K.turns sink.old }
     ensures holds_nothing { result.status ≡ 3 → K.held sink.new ≡ K.held sink.old }
+    ensures failed_read { result.status ≡ 3 → result.read.items ≡ [] }
 
     // 4: exactly where the sink has failed, and then it holds a prefix of what was meant.
     ensures sink_faults { result.status ≢ 4 → K.faults sink.new ≡ K.faults sink.old }
     ensures write_fault { result.status ≡ 4 → K.faults sink.new ≡ counted (K.faults sink.old) }
     ensures stops_writing { result.status ≡ 4 → K.last sink.new ≡ Fault }
-    ensures writes_part { result.status ≡ 4 → WritesPart (map string_bytes words.now) (S.left source.old) result.read.items (K.held sink.old) (K.held sink.new) }
+    ensures writes_part { result.status ≡ 4 → WritesPart (map string_bytes words.now) (S.left source.old) (S.ends source.old) (S.ends source.new) result.read.items (K.held sink.old) (K.held sink.new) }
 
     // 5: want of memory.
     ensures memory { result.status ≡ 5 → Appends memory_text (K.held sink.old) (K.held sink.new) }
+
+    // Whatever the status: nothing is asked of the source after its end, and the report keeps all that was read up to it, and nothing of an input whose end wasn't met.
+    ensures ends { EndsOnce (S.ends source.old) (S.ends source.new) (S.last source.new) }
+    ensures reads_all { S.ends source.new ≢ S.ends source.old → IfSome (S.left source.old) (λ bytes. result.read.items ≡ bytes) }
+    ensures reads_none { S.ends source.new ≢ counted (S.ends source.old) → result.read.items ≡ [] }
 {
     if !is_solve(words) {
         let status = match write_all(sink, usage_line()) {
             Ok(()) => 2,
             Err(_) => 4,
         };
+        let read = Vec::new(alloc);
         return Report {
             status,
-            read: Vec::new(alloc),
+            read,
             refusal: None,
         };
     }
@@ -123,6 +131,21 @@ pub fn chc_run<S: Source, K: Sink>(
                 refusal: None,
             },
         },
+        Plan::Overlong { refusal, line } => {
+            let read = Vec::new(alloc);
+            match write_all(sink, line.as_slice()) {
+                Ok(()) => Report {
+                    status: 1,
+                    read,
+                    refusal: Some(refusal),
+                },
+                Err(_) => Report {
+                    status: 4,
+                    read,
+                    refusal: None,
+                },
+            }
+        }
         Plan::ReadFault => Report {
             status: 3,
             read: Vec::new(alloc),

@@ -33,6 +33,12 @@ fn a_sink_that_fails_is_status_4_and_holds_a_prefix(rt: HostRuntime) -> Result<(
     )?;
     assert_eq!(rt; run.report.status, 4);
     assert_eq!(rt; run.held.as_slice(), b"sat".as_slice());
+    let read = run.report.read.as_slice();
+    assert_eq!(rt;
+        read,
+        b"(set-logic HORN)(check-sat)".as_slice(),
+        "what was read is kept"
+    );
     Ok(())
 }
 

@@ -7,6 +7,8 @@ mod faults;
 #[cfg(test)]
 mod limits;
 #[cfg(test)]
+mod programs;
+#[cfg(test)]
 mod readings;
 #[cfg(test)]
 mod refusals;

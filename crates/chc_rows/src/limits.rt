@@ -186,6 +186,17 @@ fn distinct_has_at_most_64_terms(rt: HostRuntime) -> Result<(), Fail> {
 }
 
 #[test]
+fn a_term_may_fill_five_megabytes(rt: HostRuntime) -> Result<(), Fail> {
+    let alloc = rt.alloc();
+    let mut text = String::from_str(alloc, "(set-logic HORN)(declare-const q Bool)(assert (=> ")?;
+    for _ in 0..1_100_000 {
+        text.push_str("true ")?;
+    }
+    text.push_str("q))(check-sat)")?;
+    check_start(&rt, alloc, "a long term", text.as_bytes(), 0, "sat\n")
+}
+
+#[test]
 fn a_text_has_at_most_2_to_the_24_bytes(rt: HostRuntime) -> Result<(), Fail> {
     let alloc = rt.alloc();
     let mut text = Vec::from_slice(alloc, b"(set-logic HORN)(check-sat)(exit)")?;

@@ -2,11 +2,11 @@
 #![tactic(auto)]
 
 mod arena;
-mod law;
+mod laws;
 mod pieces;
 mod script;
 #[cfg(test)]
 mod tests;
 
-pub use law::generated_terms_are_legal;
+pub use laws::generated_terms_are_legal;
 pub use script::script_of;

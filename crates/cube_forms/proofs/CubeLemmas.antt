@@ -1,6 +1,6 @@
 -- Cubes at arguments, literal by literal.
-use Rattle.std.proofs.Common.{◌≡◌, ℕ, suc, zero, List, [], ◌∷◌, ◌++◌, map, refl, ap, sym, ◌∙◌, arith, ◌<◌, ◌+◌, length, take, drop, get_or, ◌&&◌, true, false, Bool}
-use Rattle.std.specs.List.{flat_map, list_all}
+use Rattle.std.proofs.Common.{◌≡◌, ℕ, suc, zero, List, [], ◌∷◌, ◌++◌, map, refl, ap, sym, ◌∙◌, arith, ◌<◌, ◌+◌, length, take, drop, get_or, ◌&&◌, true, false}
+use Rattle.std.specs.List.{flat_map}
 use Rattle.std.proofs.lemmas.List.{drop_more, map-append, take_more}
 use Rattle.std.proofs.lemmas.Grind.{flat_map-append}
 use Rattle.base.specs.Widths.{is_short}
@@ -8,7 +8,6 @@ use Rattle.lin_atoms.specs.Denial.{denial, linear_of, lit_fits}
 use Rattle.lin_atoms.specs.Linear.{are_short}
 use Rattle.lin_atoms.specs.declared.lit.Lit.{Lit}
 use Rattle.lin_atoms.specs.declared.lit.Lit.TheVariants.{Le, Eq, Div, NDiv}
-use Rattle.lin_atoms.specs.declared.form.Form.{Form}
 use Rattle.lin_atoms.specs.declared.form.Form.TheVariants.{Lit as Literal}
 use Rattle.lin_atoms.proofs.Public.{both_true}
 use Rattle.cube_forms.specs.Cubes.{cube_at, cube_is_short, denials, has_room, lit_at, lit_is_short}

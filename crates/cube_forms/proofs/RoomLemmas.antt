@@ -1,11 +1,11 @@
 -- Narrow cubes have room at every list of up to 256 arguments.
-use Rattle.std.proofs.Common.{◌≡◌, ℕ, suc, zero, List, [], ◌∷◌, map, refl, ap, sym, ◌∙◌, arith, ◌<◌, ◌≤◌, ◌+◌, ◌*◌, ◌^◌, length, ◌&&◌, true, false, Bool}
+use Rattle.std.proofs.Common.{◌≡◌, ℕ, suc, List, [], ◌∷◌, map, refl, ap, ◌∙◌, arith, ◌<◌, ◌≤◌, ◌+◌, ◌*◌, ◌^◌, length, ◌&&◌, true, false, Bool}
 use Rattle.std.specs.Prelude.{ℤ, nat_abs, nat_le, nat_lt}
 use Rattle.std.specs.List.{list_all}
 use Rattle.std.proofs.lemmas.Bool.{leb-true, ltb-true, lt-ltb}
 use Rattle.base.specs.Widths.{is_long, is_short}
 use Rattle.lin_atoms.specs.Algebra.{are_within, collected, name_in}
-use Rattle.lin_atoms.specs.Denial.{linear_of, lit_fits}
+use Rattle.lin_atoms.specs.Denial.{lit_fits}
 use Rattle.lin_atoms.specs.Linear.{Linear, are_ordered, are_short, is_linear, fits, lin_is_below}
 use Rattle.lin_atoms.specs.Truth.{lit_is_below}
 use Rattle.lin_atoms.specs.declared.lit.Lit.{Lit}

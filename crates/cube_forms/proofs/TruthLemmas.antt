@@ -1,5 +1,5 @@
 -- The truth of a cube and of a lemma at arguments.
-use Rattle.std.proofs.Common.{◌≡◌, ℕ, List, [], ◌∷◌, ◌++◌, map, refl, ap, sym, ◌∙◌, length, ◌&&◌, ◌||◌, true, false, Bool}
+use Rattle.std.proofs.Common.{◌≡◌, ℕ, List, [], ◌∷◌, map, refl, ap, ◌∙◌, length, ◌&&◌, ◌||◌, true, false, Bool}
 use Rattle.std.specs.Prelude.{ℤ, pos, int_le, nat_abs, not, ◌==◌}
 use Rattle.std.specs.List.{flat_map, list_all, list_any}
 use Rattle.std.proofs.lemmas.List.Folds.{list_any-append}

@@ -1,6 +1,6 @@
 //! Chains of ten thousand nodes.
 
-use crate::{Refutation, check};
+use crate::{Refutation, check, check_owned};
 use base::{Boxed, Items};
 use lin_atoms::{Form, Lin};
 use std::alloc::Global;
@@ -57,6 +57,7 @@ fn long_chains_are_checked_and_copied_and_dropped(rt: HostRuntime) -> Result<(),
         let tree = chain(rt.alloc(), kind)?;
         let copied = tree.copy(rt.alloc())?;
         assert!(rt; check(rt.alloc(), &Form::False, &copied).is_ok());
+        assert!(rt; check_owned(rt.alloc(), Form::False, tree).is_ok());
     }
     Ok(())
 }

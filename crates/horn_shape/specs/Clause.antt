@@ -1,6 +1,7 @@
 -- The Horn clause of an assertion, or the subterm for which it has none.
-use Rattle.std.specs.Prelude.{◌≡◌, ◌≤◌, ℕ, [], slice_get, length, Some, Ok, Err}
+use Rattle.std.specs.Prelude.{◌≡◌, ◌≤◌, ℕ, [], slice_get, length, Option, Some, None, Ok, Err, Bool, false, ◌&&◌, nat_lt}
 use Rattle.std.specs.List.{AllByRecursion}
+use Rattle.base.specs.Limits.{most_arguments, most_assertions, most_predicates}
 use Rattle.term_tree.specs.declared.sort.Sort.TheVariants.{Bool as BoolSort}
 use Rattle.term_tree.specs.declared.node.TermId.{TermId}
 use Rattle.term_tree.specs.declared.script.Assertion.{Assertion}
@@ -12,9 +13,17 @@ use Rattle.horn_shape.specs.Shape.{Content, Reading, clause_reading}
 -- every assertion is a closed Bool term over the declared predicates, and there are few enough of each
 pub record IsLegalScript (script : Script) : Type 0 where
   pub asserts : AllByRecursion (λ a. IsLegal script.preds script.terms.nodes [] BoolSort a.term.0) script.asserts
-  pub few_asserts : length script.asserts ≤ 65536
-  pub few_preds : length script.preds ≤ 4096
-  pub few_args : AllByRecursion (λ p. length p.args ≤ 256) script.preds
+  pub few_asserts : length script.asserts ≤ most_assertions
+  pub few_preds : length script.preds ≤ most_predicates
+  pub few_args : AllByRecursion (λ p. length p.args ≤ most_arguments) script.preds
+
+abbrev pub is_in : Script → Option Assertion → Bool
+is_in script None = false
+is_in script (Some a) = nat_lt a.term.0 (length script.terms.nodes)
+
+-- the assertion of that number is there, and its term is
+abbrev pub has_assertion : Script → ℕ → Bool
+has_assertion script index = nat_lt index most_assertions && is_in script (slice_get script.asserts index)
 
 -- the assertion's term as a clause
 abbrev pub assertion_reading : Script → Assertion → Reading

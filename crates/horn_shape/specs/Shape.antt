@@ -41,12 +41,13 @@ Reading = Result Content TermId
 abbrev pub nothing : Content
 nothing = record { vars = []; atoms = []; guards = []; head = None }
 
-abbrev pub first_some : Option AtomUse → Option AtomUse → Option AtomUse
-first_some None b = b
-first_some (Some a) b = Some a
+-- one of the two is there at most
+abbrev pub either_head : Option AtomUse → Option AtomUse → Option AtomUse
+either_head a None = a
+either_head a (Some b) = Some b
 
 abbrev pub beside : Content → Content → Content
-beside a b = record { vars = a.vars ++ b.vars; atoms = a.atoms ++ b.atoms; guards = a.guards ++ b.guards; head = first_some a.head b.head }
+beside a b = record { vars = a.vars ++ b.vars; atoms = a.atoms ++ b.atoms; guards = a.guards ++ b.guards; head = either_head a.head b.head }
 
 -- what two terms give, one after the other
 abbrev pub both : Reading → Reading → Reading
@@ -71,11 +72,14 @@ atom_of atom = record { vars = []; atoms = atom ∷ []; guards = []; head = None
 abbrev pub head_of : AtomUse → Content
 head_of atom = record { vars = []; atoms = []; guards = []; head = Some atom }
 
+abbrev pub arguments : List TermId → List TermId → List Part
+arguments lets args = map (λ arg. part_at false (record { term = arg; lets = lets })) args
+
 -- an application, where its arguments have neither predicates nor quantifiers
 abbrev pub application : (ℕ → Bool) → (AtomUse → Content) → ℕ → List TermId → Place → Reading
 application plain give pred args place =
     if list_all (λ arg. plain arg.0) args
-    then Ok (give (record { pred = pred; args = map (λ arg. part_at false (record { term = arg; lets = place.lets })) args }))
+    then Ok (give (record { pred = pred; args = arguments place.lets args }))
     else Err place.term
 
 -- the term of that number, under these `let` terms

@@ -2,8 +2,20 @@
 //! and derivations.
 #![tactic(auto)]
 
+mod body;
 mod clause;
+mod disjunct;
+mod gather;
+mod laws;
+mod plain;
+mod reading;
+mod shape;
 mod stop;
+#[cfg(test)]
+mod tests;
 
 pub use clause::{AtomUse, HornClause, Part};
+pub use laws::{bodies_say_their_parts, plain_terms_are_plain};
+pub use plain::PlainTerms;
+pub use reading::{clause_of, clause_with, has_assertion};
 pub use stop::HornStop;

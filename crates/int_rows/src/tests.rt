@@ -178,6 +178,29 @@ fn literals_are_made_ready_at_small_and_large_sizes(rt: HostRuntime) -> Result<(
     Ok(())
 }
 
+/// Whether a variable that is there has these bounds.
+fn has_bounds(t: &Tableau, variable: usize, lower: Option<i128>, upper: Option<i128>) -> bool {
+    if variable < t.columns() || variable - t.columns() < t.rows() {
+        t.lower(variable) == lower && t.upper(variable) == upper
+    } else {
+        false
+    }
+}
+
+/// Gives a variable both bounds.
+fn fasten(t: &mut Tableau, variable: usize) {
+    if variable < t.columns() || variable - t.columns() < t.rows() {
+        t.set_bounds(variable, Some(-5), Some(7));
+    }
+}
+
+/// Takes the lower bound of a variable away, and gives it another upper one.
+fn loosen(t: &mut Tableau, variable: usize) {
+    if variable < t.columns() || variable - t.columns() < t.rows() {
+        t.set_bounds(variable, None, Some(8));
+    }
+}
+
 /// A tableau of so many forms of one variable, pivoted once, where a copy is equal and keeps bounds
 /// of its own.
 fn copies_are_equal(alloc: Global, count: usize) -> Result<bool, Fail> {
@@ -189,7 +212,7 @@ fn copies_are_equal(alloc: Global, count: usize) -> Result<bool, Fail> {
         return Ok(false);
     }
     let mut t = Tableau::new(alloc, forms.as_slice(), 1)?;
-    t.set_bounds(count, Some(-5), Some(7));
+    fasten(&mut t, count);
     if pivot(&mut t, count - 1, 0) != Some(Ok(())) {
         return Ok(false);
     }
@@ -198,13 +221,10 @@ fn copies_are_equal(alloc: Global, count: usize) -> Result<bool, Fail> {
         && copied.columns() == 1
         && copied.basic(count - 1) == 0
         && copied.row(count - 1) == t.row(count - 1)
-        && copied.lower(count) == Some(-5)
-        && copied.upper(count) == Some(7);
-    copied.set_bounds(count, None, Some(8));
-    let apart = copied.lower(count).is_none()
-        && copied.upper(count) == Some(8)
-        && t.lower(count) == Some(-5)
-        && t.upper(count) == Some(7);
+        && has_bounds(&copied, count, Some(-5), Some(7));
+    loosen(&mut copied, count);
+    let apart = has_bounds(&copied, count, None, Some(8))
+        && has_bounds(&t, count, Some(-5), Some(7));
     Ok(same && apart)
 }
 

@@ -155,13 +155,11 @@ impl Read for Pipe {
         if self.calls == self.bad_call {
             return Err(io::ErrorKind::Other.into());
         }
-        let mut count = 0;
-        for slot in buf.iter_mut().take(2) {
-            match self.bytes.pop() {
-                Some(byte) => *slot = byte,
-                None => break,
+        let count = buf.len().min(2).min(self.bytes.len());
+        for slot in &mut buf[..count] {
+            if let Some(byte) = self.bytes.pop() {
+                *slot = byte;
             }
-            count += 1;
         }
         Ok(count)
     }

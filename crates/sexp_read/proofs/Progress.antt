@@ -7,7 +7,7 @@ use Rattle.sexp_read.specs.declared.tree.LeafKind.{LeafKind}
 use Rattle.sexp_read.specs.declared.tree.LeafKind.TheVariants.{Quoted, Keyword}
 use Rattle.sexp_read.specs.declared.token.Token.{Token}
 use Rattle.sexp_read.specs.declared.token.Token.TheVariants as token
-use Rattle.sexp_read.specs.Lexicon.{after_gap, after_comment, after_word, after_plain, after_literal, after_quote, word_kind, word_of, word_at, keyword_at, quoted_of, quoted_at, literal_of, literal_at, token_by, next_token}
+use Rattle.sexp_read.specs.Lexicon.{after_gap, after_comment, after_word, after_plain, after_literal, after_quote, word_kind, kind_token, word_at, keyword_at, quoted_of, quoted_at, literal_of, literal_at, token_by, next_token}
 
 -- what is said of both is said of the one that is chosen
 either : {A : Type 0} (P : A → Type 0) (b : Bool) (x y : A) → P x → P y → P (cond b x y)
@@ -83,9 +83,9 @@ word_begins text start b rest e h =
     let long : length (drop start text) ≡ suc (length rest) = ap length e in
     (omega (arith, spans.0), omega (arith, spans.1, length-drop start text))
 
-word_of_ahead : (text : List ℕ) (at start end : ℕ) (kind : Option LeafKind) → at ≤ start → start < end → end ≤ length text → IsAhead text at (word_of start end kind)
-word_of_ahead text at start end None h g f = (h, omega arith)
-word_of_ahead text at start end (Some kind) h g f = (h, g, f)
+kind_token_ahead : (text : List ℕ) (at start end : ℕ) (kind : Option LeafKind) → at ≤ start → start < end → end ≤ length text → IsAhead text at (kind_token start end kind)
+kind_token_ahead text at start end None h g f = (h, omega arith)
+kind_token_ahead text at start end (Some kind) h g f = (h, g, f)
 
 quoted_of_ahead : (text : List ℕ) (at start end : ℕ) (rest : List ℕ) → at ≤ start → start < end → drop end text ≡ rest → start < length text → IsAhead text at (quoted_of start end rest)
 quoted_of_ahead text at start end [] h g e l = (h, l)
@@ -128,7 +128,7 @@ token_ahead text at start (b ∷ rest) h e =
     (either P (b == 58) keyword t6 (keyword_ahead text at start h l)
     (chosen P (is_symbol_byte b) word bad
     (λ s. let w = word_begins text start b rest e s in
-    word_of_ahead text at start (after_word start (drop start text)) (word_kind (take (after_word start (drop start text) - start) (drop start text))) h w.0 w.1)
+    kind_token_ahead text at start (after_word start (drop start text)) (word_kind (take (after_word start (drop start text) - start) (drop start text))) h w.0 w.1)
     (λ _. (h, l)))))))
 
 pub next_ahead : (text : List ℕ) (at : ℕ) → IsAhead text at (next_token text at)

@@ -39,12 +39,12 @@ abbrev pub word_bytes : List ℕ → Tree → Option (List ℕ)
 word_bytes text (Leaf kind start end) = word_of text kind start end
 word_bytes text _ = None
 
--- a number, where it is below 2 ^ 63
-abbrev pub small : ℕ → Option ℕ
-small n = if nat_lt n (2 ^ 63) then Some n else None
+-- a number that is short, as widths have it
+abbrev pub short_number : ℕ → Option ℕ
+short_number n = if nat_lt n (2 ^ 63) then Some n else None
 
 abbrev pub numeral_of : List ℕ → LeafKind → ℕ → ℕ → Option ℕ
-numeral_of text Numeral start end = small (number_of (inner text Numeral start end))
+numeral_of text Numeral start end = short_number (number_of (inner text Numeral start end))
 numeral_of text _ start end = None
 
 abbrev pub numeral_value : List ℕ → Tree → Option ℕ

@@ -65,12 +65,12 @@ word_kind (b ∷ rest) = if is_digit b then number_kind (b ∷ rest) else Some S
 
 -- The token that begins at an offset of the text, by its first byte.
 
-abbrev pub word_of : ℕ → ℕ → Option LeafKind → Token
-word_of start end None = BadByte start
-word_of start end (Some kind) = Leaf kind start end
+abbrev pub kind_token : ℕ → ℕ → Option LeafKind → Token
+kind_token start end None = BadByte start
+kind_token start end (Some kind) = Leaf kind start end
 
 abbrev pub word_at : List ℕ → ℕ → Token
-word_at text start = let end = after_word start (drop start text) in word_of start end (word_kind (take (end - start) (drop start text)))
+word_at text start = let end = after_word start (drop start text) in kind_token start end (word_kind (take (end - start) (drop start text)))
 
 -- a colon, and a word at once
 abbrev pub keyword_at : List ℕ → ℕ → Token

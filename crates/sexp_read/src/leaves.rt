@@ -1,9 +1,9 @@
 //! What leaves say, lent from the text that they were read from.
 
-ghost use Rattle.std.specs.Prelude.{◌≡◌, ◌↔◌, Some, IsTrue};
+ghost use Rattle.std.specs.Prelude.{◌≡◌};
 ghost use Rattle.std.specs.Option.{option_copied};
 ghost use Rattle.base.specs.Numeral.{number_of};
-ghost use Rattle.sexp_read.specs.Leaves.{between, inner, leaf_bytes, symbol_bytes, word_bytes, numeral_value, small};
+ghost use Rattle.sexp_read.specs.Leaves.{between, inner, leaf_bytes, symbol_bytes, numeral_value, short_number};
 
 use crate::tree::{LeafKind, Tree};
 
@@ -31,27 +31,13 @@ pub fn symbol_bytes<'a>(text: &'a [u8], tree: &Tree) -> Option<&'a [u8]>
     }
 }
 
-/// Whether the tree is the symbol that is spelled by these bytes, without bars. Only such a symbol
-/// can be a reserved word.
-pub fn is_word(text: &[u8], tree: &Tree, word: &[u8]) -> bool
-    ensures { IsTrue result ↔ (word_bytes text.now tree.now ≡ Some word.now) }
-{
-    match tree {
-        Tree::Leaf { kind, start, end } => match kind {
-            LeafKind::Symbol => inner(text, *kind, *start, *end) == word,
-            _ => false,
-        },
-        Tree::List { .. } => false,
-    }
-}
-
 /// The number that a numeral spells, where it is below 2 ^ 63. Other trees spell none.
 pub fn numeral_value(text: &[u8], tree: &Tree) -> Option<u64>
     ensures { result ≡ numeral_value text.now tree.now }
 {
     match tree {
         Tree::Leaf { kind, start, end } => match kind {
-            LeafKind::Numeral => small_number(inner(text, *kind, *start, *end)),
+            LeafKind::Numeral => short_number(inner(text, *kind, *start, *end)),
             _ => None,
         },
         Tree::List { .. } => None,
@@ -84,8 +70,8 @@ fn between(text: &[u8], start: usize, end: usize) -> &[u8]
 }
 
 #[tactic(auto, using(crate::proofs::Numbers::number))]
-fn small_number(digits: &[u8]) -> Option<u64>
-    ensures { result ≡ small (number_of digits.now) }
+fn short_number(digits: &[u8]) -> Option<u64>
+    ensures { result ≡ short_number (number_of digits.now) }
 {
     let mut value: u128 = 0;
     for digit in digits {

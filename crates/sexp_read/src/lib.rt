@@ -15,6 +15,6 @@ mod words;
 
 pub use commands::read_commands;
 pub use laws::{every_text_has_a_reading, no_text_has_two_readings};
-pub use leaves::{is_word, leaf_bytes, numeral_value, symbol_bytes};
+pub use leaves::{leaf_bytes, numeral_value, symbol_bytes};
 pub use reader::{Next, Reader};
 pub use tree::{LeafKind, TextStop, Tree, Trees};

@@ -4,8 +4,8 @@
 ghost use Rattle.std.specs.Prelude.{◌<◌, ◌^◌, length};
 
 use crate::{
-    LeafKind, Next, Reader, TextStop, Tree, Trees, is_word, leaf_bytes, numeral_value,
-    read_commands, symbol_bytes,
+    LeafKind, Next, Reader, TextStop, Tree, Trees, leaf_bytes, numeral_value, read_commands,
+    symbol_bytes,
 };
 use base::{Copied, Memory, Same};
 use std::alloc::Global;
@@ -256,26 +256,21 @@ fn the_deepest_tree_is_copied_compared_and_dropped(rt: HostRuntime) -> Result<()
 }
 
 #[test]
-fn leaves_say_their_bytes_words_and_numbers(rt: HostRuntime) -> Result<(), Fail> {
+fn leaves_say_their_bytes_and_numbers(rt: HostRuntime) -> Result<(), Fail> {
     let text = b"let |let| \"a\"\"b\" 42 9223372036854775807 9223372036854775808 :k 1.5 ()";
     let read = read_commands(rt.alloc(), text)?;
-    let table: [(&[u8], bool, bool, Option<u64>); 8] = [
-        (b"let", true, true, None),
-        (b"let", true, false, None),
-        (b"a\"\"b", false, false, None),
-        (b"42", false, false, Some(42)),
-        (
-            b"9223372036854775807",
-            false,
-            false,
-            Some(9223372036854775807),
-        ),
-        (b"9223372036854775808", false, false, None),
-        (b":k", false, false, None),
-        (b"1.5", false, false, None),
+    let table: [(&[u8], bool, Option<u64>); 8] = [
+        (b"let", true, None),
+        (b"let", true, None),
+        (b"a\"\"b", false, None),
+        (b"42", false, Some(42)),
+        (b"9223372036854775807", false, Some(9223372036854775807)),
+        (b"9223372036854775808", false, None),
+        (b":k", false, None),
+        (b"1.5", false, None),
     ];
     assert_eq!(rt; read.trees.len(), 9);
-    for (i, (bytes, is_symbol, is_let, number)) in table.iter().enumerate() {
+    for (i, (bytes, is_symbol, number)) in table.iter().enumerate() {
         let tree = read.trees.get(i).ok_or("no tree")?;
         let found = leaf_bytes(text, tree).ok_or("no leaf")?;
         assert!(rt; found == *bytes, "bytes of tree {i}");
@@ -284,7 +279,6 @@ fn leaves_say_their_bytes_words_and_numbers(rt: HostRuntime) -> Result<(), Fail>
             *is_symbol,
             "symbol at tree {i}"
         );
-        assert_eq!(rt; is_word(text, tree, b"let"), *is_let, "word at tree {i}");
         assert_eq!(rt; numeral_value(text, tree), *number, "number at tree {i}");
     }
     let list = read.trees.get(8).ok_or("no list")?;

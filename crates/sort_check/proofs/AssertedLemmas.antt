@@ -13,12 +13,14 @@ use Rattle.term_tree.specs.declared.script.Assertion.{Assertion}
 use Rattle.term_tree.specs.declared.refusal.Checked.{Checked}
 use Rattle.term_tree.specs.Arena.{Arena, IsArena}
 use Rattle.term_tree.specs.Legal.{IsLegal}
-use Rattle.term_check.specs.Reading.{scope_of}
+use Rattle.term_check.specs.Spelling.{scope_of}
 use Rattle.term_check.specs.Term.{Term, IsTermAt}
 use Rattle.term_check.proofs.Public.{spelled_legal}
 use Rattle.sort_check.specs.Commands.{Command, declared, declares}
 use Rattle.sort_check.specs.Commands.Command.{SetLogic, Inform, Declare, Assert, CheckSat, GetModel, Exit}
-use Rattle.sort_check.specs.Scripts.{AreAsserted, IsChecked, IsLegalAssertion}
+use Rattle.sort_check.specs.Checked.{IsChecked}
+use Rattle.sort_check.specs.Properties.{IsLegalAssertion}
+use Rattle.sort_check.specs.Scripts.{AreAsserted}
 use Rattle.sort_check.proofs.GrowthLemmas.{legal_grows}
 use Rattle.sort_check.proofs.HeadLemmas.{term_within}
 use Rattle.sort_check.proofs.LegalLemmas.{IsSpelt, AreNext, script_next}

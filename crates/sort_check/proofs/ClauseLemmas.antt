@@ -17,12 +17,13 @@ use Rattle.term_tree.specs.Sorts.{has_sort, all_of, sort_if, operation_sort, pre
 use Rattle.term_tree.proofs.Public.{arena_below, both_true, head_at, sort_at}
 use Rattle.term_check.specs.Term.{Term, numeral, truth, variable, let_name, predicate, operation, divisible, binding, universal, existential, Terms, none, more, IsTermAt, AreTermsAt}
 use Rattle.term_check.proofs.Public.{below_is, spelled_legal}
-use Rattle.term_check.specs.Reading.{scope_of}
+use Rattle.term_check.specs.Spelling.{scope_of}
 use Rattle.term_tree.specs.declared.script.Script.{Script}
 use Rattle.term_tree.specs.declared.script.Assertion.{Assertion}
-use Rattle.sort_check.specs.Commands.{Command, declared, has_head as ends_in_head, is_predicate, is_implication, ends_in_predicate}
+use Rattle.sort_check.specs.Commands.{Command, declared, is_headed, is_predicate, is_implication, ends_in_predicate}
 use Rattle.sort_check.specs.Commands.Command.{SetLogic, Inform, Declare, Assert, CheckSat, GetModel, Exit}
-use Rattle.sort_check.specs.Scripts.{AreAsserted, IsScript, IsScriptOf, HasHead}
+use Rattle.sort_check.specs.Properties.{HasHead}
+use Rattle.sort_check.specs.Scripts.{AreAsserted, IsScript, IsScriptOf}
 use Rattle.sort_check.proofs.LegalLemmas.{IsSpelt, AreNext, declared_more, script_next}
 
 implies : (op : OpKind) → is_implication op ≡ true → op ≡ Implies
@@ -79,7 +80,7 @@ module _ (preds : List Declared) (n : ℕ) (few : length preds ≤ n) (arena : A
       ends args ids h are (both_true (nat_le 2 (length given)) (list_all (has_sort BoolSort) given) (tested (all_of BoolSort 2 given) BoolSort s sorted)).1
   implication_ends _ args ids s is h are sorted = absurd (cc)
 
-  pub headed : (term : Term) (id : ℕ) (s : Sort) → ends_in_head term ≡ true → IsTermAt arena [] term id → sort_of preds arena.nodes id ≡ Some s → has_head n arena.nodes id ≡ true
+  pub headed : (term : Term) (id : ℕ) (s : Sort) → is_headed term ≡ true → IsTermAt arena [] term id → sort_of preds arena.nodes id ≡ Some s → has_head n arena.nodes id ≡ true
   headed (predicate at number args) id s h is sorted =
       let below = arena_below arena.nodes id (Pred number is.0) is_arena is.1.0 in
       head_at n arena.nodes id (Pred number is.0) is.1.0 below ∙ below_is number n (applied_below id number is.0 s is.1.0 sorted)

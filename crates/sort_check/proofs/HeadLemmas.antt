@@ -10,13 +10,13 @@ use Rattle.std.specs.List.{list_all}
 use Rattle.term_tree.specs.Arena.{Arena, is_below}
 use Rattle.std.proofs.lemmas.Bool.{ltb-true, lt-ltb}
 use Rattle.term_check.specs.Term.{Term, numeral, truth, variable, let_name, predicate, operation, divisible, binding, universal, existential, Terms, none, more, IsTermAt, AreTermsAt}
-use Rattle.sort_check.specs.Commands.{has_head, is_predicate, ends_in_predicate, is_implication}
+use Rattle.sort_check.specs.Commands.{is_headed, is_predicate, ends_in_predicate, is_implication}
 
 some_same : {X : Type 0} (x y : X) → Some x ≡ Some y → x ≡ y
 some_same x y h = cc
 
 abbrev pub body_head : Term → Bool
-body_head (universal at first sorts body) = has_head body
+body_head (universal at first sorts body) = is_headed body
 body_head _ = false
 
 abbrev pub last_head : Term → Bool
@@ -76,7 +76,7 @@ module _ (arena : Arena) (lets : List TermId) where
   pub term_within : (term : Term) (id : ℕ) → IsTermAt arena lets term id → id < length arena.nodes
   term_within term id h = let n = node_there term id h in slice_get_within arena.nodes id n.0 n.1
 
-  pub head_told : (term : Term) (id : ℕ) (node : Node) → slice_get arena.nodes id ≡ Some node → IsTermAt arena lets term id → node_head node (body_head term) (last_head term) ≡ has_head term
+  pub head_told : (term : Term) (id : ℕ) (node : Node) → slice_get arena.nodes id ≡ Some node → IsTermAt arena lets term id → node_head node (body_head term) (last_head term) ≡ is_headed term
   head_told (numeral at value) id node k h = subst (λ (n : Node). node_head n false false ≡ false) (node_is id _ node h.0 k) refl
   head_told (truth at true) id node k h = subst (λ (n : Node). node_head n false false ≡ false) (node_is id _ node h.0 k) refl
   head_told (truth at false) id node k h = subst (λ (n : Node). node_head n false false ≡ false) (node_is id _ node h.0 k) refl
@@ -86,7 +86,7 @@ module _ (arena : Arena) (lets : List TermId) where
   head_told (operation at op args) id node k h = subst (λ (n : Node). node_head n false (ends_in_predicate args) ≡ (is_implication op && ends_in_predicate args)) (node_is id _ node h.1.0 k) refl
   head_told (divisible at by arg) id node k h = subst (λ (n : Node). node_head n false false ≡ false) (node_is id _ node h.1.0 k) refl
   head_told (binding at bound body) id node k h = subst (λ (n : Node). node_head n false false ≡ false) (node_is id _ node h.2.0 k) refl
-  head_told (universal at first sorts body) id node k h = subst (λ (n : Node). node_head n (has_head body) false ≡ has_head body) (node_is id _ node h.1.0 k) refl
+  head_told (universal at first sorts body) id node k h = subst (λ (n : Node). node_head n (is_headed body) false ≡ is_headed body) (node_is id _ node h.1.0 k) refl
   head_told (existential at first sorts body) id node k h = subst (λ (n : Node). node_head n false false ≡ false) (node_is id _ node h.1.0 k) refl
 
   -- a predicate's node
@@ -104,7 +104,7 @@ module _ (arena : Arena) (lets : List TermId) where
   predicate_told (existential at first sorts body) id node k h = subst (λ (n : Node). is_pred_node n ≡ false) (node_is id _ node h.1.0 k) refl
 
   -- the body of a quantifier
-  pub body_told : (term : Term) (id : ℕ) (first : ℕ) (sorts : _) (part : TermId) (r : Bool) → slice_get arena.nodes id ≡ Some (Forall first sorts part) → ((t : Term) → IsTermAt arena lets t part.0 → r ≡ has_head t)
+  pub body_told : (term : Term) (id : ℕ) (first : ℕ) (sorts : _) (part : TermId) (r : Bool) → slice_get arena.nodes id ≡ Some (Forall first sorts part) → ((t : Term) → IsTermAt arena lets t part.0 → r ≡ is_headed t)
       → IsTermAt arena lets term id → r ≡ body_head term
   body_told (numeral at value) id first sorts part r k rec h = (let e = node_is id _ _ h.0 k in absurd (cc))
   body_told (truth at true) id first sorts part r k rec h = (let e = node_is id _ _ h.0 k in absurd (cc))

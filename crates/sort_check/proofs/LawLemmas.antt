@@ -8,7 +8,8 @@ use Rattle.sexp_read.specs.Trees.{IsReading}
 use Rattle.sexp_read.proofs.Public.{has_reading, one_reading}
 use Rattle.term_tree.specs.declared.refusal.Refusal.{Refusal}
 use Rattle.sort_check.specs.Commands.{Command}
-use Rattle.sort_check.specs.Scripts.{Outcome, outcome, IsScript, IsRefused, IsScriptOrRefused}
+use Rattle.sort_check.specs.Properties.{IsScriptOrRefused}
+use Rattle.sort_check.specs.Scripts.{Outcome, outcome, IsScript, IsRefused}
 use Rattle.sort_check.specs.Scripts.IsRefused.{too_long, illegal}
 
 -- a text has one reading, and so one outcome

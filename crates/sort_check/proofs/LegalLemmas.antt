@@ -13,11 +13,10 @@ use Rattle.term_check.specs.declared.part.Part.{Part}
 use Rattle.term_check.specs.declared.part.Fault.{Fault}
 use Rattle.term_tree.specs.declared.refusal.Kind.TheVariants.{Unbuilt, SortMismatch}
 use Rattle.term_check.specs.Rules.{fault, unless, same_sort}
-use Rattle.term_check.specs.Reading.{scope_of}
-use Rattle.term_check.specs.Spelling.{Spelled, spelled, is_word, ◌>>=◌}
+use Rattle.term_check.specs.Spelling.{Spelled, spelled, is_word, ◌>>=◌, scope_of}
 use Rattle.term_check.specs.Term.{Term}
 use Rattle.term_check.proofs.Public.{bind_ok, unless_ok}
-use Rattle.sort_check.specs.Commands.{Command, command, listed, worded, plain, set_logic_fault, inform_fault, alone_fault, declaration, declaration_fault, declare_listed, declare_function, declare_constant, predicate_named, assertion, assert_fault, assert_term, asserted, clause_fault, has_head, declared, declares, most_predicates, is_check_sat, is_exit, is_inform, is_set_logic}
+use Rattle.sort_check.specs.Commands.{Command, command, listed, worded, plain, set_logic_fault, inform_fault, alone_fault, declaration, declaration_fault, declare_listed, declare_function, declare_constant, predicate_named, assertion, assert_fault, assert_term, asserted, clause_fault, is_headed, declared, declares, most_predicates, is_check_sat, is_exit, is_inform, is_set_logic}
 use Rattle.sort_check.specs.Commands.Command.{SetLogic, Inform, Declare, Assert, CheckSat, GetModel, Exit}
 use Rattle.sort_check.specs.Scripts.{IsScript, Outcome, outcome, stops, after, end_fault}
 use Rattle.sort_check.proofs.RuleLemmas.{declared_facts}
@@ -29,7 +28,7 @@ pub record IsSpelt (text : List ℕ) (preds : List Pred) (term : Term) : Type 0 
   pub is : spelled text (scope_of preds [] true) 0 tree ≡ Ok spelling
   pub same : spelling.term ≡ term
   pub sorted : spelling.part.sort ≡ BoolSort
-  pub headed : has_head term ≡ true
+  pub headed : is_headed term ≡ true
 
 -- a command may stand after these
 abbrev pub IsNext : List ℕ → List Command → Command → Type 0
@@ -97,8 +96,8 @@ module _ (text : List ℕ) (before : List Command) where
 
   assertion_next : (start : ℕ) (tree : Tree) (s : Spelled) (d : Command) → spelled text (scope_of (declared before) [] true) 0 tree ≡ Ok s → assertion start s ≡ Ok d → IsNext text before d
   assertion_next start tree s d is h =
-      let both = let_by (clause_fault start s.part (has_head s.term)) (Assert start s.term) d h in
-      subst (IsNext text before) both.1 (record { tree = tree; spelling = s; is = is; same = refl; sorted = bool_is start s.part (has_head s.term) both.0; headed = clause_is start s.part (same_sort s.part.sort BoolSort) (has_head s.term) both.0 })
+      let both = let_by (clause_fault start s.part (is_headed s.term)) (Assert start s.term) d h in
+      subst (IsNext text before) both.1 (record { tree = tree; spelling = s; is = is; same = refl; sorted = bool_is start s.part (is_headed s.term) both.0; headed = clause_is start s.part (same_sort s.part.sort BoolSort) (is_headed s.term) both.0 })
 
   term_next : (start : ℕ) (parts : List Tree) (d : Command) → assert_term text before start parts ≡ Ok d → IsNext text before d
   term_next start [] d h = absurd (cc)

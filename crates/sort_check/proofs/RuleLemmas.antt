@@ -29,11 +29,11 @@ untaken false (Some n) f h = absurd (cc)
 pub new_name : (preds : List Pred) (start : ℕ) (name : List ℕ) → taken_fault preds start name ≡ None → pred_from 0 name preds ≡ None
 new_name preds start name h = untaken (is_theory_name name) (pred_from 0 name preds) _ h
 
-pub declared_facts : (text : List ℕ) (may : Bool) (preds : List Pred) (start : ℕ) (name : Tree) (sorts : List Tree) (last : Tree) → declaration_fault text may preds start name sorts last ≡ None
+pub declared_facts : (text : List ℕ) (allowed : Bool) (preds : List Pred) (start : ℕ) (name : Tree) (sorts : List Tree) (last : Tree) → declaration_fault text allowed preds start name sorts last ≡ None
     → (length preds < most_predicates) × (pred_from 0 (name_or_none (name_of text name)) preds ≡ None)
-declared_facts text may preds start name sorts last h =
+declared_facts text allowed preds start name sorts last h =
     let form = neither (form_fault name (is_some (name_of text name))) _ h in
-    let order = neither (order_fault start may) _ form.1 in
+    let order = neither (order_fault start allowed) _ form.1 in
     let taken = neither (taken_fault preds (start_of name) (name_or_none (name_of text name))) _ order.1 in
     let kinds = neither (sorts_fault text (take most_arguments sorts)) _ taken.1 in
     let counts = neither (count_fault start (not (nat_lt most_arguments (length sorts)))) _ kinds.1 in

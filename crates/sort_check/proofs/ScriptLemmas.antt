@@ -10,7 +10,8 @@ use Rattle.term_tree.specs.declared.refusal.Checked.{Checked}
 use Rattle.term_tree.specs.declared.refusal.Refusal.{Refusal}
 use Rattle.term_check.specs.declared.part.Fault.{Fault}
 use Rattle.sort_check.specs.Commands.{Command, command, is_exit}
-use Rattle.sort_check.specs.Scripts.{outcome, stops, end_fault, stop_fault, after, refusal_at, IsChecked, IsScriptOf}
+use Rattle.sort_check.specs.Checked.{IsChecked}
+use Rattle.sort_check.specs.Scripts.{outcome, stops, end_fault, stop_fault, after, refusal_at, IsScriptOf}
 use Rattle.sort_check.specs.machinery.State.{IsState, Took}
 use Rattle.sort_check.specs.machinery.Progress.{IsSoFar}
 use Rattle.sort_check.specs.declared.state.State.{State}

@@ -9,11 +9,11 @@ use Rattle.term_tree.specs.declared.script.Pred.{Pred}
 use Rattle.term_tree.specs.declared.script.Assertion.{Assertion}
 use Rattle.term_check.specs.declared.part.Fault.{Fault}
 use Rattle.term_check.specs.Rules.{unless}
-use Rattle.term_check.specs.Term.{Term, IsTermAt, IsAligned, Keeps}
+use Rattle.term_check.specs.Found.{IsAligned, Keeps}
+use Rattle.term_check.specs.Term.{Term, IsTermAt}
 use Rattle.term_check.proofs.Public.{term_stays}
 use Rattle.sexp_read.specs.declared.tree.Tree.{Tree}
-use Rattle.term_check.specs.Spelling.{Spelled, spelled, ◌>>=◌}
-use Rattle.term_check.specs.Reading.{scope_of}
+use Rattle.term_check.specs.Spelling.{Spelled, spelled, ◌>>=◌, scope_of}
 use Rattle.sort_check.specs.Commands.{assertion, assert_fault, assert_term, Command, declares, declared, asserts, asserted, is_set_logic, is_inform, is_check_sat, is_exit}
 use Rattle.sort_check.specs.Commands.Command.{SetLogic, Inform, Declare, Assert, CheckSat, GetModel, Exit}
 use Rattle.sort_check.specs.Scripts.{AreAsserted}

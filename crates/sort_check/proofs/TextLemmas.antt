@@ -11,7 +11,8 @@ use Rattle.term_check.specs.declared.part.Fault.{Fault}
 use Rattle.term_check.specs.machinery.Weight.{weight}
 use Rattle.term_check.proofs.Public.{tree_light, trees_light, weigh_all}
 use Rattle.sort_check.specs.Commands.{Command, command, is_exit}
-use Rattle.sort_check.specs.Scripts.{outcome, stops, end_fault, stop_fault, refusal_at, IsCheckedText, IsScriptOf}
+use Rattle.sort_check.specs.Checked.{IsCheckedText}
+use Rattle.sort_check.specs.Scripts.{outcome, stops, end_fault, stop_fault, refusal_at, IsScriptOf}
 use Rattle.sort_check.specs.machinery.State.{IsState, Took}
 use Rattle.sort_check.specs.machinery.Progress.{IsSoFar, IsReadSoFar}
 use Rattle.sort_check.specs.declared.state.State.{State}

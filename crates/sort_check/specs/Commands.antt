@@ -27,8 +27,7 @@ use Rattle.term_check.specs.declared.part.Fault.{Fault}
 use Rattle.term_check.specs.Operators.{operator_named}
 use Rattle.term_check.specs.Rules.{fault, unless, or_else, same_sort}
 use Rattle.term_check.specs.Term.{Term, predicate, operation, universal, Terms, none, more}
-use Rattle.term_check.specs.Spelling.{Spelled, ◌>>=◌, is_word, is_symbol, is_some, name_of, name_or_none, sort_named, sort_or_bool, start_of, pred_from, spelled}
-use Rattle.term_check.specs.Reading.{scope_of}
+use Rattle.term_check.specs.Spelling.{Spelled, ◌>>=◌, is_word, is_symbol, is_some, name_of, name_or_none, sort_named, sort_or_bool, start_of, pred_from, spelled, scope_of}
 
 -- An assertion has the offset of its command.
 pub data Command : Type 0 where
@@ -77,22 +76,22 @@ asserted commands = flat_map asserts commands
 -- Rules that several commands share.
 
 abbrev pub order_fault : ℕ → Bool → Option Fault
-order_fault start may = if may then None else Some (fault Order start)
+order_fault start allowed = if allowed then None else Some (fault Order start)
 
 abbrev pub form_fault : Tree → Bool → Option Fault
-form_fault tree has = if has then None else Some (fault CommandForm (start_of tree))
+form_fault tree formed = if formed then None else Some (fault CommandForm (start_of tree))
 
 abbrev pub count_fault : ℕ → Bool → Option Fault
 count_fault start within = if within then None else Some (fault Count start)
 
--- (set-logic HORN); silent: there were no other commands than set-info and set-option
+-- (set-logic HORN); fresh: there were no other commands than set-info and set-option
 
 abbrev pub logic_fault : List ℕ → Tree → Option Fault
 logic_fault text name = if is_symbol text name (codes "HORN") then None else Some (fault Logic (start_of name))
 
 abbrev pub set_logic_fault : List ℕ → Bool → ℕ → List Tree → Option Fault
-set_logic_fault text silent start (name ∷ []) = or_else (form_fault name (is_some (symbol_bytes text name))) (or_else (order_fault start silent) (logic_fault text name))
-set_logic_fault text silent start _ = Some (fault CommandForm start)
+set_logic_fault text fresh start (name ∷ []) = or_else (form_fault name (is_some (symbol_bytes text name))) (or_else (order_fault start fresh) (logic_fault text name))
+set_logic_fault text fresh start _ = Some (fault CommandForm start)
 
 -- (set-info :k), (set-info :k tree), and set-option
 
@@ -108,7 +107,7 @@ is_information _ = false
 abbrev pub inform_fault : ℕ → List Tree → Option Fault
 inform_fault start parts = if is_information parts then None else Some (fault CommandForm start)
 
--- (declare-fun name (sort ..) Bool); may: there was no check-sat
+-- (declare-fun name (sort ..) Bool); allowed: there was no check-sat
 
 -- a name of the theories Core and Ints
 abbrev pub is_theory_name : List ℕ → Bool
@@ -141,8 +140,8 @@ signature_fault text preds start sorts result =
     (or_else (result_fault text result) (count_fault start (nat_lt (length preds) most_predicates))))
 
 abbrev pub declaration_fault : List ℕ → Bool → List Pred → ℕ → Tree → List Tree → Tree → Option Fault
-declaration_fault text may preds start name sorts result =
-    or_else (form_fault name (is_some (name_of text name))) (or_else (order_fault start may)
+declaration_fault text allowed preds start name sorts result =
+    or_else (form_fault name (is_some (name_of text name))) (or_else (order_fault start allowed)
     (or_else (taken_fault preds (start_of name) (name_or_none (name_of text name))) (signature_fault text preds start sorts result)))
 
 abbrev pub sorts_named : List ℕ → List Tree → List Sort
@@ -183,21 +182,21 @@ ends_in_predicate (more term none) = is_predicate term
 ends_in_predicate (more term (more next terms)) = ends_in_predicate (more next terms)
 
 -- a predicate, (=> t .. t predicate), or one of these under universal quantifiers
-abbrev pub has_head : Term → Bool
-has_head (predicate at number args) = true
-has_head (operation at op args) = is_implication op && ends_in_predicate args
-has_head (universal at first sorts body) = has_head body
-has_head _ = false
+abbrev pub is_headed : Term → Bool
+is_headed (predicate at number args) = true
+is_headed (operation at op args) = is_implication op && ends_in_predicate args
+is_headed (universal at first sorts body) = is_headed body
+is_headed _ = false
 
 abbrev pub assert_fault : Bool → ℕ → ℕ → Option Fault
-assert_fault may count start = or_else (order_fault start may) (count_fault start (nat_lt count most_assertions))
+assert_fault allowed count start = or_else (order_fault start allowed) (count_fault start (nat_lt count most_assertions))
 
 -- Other clauses than those with a head are not answered yet.
 abbrev pub clause_fault : ℕ → Part → Bool → Option Fault
 clause_fault start part headed = if same_sort part.sort BoolSort then (if headed then None else Some (fault Unbuilt start)) else Some (fault SortMismatch part.start)
 
 abbrev pub assertion : ℕ → Spelled → Result Command Fault
-assertion start s = unless (clause_fault start s.part (has_head s.term)) (Ok (Assert start s.term))
+assertion start s = unless (clause_fault start s.part (is_headed s.term)) (Ok (Assert start s.term))
 
 abbrev pub assert_term : List ℕ → List Command → ℕ → List Tree → Result Command Fault
 assert_term text before start (term ∷ []) =
@@ -207,8 +206,8 @@ assert_term text before start _ = Err (fault CommandForm start)
 -- (check-sat), (get-model), (exit)
 
 abbrev pub alone_fault : ℕ → Bool → List Tree → Option Fault
-alone_fault start may [] = order_fault start may
-alone_fault start may (part ∷ parts) = Some (fault CommandForm start)
+alone_fault start allowed [] = order_fault start allowed
+alone_fault start allowed (part ∷ parts) = Some (fault CommandForm start)
 
 -- The commands, each behind its word.
 

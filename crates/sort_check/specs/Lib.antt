@@ -1,3 +1,5 @@
+pub mod Checked
 pub mod Commands
+pub mod Properties
 pub mod Scripts
 pub mod machinery

@@ -1,5 +1,5 @@
 -- Which texts are scripts, which script each spells, and the one refusal of every other text (SMT-LIB 2.6, section 3.9).
-use Rattle.std.specs.Prelude.{◌≡◌, ℕ, ◌+◌, ◌<◌, ◌≤◌, ◌^◌, List, [], ◌∷◌, ◌++◌, length, Option, None, Some, Result, Ok, Err, if◌then◌else◌, ◌⊎◌, IsTrue}
+use Rattle.std.specs.Prelude.{◌≡◌, ℕ, ◌+◌, ◌<◌, ◌≤◌, ◌^◌, List, [], ◌∷◌, ◌++◌, length, Option, None, Some, Result, Ok, Err, if◌then◌else◌}
 use Rattle.std.specs.List.{list_any}
 use Rattle.base.specs.Limits.{most_bytes}
 use Rattle.sexp_read.specs.declared.tree.Tree.{Tree}
@@ -7,13 +7,9 @@ use Rattle.sexp_read.specs.declared.tree.TextStop.{TextStop}
 use Rattle.sexp_read.specs.declared.tree.TextStop.TheVariants.{BadByte as BadByteStop, Unclosed as UnclosedStop, Deep as DeepStop}
 use Rattle.sexp_read.specs.Trees.{IsReading}
 use Rattle.term_tree.specs.Arena.{Arena}
-use Rattle.term_tree.specs.Head.{has_head}
-use Rattle.term_tree.specs.Legal.{IsLegal}
-use Rattle.term_tree.specs.declared.sort.Sort.TheVariants.{Bool as BoolSort}
 use Rattle.term_tree.specs.declared.script.Assertion.{Assertion}
 use Rattle.term_tree.specs.declared.script.Script.{Script}
 use Rattle.term_tree.specs.declared.refusal.Refusal.{Refusal}
-use Rattle.term_tree.specs.declared.refusal.Checked.{Checked}
 use Rattle.term_tree.specs.declared.refusal.Kind.TheVariants.{TooLong, BadByte, Unclosed, Deep, NoCheckSat}
 use Rattle.term_check.specs.declared.part.Fault.{Fault}
 use Rattle.term_check.specs.Rules.{fault}
@@ -84,26 +80,3 @@ AreAsserted terms number assertions (Exit ∷ commands) = AreAsserted terms (num
 pub record IsScriptOf (commands : List Command) (script : Script) : Type 0 where
   pub preds : script.preds ≡ declared commands
   pub asserts : AreAsserted script.terms 0 script.asserts commands
-
--- the assertion ends in a declared predicate: it is an application of one, an implication whose last part is one, or one of these
--- under universal quantifiers
-abbrev pub HasHead : Script → Assertion → Type 0
-HasHead script assertion = IsTrue (has_head (length script.preds) script.terms.nodes assertion.term.0)
-
--- the assertion is a legal closed Bool term over the declared predicates
-abbrev pub IsLegalAssertion : Script → Assertion → Type 0
-IsLegalAssertion script assertion = IsLegal script.preds script.terms.nodes [] BoolSort assertion.term.0
-
--- of a text with these trees and this fault: what its legal commands spell, and the refusal behind them
-pub record IsChecked (text : List ℕ) (trees : List Tree) (stop : Option TextStop) (checked : Checked) : Type 0 where
-  pub commands : List Command
-  pub outcome_is : outcome text stop [] trees ≡ record { commands = commands; refusal = checked.stop }
-  pub script : IsScriptOf commands checked.script
-
--- what is found of a text: that of the trees and the fault that it has
-abbrev pub IsCheckedText : List ℕ → Checked → Type 0
-IsCheckedText text checked = (trees : List Tree) × (stop : Option TextStop) × IsReading text trees stop × IsChecked text trees stop checked
-
--- a text is a script of some commands, or has a refusal
-abbrev pub IsScriptOrRefused : List ℕ → Type 0
-IsScriptOrRefused text = ((commands : List Command) × IsScript text commands) ⊎ ((refusal : Refusal) × IsRefused text refusal)

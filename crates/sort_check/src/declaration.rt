@@ -94,23 +94,23 @@ fn signature_fault(
     count_fault(start, signature.len() < MOST_PREDICATES)
 }
 
-/// What is wrong with a declaration; may says that there was no `check-sat`.
+/// What is wrong with a declaration; it is allowed where there was no `check-sat`.
 pub fn declaration_fault(
     text: &[u8],
-    may: bool,
+    allowed: bool,
     signature: &Signature,
     start: u32,
     name: &Tree,
     sorts: &[Tree],
     last: &Tree,
 ) -> Option<Fault>
-    ensures { result ≡ declaration_fault text.now may signature.now start name.now sorts.now last.now }
+    ensures { result ≡ declaration_fault text.now allowed signature.now start name.now sorts.now last.now }
 {
     let word = name_of(text, name);
     if let Some(fault) = form_fault(name, word.is_some()) {
         return Some(fault);
     }
-    if let Some(fault) = order_fault(start, may) {
+    if let Some(fault) = order_fault(start, allowed) {
         return Some(fault);
     }
     if let Some(fault) = taken_fault(signature, start_of(name), word.unwrap_or(&[])) {

@@ -9,7 +9,9 @@ ghost use Rattle.term_tree.specs.Arena.{IsArena};
 ghost use Rattle.term_tree.specs.declared.script.Script.{Script};
 ghost use Rattle.term_tree.specs.declared.refusal.Refusal.{Refusal};
 ghost use Rattle.sort_check.specs.Commands.{Command, declared, most_predicates};
-ghost use Rattle.sort_check.specs.Scripts.{IsScript, IsScriptOf, IsRefused, IsScriptOrRefused, IsChecked, IsLegalAssertion, HasHead};
+ghost use Rattle.sort_check.specs.Checked.{IsChecked};
+ghost use Rattle.sort_check.specs.Properties.{IsScriptOrRefused, IsLegalAssertion, HasHead};
+ghost use Rattle.sort_check.specs.Scripts.{IsScript, IsScriptOf, IsRefused};
 
 /// Every text is a script of some commands, or has a refusal.
 pub fn script_or_refused()

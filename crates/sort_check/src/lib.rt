@@ -3,7 +3,7 @@
 #![tactic(auto)]
 
 mod declaration;
-mod heads;
+mod headed;
 mod laws;
 mod rules;
 mod script;

@@ -8,20 +8,20 @@ use sexp_read::{LeafKind, Tree, symbol_bytes};
 use term_check::{Fault, Part, fault, is_symbol, start_of};
 use term_tree::{Kind, Sort};
 
-pub fn order_fault(start: u32, may: bool) -> Option<Fault>
-    ensures { result ≡ order_fault start may }
+pub fn order_fault(start: u32, allowed: bool) -> Option<Fault>
+    ensures { result ≡ order_fault start allowed }
 {
-    if may {
+    if allowed {
         None
     } else {
         Some(fault(Kind::Order, start))
     }
 }
 
-pub fn form_fault(tree: &Tree, has: bool) -> Option<Fault>
-    ensures { result ≡ form_fault tree.now has }
+pub fn form_fault(tree: &Tree, formed: bool) -> Option<Fault>
+    ensures { result ≡ form_fault tree.now formed }
 {
-    if has {
+    if formed {
         None
     } else {
         Some(fault(Kind::CommandForm, start_of(tree)))
@@ -48,17 +48,17 @@ fn logic_fault(text: &[u8], name: &Tree) -> Option<Fault>
     }
 }
 
-/// What is wrong with a `set-logic`; silent says that there were no other commands than `set-info`
+/// What is wrong with a `set-logic`; fresh says that there were no other commands than `set-info`
 /// and `set-option`.
-pub fn set_logic_fault(text: &[u8], silent: bool, start: u32, parts: &[Tree]) -> Option<Fault>
-    ensures { result ≡ set_logic_fault text.now silent start parts.now }
+pub fn set_logic_fault(text: &[u8], fresh: bool, start: u32, parts: &[Tree]) -> Option<Fault>
+    ensures { result ≡ set_logic_fault text.now fresh start parts.now }
 {
     match parts {
         [name] => {
             if let Some(fault) = form_fault(name, symbol_bytes(text, name).is_some()) {
                 return Some(fault);
             }
-            if let Some(fault) = order_fault(start, silent) {
+            if let Some(fault) = order_fault(start, fresh) {
                 return Some(fault);
             }
             logic_fault(text, name)
@@ -101,21 +101,21 @@ pub fn inform_fault(start: u32, parts: &[Tree]) -> Option<Fault>
 }
 
 /// What is wrong with a command that is its word alone.
-pub fn alone_fault(start: u32, may: bool, parts: &[Tree]) -> Option<Fault>
-    ensures { result ≡ alone_fault start may parts.now }
+pub fn alone_fault(start: u32, allowed: bool, parts: &[Tree]) -> Option<Fault>
+    ensures { result ≡ alone_fault start allowed parts.now }
 {
     match parts {
-        [] => order_fault(start, may),
+        [] => order_fault(start, allowed),
         _ => Some(fault(Kind::CommandForm, start)),
     }
 }
 
-/// What is wrong with an assertion behind so many others before its term is looked at; may says that
-/// there was no `check-sat`.
-pub fn assert_fault(may: bool, count: usize, start: u32) -> Option<Fault>
-    ensures { result ≡ assert_fault may count start }
+/// What is wrong with an assertion behind so many others, before its term is looked at; it is allowed
+/// where there was no `check-sat`.
+pub fn assert_fault(allowed: bool, count: usize, start: u32) -> Option<Fault>
+    ensures { result ≡ assert_fault allowed count start }
 {
-    if let Some(fault) = order_fault(start, may) {
+    if let Some(fault) = order_fault(start, allowed) {
         return Some(fault);
     }
     count_fault(start, count < MOST_ASSERTIONS)

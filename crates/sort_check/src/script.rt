@@ -3,7 +3,8 @@
 ghost use Rattle.std.specs.Prelude.{◌≡◌, ◌<◌, ◌^◌, List, length, IfOk};
 ghost use Rattle.sexp_read.specs.Trees.{IsReading};
 ghost use Rattle.sort_check.specs.Commands.{Command};
-ghost use Rattle.sort_check.specs.Scripts.{IsChecked, IsCheckedText, stop_fault};
+ghost use Rattle.sort_check.specs.Checked.{IsChecked, IsCheckedText};
+ghost use Rattle.sort_check.specs.Scripts.{stop_fault};
 ghost use Rattle.sort_check.specs.machinery.State.{IsState};
 
 use crate::state::State;

@@ -2,19 +2,20 @@
 
 ghost use Rattle.std.specs.Prelude.{◌≡◌, ◌+◌, ◌≤◌, ◌<◌, ◌^◌, List, [], ◌∷◌, length, IfOk};
 ghost use Rattle.term_check.specs.Spelling.{Spelled};
-ghost use Rattle.term_check.specs.Term.{IsTermAt, IsAligned};
+ghost use Rattle.term_check.specs.Found.{IsAligned};
+ghost use Rattle.term_check.specs.Term.{IsTermAt};
 ghost use Rattle.term_check.specs.machinery.Weight.{weight, weights};
 ghost use Rattle.sort_check.specs.Commands.{Command, set_logic, inform, check_sat, get_model, exit, declaration, declare_function, declare_constant, assertion, assert_term, plain, worded, command};
 ghost use Rattle.sort_check.specs.Scripts.{IsScriptOf, end_fault, refusal_at};
 ghost use Rattle.sort_check.specs.machinery.State.{IsState, Took};
 
 use crate::declaration::{declaration_fault, predicate_named};
-use crate::heads::has_head;
+use crate::headed::is_headed;
 use crate::rules::{alone_fault, assert_fault, clause_fault, inform_fault, set_logic_fault};
 use base::{Items, Memory};
-use sexp_read::{Tree, is_word};
+use sexp_read::Tree;
 use std::alloc::Global;
-use term_check::{Fault, Found, Signature, TermStop, check_term, fault};
+use term_check::{Fault, Found, Signature, TermStop, check_term, fault, is_word};
 use term_tree::{Assertion, Checked, Kind, Refusal, Script, Terms};
 
 /// The declared predicates, the assertions and their terms, and what decides which commands may
@@ -77,8 +78,8 @@ impl State {
         requires { self.old.commands + 1 < 2 ^ 32 }
         ensures { (before : List Command) → IsState before self.old → Took before (check_sat before start parts.now) result self.new }
     {
-        let may = self.has_logic && !self.is_checked;
-        if let Some(fault) = alone_fault(start, may, parts) {
+        let allowed = self.has_logic && !self.is_checked;
+        if let Some(fault) = alone_fault(start, allowed, parts) {
             return Some(fault);
         }
         self.is_silent = false;
@@ -183,7 +184,7 @@ impl State {
         requires within { found.id.0 < length self.old.terms.nodes }
         ensures { (before : List Command) (s : Spelled) → IsState before self.old → IsTermAt self.old.terms [] s.term found.id.0 → s.part ≡ found.part → IfOk result (λ fault. Took before (assertion start s) fault self.new) }
     {
-        let headed = has_head(&self.terms, found.id);
+        let headed = is_headed(&self.terms, found.id);
         if let Some(fault) = clause_fault(start, found.part, headed) {
             return Ok(Some(fault));
         }

@@ -17,9 +17,10 @@ use Rattle.term_check.specs.declared.part.Part.{Part}
 use Rattle.term_check.specs.declared.part.Fault.{Fault}
 use Rattle.term_check.specs.declared.stop.TermStop.{TermStop}
 use Rattle.term_check.specs.Rules.{fault, unless, applied, declared_fault, divisible_fault, same_sort}
-use Rattle.term_check.specs.Term.{Term, operation, predicate, divisible, Terms, none, more, IsNodeAt, IsTermAt, AreTermsAt, Keeps}
+use Rattle.term_check.specs.Found.{Keeps}
+use Rattle.term_check.specs.Term.{Term, operation, predicate, divisible, Terms, none, more, IsNodeAt, IsTermAt, AreTermsAt}
 use Rattle.term_check.specs.Spelling.{Spelled, Gathered, head_fault, application, sorts_of, with_part, spells, the_argument, number_or_0, let_spelled, quantified, quantifier}
-use Rattle.term_check.specs.Reading.{IsGathered, IsAdded, Tells, divisor_of, quantifier_node}
+use Rattle.term_check.specs.machinery.Reading.{IsGathered, IsAdded, Tells, divisor_of, quantifier_node}
 use Rattle.term_check.proofs.TermLemmas.{term_stays, terms_stay}
 use Rattle.term_check.proofs.ReadingLemmas.{tells_added}
 

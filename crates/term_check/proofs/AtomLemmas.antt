@@ -5,7 +5,7 @@ use Rattle.std.specs.Str.{bytes_eq}
 use Rattle.base.specs.Numeral.{number_of}
 use Rattle.sexp_read.specs.declared.tree.LeafKind.{LeafKind}
 use Rattle.sexp_read.specs.declared.tree.LeafKind.TheVariants.{Symbol, Quoted, Numeral, Decimal, Text, Keyword}
-use Rattle.sexp_read.specs.Leaves.{inner, small}
+use Rattle.sexp_read.specs.Leaves.{inner, short_number}
 use Rattle.term_tree.specs.declared.script.Pred.{Pred as Declared}
 use Rattle.term_check.specs.declared.part.Fault.{Fault}
 use Rattle.term_check.specs.declared.scope.Bound.{Bound}
@@ -16,7 +16,7 @@ use Rattle.term_check.specs.declared.atom.Atom.TheVariants.{Number, Truth, Bound
 use Rattle.term_tree.specs.declared.refusal.Kind.TheVariants.{Arity}
 use Rattle.term_check.specs.Rules.{fault, is_short}
 use Rattle.term_check.specs.Words.{is_among, reserved_words}
-use Rattle.term_check.specs.Spelling.{bound_to, pred_from, sorts_in, bare_predicate, bound_symbol, symbol_atom, narrow_number, numeral_atom, leaf_atom}
+use Rattle.term_check.specs.Spelling.{bound_to, pred_from, sorts_in, bare_predicate, bound_symbol, symbol_atom, numeral_if_short, numeral_atom, leaf_atom}
 use Rattle.term_check.proofs.OutcomeLemmas.{same_numbers}
 
 -- a number is short, a bound name stands among the names, and a predicate is declared without arguments
@@ -35,7 +35,7 @@ numeral_found : (preds : List Declared) (names : List Named) (start : ℕ) (k : 
 numeral_found preds names start k true atom e h = found preds names (Number k) atom e h
 numeral_found preds names start k false atom e h = absurd (cc)
 
-numeral_is : (preds : List Declared) (names : List Named) (start : ℕ) (o : Option ℕ) (atom : Atom) → numeral_atom start (narrow_number o) ≡ Ok atom → IsAtom preds names atom
+numeral_is : (preds : List Declared) (names : List Named) (start : ℕ) (o : Option ℕ) (atom : Atom) → numeral_atom start (numeral_if_short o) ≡ Ok atom → IsAtom preds names atom
 numeral_is preds names start None atom h = absurd (cc)
 numeral_is preds names start (Some n) atom h = numeral_found preds names start (pos n) (is_short (pos n)) atom refl h
 
@@ -90,7 +90,7 @@ unreserved preds names start name false f atom h = symbol_found preds names star
 
 pub leaf_is : (text : List ℕ) (preds : List Declared) (names : List Named) (kind : LeafKind) (start end : ℕ) (atom : Atom) → leaf_atom text preds names kind start end ≡ Ok atom
     → IsAtom preds names atom
-leaf_is text preds names Numeral start end atom h = numeral_is preds names start (small (number_of (inner text Numeral start end))) atom h
+leaf_is text preds names Numeral start end atom h = numeral_is preds names start (short_number (number_of (inner text Numeral start end))) atom h
 leaf_is text preds names Symbol start end atom h =
     unreserved preds names start (inner text Symbol start end) (is_among reserved_words (inner text Symbol start end)) _ atom h
 leaf_is text preds names Quoted start end atom h =

@@ -15,7 +15,7 @@ use Rattle.term_tree.specs.Operators.{integer, sum_of, difference_of, on_two, fi
 use Rattle.term_tree.specs.Width.{prefix_results}
 use Rattle.term_check.specs.declared.part.Part.{Part}
 use Rattle.term_check.specs.declared.part.Fault.{Fault}
-use Rattle.term_check.specs.Rules.{number_fault, linear_fault, product_fault, divisor_fault, divisor_fault_by, is_constant, varying, is_short, narrow, multiplied, narrow_product, worth_of, worth, quotient, remainder, value_at, wide_unless, without_value, product_constant, constant_of}
+use Rattle.term_check.specs.Rules.{number_fault, linear_fault, product_fault, divisor_fault, divisor_fault_by, is_constant, varying, is_short, if_short, multiplied, product_if_short, worth_of, worth, quotient, remainder, value_at, wide_unless, without_value, product_constant, constant_of}
 use Rattle.term_check.proofs.OutcomeLemmas.{both_are, not_if, not_below, up_to, same_numbers, other_numbers}
 use Rattle.term_check.proofs.SortLemmas.{right_number}
 
@@ -67,9 +67,9 @@ some_vary (p ∷ ps) e = more_none p.constant (constants ps) (varying ps) (some_
 
 -- Narrow values.
 
-narrow_by : (b : Bool) (k m : ℤ) → (if b then Some k else None) ≡ Some m → (b ≡ true) × (k ≡ m)
-narrow_by true k m h = (refl, cc)
-narrow_by false k m h = absurd (cc)
+if_short_by : (b : Bool) (k m : ℤ) → (if b then Some k else None) ≡ Some m → (b ≡ true) × (k ≡ m)
+if_short_by true k m h = (refl, cc)
+if_short_by false k m h = absurd (cc)
 
 let_through : (start : ℕ) (o : Option ℤ) (c : Option ℤ) → wide_unless start o ≡ Ok c → (k : ℤ) × (o ≡ Some k) × (c ≡ Some k)
 let_through start None c h = absurd (cc)
@@ -83,12 +83,12 @@ no_value c e = subst (λ (o : Option ℤ). is_short_constant o ≡ true) e refl
 
 -- an operation of arithmetic but a product, whose value is the same by both definitions
 arithmetic : (start : ℕ) (f g : List ℤ → ℤ) (ps : List Part) (c : Option ℤ) (b : Bool) → nat_eq (varying ps) 0 ≡ b → (varying ps ≡ 0 → f (map worth ps) ≡ g (map worth ps))
-    → (if b then wide_unless start (narrow (g (map worth ps))) else Ok None) ≡ Ok c
+    → (if b then wide_unless start (if_short (g (map worth ps))) else Ok None) ≡ Ok c
     → (option_map f (all_constant (constants ps)) ≡ c) × (is_short_constant c ≡ true)
 arithmetic start f g ps c true e same h =
     let none = same_numbers (varying ps) 0 e in
-    let through = let_through start (narrow (g (map worth ps))) c h in
-    let short = narrow_by (is_short (g (map worth ps))) (g (map worth ps)) through.0 through.1 in
+    let through = let_through start (if_short (g (map worth ps))) c h in
+    let short = if_short_by (is_short (g (map worth ps))) (g (map worth ps)) through.0 through.1 in
     let is : Some (g (map worth ps)) ≡ c = ap (λ (k : ℤ). Some k) short.1 ∙ sym through.2 in (
       ap (λ (o : Option (List ℤ)). option_map f o) (all_are ps none) ∙ ap (λ (k : ℤ). Some k) (same none) ∙ is,
       short_value (g (map worth ps)) c short.0 is,
@@ -132,14 +132,14 @@ products a k [] short h = (first h, refl, subst (λ (x : ℤ). is_short x ≡ tr
 products a k (None ∷ cs) short h = products a k cs short h
 products a k (Some m ∷ cs) short h = next_product a m k cs (is_short (a *ℤ m)) refl (products (a *ℤ m) k cs) h
 
--- the product of the constant parts is narrow, and it is the constant where all are constant
+-- the product of the constant parts is short, and it is the constant where all are constant
 product_known : (start : ℕ) (ps : List Part) (c : Option ℤ) (b : Bool)
-    → (let product = wide_unless start (narrow_product ps) in if b then product else without_value product) ≡ Ok c
-    → (k : ℤ) × (narrow_product ps ≡ Some k) × ((if b then Some k else None) ≡ c)
-product_known start ps c true h = let t = let_through start (narrow_product ps) c h in (t.0, t.1, sym t.2)
-product_known start ps c false h = by (narrow_product ps) refl h
+    → (let product = wide_unless start (product_if_short ps) in if b then product else without_value product) ≡ Ok c
+    → (k : ℤ) × (product_if_short ps ≡ Some k) × ((if b then Some k else None) ≡ c)
+product_known start ps c true h = let t = let_through start (product_if_short ps) c h in (t.0, t.1, sym t.2)
+product_known start ps c false h = by (product_if_short ps) refl h
   where
-    by : (o : Option ℤ) → narrow_product ps ≡ o → without_value (wide_unless start o) ≡ Ok c → (k : ℤ) × (narrow_product ps ≡ Some k) × (None ≡ c)
+    by : (o : Option ℤ) → product_if_short ps ≡ o → without_value (wide_unless start o) ≡ Ok c → (k : ℤ) × (product_if_short ps ≡ Some k) × (None ≡ c)
     by None e h = absurd (cc)
     by (Some k) e h = (k, e, cc)
 

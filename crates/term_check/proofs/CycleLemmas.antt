@@ -13,9 +13,10 @@ use Rattle.term_check.specs.declared.scope.Named.{Named}
 use Rattle.term_check.specs.declared.stop.TermStop.{TermStop}
 use Rattle.term_check.specs.Rules.{unless}
 use Rattle.term_check.specs.machinery.Known.{Known, IsReady, is_let_below, are_lets_below, below_let, below_quantifier}
-use Rattle.term_check.specs.Term.{IsTermAt, AreTermsAt, Keeps}
+use Rattle.term_check.specs.Term.{IsTermAt, AreTermsAt}
 use Rattle.term_check.specs.Spelling.{Scope, Spelled, Gathered, ◌>>=◌, spelled, added, nothing_yet, items_of, lets_in, lets_from, variables_from, with_lets, with_variables, count_let, let_names_fault, binder_fault, variables_fault, quantifier_fault, let_spelled, quantified, quantifier, sorts_bound}
-use Rattle.term_check.specs.Reading.{IsFoundUnder, IsGathered, Tells, next_spelled, under_lets, under_variables, quantifier_list}
+use Rattle.term_check.specs.Found.{IsFoundUnder, Keeps}
+use Rattle.term_check.specs.machinery.Reading.{IsGathered, Tells, next_spelled, under_lets, under_variables, quantifier_list}
 use Rattle.term_check.specs.machinery.Weight.{weight, weights}
 use Rattle.term_check.proofs.ReadingLemmas.{gathered_stay, gathered_more, all_below, below_both, both, first_of_both, second_of_both, lt_test, test_lt}
 use Rattle.term_check.proofs.TermLemmas.{terms_stay}

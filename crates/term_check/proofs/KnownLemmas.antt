@@ -27,7 +27,7 @@ use Rattle.term_check.proofs.SortLemmas.{given, operation_sorted}
 pub record Known (preds : List Declared) (nodes : List Node) (quantifies : Bool) (sort : Sort) (constant : Option ℤ) (id : ℕ) : Type 0 where
   pub sorted : sort_of preds nodes id ≡ Some sort
   pub value : constant_of nodes id ≡ constant
-  pub narrow : is_short_constant constant ≡ true
+  pub width : is_short_constant constant ≡ true
   pub linear : EverySubterm (is_linear (constant_of nodes)) nodes id
   pub short : EverySubterm (has_short_constants (constant_of nodes)) nodes id
   pub plain : preds ≡ [] → quantifies ≡ false → IsPlain nodes id
@@ -113,12 +113,12 @@ module _ (preds : List Declared) (nodes : List Node) (quantifies : Bool) where
         → node_constant (constant_of nodes) node ≡ constant → is_short_constant constant ≡ true → is_linear (constant_of nodes) node ≡ true → has_short_constants (constant_of nodes) node ≡ true
         → (preds ≡ [] → quantifies ≡ false → is_plain node ≡ true) → ((part : ℕ) → is_part part node ≡ true → IsKnown preds nodes quantifies part)
         → Known preds nodes quantifies sort constant id
-    known_by node sort constant is s c narrow linear short plain parts =
+    known_by node sort constant is s c width linear short plain parts =
         let below = arena_below nodes id node arena is in
         record {
           sorted = sort_at preds nodes id node is below ∙ s;
           value = constant_at nodes id node is below ∙ c;
-          narrow = narrow;
+          width = width;
           linear = every_by_parts (is_linear (constant_of nodes)) nodes id node is linear (λ part has. (parts part has).2.linear);
           short = every_by_parts (has_short_constants (constant_of nodes)) nodes id node is short (λ part has. (parts part has).2.short);
           plain = λ none without. every_by_parts is_plain nodes id node is (plain none without) (λ part has. (parts part has).2.plain none without);
@@ -139,7 +139,7 @@ module _ (preds : List Declared) (nodes : List Node) (quantifies : Bool) where
     pub known_name : (bound : TermId) (sort : Sort) (constant : Option ℤ) → slice_get nodes id ≡ Some (LetVar bound) → Known preds nodes quantifies sort constant bound.0
         → Known preds nodes quantifies sort constant id
     known_name bound sort constant is known =
-        known_by (LetVar bound) sort constant is known.sorted known.value known.narrow refl (ap is_short_constant known.value ∙ known.narrow) (λ none without. refl)
+        known_by (LetVar bound) sort constant is known.sorted known.value known.width refl (ap is_short_constant known.value ∙ known.width) (λ none without. refl)
         (λ part has. known_itself sort constant bound.0 part known has)
 
     no_first : (number : ℕ) (p : Declared) → preds ≡ [] → slice_get preds number ≡ Some p → ⊥
@@ -180,7 +180,7 @@ module _ (preds : List Declared) (nodes : List Node) (quantifies : Bool) where
     known_let ps ids body sort constant is all known =
         known_by (Let ids body) sort constant is
         (ap (λ b. if b then sort_of preds nodes body.0 else None) (ap (λ (ss : List (Option Sort)). list_all is_sorted ss) (known_sorts ps ids all) ∙ all_sorted ps) ∙ known.sorted)
-        known.value known.narrow refl (ap is_short_constant known.value ∙ known.narrow) (λ none without. refl)
+        known.value known.width refl (ap is_short_constant known.value ∙ known.width) (λ none without. refl)
         (λ part has. or_cases (is_among part ids) (body.0 == part) has (λ e. known_among ps ids part all e) (λ e. known_itself sort constant body.0 part known e))
 
     no_quantifier : {A : Type 0} → quantifies ≡ true → quantifies ≡ false → A

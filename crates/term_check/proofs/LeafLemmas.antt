@@ -5,7 +5,7 @@ use Rattle.std.specs.Str.{bytes_eq}
 use Rattle.base.specs.Numeral.{number_of}
 use Rattle.sexp_read.specs.declared.tree.LeafKind.{LeafKind}
 use Rattle.sexp_read.specs.declared.tree.LeafKind.TheVariants.{Symbol, Quoted, Numeral, Decimal, Text, Keyword}
-use Rattle.sexp_read.specs.Leaves.{inner, small}
+use Rattle.sexp_read.specs.Leaves.{inner, short_number}
 use Rattle.term_tree.specs.declared.script.Pred.{Pred}
 use Rattle.term_check.specs.declared.atom.Atom.{Atom}
 use Rattle.term_check.specs.declared.part.Fault.{Fault}
@@ -15,7 +15,7 @@ use Rattle.term_check.specs.declared.scope.Named.{Named}
 use Rattle.term_check.specs.Words.{is_among, reserved_words}
 use Rattle.term_check.specs.machinery.Known.{is_let_below, are_lets_below, is_atom_below}
 use Rattle.term_check.specs.Operators.{first_of}
-use Rattle.term_check.specs.Spelling.{bound_to, leaf_atom, symbol_atom, bound_symbol, free_symbol, bare_predicate, numeral_atom, narrow_number, pred_from, sorts_of}
+use Rattle.term_check.specs.Spelling.{bound_to, leaf_atom, symbol_atom, bound_symbol, free_symbol, bare_predicate, numeral_atom, numeral_if_short, pred_from, sorts_of}
 use Rattle.term_check.proofs.ReadingLemmas.{first_of_both, second_of_both}
 
 -- what is said of a result, where it is one
@@ -66,7 +66,7 @@ number_below n start (Some k) = refl
 
 leaf_below : (n : ℕ) (text : List ℕ) (preds : List Pred) (names : List Named) (kind : LeafKind) (start end : ℕ) → are_lets_below n names ≡ true
     → WhereOk (is_atom_below n) (leaf_atom text preds names kind start end)
-leaf_below n text preds names Numeral start end h = number_below n start (narrow_number (small (number_of (inner text Numeral start end))))
+leaf_below n text preds names Numeral start end h = number_below n start (numeral_if_short (short_number (number_of (inner text Numeral start end))))
 leaf_below n text preds names Symbol start end h =
     choose (is_atom_below n) (is_among reserved_words (inner text Symbol start end)) _ _ tt (symbol_below n preds names start (inner text Symbol start end) h)
 leaf_below n text preds names Quoted start end h = symbol_below n preds names start (inner text Quoted start end) h

@@ -13,6 +13,7 @@ pub mod MeaningLemmas
 pub mod NameLemmas
 pub mod NodeLemmas
 pub mod NumberLemmas
+pub mod OrderLemmas
 pub mod OutcomeLemmas
 pub mod Public
 pub mod ReadingLemmas

@@ -15,9 +15,10 @@ use Rattle.term_check.specs.declared.part.Fault.{Fault}
 use Rattle.term_check.specs.declared.stop.TermStop.{TermStop}
 use Rattle.term_check.specs.declared.stop.TermStop.TheVariants.{Memory as OutOfMemory, Fault as Broken}
 use Rattle.term_check.specs.machinery.Known.{Known, IsReady}
-use Rattle.term_check.specs.Term.{Term, numeral, truth, variable, let_name, predicate, operation, divisible, binding, universal, existential, Terms, none, more, with_last, IsNodeAt, IsTermAt, AreTermsAt, IsAligned, Keeps}
+use Rattle.term_check.specs.Found.{IsAligned, Keeps}
+use Rattle.term_check.specs.Term.{Term, numeral, truth, variable, let_name, predicate, operation, divisible, binding, universal, existential, Terms, none, more, with_last, IsNodeAt, IsTermAt, AreTermsAt}
 use Rattle.term_check.specs.Spelling.{Spelled, Gathered, added, atom_term}
-use Rattle.term_check.specs.Reading.{IsAtomNode, IsGathered, IsAdded, Tells, TellsAll}
+use Rattle.term_check.specs.machinery.Reading.{IsAtomNode, IsGathered, IsAdded, Tells, TellsAll}
 use Rattle.term_check.proofs.TermLemmas.{terms_stay}
 
 pub keeps_all : (a : Arena) → Keeps a a

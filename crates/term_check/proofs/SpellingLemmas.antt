@@ -8,7 +8,7 @@ use Rattle.term_tree.specs.declared.script.Pred.{Pred}
 use Rattle.term_check.specs.declared.part.Fault.{Fault}
 use Rattle.term_check.specs.Rules.{unless}
 use Rattle.term_check.specs.Spelling.{Scope, Gathered, ◌>>=◌, spelled, list_spelled, all_spelled, added, nothing_yet, application, head_of, head_fault, list_head, is_word, let_spelled_by, quantifier_spelled, quantifier_fault, bindings_spelled, each_bound, binding_spelled, item_spelled, items_of, binder_fault}
-use Rattle.term_check.specs.Reading.{each_spelled, applied_list, item_bound, all_bound, under_lets, let_list, quantifier_list, any_list}
+use Rattle.term_check.specs.machinery.Reading.{each_spelled, applied_list, item_bound, all_bound, under_lets, let_list, quantifier_list, any_list}
 use Rattle.term_check.specs.machinery.Weight.{weight, row_weight, weights}
 
 abbrev row_of : Tree → (n : Count) × Row_of-Tree n

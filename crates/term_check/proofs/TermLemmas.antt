@@ -3,7 +3,8 @@ use Rattle.std.proofs.Common.{ℕ, List, [], ◌∷◌, true, false}
 use Rattle.term_tree.specs.declared.node.TermId.{TermId}
 use Rattle.term_tree.specs.declared.node.Node.{Node}
 use Rattle.term_tree.specs.Arena.{Arena}
-use Rattle.term_check.specs.Term.{Term, numeral, truth, variable, let_name, predicate, operation, divisible, binding, universal, existential, Terms, none, more, IsNodeAt, IsTermAt, AreTermsAt, Keeps}
+use Rattle.term_check.specs.Found.{Keeps}
+use Rattle.term_check.specs.Term.{Term, numeral, truth, variable, let_name, predicate, operation, divisible, binding, universal, existential, Terms, none, more, IsNodeAt, IsTermAt, AreTermsAt}
 
 module _ (old new : Arena) (keeps : Keeps old new) where
   node_stays : (id : ℕ) (node : Node) (at : ℕ) → IsNodeAt old id node at → IsNodeAt new id node at

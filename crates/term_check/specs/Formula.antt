@@ -8,8 +8,7 @@ use Rattle.term_check.specs.declared.part.Fault.{Fault}
 use Rattle.term_check.specs.declared.scope.Bound.TheVariants.{Variable}
 use Rattle.term_check.specs.declared.scope.Named.{Named}
 use Rattle.term_check.specs.Rules.{same_sort}
-use Rattle.term_check.specs.Reading.{scope_of}
-use Rattle.term_check.specs.Spelling.{Spelled, spelled}
+use Rattle.term_check.specs.Spelling.{Spelled, spelled, scope_of}
 use Rattle.term_check.specs.Term.{Term}
 
 -- parameters as variables, numbered from here on

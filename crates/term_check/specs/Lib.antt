@@ -1,6 +1,6 @@
 pub mod Formula
+pub mod Found
 pub mod Operators
-pub mod Reading
 pub mod Rules
 pub mod Spelling
 pub mod Term

@@ -1,5 +1,5 @@
 -- What an application owes to its arguments, rule by rule in the order of checking: their number, their sorts, that products
--- and divisions are linear, that no divisor is 0, and that constants are small (SMT-LIB 2.6, section 3.6, with the theories
+-- and divisions are linear, that no divisor is 0, and that constants are short (SMT-LIB 2.6, section 3.6, with the theories
 -- Core and Ints; linear terms as in the logics LIA).
 use Rattle.std.specs.Prelude.{ℕ, ◌+◌, ◌^◌, List, [], ◌∷◌, map, fold, Bool, true, false, ◌&&◌, nat_lt, nat_eq, Option, None, Some, Result, Ok, Err, ℤ, pos, ◌*ℤ◌, nat_abs, if◌then◌else◌}
 use Rattle.std.specs.Int.{int_div_euclid, int_rem_euclid}
@@ -107,17 +107,17 @@ linear_fault op start ps = if is_product op then product_fault start ps else if 
 -- Constants. An application of an operator of arithmetic to constants is one, and its value lies strictly between
 -- -2 ^ 63 and 2 ^ 63; so does each product of the first constant factors of a product, whose other factor may vary.
 
-abbrev pub narrow : ℤ → Option ℤ
-narrow k = if is_short k then Some k else None
+abbrev pub if_short : ℤ → Option ℤ
+if_short k = if is_short k then Some k else None
 
 -- a product of constants and one more part of it, unless it is wide; what is no constant is left out
 abbrev pub multiplied : Option ℤ → Option ℤ → Option ℤ
 multiplied None factor = None
 multiplied (Some k) None = Some k
-multiplied (Some k) (Some m) = narrow (k *ℤ m)
+multiplied (Some k) (Some m) = if_short (k *ℤ m)
 
-abbrev pub narrow_product : List Part → Option ℤ
-narrow_product ps = fold multiplied (Some (pos 1)) (map (λ p. p.constant) ps)
+abbrev pub product_if_short : List Part → Option ℤ
+product_if_short ps = fold multiplied (Some (pos 1)) (map (λ p. p.constant) ps)
 
 -- the value of a constant; of other parts it is not asked for
 abbrev pub worth_of : Option ℤ → ℤ
@@ -146,18 +146,18 @@ abbrev pub wide_unless : ℕ → Option ℤ → Result (Option ℤ) Fault
 wide_unless start None = Err (fault TooWide start)
 wide_unless start (Some k) = Ok (Some k)
 
--- none, once the constant factors are known to be narrow
+-- none, once the constant factors are known to have a short product
 abbrev pub without_value : Result (Option ℤ) Fault → Result (Option ℤ) Fault
 without_value (Ok k) = Ok None
 without_value (Err f) = Err f
 
 abbrev pub product_constant : ℕ → List Part → Result (Option ℤ) Fault
-product_constant start ps = let product = wide_unless start (narrow_product ps) in if nat_eq (varying ps) 0 then product else without_value product
+product_constant start ps = let product = wide_unless start (product_if_short ps) in if nat_eq (varying ps) 0 then product else without_value product
 
 abbrev pub constant_of : OpKind → ℕ → List Part → Result (Option ℤ) Fault
 constant_of op start ps =
     if is_product op then product_constant start ps
-    else if is_arithmetic op && nat_eq (varying ps) 0 then wide_unless start (narrow (value_at op (map worth ps)))
+    else if is_arithmetic op && nat_eq (varying ps) 0 then wide_unless start (if_short (value_at op (map worth ps)))
     else Ok None
 
 abbrev pub part_of : ℕ → Sort → Result (Option ℤ) Fault → Result Part Fault

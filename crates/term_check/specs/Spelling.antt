@@ -9,7 +9,7 @@ use Rattle.base.specs.Numeral.{number_of}
 use Rattle.sexp_read.specs.declared.tree.LeafKind.{LeafKind}
 use Rattle.sexp_read.specs.declared.tree.LeafKind.TheVariants.{Symbol, Quoted, Numeral}
 use Rattle.sexp_read.specs.declared.tree.Tree.{Tree, Leaf, List', Row_of-Tree, end_of-Tree, more_of-Tree, items-the_row-Tree}
-use Rattle.sexp_read.specs.Leaves.{inner, symbol_bytes, word_bytes, numeral_value, small}
+use Rattle.sexp_read.specs.Leaves.{inner, symbol_bytes, word_bytes, numeral_value, short_number}
 use Rattle.term_tree.specs.declared.sort.Sort.{Sort}
 use Rattle.term_tree.specs.declared.sort.Sort.TheVariants.{Int as IntSort, Bool as BoolSort}
 use Rattle.term_tree.specs.declared.node.OpKind.{OpKind}
@@ -26,7 +26,7 @@ use Rattle.term_check.specs.declared.head.Head.{Head}
 use Rattle.term_check.specs.declared.head.Head.TheVariants.{Operator, Declared, Constant, Divisibility}
 use Rattle.term_check.specs.Words.{is_among, reserved_words}
 use Rattle.term_check.specs.Operators.{first_of, operator_named}
-use Rattle.term_check.specs.Rules.{fault, unless, or_else, narrow, number_fault, same_sort, applied, divisible_fault, declared_fault}
+use Rattle.term_check.specs.Rules.{fault, unless, or_else, if_short, number_fault, same_sort, applied, divisible_fault, declared_fault}
 use Rattle.term_check.specs.Term.{Term, numeral, truth, variable, let_name, predicate, operation, divisible, binding, universal, existential, Terms, none, more, with_last}
 
 -- What a term may use: the declared predicates in their order, the bound names, the innermost last, and whether quantifiers.
@@ -34,6 +34,9 @@ pub record Scope : Type 0 where
   pub preds : List Pred
   pub names : List Named
   pub quantifies : Bool
+
+abbrev pub scope_of : List Pred → List Named → Bool → Scope
+scope_of preds names quantifies = record { preds = preds; names = names; quantifies = quantifies }
 
 -- a term, what it is to the term around it, and the number of the next quantified variable of the text
 pub record Spelled : Type 0 where
@@ -95,9 +98,9 @@ bound_symbol preds start name None = free_symbol preds start name
 abbrev pub symbol_atom : List Pred → List Named → ℕ → List ℕ → Result Atom Fault
 symbol_atom preds names start name = bound_symbol preds start name (bound_to name names)
 
-abbrev pub narrow_number : Option ℕ → Option ℤ
-narrow_number None = None
-narrow_number (Some n) = narrow (pos n)
+abbrev pub numeral_if_short : Option ℕ → Option ℤ
+numeral_if_short None = None
+numeral_if_short (Some n) = if_short (pos n)
 
 abbrev pub numeral_atom : ℕ → Option ℤ → Result Atom Fault
 numeral_atom start None = Err (fault TooWide start)
@@ -105,7 +108,7 @@ numeral_atom start (Some k) = Ok (Number k)
 
 -- a reserved word, which only bars make a name, is none that is declared or bound
 abbrev pub leaf_atom : List ℕ → List Pred → List Named → LeafKind → ℕ → ℕ → Result Atom Fault
-leaf_atom text preds names Numeral start end = numeral_atom start (narrow_number (small (number_of (inner text Numeral start end))))
+leaf_atom text preds names Numeral start end = numeral_atom start (numeral_if_short (short_number (number_of (inner text Numeral start end))))
 leaf_atom text preds names Symbol start end =
     let name = inner text Symbol start end in if is_among reserved_words name then Err (fault UnknownSymbol start) else symbol_atom preds names start name
 leaf_atom text preds names Quoted start end = symbol_atom preds names start (inner text Quoted start end)

@@ -56,13 +56,3 @@ abbrev mutual
   AreTermsAt arena lets (more t ts) (id ∷ ids) = IsTermAt arena lets t id.0 × AreTermsAt arena lets ts ids
   AreTermsAt arena lets none (id ∷ ids) = ⊥
   AreTermsAt arena lets (more t ts) [] = ⊥
-
--- each node has its offset
-abbrev pub IsAligned : Arena → Type 0
-IsAligned arena = length arena.offsets ≡ length arena.nodes
-
--- what an arena has stays where it is
-pub record Keeps (old new : Arena) : Type 0 where
-  pub nodes : (id : ℕ) (node : Node) → slice_get old.nodes id ≡ Some node → slice_get new.nodes id ≡ Some node
-  pub offsets : (id at : ℕ) → slice_get old.offsets id ≡ Some at → slice_get new.offsets id ≡ Some at
-  pub aligned : IsAligned old → IsAligned new

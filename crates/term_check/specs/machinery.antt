@@ -3,6 +3,7 @@ pub mod Known
 pub mod Legality
 pub mod Meanings
 pub mod Numbers
+pub mod Reading
 pub mod TellsFormula
 pub mod Weight
 pub mod WordLengths

@@ -6,10 +6,12 @@ ghost use Rattle.term_tree.specs.Arena.{is_below, has_parts_below};
 ghost use Rattle.term_tree.specs.declared.node.TermId.{TermId as AnId};
 ghost use Rattle.term_tree.specs.declared.sort.Sort.TheVariants.{Bool as BoolSort};
 ghost use Rattle.term_check.specs.machinery.Known.{IsReady};
-ghost use Rattle.term_check.specs.Reading.{IsAdded, IsGathered, Tells, quantifier_node};
+ghost use Rattle.term_check.specs.machinery.Reading.{IsAdded, IsGathered, Tells, quantifier_node};
 ghost use Rattle.term_check.specs.Spelling.{leaf_term, head_fault, Gathered, Spelled, application, let_spelled, quantified, quantifier};
-ghost use Rattle.term_check.specs.Term.{IsAligned, Keeps, AreTermsAt, IsTermAt};
+ghost use Rattle.term_check.specs.Found.{IsAligned, Keeps};
+ghost use Rattle.term_check.specs.Term.{AreTermsAt, IsTermAt};
 
+use crate::context::Context;
 use crate::found::{Found, FoundAll};
 use crate::head::Head;
 use crate::heads::unapplied_fault;
@@ -17,7 +19,6 @@ use crate::leaves::{atom_part, leaf_atom};
 use crate::names::sorts_of;
 use crate::nodes::{add_node, atom_node};
 use crate::part::{Fault, Part};
-use crate::reader::Reader;
 use crate::rules::{applied, declared_fault, divisor, same_sort};
 use crate::stop::TermStop;
 use base::Items;
@@ -44,21 +45,21 @@ fn add_found(
 
 /// Reads a leaf as a term.
 pub fn read_leaf<'a>(
-    reader: &Reader<'a>,
+    context: &Context<'a>,
     next: u32,
     kind: LeafKind,
     start: u32,
     end: u32,
     terms: &mut Terms,
 ) -> Result<Found, TermStop>
-    requires ready { IsReady reader.now terms.old next 1 }
-    ensures told { Tells reader.now.lets (leaf_term reader.now.text reader.now.scope next kind start end) terms.new result }
+    requires ready { IsReady context.now terms.old next 1 }
+    ensures told { Tells context.now.lets (leaf_term context.now.text context.now.scope next kind start end) terms.new result }
     ensures keeps { Keeps terms.old terms.new }
     ensures next { IfOk result (λ found. found.next ≡ next) }
 {
-    match leaf_atom(reader, kind, start, end) {
+    match leaf_atom(context, kind, start, end) {
         Ok(atom) => {
-            let node = atom_node(reader, atom);
+            let node = atom_node(context, atom);
             add_found(node, start, atom_part(start, atom), next, terms)
         }
         Err(fault) => Err(TermStop::Fault(fault)),

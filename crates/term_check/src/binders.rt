@@ -118,7 +118,7 @@ pub fn binder_fault(text: &[u8], binder: &Tree) -> Option<Fault>
 fn repeated_fault<'a>(text: &[u8], seen: &Seen<'a>, item: &Tree) -> Option<Fault>
     ensures { result ≡ repeated_fault text.now seen.now item.now }
 {
-    if seen.has(name_bound(text, item)) {
+    if seen.contains(name_bound(text, item)) {
         Some(Fault {
             kind: Kind::Redeclared,
             offset: name_start(item),

@@ -17,7 +17,7 @@ use term_tree::{Name, Sort};
 pub const FEW: usize = 16;
 
 /// The names that are bound around a term, the innermost last. The outermost ones are found by
-/// comparing each, and those after them by their hash.
+/// comparing each, and those after them by their order.
 #[derive(Drop)]
 pub struct Bindings<'a> {
     few: Vec<Meaning<'a>>,

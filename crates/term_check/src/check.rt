@@ -3,16 +3,17 @@
 ghost use Rattle.std.specs.Prelude.{◌≡◌, ℕ, ◌+◌, ◌<◌, ◌^◌, length, IfOk, IsErrOf, Result, Ok, Err, true, []};
 ghost use Rattle.term_tree.specs.Arena.{Arena};
 ghost use Rattle.term_check.specs.declared.part.Fault.{Fault as AFault};
-ghost use Rattle.term_check.specs.Term.{Term, IsAligned, IsTermAt, Keeps};
-ghost use Rattle.term_check.specs.Spelling.{Spelled, spelled};
+ghost use Rattle.term_check.specs.Term.{Term, IsTermAt};
+ghost use Rattle.term_check.specs.Spelling.{Spelled, spelled, scope_of};
 ghost use Rattle.term_check.specs.machinery.Weight.{weight};
-ghost use Rattle.term_check.specs.Reading.{scope_of, IsFound, Tells};
+ghost use Rattle.term_check.specs.Found.{IsFound, IsAligned, Keeps};
+ghost use Rattle.term_check.specs.machinery.Reading.{Tells};
 ghost use Rattle.term_check.specs.Formula.{bool_term, formula};
 ghost use Rattle.term_check.specs.machinery.TellsFormula.{TellsFormula};
 
 use crate::bindings::Bindings;
+use crate::context::Context;
 use crate::found::Found;
-use crate::reader::Reader;
 use crate::reading::read_term;
 use crate::rules::same_sort;
 use crate::signature::Signature;
@@ -38,8 +39,8 @@ pub fn check_term(
     ensures fault { (fault : AFault) → IsErrOf result (TermStop.Fault fault) → spelled text.now (scope_of signature.now [] true) 0 tree.now ≡ Err fault }
     ensures keeps { Keeps terms.old terms.new }
 {
-    let mut reader = Reader::new(alloc, text, signature, Bindings::new(alloc), true);
-    read_term(&mut reader, 0, tree, terms)
+    let mut context = Context::new(alloc, text, signature, Bindings::new(alloc), true);
+    read_term(&mut context, 0, tree, terms)
 }
 
 /// Why a tree gave no formula.
@@ -100,9 +101,9 @@ pub fn check_formula(
     let signature = Signature::new(alloc);
     let mut bindings = Bindings::new(alloc);
     bindings.bind_params(0, params)?;
-    let mut reader = Reader::new(alloc, text, &signature, bindings, false);
+    let mut context = Context::new(alloc, text, &signature, bindings, false);
     let mut terms = Terms::new(alloc);
-    let read = read_term(&mut reader, params.len() as u32, tree, &mut terms);
+    let read = read_term(&mut context, params.len() as u32, tree, &mut terms);
     match bool_term(read) {
         Ok(id) => Ok((terms, id)),
         Err(stop) => Err(stop),

@@ -2,16 +2,16 @@
 
 ghost use Rattle.std.specs.Prelude.{◌≡◌, length, pos};
 ghost use Rattle.sexp_read.specs.declared.tree.Tree.TheVariants.{Leaf};
-ghost use Rattle.term_check.specs.Spelling.{narrow_number, numeral_atom, bare_predicate, free_symbol, bound_symbol, symbol_atom, leaf_atom, atom_part};
+ghost use Rattle.term_check.specs.Spelling.{numeral_if_short, numeral_atom, bare_predicate, free_symbol, bound_symbol, symbol_atom, leaf_atom, atom_part};
 
 use crate::atom::Atom;
+use crate::context::Context;
 use crate::names::sorts_of;
 use crate::part::{Fault, Part};
-use crate::reader::Reader;
 use crate::rules::fault;
 use crate::scope::Bound;
 use crate::signature::Signature;
-use crate::values::narrow;
+use crate::values::if_short;
 use crate::words::is_reserved;
 use sexp_read::{LeafKind, Tree, numeral_value, symbol_bytes};
 use term_tree::{Kind, Pred, Sort};
@@ -43,10 +43,10 @@ fn free_symbol(signature: &Signature, start: u32, name: &[u8]) -> Result<Atom, F
     }
 }
 
-fn symbol_atom<'a>(reader: &Reader<'a>, start: u32, name: &[u8]) -> Result<Atom, Fault>
-    ensures { result ≡ symbol_atom reader.now.scope.preds reader.now.scope.names start name.now }
+fn symbol_atom<'a>(context: &Context<'a>, start: u32, name: &[u8]) -> Result<Atom, Fault>
+    ensures { result ≡ symbol_atom context.now.scope.preds context.now.scope.names start name.now }
 {
-    match reader.bound_to(name) {
+    match context.bound_to(name) {
         Some(Bound::Variable { number, sort }) => Ok(Atom::BoundVariable { number, sort }),
         Some(
             Bound::Let {
@@ -59,15 +59,15 @@ fn symbol_atom<'a>(reader: &Reader<'a>, start: u32, name: &[u8]) -> Result<Atom,
             sort,
             constant,
         }),
-        None => free_symbol(reader.signature(), start, name),
+        None => free_symbol(context.signature(), start, name),
     }
 }
 
-fn narrow_number(number: Option<u64>) -> Option<i64>
-    ensures { result ≡ narrow_number number }
+fn numeral_if_short(number: Option<u64>) -> Option<i64>
+    ensures { result ≡ numeral_if_short number }
 {
     match number {
-        Some(number) => narrow(i128::from(number)),
+        Some(number) => if_short(i128::from(number)),
         None => None,
     }
 }
@@ -83,22 +83,22 @@ fn numeral_atom(start: u32, value: Option<i64>) -> Result<Atom, Fault>
 
 /// What a leaf of this kind stands for as a term, or the rule that it breaks.
 pub fn leaf_atom<'a>(
-    reader: &Reader<'a>,
+    context: &Context<'a>,
     kind: LeafKind,
     start: u32,
     end: u32,
 ) -> Result<Atom, Fault>
-    ensures { result ≡ leaf_atom reader.now.text reader.now.scope.preds reader.now.scope.names kind start end }
+    ensures { result ≡ leaf_atom context.now.text context.now.scope.preds context.now.scope.names kind start end }
 {
-    let text = reader.text();
+    let text = context.text();
     let leaf = Tree::Leaf { kind, start, end };
     match symbol_bytes(text, &leaf) {
         Some(name) => match kind {
             LeafKind::Symbol if is_reserved(name) => Err(fault(Kind::UnknownSymbol, start)),
-            _ => symbol_atom(reader, start, name),
+            _ => symbol_atom(context, start, name),
         },
         None => match kind {
-            LeafKind::Numeral => numeral_atom(start, narrow_number(numeral_value(text, &leaf))),
+            LeafKind::Numeral => numeral_atom(start, numeral_if_short(numeral_value(text, &leaf))),
             _ => Err(fault(Kind::CommandForm, start)),
         },
     }

@@ -7,23 +7,23 @@ mod atom;
 mod binders;
 mod bindings;
 mod check;
+mod context;
 mod found;
 mod head;
 mod heads;
 mod laws;
 mod leaves;
-mod legality;
 mod mapped;
 mod names;
 mod nodes;
 mod operators;
 mod part;
-mod reader;
 mod reading;
 mod rules;
 mod scope;
 mod seen;
 mod signature;
+mod sorted;
 mod stop;
 #[cfg(test)]
 mod tests;
@@ -33,8 +33,10 @@ mod words;
 
 pub use check::{FormulaStop, check_formula, check_term};
 pub use found::Found;
-pub use laws::{items_are_lighter, terms_stay, trees_are_light};
-pub use legality::{found_terms_are_legal, spelled_formulas_are_legal, spelled_terms_are_legal};
+pub use laws::{
+    found_terms_are_legal, items_are_lighter, spelled_formulas_are_legal, spelled_terms_are_legal,
+    terms_stay, trees_are_light,
+};
 pub use operators::operator_named;
 pub use part::{Fault, Part};
 pub use rules::fault;

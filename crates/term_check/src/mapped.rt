@@ -4,16 +4,16 @@ ghost use Rattle.term_check.specs.Spelling.{bound_to};
 
 use crate::scope::{Binding, Bound};
 use base::Memory;
-use indexmap::IndexMap;
 use std::alloc::Global;
+use std::collections::BTreeMap;
 use std::marker::Model;
 
-/// Bound names, the innermost last, each found by its hash. A name that was left keeps its place in
-/// the map.
+/// Bound names, the innermost last, each found by order, so that no choice of names makes it slow. A name
+/// that was left keeps its place in the map.
 #[derive(Drop)]
 pub struct Mapped<'a> {
     bindings: Vec<Binding<'a>>,
-    meanings: IndexMap<&'a [u8], Option<Bound>>,
+    meanings: BTreeMap<&'a [u8], Option<Bound>>,
 }
 
 impl<'a> Model for Mapped<'a> {
@@ -43,7 +43,7 @@ impl<'a> Mapped<'a> {
     {
         Mapped {
             bindings: Vec::new(alloc),
-            meanings: IndexMap::new(alloc),
+            meanings: BTreeMap::new(alloc),
         }
     }
 
@@ -57,7 +57,7 @@ impl<'a> Mapped<'a> {
     /// How many names there are.
     pub fn len(&self) -> usize
         ensures len { result ≡ length self.now }
-        ensures small { result < 2 ^ 63 }
+        ensures short { result < 2 ^ 63 }
     {
         self.bindings.len()
     }
@@ -67,7 +67,6 @@ impl<'a> Mapped<'a> {
         ensures { OnOk result (self.new ≡ self.old) }
     {
         self.bindings.reserve(count)?;
-        self.meanings.reserve(count)?;
         Ok(())
     }
 
@@ -93,7 +92,8 @@ impl<'a> Mapped<'a> {
         ensures { self.new ≡ take (length self.old - 1) self.old }
     {
         if let Some(Binding { name, outside, .. }) = self.bindings.pop() {
-            self.meanings.insert(name, outside).unwrap();
+            let put: Result<_, _> = self.meanings.insert(name, outside);
+            put.unwrap();
         }
     }
 

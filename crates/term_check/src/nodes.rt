@@ -2,12 +2,13 @@
 
 ghost use Rattle.std.specs.Prelude.{◌≡◌, length, IfOk, IsTrue, true};
 ghost use Rattle.term_tree.specs.Arena.{has_parts_below};
-ghost use Rattle.term_check.specs.Term.{IsNodeAt, IsAligned, Keeps};
+ghost use Rattle.term_check.specs.Found.{IsAligned, Keeps};
+ghost use Rattle.term_check.specs.Term.{IsNodeAt};
 ghost use Rattle.term_check.specs.machinery.Known.{is_atom_below};
-ghost use Rattle.term_check.specs.Reading.{IsAtomNode};
+ghost use Rattle.term_check.specs.machinery.Reading.{IsAtomNode};
 
 use crate::atom::Atom;
-use crate::reader::Reader;
+use crate::context::Context;
 use base::{Items, Memory};
 use term_tree::{Node, TermId, Terms};
 
@@ -25,9 +26,9 @@ pub fn add_node(terms: &mut Terms, node: Node, start: u32) -> Result<TermId, Mem
 }
 
 /// The node of a term without parts.
-pub fn atom_node<'a>(reader: &Reader<'a>, atom: Atom) -> Node
-    requires { is_atom_below (length reader.now.lets) atom ≡ true }
-    ensures { IsAtomNode reader.now.lets atom result }
+pub fn atom_node<'a>(context: &Context<'a>, atom: Atom) -> Node
+    requires { is_atom_below (length context.now.lets) atom ≡ true }
+    ensures { IsAtomNode context.now.lets atom result }
 {
     match atom {
         Atom::Number(value) => Node::Num(value),
@@ -42,11 +43,11 @@ pub fn atom_node<'a>(reader: &Reader<'a>, atom: Atom) -> Node
             sort: _,
             constant: _,
         } => Node::LetVar {
-            bound: reader.let_term(number),
+            bound: context.let_term(number),
         },
         Atom::Predicate(pred) => Node::Pred {
             pred,
-            args: Items::new(reader.alloc()),
+            args: Items::new(context.alloc()),
         },
     }
 }

@@ -3,41 +3,41 @@
 
 ghost use Rattle.std.specs.Prelude.{◌≡◌, ◌+◌, ◌^◌, ◌<◌, ◌≤◌, length, IfOk, OnOk};
 ghost use Rattle.term_check.specs.machinery.Known.{IsReady};
-ghost use Rattle.term_check.specs.Reading.{next_spelled, each_spelled, applied_list, any_list, IsGathered, Tells, TellsAll};
-ghost use Rattle.term_check.specs.Reading.{item_bound, all_bound, under_lets, let_list, under_variables, quantifier_list};
+ghost use Rattle.term_check.specs.machinery.Reading.{next_spelled, each_spelled, applied_list, any_list, IsGathered, Tells, TellsAll};
+ghost use Rattle.term_check.specs.machinery.Reading.{item_bound, all_bound, under_lets, let_list, under_variables, quantifier_list};
 ghost use Rattle.term_check.specs.Rules.{unless};
 ghost use Rattle.term_check.specs.Spelling.{spelled, nothing_yet, quantifier_fault, Gathered};
-ghost use Rattle.term_check.specs.Term.{Keeps};
+ghost use Rattle.term_check.specs.Found.{Keeps};
 ghost use Rattle.term_check.specs.machinery.Weight.{weight, weights};
 
 use crate::apply::{add_binding, add_quantifier, apply, read_leaf};
 use crate::binders::{binder_fault, items_of, let_names_fault, sorts_bound, variables_fault};
+use crate::context::Context;
 use crate::found::{Found, FoundAll, with_next};
 use crate::heads::{head_fault, head_of};
-use crate::reader::Reader;
 use crate::stop::{TermStop, bad_form};
 use crate::trees::is_word;
 use sexp_read::Tree;
 use term_tree::Terms;
 
-/// Reads a tree as a term. After a refusal the reader is of no use.
+/// Reads a tree as a term. After a refusal the context is of no use.
 #[cycle(term)]
 pub fn read_term<'a>(
-    reader: &mut Reader<'a>,
+    context: &mut Context<'a>,
     next: u32,
     tree: &Tree,
     terms: &mut Terms,
 ) -> Result<Found, TermStop>
-    requires ready { IsReady reader.old terms.old next (weight tree.now) }
-    ensures told { Tells reader.old.lets (spelled reader.old.text reader.old.scope next tree.now) terms.new result }
+    requires ready { IsReady context.old terms.old next (weight tree.now) }
+    ensures told { Tells context.old.lets (spelled context.old.text context.old.scope next tree.now) terms.new result }
     ensures keeps { Keeps terms.old terms.new }
-    ensures kept { OnOk result (reader.new ≡ reader.old) }
+    ensures kept { OnOk result (context.new ≡ context.old) }
     ensures next { IfOk result (λ found. found.next ≤ next + weight tree.now) }
 {
     match tree {
-        Tree::Leaf { kind, start, end } => read_leaf(reader, next, *kind, *start, *end, terms),
+        Tree::Leaf { kind, start, end } => read_leaf(context, next, *kind, *start, *end, terms),
         Tree::List { items, start, .. } => {
-            read_list(reader, next, *start, items.as_slice(), terms)
+            read_list(context, next, *start, items.as_slice(), terms)
         }
     }
 }
@@ -45,30 +45,30 @@ pub fn read_term<'a>(
 /// Reads a list, by its trees, as a term.
 #[cycle(term)]
 fn read_list<'a>(
-    reader: &mut Reader<'a>,
+    context: &mut Context<'a>,
     next: u32,
     start: u32,
     items: &[Tree],
     terms: &mut Terms,
 ) -> Result<Found, TermStop>
-    requires ready { IsReady reader.old terms.old next (weights items.now) }
-    ensures told { Tells reader.old.lets (any_list reader.old.text reader.old.scope next start items.now) terms.new result }
+    requires ready { IsReady context.old terms.old next (weights items.now) }
+    ensures told { Tells context.old.lets (any_list context.old.text context.old.scope next start items.now) terms.new result }
     ensures keeps { Keeps terms.old terms.new }
-    ensures kept { OnOk result (reader.new ≡ reader.old) }
+    ensures kept { OnOk result (context.new ≡ context.old) }
     ensures next { IfOk result (λ found. found.next ≤ next + weights items.now) }
 {
     match items {
         [] => Err(bad_form(start)),
         [head, rest @ ..] => {
-            let text = reader.text();
+            let text = context.text();
             if is_word(text, head, b"let") {
-                read_let(reader, next, start, rest, terms)
+                read_let(context, next, start, rest, terms)
             } else if is_word(text, head, b"forall") {
-                read_quantifier(reader, next, start, true, rest, terms)
+                read_quantifier(context, next, start, true, rest, terms)
             } else if is_word(text, head, b"exists") {
-                read_quantifier(reader, next, start, false, rest, terms)
+                read_quantifier(context, next, start, false, rest, terms)
             } else {
-                read_application(reader, next, start, head, rest, terms)
+                read_application(context, next, start, head, rest, terms)
             }
         }
     }
@@ -77,28 +77,28 @@ fn read_list<'a>(
 /// Reads a head and its arguments.
 #[cycle(term)]
 fn read_application<'a>(
-    reader: &mut Reader<'a>,
+    context: &mut Context<'a>,
     next: u32,
     start: u32,
     head: &Tree,
     args: &[Tree],
     terms: &mut Terms,
 ) -> Result<Found, TermStop>
-    requires ready { IsReady reader.old terms.old next (weights args.now) }
-    ensures told { Tells reader.old.lets (applied_list reader.old.text reader.old.scope next start head.now args.now) terms.new result }
+    requires ready { IsReady context.old terms.old next (weights args.now) }
+    ensures told { Tells context.old.lets (applied_list context.old.text context.old.scope next start head.now args.now) terms.new result }
     ensures keeps { Keeps terms.old terms.new }
-    ensures kept { OnOk result (reader.new ≡ reader.old) }
+    ensures kept { OnOk result (context.new ≡ context.old) }
     ensures next { IfOk result (λ found. found.next ≤ next + weights args.now) }
 {
-    let signature = reader.signature();
-    let head = match head_of(reader.text(), signature, head) {
+    let signature = context.signature();
+    let head = match head_of(context.text(), signature, head) {
         Ok(head) => head,
         Err(fault) => return Err(TermStop::Fault(fault)),
     };
     if let Some(fault) = head_fault(signature.preds(), head, start, args.len()) {
         return Err(TermStop::Fault(fault));
     }
-    match read_arguments(reader, next, args, terms) {
+    match read_arguments(context, next, args, terms) {
         Ok(all) => apply(signature.preds(), head, start, all, terms),
         Err(stop) => Err(stop),
     }
@@ -107,21 +107,21 @@ fn read_application<'a>(
 /// Reads trees one after another.
 #[cycle(term)]
 fn read_arguments<'a>(
-    reader: &mut Reader<'a>,
+    context: &mut Context<'a>,
     next: u32,
     args: &[Tree],
     terms: &mut Terms,
 ) -> Result<FoundAll, TermStop>
-    requires ready { IsReady reader.old terms.old next (weights args.now) }
-    ensures told { TellsAll reader.old.lets (each_spelled reader.old.text reader.old.scope (nothing_yet next) args.now) terms.new result }
+    requires ready { IsReady context.old terms.old next (weights args.now) }
+    ensures told { TellsAll context.old.lets (each_spelled context.old.text context.old.scope (nothing_yet next) args.now) terms.new result }
     ensures keeps { Keeps terms.old terms.new }
-    ensures kept { OnOk result (reader.new ≡ reader.old) }
+    ensures kept { OnOk result (context.new ≡ context.old) }
     ensures next { IfOk result (λ all. all.next ≤ next + weights args.now) }
     ensures count { IfOk result (λ all. length all.ids.items ≡ length args.now) }
 {
-    let mut all = FoundAll::with_room(reader.alloc(), args.len(), next)?;
+    let mut all = FoundAll::with_room(context.alloc(), args.len(), next)?;
     for arg in args {
-        match read_next(reader, all, arg, terms) {
+        match read_next(context, all, arg, terms) {
             Ok(more) => all = more,
             Err(stop) => return Err(stop),
         }
@@ -132,20 +132,20 @@ fn read_arguments<'a>(
 /// Reads one more tree behind those that were read.
 #[cycle(term)]
 fn read_next<'a>(
-    reader: &mut Reader<'a>,
+    context: &mut Context<'a>,
     all: FoundAll,
     tree: &Tree,
     terms: &mut Terms,
 ) -> Result<FoundAll, TermStop>
-    requires ready { IsReady reader.old terms.old all.next (weight tree.now) }
-    ensures told { (g : Gathered) → IsGathered reader.old.lets terms.old g all.ids.items all.parts.items all.next
-        → TellsAll reader.old.lets (next_spelled reader.old.text reader.old.scope g tree.now) terms.new result }
+    requires ready { IsReady context.old terms.old all.next (weight tree.now) }
+    ensures told { (g : Gathered) → IsGathered context.old.lets terms.old g all.ids.items all.parts.items all.next
+        → TellsAll context.old.lets (next_spelled context.old.text context.old.scope g tree.now) terms.new result }
     ensures keeps { Keeps terms.old terms.new }
-    ensures kept { OnOk result (reader.new ≡ reader.old) }
+    ensures kept { OnOk result (context.new ≡ context.old) }
     ensures next { IfOk result (λ more. more.next ≤ all.next + weight tree.now) }
     ensures count { IfOk result (λ more. length more.ids.items ≡ length all.ids.items + 1) }
 {
-    match read_term(reader, all.next, tree, terms) {
+    match read_term(context, all.next, tree, terms) {
         Ok(found) => Ok(with_next(all, found)?),
         Err(stop) => Err(stop),
     }
@@ -154,26 +154,26 @@ fn read_next<'a>(
 /// Reads what follows the word `let`.
 #[cycle(term)]
 fn read_let<'a>(
-    reader: &mut Reader<'a>,
+    context: &mut Context<'a>,
     next: u32,
     start: u32,
     rest: &[Tree],
     terms: &mut Terms,
 ) -> Result<Found, TermStop>
-    requires ready { IsReady reader.old terms.old next (weights rest.now) }
-    ensures told { Tells reader.old.lets (let_list reader.old.text reader.old.scope next start rest.now) terms.new result }
+    requires ready { IsReady context.old terms.old next (weights rest.now) }
+    ensures told { Tells context.old.lets (let_list context.old.text context.old.scope next start rest.now) terms.new result }
     ensures keeps { Keeps terms.old terms.new }
-    ensures kept { OnOk result (reader.new ≡ reader.old) }
+    ensures kept { OnOk result (context.new ≡ context.old) }
     ensures next { IfOk result (λ found. found.next ≤ next + weights rest.now) }
 {
     match rest {
         [binder, body] => {
-            if let Some(fault) = binder_fault(reader.text(), binder) {
+            if let Some(fault) = binder_fault(context.text(), binder) {
                 return Err(TermStop::Fault(fault));
             }
             let items = items_of(binder);
-            match read_bound(reader, next, items, terms) {
-                Ok(all) => read_under_lets(reader, start, items, all, body, terms),
+            match read_bound(context, next, items, terms) {
+                Ok(all) => read_under_lets(context, start, items, all, body, terms),
                 Err(stop) => Err(stop),
             }
         }
@@ -184,21 +184,21 @@ fn read_let<'a>(
 /// Reads the terms that the items of a `let` bind.
 #[cycle(term)]
 fn read_bound<'a>(
-    reader: &mut Reader<'a>,
+    context: &mut Context<'a>,
     next: u32,
     items: &[Tree],
     terms: &mut Terms,
 ) -> Result<FoundAll, TermStop>
-    requires ready { IsReady reader.old terms.old next (weights items.now) }
-    ensures told { TellsAll reader.old.lets (all_bound reader.old.text reader.old.scope (nothing_yet next) items.now) terms.new result }
+    requires ready { IsReady context.old terms.old next (weights items.now) }
+    ensures told { TellsAll context.old.lets (all_bound context.old.text context.old.scope (nothing_yet next) items.now) terms.new result }
     ensures keeps { Keeps terms.old terms.new }
-    ensures kept { OnOk result (reader.new ≡ reader.old) }
+    ensures kept { OnOk result (context.new ≡ context.old) }
     ensures next { IfOk result (λ all. all.next ≤ next + weights items.now) }
     ensures count { IfOk result (λ all. length all.ids.items ≤ length items.now) }
 {
-    let mut all = FoundAll::with_room(reader.alloc(), items.len(), next)?;
+    let mut all = FoundAll::with_room(context.alloc(), items.len(), next)?;
     for item in items {
-        match read_item(reader, all, items_of(item), terms) {
+        match read_item(context, all, items_of(item), terms) {
             Ok(more) => all = more,
             Err(stop) => return Err(stop),
         }
@@ -209,21 +209,21 @@ fn read_bound<'a>(
 /// Reads the term of an item of a `let`, a name and a term.
 #[cycle(term)]
 fn read_item<'a>(
-    reader: &mut Reader<'a>,
+    context: &mut Context<'a>,
     all: FoundAll,
     item: &[Tree],
     terms: &mut Terms,
 ) -> Result<FoundAll, TermStop>
-    requires ready { IsReady reader.old terms.old all.next (weights item.now) }
-    ensures told { (g : Gathered) → IsGathered reader.old.lets terms.old g all.ids.items all.parts.items all.next
-        → TellsAll reader.old.lets (item_bound reader.old.text reader.old.scope g item.now) terms.new result }
+    requires ready { IsReady context.old terms.old all.next (weights item.now) }
+    ensures told { (g : Gathered) → IsGathered context.old.lets terms.old g all.ids.items all.parts.items all.next
+        → TellsAll context.old.lets (item_bound context.old.text context.old.scope g item.now) terms.new result }
     ensures keeps { Keeps terms.old terms.new }
-    ensures kept { OnOk result (reader.new ≡ reader.old) }
+    ensures kept { OnOk result (context.new ≡ context.old) }
     ensures next { IfOk result (λ more. more.next ≤ all.next + weights item.now) }
     ensures count { IfOk result (λ more. length more.ids.items ≤ length all.ids.items + 1) }
 {
     match item {
-        [_, term] => read_next(reader, all, term, terms),
+        [_, term] => read_next(context, all, term, terms),
         _ => Ok(all),
     }
 }
@@ -231,31 +231,31 @@ fn read_item<'a>(
 /// Reads the term below the names of a `let`, whose own terms were read.
 #[cycle(term)]
 fn read_under_lets<'a>(
-    reader: &mut Reader<'a>,
+    context: &mut Context<'a>,
     start: u32,
     items: &[Tree],
     all: FoundAll,
     body: &Tree,
     terms: &mut Terms,
 ) -> Result<Found, TermStop>
-    requires ready { IsReady reader.old terms.old all.next (weight body.now) }
-    requires room { length reader.old.lets + (length items.now + weight body.now) < 2 ^ 32 }
+    requires ready { IsReady context.old terms.old all.next (weight body.now) }
+    requires room { length context.old.lets + (length items.now + weight body.now) < 2 ^ 32 }
     requires count { length all.ids.items ≤ length items.now }
-    requires gathered { (g : Gathered) × IsGathered reader.old.lets terms.old g all.ids.items all.parts.items all.next }
-    ensures told { (g : Gathered) → IsGathered reader.old.lets terms.old g all.ids.items all.parts.items all.next
-        → Tells reader.old.lets (under_lets reader.old.text reader.old.scope start items.now body.now g) terms.new result }
+    requires gathered { (g : Gathered) × IsGathered context.old.lets terms.old g all.ids.items all.parts.items all.next }
+    ensures told { (g : Gathered) → IsGathered context.old.lets terms.old g all.ids.items all.parts.items all.next
+        → Tells context.old.lets (under_lets context.old.text context.old.scope start items.now body.now g) terms.new result }
     ensures keeps { Keeps terms.old terms.new }
-    ensures kept { OnOk result (reader.new ≡ reader.old) }
+    ensures kept { OnOk result (context.new ≡ context.old) }
     ensures next { IfOk result (λ found. found.next ≤ all.next + weight body.now) }
 {
-    if let Some(fault) = let_names_fault(reader.alloc(), reader.text(), items)? {
+    if let Some(fault) = let_names_fault(context.alloc(), context.text(), items)? {
         return Err(TermStop::Fault(fault));
     }
-    let (names, lets) = (reader.names(), reader.lets());
-    reader.bind_lets(items, &all.parts, &all.ids)?;
-    match read_term(reader, all.next, body, terms) {
+    let (names, lets) = (context.names(), context.lets());
+    context.bind_lets(items, &all.parts, &all.ids)?;
+    match read_term(context, all.next, body, terms) {
         Ok(found) => {
-            reader.leave(names, lets);
+            context.leave(names, lets);
             add_binding(start, all, found, terms)
         }
         Err(stop) => Err(stop),
@@ -265,32 +265,32 @@ fn read_under_lets<'a>(
 /// Reads what follows the word `forall`, or the word `exists`.
 #[cycle(term)]
 fn read_quantifier<'a>(
-    reader: &mut Reader<'a>,
+    context: &mut Context<'a>,
     next: u32,
     start: u32,
     is_universal: bool,
     rest: &[Tree],
     terms: &mut Terms,
 ) -> Result<Found, TermStop>
-    requires ready { IsReady reader.old terms.old next (weights rest.now) }
-    ensures told { Tells reader.old.lets (unless (quantifier_fault reader.old.scope.quantifies start) (quantifier_list reader.old.text reader.old.scope next start is_universal rest.now)) terms.new result }
+    requires ready { IsReady context.old terms.old next (weights rest.now) }
+    ensures told { Tells context.old.lets (unless (quantifier_fault context.old.scope.quantifies start) (quantifier_list context.old.text context.old.scope next start is_universal rest.now)) terms.new result }
     ensures keeps { Keeps terms.old terms.new }
-    ensures kept { OnOk result (reader.new ≡ reader.old) }
+    ensures kept { OnOk result (context.new ≡ context.old) }
     ensures next { IfOk result (λ found. found.next ≤ next + weights rest.now) }
 {
-    if !reader.quantifies() {
+    if !context.quantifies() {
         return Err(bad_form(start));
     }
     match rest {
         [binder, body] => {
-            if let Some(fault) = binder_fault(reader.text(), binder) {
+            if let Some(fault) = binder_fault(context.text(), binder) {
                 return Err(TermStop::Fault(fault));
             }
             let items = items_of(binder);
-            if let Some(fault) = variables_fault(reader.alloc(), reader.text(), items)? {
+            if let Some(fault) = variables_fault(context.alloc(), context.text(), items)? {
                 return Err(TermStop::Fault(fault));
             }
-            read_under_variables(reader, next, start, is_universal, items, body, terms)
+            read_under_variables(context, next, start, is_universal, items, body, terms)
         }
         _ => Err(bad_form(start)),
     }
@@ -299,7 +299,7 @@ fn read_quantifier<'a>(
 /// Reads the term below the variables of a quantifier.
 #[cycle(term)]
 fn read_under_variables<'a>(
-    reader: &mut Reader<'a>,
+    context: &mut Context<'a>,
     next: u32,
     start: u32,
     is_universal: bool,
@@ -307,19 +307,19 @@ fn read_under_variables<'a>(
     body: &Tree,
     terms: &mut Terms,
 ) -> Result<Found, TermStop>
-    requires ready { IsReady reader.old terms.old next (length items.now + weight body.now) }
-    ensures told { Tells reader.old.lets (under_variables reader.old.text reader.old.scope next start is_universal items.now body.now) terms.new result }
+    requires ready { IsReady context.old terms.old next (length items.now + weight body.now) }
+    ensures told { Tells context.old.lets (under_variables context.old.text context.old.scope next start is_universal items.now body.now) terms.new result }
     ensures keeps { Keeps terms.old terms.new }
-    ensures kept { OnOk result (reader.new ≡ reader.old) }
+    ensures kept { OnOk result (context.new ≡ context.old) }
     ensures next { IfOk result (λ found. found.next ≤ next + length items.now + weight body.now) }
 {
-    let sorts = sorts_bound(reader.alloc(), reader.text(), items)?;
-    let (names, lets) = (reader.names(), reader.lets());
-    reader.bind_variables(next, items)?;
+    let sorts = sorts_bound(context.alloc(), context.text(), items)?;
+    let (names, lets) = (context.names(), context.lets());
+    context.bind_variables(next, items)?;
     let below = next + items.len() as u32;
-    match read_term(reader, below, body, terms) {
+    match read_term(context, below, body, terms) {
         Ok(found) => {
-            reader.leave(names, lets);
+            context.leave(names, lets);
             add_quantifier(is_universal, next, sorts, start, found, terms)
         }
         Err(stop) => Err(stop),

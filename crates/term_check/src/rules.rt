@@ -1,15 +1,15 @@
 //! What an application owes to its arguments, in the order of checking.
 
 ghost use Rattle.std.specs.Prelude.{ℕ, ℤ, pos, ◌≡◌, ◌+◌, ◌^◌, ◌≤◌, length, ◌≤ℤ◌, ◌-◌, nat_abs};
-ghost use Rattle.term_check.specs.Rules.{fault, number_fault, same_sort, first_not, first_unlike, choice_fault, sort_fault, second_sort, result_sort, varying, divisor_fault, product_fault, linear_fault, narrow, narrow_product, wide_unless, product_constant, constant_of, applied, divisibility_fault, divisible_fault, declared_fault};
-ghost use Rattle.term_check.specs.Reading.{divisor_of};
+ghost use Rattle.term_check.specs.Rules.{fault, number_fault, same_sort, first_not, first_unlike, choice_fault, sort_fault, second_sort, result_sort, varying, divisor_fault, product_fault, linear_fault, if_short, product_if_short, wide_unless, product_constant, constant_of, applied, divisibility_fault, divisible_fault, declared_fault};
+ghost use Rattle.term_check.specs.machinery.Reading.{divisor_of};
 
 use crate::operators::{
     Sorts, is_arithmetic, is_choice, is_distinct, is_division, is_product, least_operands,
     most_operands, wanted,
 };
 use crate::part::{Fault, Part};
-use crate::values::{narrow_product, narrow_value, varying};
+use crate::values::{product_if_short, value_if_short, varying};
 use base::MOST_DISTINCT;
 use term_tree::{Kind, OpKind, Sort};
 
@@ -159,7 +159,7 @@ fn wide_unless(start: u32, value: Option<i64>) -> Result<Option<i64>, Fault>
 fn product_constant(start: u32, parts: &[Part]) -> Result<Option<i64>, Fault>
     ensures { result ≡ product_constant start parts.now }
 {
-    match narrow_product(parts) {
+    match product_if_short(parts) {
         None => Err(fault(Kind::TooWide, start)),
         Some(product) => {
             if varying(parts) == 0 {
@@ -177,7 +177,7 @@ fn constant_of(op: OpKind, start: u32, parts: &[Part]) -> Result<Option<i64>, Fa
     if is_product(op) {
         product_constant(start, parts)
     } else if is_arithmetic(op) && varying(parts) == 0 {
-        wide_unless(start, narrow_value(op, parts))
+        wide_unless(start, value_if_short(op, parts))
     } else {
         Ok(None)
     }

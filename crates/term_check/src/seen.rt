@@ -2,17 +2,17 @@ ghost use Rattle.std.specs.Prelude.{◌≡◌, ◌++◌, [], ◌∷◌, false, m
 ghost use Rattle.term_check.specs.Words.{is_among};
 
 use crate::bindings::FEW;
+use crate::sorted::Sorted;
 use base::Memory;
-use indexmap::IndexSet;
 use std::alloc::Global;
 use std::marker::Model;
 
 /// The names that stand in a binder before, in their order. The first ones are found by comparing
-/// each, and those after them by their hash.
+/// each, and those after them by a set, so that no choice of names makes it slow.
 #[derive(Drop)]
 pub struct Seen<'a> {
     few: Vec<&'a [u8]>,
-    more: IndexSet<&'a [u8]>,
+    more: Sorted<'a>,
 }
 
 impl<'a> Model for Seen<'a> {
@@ -20,7 +20,7 @@ impl<'a> Model for Seen<'a> {
 
     ghost Value = { List (List ℕ) };
 
-    ghost view = { λ s. map (λ name. name.now) s.few.items ++ map (λ name. name.now) s.more.keys };
+    ghost view = { λ s. map (λ name. name.now) s.few.items ++ s.more };
 }
 
 /// Whether one of them is that name.
@@ -42,12 +42,12 @@ impl<'a> Seen<'a> {
     {
         Ok(Seen {
             few: Vec::with_capacity(alloc, count.min(FEW))?,
-            more: IndexSet::with_capacity(alloc, count.saturating_sub(FEW))?,
+            more: Sorted::with_room(alloc, count.saturating_sub(FEW))?,
         })
     }
 
     /// Whether the name is among them.
-    pub fn has(&self, name: &[u8]) -> bool
+    pub fn contains(&self, name: &[u8]) -> bool
         ensures { result ≡ is_among self.now name.now }
     {
         has_name(self.few.as_slice(), name) || !self.more.is_empty() && self.more.contains(name)
@@ -61,7 +61,7 @@ impl<'a> Seen<'a> {
         if self.few.len() < FEW && self.more.is_empty() {
             self.few.push(name)?;
         } else {
-            self.more.insert(name)?;
+            self.more.add(name)?;
         }
         Ok(())
     }

@@ -2,30 +2,30 @@ ghost use Rattle.std.specs.Prelude.{◌≡◌, ◌+◌, ◌<◌, ◌^◌, ◌++�
 ghost use Rattle.term_check.specs.Spelling.{pred_from};
 
 use base::{Items, Memory};
-use indexmap::IndexMap;
 use std::alloc::Global;
+use std::collections::BTreeMap;
 use std::marker::Model;
 use term_tree::Pred;
 
 /// The declared predicates, numbered from 0 in their order, each found by its name. Their names
-/// differ.
+/// differ. They are found by order, so that no choice of names makes it slow.
 #[derive(Drop)]
 pub struct Signature {
     alloc: Global,
     preds: Vec<Pred>,
-    numbers: IndexMap<Vec<u8>, u32>,
+    numbers: BTreeMap<Vec<u8>, u32>,
 }
 
 impl Model for Signature {
-    ghost use Rattle.std.specs.Prelude.{List, ◌≡◌, ◌<◌, ◌^◌, vec_len, map};
+    ghost use Rattle.std.specs.Prelude.{List, ◌<◌, ◌^◌, vec_len};
     ghost use Rattle.term_tree.specs.declared.script.Pred.{Pred as APred};
-    ghost use Rattle.term_check.specs.machinery.Numbers.{numbered};
+    ghost use Rattle.term_check.specs.machinery.Numbers.{AreNumbered};
 
     ghost Value = { List APred };
 
     ghost view = { λ s. s.preds.items };
 
-    ghost invariant = { λ s. (vec_len s.preds < 2 ^ 32) × (map (λ e. (e.0.items, e.1)) s.numbers.entries ≡ numbered 0 s.preds.items) };
+    ghost invariant = { λ s. (vec_len s.preds < 2 ^ 32) × AreNumbered (λ key. key.items) s.preds.items s.numbers.entries };
 }
 
 impl Signature {
@@ -36,7 +36,7 @@ impl Signature {
         Signature {
             alloc,
             preds: Vec::new(alloc),
-            numbers: IndexMap::new(alloc),
+            numbers: BTreeMap::new(alloc),
         }
     }
 

@@ -114,6 +114,7 @@ fn declared(alloc: Global) -> Result<Signature, Memory> {
 fn read(alloc: Global, text: &[u8], signature: &Signature) -> Result<String, Memory>
     requires { length text.now < 2 ^ 32 }
 {
+    // A law, which runs nothing.
     trees_are_light();
     let read = read_commands(alloc, text)?;
     let mut terms = Terms::new(alloc);
@@ -289,6 +290,7 @@ fn formula(alloc: Global, text: &[u8]) -> Result<String, Memory>
         bytes: Items::from_slice(alloc, b"y")?,
     };
     let params = [(x, Sort::Int), (y, Sort::Bool)];
+    // A law, which runs nothing.
     trees_are_light();
     let read = read_commands(alloc, text)?;
     match read.trees.as_slice().get(0) {

@@ -2,7 +2,7 @@
 
 ghost use Rattle.std.specs.Prelude.{ℕ, ℤ, pos, ◌-ℤ◌, ◌*ℤ◌, fold, ◌≡◌, ◌+◌, ◌*◌, ◌^◌, ◌≤◌, ◌<◌, length, map, nat_abs};
 ghost use Rattle.term_tree.specs.Operators.{sum_of, difference_of, first_of_all};
-ghost use Rattle.term_check.specs.Rules.{varying, multiplied, narrow, narrow_product, worth, quotient, remainder, value_at};
+ghost use Rattle.term_check.specs.Rules.{varying, multiplied, if_short, product_if_short, worth, quotient, remainder, value_at};
 
 use crate::part::Part;
 use term_tree::OpKind;
@@ -22,8 +22,8 @@ pub fn varying(parts: &[Part]) -> usize
 }
 
 /// The number, where it is below 2 ^ 63 in magnitude.
-pub fn narrow(value: i128) -> Option<i64>
-    ensures { result ≡ narrow value }
+pub fn if_short(value: i128) -> Option<i64>
+    ensures { result ≡ if_short value }
 {
     if value.unsigned_abs() < 1 << 63 {
         Some(value as i64)
@@ -44,7 +44,7 @@ fn multiplied(product: Option<i64>, factor: Option<i64>) -> Option<i64>
 {
     match product {
         Some(product) => match factor {
-            Some(factor) => narrow(times(product, factor)),
+            Some(factor) => if_short(times(product, factor)),
             None => Some(product),
         },
         None => None,
@@ -53,8 +53,8 @@ fn multiplied(product: Option<i64>, factor: Option<i64>) -> Option<i64>
 
 /// The product of those parts that are constants, where neither it nor that of the first of them is
 /// wide.
-pub fn narrow_product(parts: &[Part]) -> Option<i64>
-    ensures { result ≡ narrow_product parts.now }
+pub fn product_if_short(parts: &[Part]) -> Option<i64>
+    ensures { result ≡ product_if_short parts.now }
 {
     let mut product = Some(1);
     for part in parts {
@@ -151,8 +151,8 @@ fn value_at(op: OpKind, parts: &[Part]) -> i128
 }
 
 /// The value of an operator other than `*` at constants, where it is below 2 ^ 63 in magnitude.
-pub fn narrow_value(op: OpKind, parts: &[Part]) -> Option<i64>
-    ensures { result ≡ narrow (value_at op (map worth parts.now)) }
+pub fn value_if_short(op: OpKind, parts: &[Part]) -> Option<i64>
+    ensures { result ≡ if_short (value_at op (map worth parts.now)) }
 {
-    narrow(value_at(op, parts))
+    if_short(value_at(op, parts))
 }

@@ -1,11 +1,9 @@
 -- What it takes that a printed answer is read back as itself, and what that means of a model.
-use Rattle.std.specs.Prelude.{◌≡◌, ℕ, pos, ◌^◌, ◌<◌, List, [], ◌∷◌, length, Bool, false, true, not, ◌==◌, ◌||◌, Some, slice_get, codes}
+use Rattle.std.specs.Prelude.{◌≡◌, ℕ, ◌^◌, ◌<◌, List, [], ◌∷◌, length, Bool, false, true, not, ◌==◌, ◌||◌, Some, slice_get, codes}
 use Rattle.std.specs.List.{AllByRecursion, list_all}
 use Rattle.std.specs.Str.{bytes_eq}
 use Rattle.term_tree.specs.declared.script.Pred.{Pred}
 use Rattle.term_tree.specs.declared.definition.Definition.{Definition}
-use Rattle.term_tree.specs.declared.node.Node.{Node}
-use Rattle.term_tree.specs.declared.node.Node.TheVariants.{Num, Divisible}
 use Rattle.term_tree.specs.Arena.{IsArena}
 use Rattle.term_tree.specs.Same.{is_same_tree}
 use Rattle.term_check.specs.Spelling.{pred_from}
@@ -23,16 +21,9 @@ pub record AreNames (preds : List Pred) : Type 0 where
   pub differ : (number : ℕ) (p : Pred) → slice_get preds number ≡ Some p → pred_from 0 p.name.bytes preds ≡ Some number
   pub free : AllByRecursion (λ p. bytes_eq p.name.bytes (codes "false") ≡ false) preds
 
--- The values of the type of terms: each node stands after its parts, and a number has 64 bits.
-
-abbrev pub HasShortNumber : Node → Type 0
-HasShortNumber (Num (pos n)) = n < 2 ^ 63
-HasShortNumber (Divisible (pos n) arg) = n < 2 ^ 63
-HasShortNumber node = Unit {0}
-
+-- as every value of the type: each node stands after its parts, and the parameters can be numbered
 pub record IsStored (d : Definition) : Type 0 where
   pub arena : IsArena d.terms.nodes
-  pub numbers : AllByRecursion HasShortNumber d.terms.nodes
   pub short : length d.params < 2 ^ 64
 
 -- the same predicate and parameters, and terms that are equal as trees

@@ -1,16 +1,38 @@
 -- What a call of `solve` is to write, and why.
-use Rattle.std.specs.Prelude.{◌≡◌, ℕ, List, IfSome, Bool, true, false}
+use Rattle.std.specs.Prelude.{◌≡◌, ℕ, List, [], IfSome, Bool, true, false}
 use Rattle.std.specs.declared.option.Option.{Option}
+use Rattle.base.specs.Limits.{most_bytes}
+use Rattle.sort_check.specs.Scripts.{IsRefused}
 use Rattle.chc_cli.specs.declared.plan.Plan.{Plan}
-use Rattle.chc_cli.specs.declared.plan.Plan.TheVariants.{Answered, Refused, ReadFault, OutOfMemory}
-use Rattle.chc_cli.specs.Headline.{IsSatAnswer, RefusesInput, ReadsInput}
+use Rattle.chc_cli.specs.declared.plan.Plan.TheVariants.{Answered, Refused, Overlong, ReadFault, OutOfMemory}
+use Rattle.chc_cli.specs.Headline.{IsSatAnswer}
+use Rattle.term_tree.specs.declared.refusal.Kind.TheVariants.{TooLong}
 use Rattle.answer_text.specs.Lines.{error_text}
 
 abbrev pub IsPlan : Option (List ℕ) → Plan → Type 0
 IsPlan left (Answered read text) = IsSatAnswer read.items text.items × IfSome left (λ bytes. read.items ≡ bytes)
-IsPlan left (Refused read refusal line) = RefusesInput left read.items refusal × ReadsInput left read.items refusal × (line.items ≡ error_text refusal)
+IsPlan left (Refused read refusal line) = IsRefused read.items refusal × IfSome left (λ bytes. read.items ≡ bytes) × (line.items ≡ error_text refusal)
+IsPlan left (Overlong refusal line) = (refusal ≡ record { kind = TooLong; offset = most_bytes; command = 0 }) × IfSome left (λ bytes. IsRefused bytes refusal) × (line.items ≡ error_text refusal)
 IsPlan left ReadFault = Unit {0}
 IsPlan left (OutOfMemory read) = Unit {0}
+
+-- the bytes that the report keeps
+abbrev pub read_of : Plan → List ℕ
+read_of (Answered read text) = read.items
+read_of (Refused read refusal line) = read.items
+read_of (Overlong refusal line) = []
+read_of ReadFault = []
+read_of (OutOfMemory read) = read.items
+
+-- the plan is not to refuse a text for its length
+abbrev pub IsEnded : Plan → Type 0
+IsEnded (Overlong refusal line) = ⊥
+IsEnded _ = Unit {0}
+
+-- the plan is not to refuse bytes that were read to their end
+abbrev pub IsUnended : Plan → Type 0
+IsUnended (Refused read refusal line) = ⊥
+IsUnended _ = Unit {0}
 
 -- the plan is that the source has failed
 abbrev pub is_fault : Plan → Bool

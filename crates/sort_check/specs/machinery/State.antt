@@ -2,7 +2,7 @@
 use Rattle.std.specs.Prelude.{◌≡◌, List, [], ◌∷◌, ◌++◌, length, Option, None, Some, Result, Ok, Err}
 use Rattle.std.specs.List.{list_any, list_all}
 use Rattle.term_check.specs.declared.part.Fault.{Fault}
-use Rattle.term_check.specs.Term.{IsAligned}
+use Rattle.term_check.specs.Found.{IsAligned}
 use Rattle.sort_check.specs.Commands.{Command, declared, asserted, is_set_logic, is_inform, is_check_sat, is_exit}
 use Rattle.sort_check.specs.Scripts.{AreAsserted}
 use Rattle.sort_check.specs.declared.state.State.{State}

@@ -1,4 +1,4 @@
--- What a reader knows: the text, what a term may use, and the terms that let binds around it, by number.
+-- What a context knows: the text, what a term may use, and the terms that let binds around it, by number.
 use Rattle.std.specs.Prelude.{◌≡◌, ℕ, ◌+◌, ◌<◌, ◌^◌, List, ◌++◌, length, take, Bool, true, nat_lt}
 use Rattle.std.specs.List.{list_all}
 use Rattle.term_tree.specs.declared.node.TermId.{TermId}
@@ -8,7 +8,7 @@ use Rattle.term_check.specs.declared.scope.Bound.TheVariants.{Variable, Let}
 use Rattle.term_check.specs.declared.scope.Named.{Named}
 use Rattle.term_check.specs.declared.atom.Atom.{Atom}
 use Rattle.term_check.specs.declared.atom.Atom.TheVariants.{LetName}
-use Rattle.term_check.specs.Term.{IsAligned}
+use Rattle.term_check.specs.Found.{IsAligned}
 use Rattle.sexp_read.specs.declared.tree.Tree.{Tree}
 use Rattle.term_check.specs.declared.part.Part.{Part}
 use Rattle.term_check.specs.Spelling.{Scope, lets_in, lets_from, with_variables}

@@ -1,6 +1,6 @@
 use Rattle.std.proofs.Common.{◌≡◌, ◌++◌, take}
 use Rattle.std.specs.List.{flat_map}
-use Rattle.answer_text.specs.Answers.{definition_text}
+use Rattle.answer_text.specs.AnswerTexts.{definition_text}
 use Rattle.answer_text.proofs.write.push_definitions.Given as goal
 
 abbrev pub invariant-loop-definition : goal.invariant-loop-definition

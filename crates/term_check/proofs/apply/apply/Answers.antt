@@ -4,7 +4,7 @@ use Rattle.std.proofs.lemmas.Int.{to_z-of_z}
 use Rattle.std.specs.Prelude.{Ok, None}
 use Rattle.term_check.specs.Rules.{applied, declared_fault}
 use Rattle.term_check.specs.Spelling.{sorts_of}
-use Rattle.term_check.specs.Reading.{divisor_of}
+use Rattle.term_check.specs.machinery.Reading.{divisor_of}
 use Rattle.term_check.proofs.ApplyLemmas.{first_there, one_of_head, operator_told, declared_told, divisible_told}
 use Rattle.term_check.proofs.apply.apply.Goals as goal
 

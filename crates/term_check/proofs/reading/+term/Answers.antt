@@ -6,7 +6,7 @@ use Rattle.term_check.specs.declared.found.Found.{Found}
 use Rattle.term_check.specs.declared.part.Fault.{Fault}
 use Rattle.term_check.specs.declared.part.Part.{Part}
 use Rattle.term_check.specs.machinery.Known.{Known, IsReady, below_let}
-use Rattle.term_check.specs.Reading.{Tells, IsGathered, each_spelled, all_bound, next_spelled, item_bound, under_variables, any_list}
+use Rattle.term_check.specs.machinery.Reading.{Tells, IsGathered, each_spelled, all_bound, next_spelled, item_bound, under_variables, any_list}
 use Rattle.term_check.specs.Spelling.{Gathered, Spelled, nothing_yet, items_of, spelled, binder_fault, variables_fault, let_names_fault, sorts_bound}
 use Rattle.term_check.specs.machinery.Weight.{weight, weights}
 use Rattle.term_check.proofs.CycleLemmas.{if_ok_then, rest_of, two_of, second_weighs, weigh_drop, weigh_next, none_gathered, next_told, turned, ready_below_let, ready_below_quantifier, under_lets_told, under_variables_told, quantifier_told}
@@ -17,7 +17,7 @@ use Rattle.term_check.proofs.reading.+term.Goals as goal
 pub read_application-apply-requires-clause-below : goal.read_application-apply-requires-clause-below
 read_application-apply-requires-clause-below t c =
     let told = c.in-Ok-read_arguments.ensures.told in
-    all_below c.read_arguments.new.terms c.args.reader.now.lets told.0.terms c.in-Ok-read_arguments.all.ids.items told.2.terms
+    all_below c.read_arguments.new.terms c.args.context.now.lets told.0.terms c.in-Ok-read_arguments.all.ids.items told.2.terms
 
 pub read_application-read_arguments-requires : goal.read_application-read_arguments-requires
 read_application-read_arguments-requires t c = (let d = c.decreases in omega (arith, d), c.requires.ready)
@@ -27,7 +27,7 @@ read_application-returns-in-Ok-read_arguments-clause-keeps t c = keeps_then c.ar
 
 pub read_arguments-loop-arg-init : goal.read_arguments-loop-arg-init
 read_arguments-loop-arg-init t c = record {
-  told = (nothing_yet c.args.next, none_gathered c.args.reader.now.lets c.args.terms.now c.in_ok-all.all.ids.items c.in_ok-all.all.parts.items c.args.next c.in_ok-all.all.next c.in_ok-all.ensures.ids c.in_ok-all.ensures.parts c.in_ok-all.ensures.next, refl);
+  told = (nothing_yet c.args.next, none_gathered c.args.context.now.lets c.args.terms.now c.in_ok-all.all.ids.items c.in_ok-all.all.parts.items c.args.next c.in_ok-all.all.next c.in_ok-all.ensures.ids c.in_ok-all.ensures.parts c.in_ok-all.ensures.next, refl);
   keeps = keeps_all c.args.terms.now;
   kept = refl;
   room = let n = c.in_ok-all.ensures.next in omega (arith, n);
@@ -39,7 +39,7 @@ read_arguments-loop-arg-preserved t c =
     let inv = c.loop-arg.invariant in
     let weigh = weigh_next c.args.args.now c.loop-arg.arg-index c.arg-item.result c.loop-arg-test.true c.arg-item.is in
     record {
-      told = turned (λ k g tree. next_spelled k.text k.scope g tree) (λ k g trees. each_spelled k.text k.scope g trees) (λ k g tree trees. refl) c.args.reader.now c.loop-arg.reader c.loop-arg.terms c.read_next.new.terms
+      told = turned (λ k g tree. next_spelled k.text k.scope g tree) (λ k g trees. each_spelled k.text k.scope g trees) (λ k g tree trees. refl) c.args.context.now c.loop-arg.context c.loop-arg.terms c.read_next.new.terms
           c.loop-arg.all.ids.items c.in-Ok.more.ids.items c.loop-arg.all.parts.items c.in-Ok.more.parts.items c.loop-arg.all.next c.in-Ok.more.next c.args.args.now c.loop-arg.arg-index c.arg-item.result _ inv.kept c.loop-arg-test.true c.arg-item.is inv.told c.in-Ok.ensures.told;
       keeps = keeps_then c.args.terms.now c.loop-arg.terms c.read_next.new.terms inv.keeps c.in-Ok.ensures.keeps;
       kept = c.in-Ok.ensures.kept ∙ inv.kept;
@@ -55,12 +55,12 @@ read_arguments-read_next-requires t c =
     let room = inv.room in (
       let d = c.decreases in omega (arith, d, weigh, rest),
       subst (λ (k : Known). IsReady k c.loop-arg.terms c.loop-arg.all.next (weight c.arg-item.result)) (sym inv.kept)
-          (ready_then c.args.reader.now c.args.terms.now c.loop-arg.terms c.args.next (weights c.args.args.now) c.loop-arg.all.next (weight c.arg-item.result) c.requires.ready inv.keeps (omega (arith, room, weigh)) (omega (arith, weigh, rest))),
+          (ready_then c.args.context.now c.args.terms.now c.loop-arg.terms c.args.next (weights c.args.args.now) c.loop-arg.all.next (weight c.arg-item.result) c.requires.ready inv.keeps (omega (arith, room, weigh)) (omega (arith, weigh, rest))),
     )
 
 pub read_bound-loop-item-init : goal.read_bound-loop-item-init
 read_bound-loop-item-init t c = record {
-  told = (nothing_yet c.args.next, none_gathered c.args.reader.now.lets c.args.terms.now c.in_ok-all.all.ids.items c.in_ok-all.all.parts.items c.args.next c.in_ok-all.all.next c.in_ok-all.ensures.ids c.in_ok-all.ensures.parts c.in_ok-all.ensures.next, refl);
+  told = (nothing_yet c.args.next, none_gathered c.args.context.now.lets c.args.terms.now c.in_ok-all.all.ids.items c.in_ok-all.all.parts.items c.args.next c.in_ok-all.all.next c.in_ok-all.ensures.ids c.in_ok-all.ensures.parts c.in_ok-all.ensures.next, refl);
   keeps = keeps_all c.args.terms.now;
   kept = refl;
   room = let n = c.in_ok-all.ensures.next in omega (arith, n);
@@ -74,10 +74,10 @@ read_bound-loop-item-preserved t c =
     let inner = weight_of_items c.item-item.result in
     let same = ap weights c.items_of.ensures in
     record {
-      told = turned (λ k g tree. item_bound k.text k.scope g (items_of tree)) (λ k g trees. all_bound k.text k.scope g trees) (λ k g tree trees. refl) c.args.reader.now c.loop-item.reader c.loop-item.terms c.read_item.new.terms
+      told = turned (λ k g tree. item_bound k.text k.scope g (items_of tree)) (λ k g trees. all_bound k.text k.scope g trees) (λ k g tree trees. refl) c.args.context.now c.loop-item.context c.loop-item.terms c.read_item.new.terms
           c.loop-item.all.ids.items c.in-Ok.more.ids.items c.loop-item.all.parts.items c.in-Ok.more.parts.items c.loop-item.all.next c.in-Ok.more.next c.args.items.now c.loop-item.item-index c.item-item.result _ inv.kept c.loop-item-test.true c.item-item.is inv.told
-          (subst (λ (xs : List Tree). (g : Gathered) → IsGathered c.loop-item.reader.lets c.loop-item.terms g c.loop-item.all.ids.items c.loop-item.all.parts.items c.loop-item.all.next
-          → (h : Gathered) × (item_bound c.loop-item.reader.text c.loop-item.reader.scope g xs ≡ Ok h) × IsGathered c.loop-item.reader.lets c.read_item.new.terms h c.in-Ok.more.ids.items c.in-Ok.more.parts.items c.in-Ok.more.next) c.items_of.ensures c.in-Ok.ensures.told);
+          (subst (λ (xs : List Tree). (g : Gathered) → IsGathered c.loop-item.context.lets c.loop-item.terms g c.loop-item.all.ids.items c.loop-item.all.parts.items c.loop-item.all.next
+          → (h : Gathered) × (item_bound c.loop-item.context.text c.loop-item.context.scope g xs ≡ Ok h) × IsGathered c.loop-item.context.lets c.read_item.new.terms h c.in-Ok.more.ids.items c.in-Ok.more.parts.items c.in-Ok.more.next) c.items_of.ensures c.in-Ok.ensures.told);
       keeps = keeps_then c.args.terms.now c.loop-item.terms c.read_item.new.terms inv.keeps c.in-Ok.ensures.keeps;
       kept = c.in-Ok.ensures.kept ∙ inv.kept;
       room = let room = inv.room in let next = c.in-Ok.ensures.next in omega (arith, room, next, weigh, inner, same);
@@ -94,14 +94,14 @@ read_bound-read_item-requires t c =
     let room = inv.room in (
       let d = c.decreases in omega (arith, d, weigh, rest, inner, same),
       subst (λ (k : Known). IsReady k c.loop-item.terms c.loop-item.all.next (weights c.items_of.result.now)) (sym inv.kept)
-          (ready_then c.args.reader.now c.args.terms.now c.loop-item.terms c.args.next (weights c.args.items.now) c.loop-item.all.next (weights c.items_of.result.now) c.requires.ready inv.keeps (omega (arith, room, weigh, inner, same)) (omega (arith, weigh, rest, inner, same))),
+          (ready_then c.args.context.now c.args.terms.now c.loop-item.terms c.args.next (weights c.args.items.now) c.loop-item.all.next (weights c.items_of.result.now) c.requires.ready inv.keeps (omega (arith, room, weigh, inner, same)) (omega (arith, weigh, rest, inner, same))),
     )
 
 pub read_item-read_next-requires : goal.read_item-read_next-requires
 read_item-read_next-requires t c =
     let one = second_weighs c.args.item.now c.term-item.result c.in-len2.len_at_least c.term-item.is in (
       let d = c.decreases in omega (arith, d, one),
-      ready_then c.args.reader.now c.args.terms.now c.args.terms.now c.args.all.next (weights c.args.item.now) c.args.all.next (weight c.term-item.result) c.requires.ready (keeps_all c.args.terms.now) (omega (arith, one)) one,
+      ready_then c.args.context.now c.args.terms.now c.args.terms.now c.args.all.next (weights c.args.item.now) c.args.all.next (weight c.term-item.result) c.requires.ready (keeps_all c.args.terms.now) (omega (arith, one)) one,
     )
 
 pub read_let-read_bound-requires : goal.read_let-read_bound-requires
@@ -110,7 +110,7 @@ read_let-read_bound-requires t c =
     let inner = weight_of_items c.binder-item.result in
     let same = ap weights c.items_of-items.ensures in (
       let d = c.decreases in omega (arith, d, two, inner, same),
-      ready_then c.args.reader.now c.args.terms.now c.args.terms.now c.args.next (weights c.args.rest.now) c.args.next (weights c.items_of-items.result.now) c.requires.ready (keeps_all c.args.terms.now) (omega (arith, two, inner, same)) (omega (arith, two, inner, same)),
+      ready_then c.args.context.now c.args.terms.now c.args.terms.now c.args.next (weights c.args.rest.now) c.args.next (weights c.items_of-items.result.now) c.requires.ready (keeps_all c.args.terms.now) (omega (arith, two, inner, same)) (omega (arith, two, inner, same)),
     )
 
 pub read_let-read_under_lets-requires : goal.read_let-read_under_lets-requires
@@ -124,7 +124,7 @@ read_let-read_under_lets-requires t c =
       let d = c.decreases in omega (arith, d, two, inner, same),
       (
         subst (λ (k : Known). IsReady k c.read_bound.new.terms c.in-Ok.all.next (weight c.body-item.result)) (sym c.in-Ok.ensures.kept)
-            (ready_then c.args.reader.now c.args.terms.now c.read_bound.new.terms c.args.next (weights c.args.rest.now) c.in-Ok.all.next (weight c.body-item.result) c.requires.ready c.in-Ok.ensures.keeps (omega (arith, two, inner, same, next)) (omega (arith, two))),
+            (ready_then c.args.context.now c.args.terms.now c.read_bound.new.terms c.args.next (weights c.args.rest.now) c.in-Ok.all.next (weight c.body-item.result) c.requires.ready c.in-Ok.ensures.keeps (omega (arith, two, inner, same, next)) (omega (arith, two))),
         (
           let lets = ap (λ (k : Known). length k.lets) c.in-Ok.ensures.kept in let fits = c.requires.ready.terms in omega (arith, lets, fits, two, inner, same, many),
           (
@@ -152,7 +152,7 @@ read_list-read_application-requires t c =
     let all = ap weights (rest_of c.args.items.now c.head-item.result c.in-len1-up.len_at_least c.head-item.is) in
     let some = weighs c.head-item.result in (
       let d = c.decreases in omega (arith, d, all, some),
-      ready_then c.args.reader.now c.args.terms.now c.args.terms.now c.args.next (weights c.args.items.now) c.args.next _ c.requires.ready (keeps_all c.args.terms.now) (omega (arith, all)) (omega (arith, all)),
+      ready_then c.args.context.now c.args.terms.now c.args.terms.now c.args.next (weights c.args.items.now) c.args.next _ c.requires.ready (keeps_all c.args.terms.now) (omega (arith, all)) (omega (arith, all)),
     )
 
 pub read_list-read_let-requires : goal.read_list-read_let-requires
@@ -160,7 +160,7 @@ read_list-read_let-requires t c =
     let all = ap weights (rest_of c.args.items.now c.head-item.result c.in-len1-up.len_at_least c.head-item.is) in
     let some = weighs c.head-item.result in (
       let d = c.decreases in omega (arith, d, all, some),
-      ready_then c.args.reader.now c.args.terms.now c.args.terms.now c.args.next (weights c.args.items.now) c.args.next _ c.requires.ready (keeps_all c.args.terms.now) (omega (arith, all)) (omega (arith, all)),
+      ready_then c.args.context.now c.args.terms.now c.args.terms.now c.args.next (weights c.args.items.now) c.args.next _ c.requires.ready (keeps_all c.args.terms.now) (omega (arith, all)) (omega (arith, all)),
     )
 
 pub read_list-read_quantifier-requires : goal.read_list-read_quantifier-requires
@@ -168,7 +168,7 @@ read_list-read_quantifier-requires t c =
     let all = ap weights (rest_of c.args.items.now c.head-item.result c.in-len1-up.len_at_least c.head-item.is) in
     let some = weighs c.head-item.result in (
       let d = c.decreases in omega (arith, d, all, some),
-      ready_then c.args.reader.now c.args.terms.now c.args.terms.now c.args.next (weights c.args.items.now) c.args.next _ c.requires.ready (keeps_all c.args.terms.now) (omega (arith, all)) (omega (arith, all)),
+      ready_then c.args.context.now c.args.terms.now c.args.terms.now c.args.next (weights c.args.items.now) c.args.next _ c.requires.ready (keeps_all c.args.terms.now) (omega (arith, all)) (omega (arith, all)),
     )
 
 pub read_list-read_quantifier-requires-then-is_word-3 : goal.read_list-read_quantifier-requires-then-is_word-3
@@ -176,7 +176,7 @@ read_list-read_quantifier-requires-then-is_word-3 t c =
     let all = ap weights (rest_of c.args.items.now c.head-item.result c.in-len1-up.len_at_least c.head-item.is) in
     let some = weighs c.head-item.result in (
       let d = c.decreases in omega (arith, d, all, some),
-      ready_then c.args.reader.now c.args.terms.now c.args.terms.now c.args.next (weights c.args.items.now) c.args.next _ c.requires.ready (keeps_all c.args.terms.now) (omega (arith, all)) (omega (arith, all)),
+      ready_then c.args.context.now c.args.terms.now c.args.terms.now c.args.next (weights c.args.items.now) c.args.next _ c.requires.ready (keeps_all c.args.terms.now) (omega (arith, all)) (omega (arith, all)),
     )
 
 pub read_next-read_term-requires : goal.read_next-read_term-requires
@@ -185,7 +185,7 @@ read_next-read_term-requires t c = (let d = c.decreases in omega (arith, d), c.r
 pub read_next-returns-in_ok-with_next-in-Ok-clause-told : goal.read_next-returns-in_ok-with_next-in-Ok-clause-told
 read_next-returns-in_ok-with_next-in-Ok-clause-told t c =
     let more = c.in_ok-with_next-in-Ok.ensures in
-    next_told c.args.reader.now.lets c.args.reader.now.text c.args.reader.now.scope c.args.all.next c.args.tree.now c.args.terms.now c.read_term.new.terms c.in-Ok.found c.args.all.ids.items c.in_ok-with_next-in-Ok.field-0.ids.items c.args.all.parts.items c.in_ok-with_next-in-Ok.field-0.parts.items c.in_ok-with_next-in-Ok.field-0.next
+    next_told c.args.context.now.lets c.args.context.now.text c.args.context.now.scope c.args.all.next c.args.tree.now c.args.terms.now c.read_term.new.terms c.in-Ok.found c.args.all.ids.items c.in_ok-with_next-in-Ok.field-0.ids.items c.args.all.parts.items c.in_ok-with_next-in-Ok.field-0.parts.items c.in_ok-with_next-in-Ok.field-0.next
     c.in-Ok.ensures.told c.in-Ok.ensures.keeps more.ids more.parts more.next
 
 pub read_quantifier-read_under_variables-requires : goal.read_quantifier-read_under_variables-requires
@@ -195,7 +195,7 @@ read_quantifier-read_under_variables-requires t c =
     let same = ap weights c.items_of-items.ensures in
     let many = weigh_all c.items_of-items.result.now in (
       let d = c.decreases in omega (arith, d, two, inner),
-      ready_then c.args.reader.now c.args.terms.now c.args.terms.now c.args.next (weights c.args.rest.now) c.args.next (length c.items_of-items.result.now + weight c.body-item.result) c.requires.ready (keeps_all c.args.terms.now) (omega (arith, two, inner, same, many)) (omega (arith, two, inner, same, many)),
+      ready_then c.args.context.now c.args.terms.now c.args.terms.now c.args.next (weights c.args.rest.now) c.args.next (length c.items_of-items.result.now + weight c.body-item.result) c.requires.ready (keeps_all c.args.terms.now) (omega (arith, two, inner, same, many)) (omega (arith, two, inner, same, many)),
     )
 
 pub read_quantifier-returns-in_default-2-clause-next : goal.read_quantifier-returns-in_default-2-clause-next
@@ -209,21 +209,21 @@ read_quantifier-returns-in_default-2-clause-next t c =
 
 pub read_quantifier-returns-in_default-2-clause-told : goal.read_quantifier-returns-in_default-2-clause-told
 read_quantifier-returns-in_default-2-clause-told t c =
-    let reader = c.args.reader.now in
+    let context = c.args.context.now in
     let two = two_of c.args.rest.now c.binder-item.result c.body-item.result c.in-len2.len_at_least c.in-len2.len_below c.binder-item.is c.body-item.is in
-    let quantifies : reader.scope.quantifies ≡ true = cc in
-    let none : binder_fault reader.text c.binder-item.result ≡ None = cc in
-    let unrepeated : variables_fault reader.text [] (items_of c.binder-item.result) ≡ None =
+    let quantifies : context.scope.quantifies ≡ true = cc in
+    let none : binder_fault context.text c.binder-item.result ≡ None = cc in
+    let unrepeated : variables_fault context.text [] (items_of c.binder-item.result) ≡ None =
     ap (λ x. variables_fault x [] (items_of c.binder-item.result)) (sym c.text-in-len2.ensures) ∙ ap (λ (xs : List Tree). variables_fault c.text-in-len2.result.now [] xs) (sym c.items_of-items.ensures) ∙ sym c.in_ok-fault-in-len2.ensures ∙ c.in_default-2.is in
-    let told = subst (λ (xs : List Tree). Tells reader.lets (under_variables reader.text reader.scope c.args.next c.args.start c.args.is_universal xs c.body-item.result) c.read_under_variables.new.terms c.read_under_variables.result) c.items_of-items.ensures c.read_under_variables.ensures.told in
-    subst (λ (r : Result Spelled Fault). Tells reader.lets r c.read_under_variables.new.terms c.read_under_variables.result) (sym (quantifier_told reader.text reader.scope c.args.next c.args.start c.args.is_universal c.binder-item.result c.body-item.result c.args.rest.now quantifies two none unrepeated)) told
+    let told = subst (λ (xs : List Tree). Tells context.lets (under_variables context.text context.scope c.args.next c.args.start c.args.is_universal xs c.body-item.result) c.read_under_variables.new.terms c.read_under_variables.result) c.items_of-items.ensures c.read_under_variables.ensures.told in
+    subst (λ (r : Result Spelled Fault). Tells context.lets r c.read_under_variables.new.terms c.read_under_variables.result) (sym (quantifier_told context.text context.scope c.args.next c.args.start c.args.is_universal c.binder-item.result c.body-item.result c.args.rest.now quantifies two none unrepeated)) told
 
 pub read_term-read_list-requires : goal.read_term-read_list-requires
 read_term-read_list-requires t c =
     let all = ap weight c.in-List.is ∙ weight-List c.in-List.items c.in-List.start c.in-List.end in
     let same = ap weights c.as_slice.ensures in (
       let d = c.decreases in omega (arith, d, all, same),
-      ready_then c.args.reader.now c.args.terms.now c.args.terms.now c.args.next (weight c.args.tree.now) c.args.next (weights c.as_slice.result.now) c.requires.ready (keeps_all c.args.terms.now) (omega (arith, all, same)) (omega (arith, all, same)),
+      ready_then c.args.context.now c.args.terms.now c.args.terms.now c.args.next (weight c.args.tree.now) c.args.next (weights c.as_slice.result.now) c.requires.ready (keeps_all c.args.terms.now) (omega (arith, all, same)) (omega (arith, all, same)),
     )
 
 pub read_term-returns-in-List-clause-next : goal.read_term-returns-in-List-clause-next
@@ -235,9 +235,9 @@ read_term-returns-in-List-clause-next t c =
 
 pub read_term-returns-in-List-clause-told : goal.read_term-returns-in-List-clause-told
 read_term-returns-in-List-clause-told t c =
-    let reader = c.args.reader.now in
-    let is = ap (spelled reader.text reader.scope c.args.next) c.in-List.is ∙ spelled-List reader.text reader.scope c.args.next c.in-List.items c.in-List.start c.in-List.end ∙ ap (any_list reader.text reader.scope c.args.next c.in-List.start) (sym c.as_slice.ensures) in
-    subst (λ (r : Result Spelled Fault). Tells reader.lets r c.read_list.new.terms c.read_list.result) (sym is) c.read_list.ensures.told
+    let context = c.args.context.now in
+    let is = ap (spelled context.text context.scope c.args.next) c.in-List.is ∙ spelled-List context.text context.scope c.args.next c.in-List.items c.in-List.start c.in-List.end ∙ ap (any_list context.text context.scope c.args.next c.in-List.start) (sym c.as_slice.ensures) in
+    subst (λ (r : Result Spelled Fault). Tells context.lets r c.read_list.new.terms c.read_list.result) (sym is) c.read_list.ensures.told
 
 pub read_under_lets-add_binding-requires-clause-body : goal.read_under_lets-add_binding-requires-clause-body
 read_under_lets-add_binding-requires-clause-body t c =
@@ -247,16 +247,16 @@ pub read_under_lets-add_binding-requires-clause-bound : goal.read_under_lets-add
 read_under_lets-add_binding-requires-clause-bound t c =
     let told = c.requires.gathered in
     below_more (length c.args.terms.now.nodes) (length c.read_term.new.terms.nodes) c.args.all.ids.items (keeps_length c.args.terms.now c.read_term.new.terms c.in-Ok.ensures.keeps)
-    (all_below c.args.terms.now c.args.reader.now.lets told.0.terms c.args.all.ids.items told.1.terms)
+    (all_below c.args.terms.now c.args.context.now.lets told.0.terms c.args.all.ids.items told.1.terms)
 
 pub read_under_lets-read_term-requires : goal.read_under_lets-read_term-requires
 read_under_lets-read_term-requires t c =
     let told = c.requires.gathered in
-    let is : c.bind_lets.new.self ≡ below_let c.args.reader.now c.args.items.now c.args.all.parts.items c.args.all.ids.items =
-    c.in_ok-bind_lets.ensures ∙ ap (λ (ps : List Part). below_let c.args.reader.now c.args.items.now ps c.deref-2.result.now) c.deref.ensures.value ∙ ap (λ (xs : List TermId). below_let c.args.reader.now c.args.items.now c.args.all.parts.items xs) c.deref-2.ensures.value in (
+    let is : c.bind_lets.new.self ≡ below_let c.args.context.now c.args.items.now c.args.all.parts.items c.args.all.ids.items =
+    c.in_ok-bind_lets.ensures ∙ ap (λ (ps : List Part). below_let c.args.context.now c.args.items.now ps c.deref-2.result.now) c.deref.ensures.value ∙ ap (λ (xs : List TermId). below_let c.args.context.now c.args.items.now c.args.all.parts.items xs) c.deref-2.ensures.value in (
       let d = c.decreases in omega (arith, d),
       subst (λ (k : Known). IsReady k c.args.terms.now c.args.all.next (weight c.args.body.now)) (sym is)
-          (ready_below_let c.args.reader.now c.args.terms.now c.args.all.next c.args.items.now (weight c.args.body.now) c.args.all.ids.items c.args.all.parts.items told.0 c.args.all.next c.requires.ready c.requires.room told.1 c.requires.count),
+          (ready_below_let c.args.context.now c.args.terms.now c.args.all.next c.args.items.now (weight c.args.body.now) c.args.all.ids.items c.args.all.parts.items told.0 c.args.all.next c.requires.ready c.requires.room told.1 c.requires.count),
     )
 
 pub read_under_lets-returns-in-Ok-clause-keeps : goal.read_under_lets-returns-in-Ok-clause-keeps
@@ -264,9 +264,9 @@ read_under_lets-returns-in-Ok-clause-keeps t c = keeps_then c.args.terms.now c.r
 
 pub read_under_lets-returns-in-Ok-clause-told : goal.read_under_lets-returns-in-Ok-clause-told
 read_under_lets-returns-in-Ok-clause-told t c =
-    let reader = c.args.reader.now in
-    let none : let_names_fault reader.text [] c.args.items.now ≡ None = ap (λ x. let_names_fault x [] c.args.items.now) (sym c.text.ensures) ∙ sym c.in_ok-fault.ensures ∙ c.in_default.is in
-    under_lets_told reader c.bind_lets.new.self c.args.start c.args.all.next c.args.items.now c.args.body.now c.args.all.ids.items c.deref-2.result.now c.args.all.parts.items c.deref.result.now c.in-Ok.found c.args.terms.now c.read_term.new.terms c.add_binding.new.terms c.add_binding.result
+    let context = c.args.context.now in
+    let none : let_names_fault context.text [] c.args.items.now ≡ None = ap (λ x. let_names_fault x [] c.args.items.now) (sym c.text.ensures) ∙ sym c.in_ok-fault.ensures ∙ c.in_default.is in
+    under_lets_told context c.bind_lets.new.self c.args.start c.args.all.next c.args.items.now c.args.body.now c.args.all.ids.items c.deref-2.result.now c.args.all.parts.items c.deref.result.now c.in-Ok.found c.args.terms.now c.read_term.new.terms c.add_binding.new.terms c.add_binding.result
     c.in_ok-bind_lets.ensures c.deref.ensures.value c.deref-2.ensures.value c.requires.ready.numbered none c.in-Ok.ensures.told c.in-Ok.ensures.keeps c.add_binding.ensures.told
 
 pub read_under_variables-add_quantifier-requires-clause-body : goal.read_under_variables-add_quantifier-requires-clause-body
@@ -277,7 +277,7 @@ pub read_under_variables-read_term-requires : goal.read_under_variables-read_ter
 read_under_variables-read_term-requires t c = (
   let d = c.decreases in omega (arith, d),
   subst (λ (k : Known). IsReady k c.args.terms.now (c.args.next + length c.args.items.now) (weight c.args.body.now)) (sym c.in_ok-bind_variables.ensures)
-      (ready_below_quantifier c.args.reader.now c.args.terms.now c.args.next c.args.next c.args.items.now (weight c.args.body.now) c.requires.ready),
+      (ready_below_quantifier c.args.context.now c.args.terms.now c.args.next c.args.next c.args.items.now (weight c.args.body.now) c.requires.ready),
 )
 
 pub read_under_variables-returns-in-Ok-clause-keeps : goal.read_under_variables-returns-in-Ok-clause-keeps
@@ -285,5 +285,5 @@ read_under_variables-returns-in-Ok-clause-keeps t c = keeps_then c.args.terms.no
 
 pub read_under_variables-returns-in-Ok-clause-told : goal.read_under_variables-returns-in-Ok-clause-told
 read_under_variables-returns-in-Ok-clause-told t c =
-    under_variables_told c.args.reader.now c.bind_variables.new.self c.args.start c.args.next (c.args.next + length c.args.items.now) c.args.is_universal c.args.items.now c.args.body.now c.in_ok-sorts.sorts c.in-Ok.found c.read_term.new.terms c.add_quantifier.new.terms c.add_quantifier.result
+    under_variables_told c.args.context.now c.bind_variables.new.self c.args.start c.args.next (c.args.next + length c.args.items.now) c.args.is_universal c.args.items.now c.args.body.now c.in_ok-sorts.sorts c.in-Ok.found c.read_term.new.terms c.add_quantifier.new.terms c.add_quantifier.result
     c.in_ok-bind_variables.ensures (c.in_ok-sorts.ensures ∙ ap (λ x. sorts_bound x c.args.items.now) c.text.ensures) refl c.in-Ok.ensures.told c.add_quantifier.ensures.told

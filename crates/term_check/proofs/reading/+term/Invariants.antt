@@ -1,7 +1,7 @@
 use Rattle.std.proofs.Common.{◌≡◌, ◌+◌, ◌*◌, ◌≤◌, drop, length}
-use Rattle.term_check.specs.Reading.{each_spelled, all_bound, IsGathered}
+use Rattle.term_check.specs.machinery.Reading.{each_spelled, all_bound, IsGathered}
 use Rattle.term_check.specs.Spelling.{Gathered, nothing_yet}
-use Rattle.term_check.specs.Term.{Keeps}
+use Rattle.term_check.specs.Found.{Keeps}
 use Rattle.term_check.specs.machinery.Weight.{weight, weights}
 use Rattle.term_check.proofs.reading.+term.Given as goal
 
@@ -41,18 +41,18 @@ decreases-read_under_variables l = 8 * weight l.body.now + 1
 -- what was gathered and what is left give what is wanted
 abbrev pub invariant-read_arguments-loop-arg : goal.invariant-read_arguments-loop-arg
 invariant-read_arguments-loop-arg l = record {
-  told : (g : Gathered) × IsGathered l.fn.reader.lets l.terms g l.all.ids.items l.all.parts.items l.all.next × (each_spelled l.fn.reader.text l.fn.reader.scope g (drop l.arg-index l.args) ≡ each_spelled l.fn.reader.text l.fn.reader.scope (nothing_yet l.next) l.args);
+  told : (g : Gathered) × IsGathered l.fn.context.lets l.terms g l.all.ids.items l.all.parts.items l.all.next × (each_spelled l.fn.context.text l.fn.context.scope g (drop l.arg-index l.args) ≡ each_spelled l.fn.context.text l.fn.context.scope (nothing_yet l.next) l.args);
   keeps : Keeps l.fn.terms l.terms;
-  kept : l.reader ≡ l.fn.reader;
+  kept : l.context ≡ l.fn.context;
   room : l.all.next + weights (drop l.arg-index l.args) ≤ l.next + weights l.args;
   count : length l.all.ids.items ≡ l.arg-index;
 }
 
 abbrev pub invariant-read_bound-loop-item : goal.invariant-read_bound-loop-item
 invariant-read_bound-loop-item l = record {
-  told : (g : Gathered) × IsGathered l.fn.reader.lets l.terms g l.all.ids.items l.all.parts.items l.all.next × (all_bound l.fn.reader.text l.fn.reader.scope g (drop l.item-index l.items) ≡ all_bound l.fn.reader.text l.fn.reader.scope (nothing_yet l.next) l.items);
+  told : (g : Gathered) × IsGathered l.fn.context.lets l.terms g l.all.ids.items l.all.parts.items l.all.next × (all_bound l.fn.context.text l.fn.context.scope g (drop l.item-index l.items) ≡ all_bound l.fn.context.text l.fn.context.scope (nothing_yet l.next) l.items);
   keeps : Keeps l.fn.terms l.terms;
-  kept : l.reader ≡ l.fn.reader;
+  kept : l.context ≡ l.fn.context;
   room : l.all.next + weights (drop l.item-index l.items) ≤ l.next + weights l.items;
   count : length l.all.ids.items ≤ l.item-index;
 }

@@ -1,0 +1,76 @@
+ghost use Rattle.std.specs.Prelude.{◌≡◌, ◌≢◌, ◌≤◌, ◌↔◌, drop, map, true, false, IfOk, IfErr, IfSome, IsSome, None};
+ghost use Rattle.std.specs.String.{string_bytes};
+ghost use Rattle.std.specs.IoError.{error_kind};
+ghost use Rattle.std.specs.Vec.Iter.{into_iter_items};
+ghost use Rattle.outside_io.specs.Bytes.{Appends};
+ghost use Rattle.outside_io.specs.Counts.{counted};
+ghost use Rattle.answer_text.specs.Lines.{usage_text, memory_text};
+ghost use Rattle.chc_cli.specs.Headline.{is_solve, Answers, Refuses, ReadsInput, EndsOnce};
+
+use crate::run::{Report, chc_run};
+use crate::words::words_after_name;
+use answer_text::memory_line;
+use outside_io::{Sink, Source, write_all};
+use std::alloc::Global;
+use std::env::Args;
+use std::io::{self, ErrorKind};
+
+/// What `main` does: it hands all the words after the program's name to `chc_run`, and ends with the
+/// report's status. Words that can't be read as text are no command; where they can't be had for want
+/// of memory, that is the answer.
+pub fn chc_main<S: Source, K: Sink>(
+    alloc: Global,
+    args: io::Result<Args>,
+    source: &mut S,
+    sink: &mut K,
+) -> Report
+    ensures statuses { result.status ≤ 5 }
+
+    // The words are all of them: no other list of words is taken for theirs.
+    ensures solves { IfOk args (λ args. is_solve (map string_bytes (drop 1 (into_iter_items args))) ≡ true → result.status ≢ 2) }
+    ensures other_words { IfOk args (λ args. is_solve (map string_bytes (drop 1 (into_iter_items args))) ≡ false → result.status ≢ 4 → result.status ≢ 5 → result.status ≡ 2) }
+    ensures no_text { IfErr args (λ e. error_kind e ≢ ErrorKind.OutOfMemory → result.status ≢ 4 → result.status ≡ 2) }
+    ensures no_room { IfErr args (λ e. error_kind e ≡ ErrorKind.OutOfMemory → result.status ≢ 4 → result.status ≡ 5) }
+
+    // What `chc_run` says of each status.
+    ensures answered { result.status ≡ 0 → Answers result.read.items (K.held sink.old) (K.held sink.new) }
+    ensures answers_all { result.status ≡ 0 → IfSome (S.left source.old) (λ bytes. result.read.items ≡ bytes) }
+    ensures refused { IfSome result.refusal (λ refusal. Refuses (S.left source.old) (S.ends source.old) (S.ends source.new) result.read.items refusal (K.held sink.old) (K.held sink.new)) }
+    ensures refuses_all { IfSome result.refusal (ReadsInput (S.left source.old) result.read.items) }
+    ensures refusal { IsSome result.refusal ↔ (result.status ≡ 1) }
+    ensures usage { result.status ≡ 2 → Appends usage_text (K.held sink.old) (K.held sink.new) }
+    ensures source_faults { result.status ≢ 3 → S.faults source.new ≡ S.faults source.old }
+    ensures read_fault { result.status ≡ 3 → S.faults source.new ≡ counted (S.faults source.old) }
+    ensures sink_faults { result.status ≢ 4 → K.faults sink.new ≡ K.faults sink.old }
+    ensures write_fault { result.status ≡ 4 → K.faults sink.new ≡ counted (K.faults sink.old) }
+    ensures memory { result.status ≡ 5 → Appends memory_text (K.held sink.old) (K.held sink.new) }
+    ensures ends { EndsOnce (S.ends source.old) (S.ends source.new) (S.last source.new) }
+{
+    match args {
+        Ok(args) => match words_after_name(alloc, args) {
+            Ok(words) => chc_run(alloc, words.as_slice(), source, sink),
+            Err(_) => no_memory(alloc, sink),
+        },
+        Err(error) if error.kind() == ErrorKind::OutOfMemory => no_memory(alloc, sink),
+        Err(_) => chc_run(alloc, &[], source, sink),
+    }
+}
+
+/// The report where the words can't be had for want of memory.
+fn no_memory<K: Sink>(alloc: Global, sink: &mut K) -> Report
+    ensures statuses { result.status ≢ 4 → result.status ≡ 5 }
+    ensures sink_faults { result.status ≢ 4 → K.faults sink.new ≡ K.faults sink.old }
+    ensures write_fault { result.status ≡ 4 → K.faults sink.new ≡ counted (K.faults sink.old) }
+    ensures memory { result.status ≡ 5 → Appends memory_text (K.held sink.old) (K.held sink.new) }
+    ensures refusal { result.refusal ≡ None }
+{
+    let status = match write_all(sink, memory_line()) {
+        Ok(()) => 5,
+        Err(_) => 4,
+    };
+    Report {
+        status,
+        read: Vec::new(alloc),
+        refusal: None,
+    }
+}

@@ -1,0 +1,3 @@
+pub mod Content
+pub mod Flags
+pub mod Gathering

@@ -1,0 +1,25 @@
+ghost use Rattle.std.specs.Prelude.{◌≡◌, ℕ, List, Ok, true};
+ghost use Rattle.term_tree.specs.declared.node.Node.{Node};
+ghost use Rattle.term_tree.specs.declared.node.TermId.{TermId};
+ghost use Rattle.term_tree.specs.declared.scalar.Value.{Value};
+ghost use Rattle.term_tree.specs.Arena.{IsArena};
+ghost use Rattle.term_tree.specs.Operators.{truth};
+ghost use Rattle.term_tree.specs.Truth.{Interpretation, HasValue};
+ghost use Rattle.term_tree.specs.Value.{Environment};
+ghost use Rattle.term_tree.specs.Subterms.{IsPlain};
+ghost use Rattle.horn_shape.specs.Plain.{is_plain_term};
+ghost use Rattle.horn_shape.specs.Shape.{Content, body_reading};
+ghost use Rattle.horn_shape.specs.machinery.Content.{met};
+
+/// The test of terms without predicates and quantifiers is right: no subterm has any.
+pub fn plain_terms_are_plain()
+    ensures { (nodes : List Node) (id : ℕ) → IsArena nodes → is_plain_term nodes id ≡ true → IsPlain nodes id }
+{}
+
+/// What a term gives as a body is what it says: it has a value, which is true exactly where all of its
+/// guards and atoms are.
+pub fn bodies_say_their_parts()
+    ensures { (I : Interpretation) (nodes : List Node) (id : TermId) (lets : List TermId) (content : Content) (E : Environment) →
+        IsArena nodes → body_reading nodes id.0 (record { term = id; lets = lets }) ≡ Ok content →
+        (v : Value) × HasValue I nodes id.0 E v × (truth v ≡ met I nodes E content) }
+{}
