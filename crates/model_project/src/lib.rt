@@ -18,6 +18,3 @@ mod terms;
 pub use laws::elimination_projects;
 pub use projected::Projected;
 pub use projecting::project;
-
-#[cfg(test)]
-mod tests;
