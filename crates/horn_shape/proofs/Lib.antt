@@ -1,7 +1,10 @@
 pub mod BodyLemmas
 pub mod ClauseLemmas
 pub mod FlagLemmas
+pub mod ForwardLemmas
 pub mod GatherLemmas
+pub mod KeptLemmas
 pub mod KnownLemmas
 pub mod Public
 pub mod ShapeLemmas
+pub mod TrueClauseLemmas

@@ -1,12 +1,17 @@
-ghost use Rattle.std.specs.Prelude.{◌≡◌, ℕ, List, Ok, true};
+ghost use Rattle.std.specs.Prelude.{◌≡◌, ℕ, List, Ok, None, true};
+ghost use Rattle.term_tree.specs.declared.definition.Definition.{Definition};
 ghost use Rattle.term_tree.specs.declared.node.Node.{Node};
 ghost use Rattle.term_tree.specs.declared.node.TermId.{TermId};
 ghost use Rattle.term_tree.specs.declared.scalar.Value.{Value};
+ghost use Rattle.term_tree.specs.declared.script.Script.{Script};
 ghost use Rattle.term_tree.specs.Arena.{IsArena};
 ghost use Rattle.term_tree.specs.Operators.{truth};
+ghost use Rattle.term_tree.specs.Solution.{IsSolution};
 ghost use Rattle.term_tree.specs.Truth.{Interpretation, HasValue};
 ghost use Rattle.term_tree.specs.Value.{Environment};
 ghost use Rattle.term_tree.specs.Subterms.{IsPlain};
+ghost use Rattle.horn_shape.specs.Clause.{IsLegalScript};
+ghost use Rattle.horn_shape.specs.Derivation.{IsDerivableWithin};
 ghost use Rattle.horn_shape.specs.Plain.{is_plain_term};
 ghost use Rattle.horn_shape.specs.Shape.{Content, body_reading};
 ghost use Rattle.horn_shape.specs.machinery.Content.{met};
@@ -22,4 +27,10 @@ pub fn bodies_say_their_parts()
     ensures { (I : Interpretation) (nodes : List Node) (id : TermId) (lets : List TermId) (content : Content) (E : Environment) →
         IsArena nodes → body_reading nodes id.0 (record { term = id; lets = lets }) ≡ Ok content →
         (v : Value) × HasValue I nodes id.0 E v × (truth v ≡ met I nodes E content) }
+{}
+
+/// There is one answer: a script with a derivation of false has no solution.
+pub fn one_answer()
+    ensures { (script : Script) (definitions : List Definition) (h : ℕ) →
+        IsArena script.terms.nodes → IsLegalScript script → IsDerivableWithin script h None → IsSolution script definitions → ⊥ }
 {}
