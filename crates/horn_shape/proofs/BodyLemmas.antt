@@ -185,7 +185,7 @@ module _ (I : Interpretation) (nodes : List Node) (arena : IsArena nodes) where
       let below = arena_below nodes id.0 node arena is in
       body_node id lets E (λ n e. arena_below nodes id.0 n arena e) node c is ih (sym (body_mixed nodes id.0 node (place_of id lets) is below p) ∙ h)
 
-  body_there : (id : TermId) (lets : List TermId) (c : Content) → body_reading nodes id.0 (place_of id lets) ≡ Ok c → id.0 < length nodes
+  pub body_there : (id : TermId) (lets : List TermId) (c : Content) → body_reading nodes id.0 (place_of id lets) ≡ Ok c → id.0 < length nodes
   body_there id lets c h = elim (cases_lt id.0 (length nodes)) [
     | inl less ↦ less
     | inr past ↦

@@ -18,14 +18,18 @@ use Rattle.term_tree.specs.Truth.{Interpretation, HasValue}
 use Rattle.term_tree.specs.Value.{Environment, environment_of}
 use Rattle.horn_shape.specs.declared.clause.AtomUse.{AtomUse}
 use Rattle.horn_shape.specs.declared.clause.HornClause.{HornClause}
-use Rattle.horn_shape.specs.Breaking.{IsTrueAtom, IsTrueHead, IsKept}
+use Rattle.horn_shape.specs.Breaking.{IsTrueAtom, IsTrueHead}
 use Rattle.horn_shape.specs.Clause.{IsClauseOf, IsLegalScript, assertion_reading, content_of}
 use Rattle.horn_shape.specs.Derivation.{Step, IsStep, IsDerivationAfter, IsDerivableWithin, concluded}
-use Rattle.horn_shape.specs.Instance.{GroundAtom, ground, premises_of}
+use Rattle.horn_shape.specs.Instance.{GroundAtom, IsInstance, conclusion_of, ground, premises_of}
 use Rattle.horn_shape.specs.machinery.Content.{is_true_atom, HeadHolds, StandAt}
 use Rattle.horn_shape.proofs.TrueClauseLemmas.{forward_below}
 
-there_number : (x : Option ℕ) → is_there x ≡ true → (m : ℕ) × (x ≡ Some m)
+-- where all body atoms of an instance are true, its head is
+abbrev IsKept : Interpretation → Script → HornClause → Type 0
+IsKept I script clause = (values : List Value) → IsInstance script clause values → AllByRecursion (IsTrueAtom I) (premises_of script clause values) → IsTrueHead I (conclusion_of script clause values)
+
+pub there_number : (x : Option ℕ) → is_there x ≡ true → (m : ℕ) × (x ≡ Some m)
 there_number None h = absurd (cc)
 there_number (Some m) h = (m, refl)
 
@@ -33,7 +37,7 @@ stand_from : (E : Environment) (n : ℕ) (vs : List Value) → ((j k : ℕ) → 
 stand_from E n [] h = tt
 stand_from E n (v ∷ vs) h = (h 0 n (omega arith) (omega arith), stand_from E (suc n) vs (λ j k e less. h (suc j) k (omega (arith, e)) (omega (arith, less))))
 
-stand_all : (vs : List Value) → StandAt (environment_of vs) 0 vs
+pub stand_all : (vs : List Value) → StandAt (environment_of vs) 0 vs
 stand_all vs = stand_from (environment_of vs) 0 vs (λ j k e less. ap (λ (i : ℕ). slice_index_or vs i (Truth false)) (same j k e))
   where
     same : (j k : ℕ) → k ≡ 0 + j → k ≡ j
@@ -49,7 +53,7 @@ head_true : (I : Interpretation) (nodes : List Node) (E : Environment) (head : O
 head_true I nodes E None h = h
 head_true I nodes E (Some a) h = h
 
-same_assertion : (a b : Assertion) (x : Option Assertion) → x ≡ Some a → x ≡ Some b → a ≡ b
+pub same_assertion : (a b : Assertion) (x : Option Assertion) → x ≡ Some a → x ≡ Some b → a ≡ b
 same_assertion a b x h k = cc
 
 -- under definitions that make the assertion true no instance breaks its clause

@@ -1,4 +1,5 @@
 pub mod BodyLemmas
+pub mod BreakingLemmas
 pub mod ClauseLemmas
 pub mod FlagLemmas
 pub mod ForwardLemmas
@@ -6,5 +7,8 @@ pub mod GatherLemmas
 pub mod KeptLemmas
 pub mod KnownLemmas
 pub mod Public
+pub mod ScopeLemmas
+pub mod SettledLemmas
 pub mod ShapeLemmas
 pub mod TrueClauseLemmas
+pub mod UnbrokenLemmas

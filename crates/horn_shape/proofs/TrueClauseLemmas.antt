@@ -41,7 +41,7 @@ either : {A : Type 0} (a b : Bool) → (a || b) ≡ true → (a ≡ true → A) 
 either true b h f g = f refl
 either false b h f g = g h
 
-read_chosen : (b : Bool) (t : TermId) (r : Reading) (c : Content) → (if b then Err t else r) ≡ Ok c → (b ≡ false) × (r ≡ Ok c)
+pub read_chosen : (b : Bool) (t : TermId) (r : Reading) (c : Content) → (if b then Err t else r) ≡ Ok c → (b ≡ false) × (r ≡ Ok c)
 read_chosen true t r c h = absurd (cc)
 read_chosen false t r c h = (refl, h)
 
@@ -261,7 +261,7 @@ module _ (I : Interpretation) (nodes : List Node) (arena : IsArena nodes) where
       let below = arena_below nodes id.0 node arena is in
       forward_node id lets node c E n m vs ih is (sym (clause_mixed nodes id.0 node (place_of id lets) is below plain) ∙ h) numbers sorted stand has
 
-  clause_there : (id : TermId) (lets : List TermId) (c : Content) → clause_reading nodes id.0 (place_of id lets) ≡ Ok c → id.0 < length nodes
+  pub clause_there : (id : TermId) (lets : List TermId) (c : Content) → clause_reading nodes id.0 (place_of id lets) ≡ Ok c → id.0 < length nodes
   clause_there id lets c h = elim (cases_lt id.0 (length nodes)) [
     | inl less ↦ less
     | inr past ↦

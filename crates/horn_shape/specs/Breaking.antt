@@ -1,4 +1,4 @@
--- What a script's instances say of definitions.
+-- What the instances of a clause say of definitions of the predicates.
 use Rattle.std.specs.Prelude.{◌≡◌, List, Option, Some, None, true}
 use Rattle.std.specs.List.{AllByRecursion}
 use Rattle.term_tree.specs.declared.scalar.Value.{Value}
@@ -17,6 +17,8 @@ abbrev pub IsTrueHead : Interpretation → Option GroundAtom → Type 0
 IsTrueHead I None = ⊥
 IsTrueHead I (Some atom) = IsTrueAtom I atom
 
--- no instance breaks the clause: where all its body atoms are true, its head is
-abbrev pub IsKept : Interpretation → Script → HornClause → Type 0
-IsKept I script clause = (values : List Value) → IsInstance script clause values → AllByRecursion (IsTrueAtom I) (premises_of script clause values) → IsTrueHead I (conclusion_of script clause values)
+-- values of an instance that breaks the clause: all its body atoms are true, and its head isn't
+pub record Breaks (I : Interpretation) (script : Script) (clause : HornClause) (values : List Value) : Type 0 where
+  pub instance : IsInstance script clause values
+  pub body : AllByRecursion (IsTrueAtom I) (premises_of script clause values)
+  pub head : IsTrueHead I (conclusion_of script clause values) → ⊥

@@ -1,16 +1,19 @@
-ghost use Rattle.std.specs.Prelude.{◌≡◌, ℕ, List, Ok, None, true};
+ghost use Rattle.std.specs.Prelude.{◌≡◌, ◌↔◌, ℕ, List, slice_get, Ok, Some, None, true};
 ghost use Rattle.term_tree.specs.declared.definition.Definition.{Definition};
 ghost use Rattle.term_tree.specs.declared.node.Node.{Node};
 ghost use Rattle.term_tree.specs.declared.node.TermId.{TermId};
 ghost use Rattle.term_tree.specs.declared.scalar.Value.{Value};
+ghost use Rattle.term_tree.specs.declared.script.Assertion.{Assertion};
 ghost use Rattle.term_tree.specs.declared.script.Script.{Script};
 ghost use Rattle.term_tree.specs.Arena.{IsArena};
 ghost use Rattle.term_tree.specs.Operators.{truth};
-ghost use Rattle.term_tree.specs.Solution.{IsSolution};
+ghost use Rattle.term_tree.specs.Solution.{AreFormulas, DefinesEach, IsSolution, IsTrueUnder, interpretation_of};
 ghost use Rattle.term_tree.specs.Truth.{Interpretation, HasValue};
 ghost use Rattle.term_tree.specs.Value.{Environment};
 ghost use Rattle.term_tree.specs.Subterms.{IsPlain};
-ghost use Rattle.horn_shape.specs.Clause.{IsLegalScript};
+ghost use Rattle.horn_shape.specs.declared.clause.HornClause.{HornClause};
+ghost use Rattle.horn_shape.specs.Breaking.{Breaks};
+ghost use Rattle.horn_shape.specs.Clause.{IsClauseOf, IsLegalScript};
 ghost use Rattle.horn_shape.specs.Derivation.{IsDerivableWithin};
 ghost use Rattle.horn_shape.specs.Plain.{is_plain_term};
 ghost use Rattle.horn_shape.specs.Shape.{Content, body_reading};
@@ -27,6 +30,15 @@ pub fn bodies_say_their_parts()
     ensures { (I : Interpretation) (nodes : List Node) (id : TermId) (lets : List TermId) (content : Content) (E : Environment) →
         IsArena nodes → body_reading nodes id.0 (record { term = id; lets = lets }) ≡ Ok content →
         (v : Value) × HasValue I nodes id.0 E v × (truth v ≡ met I nodes E content) }
+{}
+
+/// An assertion is true under definitions exactly where no instance of it breaks its clause: where no
+/// values make its guards and body atoms true and its head not.
+pub fn breaking_instances()
+    ensures { (script : Script) (definitions : List Definition) (index : ℕ) (assertion : Assertion) (clause : HornClause) →
+        IsArena script.terms.nodes → IsLegalScript script → slice_get script.asserts index ≡ Some assertion → IsClauseOf script index clause →
+        DefinesEach 0 script.preds definitions → AreFormulas script.preds definitions →
+        (IsTrueUnder definitions script assertion ↔ ((values : List Value) → Breaks (interpretation_of definitions) script clause values → ⊥)) }
 {}
 
 /// There is one answer: a script with a derivation of false has no solution.

@@ -15,7 +15,7 @@ mod stop;
 mod tests;
 
 pub use clause::{AtomUse, HornClause, Part};
-pub use laws::{bodies_say_their_parts, one_answer, plain_terms_are_plain};
+pub use laws::{bodies_say_their_parts, breaking_instances, one_answer, plain_terms_are_plain};
 pub use plain::PlainTerms;
 pub use reading::{clause_of, clause_with, has_assertion};
 pub use stop::HornStop;
