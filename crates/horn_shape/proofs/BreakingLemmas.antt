@@ -1,4 +1,4 @@
--- Under definitions that are formulas every application has a truth value, and an assertion that no instance breaks is true.
+-- Under definitions that are formulas an assertion is true where no instance breaks it, and false where one does.
 use Rattle.std.proofs.Common.{◌≡◌, ℕ, zero, suc, ◌+◌, ◌<◌, List, [], ◌∷◌, length, Bool, true, false, ◌&&◌, ◌||◌, ◌==◌, refl, ap, sym, ◌∙◌, subst, arith, map}
 use Rattle.std.proofs.lemmas.Bool.Decides.{nat_tests}
 use Rattle.std.proofs.lemmas.Option.{slice_get_within}
@@ -30,10 +30,12 @@ use Rattle.horn_shape.specs.Clause.{IsClauseOf, assertion_reading, content_of}
 use Rattle.horn_shape.specs.Instance.{ground, is_met}
 use Rattle.horn_shape.specs.Plain.{node_is_plain, is_plain_term}
 use Rattle.horn_shape.specs.machinery.Content.{is_true_atom, HeadHolds}
+use Rattle.horn_shape.proofs.BrokenLemmas.{falsified}
 use Rattle.horn_shape.proofs.ClauseLemmas.{sorted_there}
+use Rattle.horn_shape.proofs.FalseLemmas.{breaker}
 use Rattle.horn_shape.proofs.FlagLemmas.{plain_at}
-use Rattle.horn_shape.proofs.KeptLemmas.{kept, same_assertion, stand_all, there_number}
-use Rattle.horn_shape.proofs.ScopeLemmas.{plain_sorted, get_sorted}
+use Rattle.horn_shape.proofs.KeptLemmas.{atoms_true, head_true, kept, same_assertion, stand_all, there_number}
+use Rattle.horn_shape.proofs.ScopeLemmas.{AgreeBelow, IsScope, plain_sorted, get_sorted}
 use Rattle.horn_shape.proofs.SettledLemmas.{GivesTruth}
 use Rattle.horn_shape.proofs.TrueClauseLemmas.{truth_is_true}
 use Rattle.horn_shape.proofs.UnbrokenLemmas.{unbroken}
@@ -128,8 +130,12 @@ head_decided I nodes E (Some a) h = by_value (I a.pred (ground nodes E a).values
         no : Int n ≡ Truth true → ⊥
         no q = absurd (cc)
 
+-- nothing is in scope around an assertion
+at_root : (preds : List Declared) (nodes : List Node) (E : Environment) → IsScope preds nodes 0 E (parameters [])
+at_root preds nodes E = record { low = λ k s h. absurd (cc); local = λ k h. absurd (cc); sorted = λ k s h. absurd (cc); bound = λ k s h e. absurd (cc) }
+
 -- an assertion that no instance breaks is true
-pub true_unbroken : (I : Interpretation) (script : Script) (index : ℕ) (clause : HornClause) (a : Assertion) → IsArena script.terms.nodes → GivesTruth script.preds I
+true_unbroken : (I : Interpretation) (script : Script) (index : ℕ) (clause : HornClause) (a : Assertion) → IsArena script.terms.nodes → GivesTruth script.preds I
     → slice_get script.asserts index ≡ Some a → IsLegal script.preds script.terms.nodes [] BoolSort a.term.0 → IsClauseOf script index clause
     → ((values : List Value) → Breaks I script clause values → ⊥) → (E : Environment) → HasValue I script.terms.nodes a.term.0 E (Truth true)
 true_unbroken I script index clause a arena gives is legal told unbreaking E =
@@ -137,7 +143,7 @@ true_unbroken I script index clause a arena gives is legal told unbreaking E =
     let same : a ≡ told.assertion = same_assertion a told.assertion (slice_get script.asserts index) is told.there in
     let number = there_number (next_variable nodes a.term.0 0) legal.numbered in
     unbroken I script.preds nodes arena gives a.term [] (content_of clause) 0 number.0 E (parameters []) environment_of (ap (assertion_reading script) same ∙ told.reading) number.1 legal.sorted
-    legal.scoped (record { low = λ k s h. absurd (cc); local = λ k h. absurd (cc); sorted = λ k s h. absurd (cc); bound = λ k s h e. absurd (cc) })
+    legal.scoped (at_root script.preds nodes E)
     (λ values have. record {
       agree = λ k less. absurd (omega (arith, less));
       stand = stand_all values;
@@ -148,6 +154,49 @@ true_unbroken I script index clause a arena gives is legal told unbreaking E =
             head = no;
           }));
     })
+
+-- an assertion that an instance breaks is false
+false_broken : (I : Interpretation) (script : Script) (index : ℕ) (clause : HornClause) (a : Assertion) → IsArena script.terms.nodes → GivesTruth script.preds I
+    → slice_get script.asserts index ≡ Some a → IsLegal script.preds script.terms.nodes [] BoolSort a.term.0 → IsClauseOf script index clause → (values : List Value)
+    → Breaks I script clause values → (E : Environment) → HasValue I script.terms.nodes a.term.0 E (Truth false)
+false_broken I script index clause a arena gives is legal told values breaks E =
+    let nodes = script.terms.nodes in
+    let F = environment_of values in
+    let same : a ≡ told.assertion = same_assertion a told.assertion (slice_get script.asserts index) is told.there in
+    let number = there_number (next_variable nodes a.term.0 0) legal.numbered in
+    falsified I script.preds nodes arena gives a.term [] (content_of clause) 0 number.0 E F (parameters []) values (ap (assertion_reading script) same ∙ told.reading) number.1 legal.sorted legal.scoped
+    (at_root script.preds nodes E) (record {
+      agree = λ k less. absurd (omega (arith, less));
+      stand = stand_all values;
+      sorts = breaks.instance.sorts;
+      body = ap (λ (b : Bool). b && list_all (is_true_atom I nodes F) clause.atoms) breaks.instance.guards ∙ atoms_true I nodes F clause.atoms breaks.body;
+      head = λ holds. breaks.head (head_true I nodes F clause.head holds);
+    })
+
+head_holds : (I : Interpretation) (nodes : List Node) (E : Environment) (head : Option AtomUse) → IsTrueHead I (option_map (ground nodes E) head) → HeadHolds I nodes E head
+head_holds I nodes E None h = h
+head_holds I nodes E (Some a) h = h
+
+-- an assertion that is false is broken by an instance
+broken_false : (I : Interpretation) (script : Script) (index : ℕ) (clause : HornClause) (a : Assertion) → IsArena script.terms.nodes → GivesTruth script.preds I
+    → slice_get script.asserts index ≡ Some a → IsLegal script.preds script.terms.nodes [] BoolSort a.term.0 → IsClauseOf script index clause → (E : Environment)
+    → HasValue I script.terms.nodes a.term.0 E (Truth false) → (values : List Value) × Breaks I script clause values
+broken_false I script index clause a arena gives is legal told E has =
+    let nodes = script.terms.nodes in
+    let same : a ≡ told.assertion = same_assertion a told.assertion (slice_get script.asserts index) is told.there in
+    let number = there_number (next_variable nodes a.term.0 0) legal.numbered in
+    let b = breaker I script.preds nodes arena gives a.term [] (content_of clause) 0 number.0 E (parameters []) (Truth false) (ap (assertion_reading script) same ∙ told.reading) number.1 legal.scoped
+    legal.sorted (at_root script.preds nodes E) has refl in
+    let F = environment_of b.values in
+    let within : AgreeBelow 0 E F = λ k less. absurd (omega (arith, less)) in
+    let parts = both_true (list_all (is_met nodes F) clause.guards) (list_all (is_true_atom I nodes F) clause.atoms) (b.body F within (stand_all b.values)) in (
+      b.values,
+      record {
+        instance = record { sorts = b.sorts; guards = parts.0 };
+        body = atoms_hold I nodes F clause.atoms parts.1;
+        head = λ holds. b.head F within (stand_all b.values) (head_holds I nodes F clause.head holds);
+      },
+    )
 
 -- under definitions
 module _ (script : Script) (definitions : List Definition) (index : ℕ) (a : Assertion) (clause : HornClause) (arena : IsArena script.terms.nodes) (is : slice_get script.asserts index ≡ Some a)
@@ -160,3 +209,14 @@ module _ (script : Script) (definitions : List Definition) (index : ℕ) (a : As
       → (E : Environment) → HasValue (interpretation_of definitions) script.terms.nodes a.term.0 E (Truth true)
   unbroken_is_true defines formed unbreaking E =
       true_unbroken (interpretation_of definitions) script index clause a arena (defined_truth 0 script.preds definitions defines formed) is legal told unbreaking E
+
+  pub broken_is_false : DefinesEach 0 script.preds definitions → AreFormulas script.preds definitions → (values : List Value) → Breaks (interpretation_of definitions) script clause values
+      → (E : Environment) → HasValue (interpretation_of definitions) script.terms.nodes a.term.0 E (Truth false)
+  broken_is_false defines formed values breaks E =
+      false_broken (interpretation_of definitions) script index clause a arena (defined_truth 0 script.preds definitions defines formed) is legal told values breaks E
+
+  pub false_is_broken : DefinesEach 0 script.preds definitions → AreFormulas script.preds definitions
+      → ((E : Environment) → HasValue (interpretation_of definitions) script.terms.nodes a.term.0 E (Truth false))
+      → (values : List Value) × Breaks (interpretation_of definitions) script clause values
+  false_is_broken defines formed has =
+      broken_false (interpretation_of definitions) script index clause a arena (defined_truth 0 script.preds definitions defines formed) is legal told (environment_of []) (has (environment_of []))

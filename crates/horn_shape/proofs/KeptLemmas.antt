@@ -43,13 +43,13 @@ stand_all vs = stand_from (environment_of vs) 0 vs (λ j k e less. ap (λ (i : �
     same : (j k : ℕ) → k ≡ 0 + j → k ≡ j
     same j k e = omega (arith, e)
 
-atoms_true : (I : Interpretation) (nodes : List Node) (E : Environment) (atoms : List AtomUse) → AllByRecursion (IsTrueAtom I) (map (ground nodes E) atoms)
+pub atoms_true : (I : Interpretation) (nodes : List Node) (E : Environment) (atoms : List AtomUse) → AllByRecursion (IsTrueAtom I) (map (ground nodes E) atoms)
     → list_all (is_true_atom I nodes E) atoms ≡ true
 atoms_true I nodes E [] h = refl
 atoms_true I nodes E (a ∷ atoms) h =
     ap (λ (v : Value). truth v && list_all (is_true_atom I nodes E) atoms) h.0 ∙ atoms_true I nodes E atoms h.1
 
-head_true : (I : Interpretation) (nodes : List Node) (E : Environment) (head : Option AtomUse) → HeadHolds I nodes E head → IsTrueHead I (option_map (ground nodes E) head)
+pub head_true : (I : Interpretation) (nodes : List Node) (E : Environment) (head : Option AtomUse) → HeadHolds I nodes E head → IsTrueHead I (option_map (ground nodes E) head)
 head_true I nodes E None h = h
 head_true I nodes E (Some a) h = h
 

@@ -1,6 +1,8 @@
 pub mod BodyLemmas
 pub mod BreakingLemmas
+pub mod BrokenLemmas
 pub mod ClauseLemmas
+pub mod FalseLemmas
 pub mod FlagLemmas
 pub mod ForwardLemmas
 pub mod GatherLemmas

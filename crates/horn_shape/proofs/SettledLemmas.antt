@@ -37,7 +37,7 @@ abbrev pub GivesTruth : List Declared → Interpretation → Type 0
 GivesTruth preds I = (pred : ℕ) (p : Declared) (values : List Value) → slice_get preds pred ≡ Some p → HaveSorts p.args values → HasSort BoolSort (I pred values)
 
 -- what is known can be completed
-completion : (known : List (Option Value)) → (values : List Value) × Completes known values
+pub completion : (known : List (Option Value)) → (values : List Value) × Completes known values
 completion [] = ([], tt)
 completion (None ∷ known) = let rest = completion known in (Truth false ∷ rest.0, rest.1)
 completion (Some v ∷ known) = let rest = completion known in (v ∷ rest.0, (refl, rest.1))

@@ -140,7 +140,7 @@ module _ (I : Interpretation) (nodes : List Node) (arena : IsArena nodes) where
       (both (disjunct_reading nodes (Some node) (place_of id lets)) (disjuncts nodes (headed || is_application (Some node)) lets ids)) c k in
       disjuncts_step headed lets id ids c E node e rec chosen.0 chosen.1
 
-  disjuncts_are : (headed : Bool) (lets ids : List TermId) (c : Content) (E : Environment) → disjuncts nodes headed lets ids ≡ Ok c → AreDisjuncts headed ids c E
+  pub disjuncts_are : (headed : Bool) (lets ids : List TermId) (c : Content) (E : Environment) → disjuncts nodes headed lets ids ≡ Ok c → AreDisjuncts headed ids c E
   disjuncts_are headed lets [] c E h =
       let same : nothing ≡ c = same_read nothing c h in ([], tt, (λ t. absurd (cc)), (λ e. sym (ap (λ (x : Content). x.head) same)))
   disjuncts_are headed lets (id ∷ ids) c E h = disjuncts_found headed lets id ids c E (slice_get nodes id.0) refl (λ b y k. disjuncts_are b lets ids y E k) h

@@ -54,13 +54,13 @@ false_or : (b : Bool) → (b ≡ false → true ≡ false) → b ≡ true
 false_or true h = refl
 false_or false h = differ (h refl)
 
-join_sorts : (a b : List Sort) (vs ws : List Value) → HaveSorts a vs → HaveSorts b ws → HaveSorts (a ++ b) (vs ++ ws)
+pub join_sorts : (a b : List Sort) (vs ws : List Value) → HaveSorts a vs → HaveSorts b ws → HaveSorts (a ++ b) (vs ++ ws)
 join_sorts [] b [] ws h k = k
 join_sorts [] b (v ∷ vs) ws h k = absurd h
 join_sorts (s ∷ a) b [] ws h k = absurd h
 join_sorts (s ∷ a) b (v ∷ vs) ws h k = (h.0, join_sorts a b vs ws h.1 k)
 
-long_sorts : (a : List Sort) (vs : List Value) → HaveSorts a vs → length vs ≡ length a
+pub long_sorts : (a : List Sort) (vs : List Value) → HaveSorts a vs → length vs ≡ length a
 long_sorts [] [] h = refl
 long_sorts [] (v ∷ vs) h = absurd h
 long_sorts (s ∷ a) [] h = absurd h
@@ -72,7 +72,7 @@ stood F n zero k (v ∷ vs) d e less h = sym h.0 ∙ ap F (omega (arith, e))
 stood F n (suc j) k (v ∷ vs) d e less h = stood F (suc n) j k vs d (omega (arith, e)) (omega (arith, less)) h.1
 
 -- with the first values bound the two agree on more
-agree_bound : (n m : ℕ) (E F : Environment) (vs : List Value) → AgreeBelow n E F → StandAt F n vs → m ≡ n + length vs → AgreeBelow m (bound_from n vs E) F
+pub agree_bound : (n m : ℕ) (E F : Environment) (vs : List Value) → AgreeBelow n E F → StandAt F n vs → m ≡ n + length vs → AgreeBelow m (bound_from n vs E) F
 agree_bound n m E F vs agree stand e k less = by_place (nat_lt k n) refl
   where
     worth : Bool → Value
@@ -204,7 +204,7 @@ module _ (I : Interpretation) (preds : List Declared) (nodes : List Node) (arena
       (both (disjunct_reading nodes (Some node) (place_of id lets)) (disjuncts nodes (headed || is_application (Some node)) lets ids)) c k in
       disjuncts_step headed lets id ids c n E F scope node e rec is scoped agree chosen.1
 
-  disjuncts_are : (headed : Bool) (lets ids : List TermId) (c : Content) (n : ℕ) (E F : Environment) (scope : Scope) → disjuncts nodes headed lets ids ≡ Ok c → IsScope preds nodes n E scope
+  pub disjuncts_are : (headed : Bool) (lets ids : List TermId) (c : Content) (n : ℕ) (E F : Environment) (scope : Scope) → disjuncts nodes headed lets ids ≡ Ok c → IsScope preds nodes n E scope
       → list_all (λ a. is_scoped nodes a.0 scope) ids ≡ true → AgreeBelow n E F → AreDisjuncts ids c E F
   disjuncts_are headed lets [] c n E F scope h is scoped agree =
       subst (λ (x : Content). AreDisjuncts [] x E F) (same_read nothing c h) ([], tt, (λ e. refl), (λ e holds. holds), refl)
@@ -251,7 +251,7 @@ module _ (I : Interpretation) (preds : List Declared) (nodes : List Node) (arena
       more (w ∷ []) c = absurd (empty k c.1)
       more (w ∷ u ∷ values) c = decides (u ∷ values) c.1 ∙ sym (ap (λ (x : Bool). not x || implied (map truth (u ∷ values))) (ap truth c.0 ∙ e))
 
-  right_head : (F : Environment) (a b : Option AtomUse) → a ≡ None → HeadHolds I nodes F (either_head a b) → HeadHolds I nodes F b
+  pub right_head : (F : Environment) (a b : Option AtomUse) → a ≡ None → HeadHolds I nodes F (either_head a b) → HeadHolds I nodes F b
   right_head F a None e h = subst (λ (x : Option AtomUse). HeadHolds I nodes F x) e h
   right_head F a (Some b) e h = h
 
@@ -308,7 +308,7 @@ module _ (I : Interpretation) (preds : List Declared) (nodes : List Node) (arena
       let stands = stand_split (G (front ++ values)) n (n + length sorts) front values (omega (arith, long)) m.stand in
       record { agree = agree_bound n (n + length sorts) E (G (front ++ values)) front m.agree stands.0 (omega (arith, long)); stand = stands.1; holds = m.holds }
 
-  same_first : (first n : ℕ) (x : Option ℕ) (m : ℕ) (b : Bool) → (first == n) ≡ b → (if first == n then x else None) ≡ Some m → (first ≡ n) × (x ≡ Some m)
+  pub same_first : (first n : ℕ) (x : Option ℕ) (m : ℕ) (b : Bool) → (first == n) ≡ b → (if first == n then x else None) ≡ Some m → (first ≡ n) × (x ≡ Some m)
   same_first first n x m true e k = (same_numbers first n e, sym (ap (λ (y : Bool). if y then x else None) e) ∙ k)
     where
       same_numbers : (a b : ℕ) → (a == b) ≡ true → a ≡ b
@@ -376,7 +376,7 @@ module _ (I : Interpretation) (preds : List Declared) (nodes : List Node) (arena
   not_true body E v h e =
       subst (λ (b : Bool). Determines (HasValue I nodes) (body ∷ []) (result_of Not) E (Truth (not b))) e (determined (HasValue I nodes) (body ∷ []) E (v ∷ []) (result_of Not) (h, tt))
 
-  sorted_args : (args : List TermId) (s : Sort) → operation_sort Implies (map (λ a. sort_of preds nodes a.0) args) ≡ Some s → list_all (has_sort BoolSort) (map (λ a. sort_of preds nodes a.0) args) ≡ true
+  pub sorted_args : (args : List TermId) (s : Sort) → operation_sort Implies (map (λ a. sort_of preds nodes a.0) args) ≡ Some s → list_all (has_sort BoolSort) (map (λ a. sort_of preds nodes a.0) args) ≡ true
   sorted_args args s e =
       let given : List (Option Sort) = map (λ (a : TermId). sort_of preds nodes a.0) args in
       (both_true (nat_le 2 (length given)) (list_all (has_sort BoolSort) given) (sort_chosen (all_of BoolSort 2 given) BoolSort s e).0).1

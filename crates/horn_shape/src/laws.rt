@@ -12,7 +12,7 @@ ghost use Rattle.term_tree.specs.Truth.{Interpretation, HasValue};
 ghost use Rattle.term_tree.specs.Value.{Environment};
 ghost use Rattle.term_tree.specs.Subterms.{IsPlain};
 ghost use Rattle.horn_shape.specs.declared.clause.HornClause.{HornClause};
-ghost use Rattle.horn_shape.specs.Breaking.{Breaks};
+ghost use Rattle.horn_shape.specs.Breaking.{Breaks, IsFalseUnder};
 ghost use Rattle.horn_shape.specs.Clause.{IsClauseOf, IsLegalScript};
 ghost use Rattle.horn_shape.specs.Derivation.{IsDerivableWithin};
 ghost use Rattle.horn_shape.specs.Plain.{is_plain_term};
@@ -32,13 +32,17 @@ pub fn bodies_say_their_parts()
         (v : Value) × HasValue I nodes id.0 E v × (truth v ≡ met I nodes E content) }
 {}
 
-/// An assertion is true under definitions exactly where no instance of it breaks its clause: where no
-/// values make its guards and body atoms true and its head not.
+/// Under definitions an assertion is true exactly where no instance breaks its clause, and false exactly
+/// where one does: values that make its guards and body atoms true and its head not.
 pub fn breaking_instances()
-    ensures { (script : Script) (definitions : List Definition) (index : ℕ) (assertion : Assertion) (clause : HornClause) →
+    ensures true_ { (script : Script) (definitions : List Definition) (index : ℕ) (assertion : Assertion) (clause : HornClause) →
         IsArena script.terms.nodes → IsLegalScript script → slice_get script.asserts index ≡ Some assertion → IsClauseOf script index clause →
         DefinesEach 0 script.preds definitions → AreFormulas script.preds definitions →
         (IsTrueUnder definitions script assertion ↔ ((values : List Value) → Breaks (interpretation_of definitions) script clause values → ⊥)) }
+    ensures false_ { (script : Script) (definitions : List Definition) (index : ℕ) (assertion : Assertion) (clause : HornClause) →
+        IsArena script.terms.nodes → IsLegalScript script → slice_get script.asserts index ≡ Some assertion → IsClauseOf script index clause →
+        DefinesEach 0 script.preds definitions → AreFormulas script.preds definitions →
+        (IsFalseUnder definitions script assertion ↔ ((values : List Value) × Breaks (interpretation_of definitions) script clause values)) }
 {}
 
 /// There is one answer: a script with a derivation of false has no solution.
