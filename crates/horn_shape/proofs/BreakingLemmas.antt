@@ -21,23 +21,24 @@ use Rattle.term_tree.specs.Solution.{AreFormulas, DefinesEach, IsFormula, interp
 use Rattle.term_tree.specs.Subterms.{is_among, is_part, itself, is_plain, IsPlain}
 use Rattle.term_tree.specs.Truth.{Interpretation, HasSort, HaveSorts, HasValue}
 use Rattle.term_tree.specs.Value.{Environment, environment_of, value_of}
+use Rattle.term_tree.proofs.LawLemmas.{differ, one_value}
 use Rattle.term_tree.proofs.PlainLemmas.{through}
 use Rattle.term_tree.proofs.Public.{arena_below, both_true, eqb_self, part_below, there_is}
 use Rattle.horn_shape.specs.declared.clause.AtomUse.{AtomUse}
 use Rattle.horn_shape.specs.declared.clause.HornClause.{HornClause}
 use Rattle.horn_shape.specs.Breaking.{IsTrueAtom, IsTrueHead, Breaks}
 use Rattle.horn_shape.specs.Clause.{IsClauseOf, assertion_reading, content_of}
-use Rattle.horn_shape.specs.Instance.{ground, is_met}
+use Rattle.horn_shape.specs.Instance.{IsInstance, conclusion_of, ground, is_met, premises_of}
 use Rattle.horn_shape.specs.Plain.{node_is_plain, is_plain_term}
 use Rattle.horn_shape.specs.machinery.Content.{is_true_atom, HeadHolds}
 use Rattle.horn_shape.proofs.BrokenLemmas.{falsified}
 use Rattle.horn_shape.proofs.ClauseLemmas.{sorted_there}
 use Rattle.horn_shape.proofs.FalseLemmas.{breaker}
 use Rattle.horn_shape.proofs.FlagLemmas.{plain_at}
-use Rattle.horn_shape.proofs.KeptLemmas.{atoms_true, head_true, kept, same_assertion, stand_all, there_number}
+use Rattle.horn_shape.proofs.InstanceLemmas.{atoms_true, head_true, same_assertion, stand_all, there_number}
 use Rattle.horn_shape.proofs.ScopeLemmas.{AgreeBelow, IsScope, plain_sorted, get_sorted}
 use Rattle.horn_shape.proofs.SettledLemmas.{GivesTruth}
-use Rattle.horn_shape.proofs.TrueClauseLemmas.{truth_is_true}
+use Rattle.horn_shape.proofs.DisjunctLemmas.{truth_is_true}
 use Rattle.horn_shape.proofs.UnbrokenLemmas.{unbroken}
 
 -- the definition of plain terms is the test
@@ -201,19 +202,32 @@ broken_false I script index clause a arena gives is legal told E has =
 -- under definitions
 module _ (script : Script) (definitions : List Definition) (index : ℕ) (a : Assertion) (clause : HornClause) (arena : IsArena script.terms.nodes) (is : slice_get script.asserts index ≡ Some a)
     (legal : IsLegal script.preds script.terms.nodes [] BoolSort a.term.0) (told : IsClauseOf script index clause) where
-  pub true_is_unbroken : ((E : Environment) → HasValue (interpretation_of definitions) script.terms.nodes a.term.0 E (Truth true)) → (values : List Value)
+  pub broken_is_false : DefinesEach 0 script.preds definitions → AreFormulas script.preds definitions → (values : List Value) → Breaks (interpretation_of definitions) script clause values
+      → (E : Environment) → HasValue (interpretation_of definitions) script.terms.nodes a.term.0 E (Truth false)
+  broken_is_false defines formed values breaks E =
+      false_broken (interpretation_of definitions) script index clause a arena (defined_truth 0 script.preds definitions defines formed) is legal told values breaks E
+
+  -- it isn't both true and broken
+  pub true_is_unbroken : DefinesEach 0 script.preds definitions → AreFormulas script.preds definitions
+      → ((E : Environment) → HasValue (interpretation_of definitions) script.terms.nodes a.term.0 E (Truth true)) → (values : List Value)
       → Breaks (interpretation_of definitions) script clause values → ⊥
-  true_is_unbroken holds values breaks = breaks.head (kept (interpretation_of definitions) script index clause a arena is legal told holds values breaks.instance breaks.body)
+  true_is_unbroken defines formed holds values breaks =
+      let E = environment_of [] in
+      differ (one_value (interpretation_of definitions) script.terms.nodes a.term.0 E (Truth true) (Truth false) (holds E) (broken_is_false defines formed values breaks E))
+
+  -- where it is true, and all body atoms of an instance are, its head is
+  pub kept : DefinesEach 0 script.preds definitions → AreFormulas script.preds definitions
+      → ((E : Environment) → HasValue (interpretation_of definitions) script.terms.nodes a.term.0 E (Truth true)) → (values : List Value) → IsInstance script clause values
+      → AllByRecursion (IsTrueAtom (interpretation_of definitions)) (premises_of script clause values) → IsTrueHead (interpretation_of definitions) (conclusion_of script clause values)
+  kept defines formed holds values instance body =
+      let I = interpretation_of definitions in
+      head_true I script.terms.nodes (environment_of values) clause.head (head_decided I script.terms.nodes (environment_of values) clause.head
+      (λ no. true_is_unbroken defines formed holds values (record { instance = instance; body = body; head = no })))
 
   pub unbroken_is_true : DefinesEach 0 script.preds definitions → AreFormulas script.preds definitions → ((values : List Value) → Breaks (interpretation_of definitions) script clause values → ⊥)
       → (E : Environment) → HasValue (interpretation_of definitions) script.terms.nodes a.term.0 E (Truth true)
   unbroken_is_true defines formed unbreaking E =
       true_unbroken (interpretation_of definitions) script index clause a arena (defined_truth 0 script.preds definitions defines formed) is legal told unbreaking E
-
-  pub broken_is_false : DefinesEach 0 script.preds definitions → AreFormulas script.preds definitions → (values : List Value) → Breaks (interpretation_of definitions) script clause values
-      → (E : Environment) → HasValue (interpretation_of definitions) script.terms.nodes a.term.0 E (Truth false)
-  broken_is_false defines formed values breaks E =
-      false_broken (interpretation_of definitions) script index clause a arena (defined_truth 0 script.preds definitions defines formed) is legal told values breaks E
 
   pub false_is_broken : DefinesEach 0 script.preds definitions → AreFormulas script.preds definitions
       → ((E : Environment) → HasValue (interpretation_of definitions) script.terms.nodes a.term.0 E (Truth false))

@@ -25,12 +25,12 @@ use Rattle.horn_shape.specs.Shape.{Content, nothing, beside, both, arguments, ap
 use Rattle.horn_shape.specs.machinery.Content.{met, HeadHolds, StandAt}
 use Rattle.horn_shape.specs.machinery.Gathering.{place_of}
 use Rattle.horn_shape.proofs.BodyLemmas.{misread, same_read, never_read, chosen_ok, both_ok, bound_ok, met_beside, tuple_is, body_is}
-use Rattle.horn_shape.proofs.ForwardLemmas.{split_sorts, stand_split, quantified_ok}
+use Rattle.horn_shape.proofs.HoldsLemmas.{split_sorts, stand_split, quantified_ok}
 use Rattle.horn_shape.proofs.KnownLemmas.{AreValued, carried_on, determined, keep_args, keep_then, one_through, valued_args, valued_plain}
 use Rattle.horn_shape.proofs.ScopeLemmas.{AgreeBelow, IsScope, sort_is, sort_chosen, chosen_sort, plain_local, plain_sorted, bound_scope, scope_with_variables}
 use Rattle.horn_shape.proofs.SettledLemmas.{GivesTruth, applied_truth, tuple_same, settled}
 use Rattle.horn_shape.proofs.ShapeLemmas.{clause_plain, clause_mixed, disjunct_plain, disjunct_mixed}
-use Rattle.horn_shape.proofs.TrueClauseLemmas.{truth_is_true, read_chosen, clause_there, disjuncts_are}
+use Rattle.horn_shape.proofs.DisjunctLemmas.{truth_is_true, read_chosen, clause_there, disjuncts_are}
 use Rattle.horn_shape.proofs.UnbrokenLemmas.{agree_bound, same_first, sorted_args}
 
 -- an instance that breaks what a term gives: its values stand from a number on, and what is below stays

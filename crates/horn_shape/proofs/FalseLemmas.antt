@@ -26,13 +26,13 @@ use Rattle.horn_shape.specs.Shape.{Content, arguments, application, head_of, gua
 use Rattle.horn_shape.specs.machinery.Content.{met, HeadHolds, StandAt}
 use Rattle.horn_shape.specs.machinery.Gathering.{place_of}
 use Rattle.horn_shape.proofs.BodyLemmas.{same_read, never_read, chosen_ok, both_ok, bound_ok, met_beside, tuple_is, body_is}
-use Rattle.horn_shape.proofs.ForwardLemmas.{stand_split, quantified_ok}
+use Rattle.horn_shape.proofs.HoldsLemmas.{stand_split, quantified_ok}
 use Rattle.horn_shape.proofs.KnownLemmas.{AreValued, carried_on, determined, keep_args, keep_then, one_through, valued_args, valued_plain}
 use Rattle.horn_shape.proofs.ScopeLemmas.{AgreeBelow, IsScope, sort_is, sort_chosen, chosen_sort, plain_local, bound_scope, scope_with_variables}
 use Rattle.horn_shape.proofs.SettledLemmas.{GivesTruth, tuple_same, settled}
 use Rattle.horn_shape.proofs.SettledLemmas.{completion}
 use Rattle.horn_shape.proofs.ShapeLemmas.{clause_plain, clause_mixed}
-use Rattle.horn_shape.proofs.TrueClauseLemmas.{clause_there}
+use Rattle.horn_shape.proofs.DisjunctLemmas.{clause_there}
 use Rattle.horn_shape.proofs.UnbrokenLemmas.{agree_bound, disjuncts_are, join_sorts, long_sorts, same_first}
 
 differ : {A : Type 0} → true ≡ false → A

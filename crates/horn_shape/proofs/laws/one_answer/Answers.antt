@@ -1,4 +1,4 @@
-use Rattle.horn_shape.proofs.KeptLemmas.{one_answer}
+use Rattle.horn_shape.proofs.DerivationLemmas.{one_answer}
 use Rattle.horn_shape.proofs.laws.one_answer.Goals as goal
 
 pub returns : goal.returns
