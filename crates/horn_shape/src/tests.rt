@@ -60,13 +60,13 @@ fn x() -> Node {
 }
 
 fn put(rt: &impl Abort, terms: &mut Terms, node: Node, offset: u32) {
-    assert!(rt; terms.len() < 100 && node.has_parts_below(terms.len()));
+    assert!(rt; terms.len() < 3000 && node.has_parts_below(terms.len()));
     terms.add(node, offset).expect(rt, "memory");
 }
 
 /// The clause of the last term, where nothing but terms is asked of the script.
 fn clause(rt: &impl Abort, alloc: Global, terms: Terms) -> Result<HornClause, HornStop> {
-    assert!(rt; terms.len() > 0 && terms.len() < 100);
+    assert!(rt; terms.len() > 0 && terms.len() < 3000);
     let mut asserts = Items::new(alloc);
     let assertion = Assertion {
         term: TermId(terms.len() as u32 - 1),
@@ -329,4 +329,53 @@ fn what_has_no_predicate_is_a_guard_first(rt: HostRuntime) {
     let found = clause(&rt, alloc, terms);
     assert!(rt; counts(&found) == (0, 0, 1, 0));
     assert!(rt; guard(&found, 0) == (3, 0, true));
+}
+
+/// As deep as a text may be nested: (let ((a 5)) (let ((a 5)) .. (p 5))).
+#[test]
+fn a_part_under_a_thousand_bindings(rt: HostRuntime) {
+    let alloc = rt.alloc();
+    let mut terms = Terms::new(alloc);
+    put(&rt, &mut terms, Node::Num(5), 0);
+    put(
+        &rt,
+        &mut terms,
+        pred(alloc, 0, &[0]).expect(&rt, "memory"),
+        0,
+    );
+    for body in 1..1991 {
+        put(
+            &rt,
+            &mut terms,
+            binding(alloc, 0, body).expect(&rt, "memory"),
+            0,
+        );
+    }
+    let found = clause(&rt, alloc, terms);
+    assert!(rt; counts(&found) == (0, 0, 0, 1));
+    assert!(rt; head(&found) == (0, 1990, 1991, 0));
+}
+
+#[test]
+fn no_assertion_stands_past_the_limit(rt: HostRuntime) {
+    let alloc = rt.alloc();
+    let mut terms = Terms::new(alloc);
+    put(&rt, &mut terms, Node::True, 0);
+    let mut asserts = Items::new(alloc);
+    for _ in 0..65537 {
+        let assertion = Assertion {
+            term: TermId(0),
+            offset: 0,
+            command: 0,
+        };
+        asserts.push(assertion).expect(&rt, "memory");
+    }
+    let script = Script {
+        preds: Items::new(alloc),
+        asserts,
+        terms,
+    };
+    assert!(rt; has_assertion(&script, 65535));
+    assert!(rt; !has_assertion(&script, 65536));
+    assert!(rt; !has_assertion(&script, 65537));
 }
