@@ -14,4 +14,5 @@ pub mod Public
 pub mod ScopeLemmas
 pub mod SettledLemmas
 pub mod ShapeLemmas
+pub mod SolutionLemmas
 pub mod UnbrokenLemmas

@@ -5,3 +5,4 @@ pub use Rattle.horn_shape.proofs.KnownLemmas.{plain_is}
 pub use Rattle.horn_shape.proofs.ScopeLemmas.{AgreeBelow, IsLocal, IsScope, plain_local, plain_sorted}
 pub use Rattle.horn_shape.proofs.SettledLemmas.{GivesTruth}
 pub use Rattle.horn_shape.proofs.ShapeLemmas.{body_at, clause_at}
+pub use Rattle.horn_shape.proofs.SolutionLemmas.{solution_unbroken, unbroken_solution}

@@ -45,6 +45,16 @@ pub fn breaking_instances()
         (IsFalseUnder definitions script assertion ↔ ((values : List Value) × Breaks (interpretation_of definitions) script clause values)) }
 {}
 
+/// Where each assertion has a clause, definitions are a solution exactly where no instance of any
+/// assertion breaks its clause.
+pub fn unbroken_definitions()
+    ensures { (script : Script) (definitions : List Definition) →
+        IsArena script.terms.nodes → IsLegalScript script → DefinesEach 0 script.preds definitions → AreFormulas script.preds definitions →
+        ((index : ℕ) (assertion : Assertion) → slice_get script.asserts index ≡ Some assertion → (clause : HornClause) × IsClauseOf script index clause) →
+        (IsSolution script definitions ↔ ((index : ℕ) (clause : HornClause) (values : List Value) → IsClauseOf script index clause →
+        Breaks (interpretation_of definitions) script clause values → ⊥)) }
+{}
+
 /// There is one answer: a script with a derivation of false has no solution.
 pub fn one_answer()
     ensures { (script : Script) (definitions : List Definition) (h : ℕ) →

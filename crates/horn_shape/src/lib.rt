@@ -21,7 +21,10 @@ mod test_terms;
 mod tests;
 
 pub use clause::{AtomUse, HornClause, Part};
-pub use laws::{bodies_say_their_parts, breaking_instances, one_answer, plain_terms_are_plain};
+pub use laws::{
+    bodies_say_their_parts, breaking_instances, one_answer, plain_terms_are_plain,
+    unbroken_definitions,
+};
 pub use plain::PlainTerms;
 pub use reading::{clause_of, clause_with, has_assertion};
 pub use stop::HornStop;
