@@ -1,26 +1,26 @@
 -- A body is true exactly where its guards and atoms are.
-use Rattle.std.proofs.Common.{◌≡◌, ℕ, zero, suc, ◌+◌, ◌<◌, List, [], ◌∷◌, ◌++◌, length, Bool, true, false, ◌&&◌, ◌||◌, inl, inr, refl, ap, sym, ◌∙◌, subst, arith, map}
+use Rattle.std.proofs.Common.{◌≡◌, ℕ, zero, suc, ◌<◌, List, [], ◌∷◌, ◌++◌, length, Bool, true, false, ◌&&◌, inl, inr, refl, ap, sym, ◌∙◌, subst, arith, map}
 use Rattle.std.proofs.lemmas.Bool.{cases_lt}
 use Rattle.std.proofs.lemmas.List.Folds.{list_all-append}
-use Rattle.std.specs.Prelude.{slice_get, Option, Some, None, Result, Ok, Err, nat_lt, not, if◌then◌else◌}
+use Rattle.std.specs.Prelude.{slice_get, Option, Some, None, Ok, Err, nat_lt, if◌then◌else◌}
 use Rattle.std.specs.List.{list_all}
 use Rattle.term_tree.specs.declared.sort.Sort.{Sort}
 use Rattle.term_tree.specs.declared.node.TermId.{TermId}
 use Rattle.term_tree.specs.declared.node.OpKind.TheVariants.{And}
 use Rattle.term_tree.specs.declared.node.Node.{Node}
-use Rattle.term_tree.specs.declared.node.Node.TheVariants.{Num, True, False, Var, LetVar, Pred, Op, Divisible, Let, Forall, Exists}
+use Rattle.term_tree.specs.declared.node.Node.TheVariants.{Pred, Op, Let}
 use Rattle.term_tree.specs.declared.scalar.Value.{Value}
 use Rattle.term_tree.specs.declared.scalar.Value.TheVariants.{Bool as Truth}
 use Rattle.term_tree.specs.Arena.{IsArena, is_below, has_parts_below}
-use Rattle.term_tree.specs.Legal.{node_numbers, next_variable}
+use Rattle.term_tree.specs.Legal.{next_variable}
 use Rattle.term_tree.specs.Operators.{result_of, truth}
-use Rattle.term_tree.specs.Truth.{Interpretation, node_meaning, HasValue}
+use Rattle.term_tree.specs.Truth.{Interpretation, HasValue}
 use Rattle.term_tree.specs.Value.{Environment, value_of}
 use Rattle.term_tree.proofs.Public.{arena_below, below_from, both_true, has_value_at, numbered_at, there_is, told_past}
 use Rattle.horn_shape.specs.declared.clause.AtomUse.{AtomUse}
 use Rattle.horn_shape.specs.Instance.{is_met, tuple_of}
-use Rattle.horn_shape.specs.Plain.{node_is_plain, is_plain_term}
-use Rattle.horn_shape.specs.Shape.{Content, Place, Reading, nothing, beside, both, arguments, application, atom_of, guard_of, either_head, at, each, bound_over, body_form, node_body, body_reading}
+use Rattle.horn_shape.specs.Plain.{is_plain_term}
+use Rattle.horn_shape.specs.Shape.{Content, Place, Reading, nothing, beside, both, arguments, atom_of, guard_of, either_head, at, each, bound_over, body_form, node_body, body_reading}
 use Rattle.horn_shape.specs.machinery.Content.{is_true_atom, met}
 use Rattle.horn_shape.specs.machinery.Gathering.{place_of}
 use Rattle.horn_shape.proofs.KnownLemmas.{AreValued, KeepNumbers, determined, keep_args, keep_plain, keep_then, keep_through, one_through, valued_args, valued_plain}
@@ -185,7 +185,7 @@ module _ (I : Interpretation) (nodes : List Node) (arena : IsArena nodes) where
       let below = arena_below nodes id.0 node arena is in
       body_node id lets E (λ n e. arena_below nodes id.0 n arena e) node c is ih (sym (body_mixed nodes id.0 node (place_of id lets) is below p) ∙ h)
 
-  body_there : (id : TermId) (lets : List TermId) (c : Content) → body_reading nodes id.0 (place_of id lets) ≡ Ok c → id.0 < length nodes
+  pub body_there : (id : TermId) (lets : List TermId) (c : Content) → body_reading nodes id.0 (place_of id lets) ≡ Ok c → id.0 < length nodes
   body_there id lets c h = elim (cases_lt id.0 (length nodes)) [
     | inl less ↦ less
     | inr past ↦

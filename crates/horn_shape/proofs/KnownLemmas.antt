@@ -1,5 +1,5 @@
 -- Terms without predicates and quantifiers, what lists of arguments decide, and numbers of variables.
-use Rattle.std.proofs.Common.{◌≡◌, ℕ, zero, suc, ◌+◌, ◌<◌, ◌==◌, List, [], ◌∷◌, ◌++◌, length, Bool, true, false, ◌&&◌, ◌||◌, inl, inr, refl, ap, sym, ◌∙◌, subst, arith, map}
+use Rattle.std.proofs.Common.{◌≡◌, ℕ, zero, suc, ◌<◌, ◌==◌, List, [], ◌∷◌, ◌++◌, length, Bool, true, false, ◌||◌, inl, inr, refl, ap, sym, ◌∙◌, subst, arith, map}
 use Rattle.std.proofs.lemmas.Bool.{cases_eq, cases_lt}
 use Rattle.std.proofs.lemmas.Bool.Decides.{nat_tests}
 use Rattle.std.specs.Prelude.{slice_get, Option, Some, None, nat_lt}
@@ -41,7 +41,7 @@ pub determined : (part : ℕ → Meaning) (ids : List TermId) (env : Environment
     → Determines part ids result env (result vs)
 determined part ids env vs result h = (map (λ (v : Value). Some v) vs, all_known part ids env vs h, λ values completes. ap result (sym (one_completion vs values completes)))
 
-among_plain : (f : ℕ → Bool) (part : ℕ) (ids : List TermId) → list_all (λ a. f a.0) ids ≡ true → is_among part ids ≡ true → f part ≡ true
+pub among_plain : (f : ℕ → Bool) (part : ℕ) (ids : List TermId) → list_all (λ a. f a.0) ids ≡ true → is_among part ids ≡ true → f part ≡ true
 among_plain f part [] plain has = absurd (cc)
 among_plain f part (id ∷ ids) plain has =
     let both = both_true (f id.0) (list_all (λ (a : TermId). f a.0) ids) plain in

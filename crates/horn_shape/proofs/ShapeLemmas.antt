@@ -5,7 +5,7 @@ use Rattle.std.specs.List.{list_all}
 use Rattle.term_tree.specs.declared.node.TermId.{TermId}
 use Rattle.term_tree.specs.declared.node.OpKind.TheVariants.{And, Implies}
 use Rattle.term_tree.specs.declared.node.Node.{Node}
-use Rattle.term_tree.specs.declared.node.Node.TheVariants.{Num, True, False, Var, LetVar, Pred, Op, Divisible, Let, Forall, Exists}
+use Rattle.term_tree.specs.declared.node.Node.TheVariants.{Op, Let, Forall}
 use Rattle.term_tree.specs.Arena.{is_below, has_parts_below}
 use Rattle.term_tree.proofs.Public.{below_from, both_true, told_at_each as told_at}
 use Rattle.horn_shape.specs.Plain.{node_is_plain, is_plain_term}

@@ -5,17 +5,26 @@
 mod body;
 mod clause;
 mod disjunct;
+#[cfg(test)]
+mod form_tests;
 mod gather;
 mod laws;
+#[cfg(test)]
+mod misfit_tests;
 mod plain;
 mod reading;
 mod shape;
 mod stop;
 #[cfg(test)]
+mod test_terms;
+#[cfg(test)]
 mod tests;
 
 pub use clause::{AtomUse, HornClause, Part};
-pub use laws::{bodies_say_their_parts, plain_terms_are_plain};
+pub use laws::{
+    bodies_say_their_parts, breaking_instances, one_answer, plain_terms_are_plain,
+    unbroken_definitions,
+};
 pub use plain::PlainTerms;
 pub use reading::{clause_of, clause_with, has_assertion};
 pub use stop::HornStop;

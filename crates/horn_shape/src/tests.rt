@@ -60,13 +60,13 @@ fn x() -> Node {
 }
 
 fn put(rt: &impl Abort, terms: &mut Terms, node: Node, offset: u32) {
-    assert!(rt; terms.len() < 100 && node.has_parts_below(terms.len()));
+    assert!(rt; terms.len() < 3000 && node.has_parts_below(terms.len()));
     terms.add(node, offset).expect(rt, "memory");
 }
 
 /// The clause of the last term, where nothing but terms is asked of the script.
 fn clause(rt: &impl Abort, alloc: Global, terms: Terms) -> Result<HornClause, HornStop> {
-    assert!(rt; terms.len() > 0 && terms.len() < 100);
+    assert!(rt; terms.len() > 0 && terms.len() < 3000);
     let mut asserts = Items::new(alloc);
     let assertion = Assertion {
         term: TermId(terms.len() as u32 - 1),
@@ -81,14 +81,6 @@ fn clause(rt: &impl Abort, alloc: Global, terms: Terms) -> Result<HornClause, Ho
     };
     assert!(rt; has_assertion(&script, 0));
     clause_of(alloc, &script, 0)
-}
-
-fn is_misfit_at(found: &Result<HornClause, HornStop>, at: u64) -> bool {
-    match found {
-        Err(HornStop::NotHorn { offset }) => *offset == at,
-        Err(HornStop::Memory) => false,
-        Ok(_) => false,
-    }
 }
 
 /// How many variables, body atoms, guards and heads there are.
@@ -339,154 +331,51 @@ fn what_has_no_predicate_is_a_guard_first(rt: HostRuntime) {
     assert!(rt; guard(&found, 0) == (3, 0, true));
 }
 
+/// As deep as a text may be nested: (let ((a 5)) (let ((a 5)) .. (p 5))).
 #[test]
-fn a_second_head_fits_no_form(rt: HostRuntime) {
-    // (or (p 1) (not (q 1)) (p 2) (xor r r))
+fn a_part_under_a_thousand_bindings(rt: HostRuntime) {
     let alloc = rt.alloc();
     let mut terms = Terms::new(alloc);
-    put(&rt, &mut terms, Node::Num(1), 7);
+    put(&rt, &mut terms, Node::Num(5), 0);
     put(
         &rt,
         &mut terms,
         pred(alloc, 0, &[0]).expect(&rt, "memory"),
-        4,
-    );
-    put(
-        &rt,
-        &mut terms,
-        pred(alloc, 1, &[0]).expect(&rt, "memory"),
-        15,
-    );
-    put(
-        &rt,
-        &mut terms,
-        op(alloc, OpKind::Not, &[2]).expect(&rt, "memory"),
-        10,
-    );
-    put(
-        &rt,
-        &mut terms,
-        pred(alloc, 0, &[0]).expect(&rt, "memory"),
-        22,
-    );
-    put(
-        &rt,
-        &mut terms,
-        pred(alloc, 2, &[]).expect(&rt, "memory"),
-        33,
-    );
-    put(
-        &rt,
-        &mut terms,
-        op(alloc, OpKind::Xor, &[5, 5]).expect(&rt, "memory"),
-        28,
-    );
-    put(
-        &rt,
-        &mut terms,
-        op(alloc, OpKind::Or, &[1, 3, 4, 6]).expect(&rt, "memory"),
         0,
     );
-    assert!(rt; is_misfit_at(&clause(&rt, alloc, terms), 22));
+    for body in 1..1991 {
+        put(
+            &rt,
+            &mut terms,
+            binding(alloc, 0, body).expect(&rt, "memory"),
+            0,
+        );
+    }
+    let found = clause(&rt, alloc, terms);
+    assert!(rt; counts(&found) == (0, 0, 0, 1));
+    assert!(rt; head(&found) == (0, 1990, 1991, 0));
 }
 
 #[test]
-fn predicates_in_arguments_and_bindings_fit_no_form(rt: HostRuntime) {
+fn no_assertion_stands_past_the_limit(rt: HostRuntime) {
     let alloc = rt.alloc();
-    // (=> true (q (not r))): the application doesn't fit
     let mut terms = Terms::new(alloc);
-    put(&rt, &mut terms, Node::True, 4);
-    put(
-        &rt,
-        &mut terms,
-        pred(alloc, 2, &[]).expect(&rt, "memory"),
-        17,
-    );
-    put(
-        &rt,
-        &mut terms,
-        op(alloc, OpKind::Not, &[1]).expect(&rt, "memory"),
-        12,
-    );
-    put(
-        &rt,
-        &mut terms,
-        pred(alloc, 1, &[2]).expect(&rt, "memory"),
-        9,
-    );
-    put(
-        &rt,
-        &mut terms,
-        op(alloc, OpKind::Implies, &[0, 3]).expect(&rt, "memory"),
-        0,
-    );
-    assert!(rt; is_misfit_at(&clause(&rt, alloc, terms), 9));
-    // (let ((a (not r))) a): the bound term doesn't fit
-    let mut terms = Terms::new(alloc);
-    put(
-        &rt,
-        &mut terms,
-        pred(alloc, 2, &[]).expect(&rt, "memory"),
-        14,
-    );
-    put(
-        &rt,
-        &mut terms,
-        op(alloc, OpKind::Not, &[0]).expect(&rt, "memory"),
-        9,
-    );
-    put(&rt, &mut terms, Node::LetVar { bound: TermId(1) }, 19);
-    put(
-        &rt,
-        &mut terms,
-        binding(alloc, 1, 2).expect(&rt, "memory"),
-        0,
-    );
-    assert!(rt; is_misfit_at(&clause(&rt, alloc, terms), 9));
-}
-
-#[test]
-fn an_exists_fits_right_under_a_denial_alone(rt: HostRuntime) {
-    let alloc = rt.alloc();
-    // (=> (exists ((x Int)) (q x)) false)
-    let mut terms = Terms::new(alloc);
-    put(&rt, &mut terms, x(), 25);
-    put(
-        &rt,
-        &mut terms,
-        pred(alloc, 1, &[0]).expect(&rt, "memory"),
-        22,
-    );
-    put(&rt, &mut terms, exists(alloc, 1).expect(&rt, "memory"), 4);
-    put(&rt, &mut terms, Node::False, 29);
-    put(
-        &rt,
-        &mut terms,
-        op(alloc, OpKind::Implies, &[2, 3]).expect(&rt, "memory"),
-        0,
-    );
-    assert!(rt; is_misfit_at(&clause(&rt, alloc, terms), 4));
-    // (or (not (exists ((x Int)) (q x))))
-    let mut terms = Terms::new(alloc);
-    put(&rt, &mut terms, x(), 30);
-    put(
-        &rt,
-        &mut terms,
-        pred(alloc, 1, &[0]).expect(&rt, "memory"),
-        27,
-    );
-    put(&rt, &mut terms, exists(alloc, 1).expect(&rt, "memory"), 9);
-    put(
-        &rt,
-        &mut terms,
-        op(alloc, OpKind::Not, &[2]).expect(&rt, "memory"),
-        4,
-    );
-    put(
-        &rt,
-        &mut terms,
-        op(alloc, OpKind::Or, &[3]).expect(&rt, "memory"),
-        0,
-    );
-    assert!(rt; is_misfit_at(&clause(&rt, alloc, terms), 9));
+    put(&rt, &mut terms, Node::True, 0);
+    let mut asserts = Items::new(alloc);
+    for _ in 0..65537 {
+        let assertion = Assertion {
+            term: TermId(0),
+            offset: 0,
+            command: 0,
+        };
+        asserts.push(assertion).expect(&rt, "memory");
+    }
+    let script = Script {
+        preds: Items::new(alloc),
+        asserts,
+        terms,
+    };
+    assert!(rt; has_assertion(&script, 65535));
+    assert!(rt; !has_assertion(&script, 65536));
+    assert!(rt; !has_assertion(&script, 65537));
 }

@@ -1,4 +1,4 @@
-use Rattle.std.proofs.Common.{◌≡◌, ℕ, ◌+◌, ◌≤◌, ◌^◌, ◌++◌, [], ◌∷◌, refl, ap, sym, ◌∙◌, subst, arith, rules}
+use Rattle.std.proofs.Common.{◌≡◌, ◌≤◌, ◌^◌, ◌++◌, [], ◌∷◌, refl, ap, sym, ◌∙◌, subst, arith, rules}
 use Rattle.std.specs.Prelude.{true, false, nat_lt, Ok, OnOk}
 use Rattle.std.specs.List.{list_all}
 use Rattle.term_tree.specs.Arena.{is_below, has_parts_below}
@@ -8,7 +8,7 @@ use Rattle.term_tree.proofs.Public.{both_true}
 use Rattle.horn_shape.specs.Plain.{is_plain_term}
 use Rattle.horn_shape.specs.Shape.{Reading, atom_of, body_form, body_reading, bound_over}
 use Rattle.horn_shape.specs.machinery.Flags.{flag_of}
-use Rattle.horn_shape.specs.machinery.Gathering.{IsMisfit, gained, onto, place_of}
+use Rattle.horn_shape.specs.machinery.Gathering.{IsMisfit, onto, place_of}
 use Rattle.horn_shape.proofs.FlagLemmas.{application_by, bound_flags}
 use Rattle.horn_shape.proofs.GatherLemmas.{same_stop}
 use Rattle.horn_shape.proofs.ShapeLemmas.{body_plain, body_mixed}

@@ -1,4 +1,4 @@
-use Rattle.std.proofs.Common.{◌≡◌, ℕ, ◌<◌, [], get_or, length, refl, ap, sym, ◌∙◌, subst}
+use Rattle.std.proofs.Common.{◌<◌, get_or, length, refl, ap, sym, ◌∙◌, subst}
 use Rattle.std.specs.Prelude.{Err, Some}
 use Rattle.term_tree.specs.declared.script.Assertion.{Assertion}
 use Rattle.horn_shape.specs.Clause.{assertion_reading}

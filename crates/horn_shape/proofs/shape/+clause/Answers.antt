@@ -1,12 +1,11 @@
-use Rattle.std.proofs.Common.{◌≡◌, ℕ, ◌+◌, ◌-◌, length, take, get_or, ◌≤◌, ◌^◌, ◌++◌, [], ◌∷◌, refl, ap, sym, ◌∙◌, subst, arith, rules}
+use Rattle.std.proofs.Common.{◌≡◌, ◌-◌, length, take, get_or, ◌≤◌, ◌^◌, ◌++◌, [], ◌∷◌, refl, ap, sym, ◌∙◌, subst, arith, rules}
 use Rattle.std.specs.Prelude.{true, false, nat_lt, Ok, Err, OnOk}
 use Rattle.std.specs.List.{list_all}
 use Rattle.term_tree.specs.Arena.{is_below, has_parts_below}
 use Rattle.term_tree.specs.declared.node.Node.{Node}
 use Rattle.term_tree.specs.declared.node.Node.TheVariants.{Let}
 use Rattle.term_tree.proofs.Public.{both_true}
-use Rattle.horn_shape.specs.Plain.{is_plain_term}
-use Rattle.horn_shape.specs.Shape.{Reading, at, head_of, body_reading, bound_over, clause_form, clause_reading, each, implication}
+use Rattle.horn_shape.specs.Shape.{Reading, at, head_of, body_reading, bound_over, clause_form, clause_reading, each}
 use Rattle.horn_shape.specs.machinery.Flags.{flag_of}
 use Rattle.horn_shape.specs.machinery.Gathering.{IsMisfit, onto, place_of, with_vars}
 use Rattle.horn_shape.proofs.FlagLemmas.{application_by, bound_flags}

@@ -1,4 +1,4 @@
-use Rattle.std.proofs.Common.{◌≡◌, ◌+◌, ◌++◌, length, ap, ◌∙◌, subst, length-append, arith, sym, rules, ◌∷◌, []}
+use Rattle.std.proofs.Common.{◌≡◌, ◌+◌, ◌++◌, length, ap, ◌∙◌, subst, length-append, arith, rules, ◌∷◌, []}
 use Rattle.std.specs.Prelude.{ℕ, slice_get, Some, true}
 use Rattle.term_tree.specs.Arena.{has_parts_below}
 use Rattle.horn_shape.proofs.FlagLemmas.{flags_more, flags_all}
