@@ -56,14 +56,21 @@ fn crosses_threads<X: Send + Sync>(_value: &X) {}
 
 #[test]
 fn versions_on_the_ends_of_blocks_stay_as_they_were(rt: HostRuntime) -> Result<(), Memory> {
+    let counts = [0, 1, 63, 64, 65, 4096, 4097];
     let mut table = Table::new(rt.alloc())?;
     crosses_threads(&table);
-    for count in [0, 1, 63, 64, 65, 4096, 4097] {
-        let before = table.count();
-        let version = table.share()?;
+    let mut versions = Vec::new(rt.alloc());
+    for count in counts {
         fill(rt.alloc(), &mut table, count)?;
         assert!(rt; is_filled(&table, count), "{count} rows");
-        assert!(rt; is_filled(&version, before), "{before} rows before");
+        versions.push(table.share()?)?;
+    }
+    fill(rt.alloc(), &mut table, 4200)?;
+    for at in [0, 62, 63, 64, 4095, 4096] {
+        put(rt.alloc(), &mut table, at, 9999)?;
+    }
+    for (version, count) in versions.iter().zip(counts) {
+        assert!(rt; is_filled(version, count), "the version of {count} rows");
     }
     Ok(())
 }

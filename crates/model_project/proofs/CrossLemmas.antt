@@ -47,7 +47,7 @@ small_here : (t : ℕ × ℤ) (ts : List (ℕ × ℤ)) (b : Bool) → is_short t
 small_here t ts true h g = ap (λ b. b && are_short ts) h ∙ g
 small_here t ts false h g = g
 
-filter_small : (test : ℕ × ℤ → Bool) (ts : List (ℕ × ℤ)) → are_short ts ≡ true → are_short (filter test ts) ≡ true
+pub filter_small : (test : ℕ × ℤ → Bool) (ts : List (ℕ × ℤ)) → are_short ts ≡ true → are_short (filter test ts) ≡ true
 filter_small test [] h = refl
 filter_small test (t ∷ ts) h = let both = both_true (is_short t.1) _ h in small_here t (filter test ts) (test t) both.0 (filter_small test ts both.1)
 

@@ -9,7 +9,7 @@ use Rattle.std.proofs.lemmas.List.{append-nil, drop_more, drop_all}
 use Rattle.lin_atoms.specs.Linear.{Linear, are_ordered, are_short, is_linear, is_short}
 use Rattle.lin_atoms.specs.Algebra.{collected, scaled_terms, term_on}
 use Rattle.std.specs.Int.{w128}
-use Rattle.lin_atoms.proofs.Public.{both_true, ordered, ordered-at, ordered-drop, scaled-ordered, term_on-whole, wide_where}
+use Rattle.lin_atoms.proofs.Public.{both_true, ordered, ordered-at, ordered-cons, ordered-drop, ordered-weaker, scaled-ordered, term_on-whole, wide_where}
 use Rattle.lin_atoms.proofs.MergeLemmas.{both-first, ours-ended, ours-first, theirs-ended, theirs-first}
 use Rattle.model_project.specs.Substitution.{coefficient_in}
 use Rattle.model_project.proofs.TidyLemmas.{first_has, gone_below, other_has}
@@ -151,3 +151,14 @@ not_small n h = grind (arith, nat_tests)
 
 pub wide-not_small : (z : ℤ) → (FitsSigned w128 z → ⊥) → is_short z ≡ false
 wide-not_small z wide = not_small (nat_abs z) (wide_where z wide)
+
+-- leaving terms out keeps their order
+ordered_here : (from : ℕ) (t : ℕ × ℤ) (ts : List (ℕ × ℤ)) (b : Bool) → from ≤ t.0 → 0 < nat_abs t.1 → are_ordered (t.0 + 1) ts ≡ true → are_ordered from (cond b (t ∷ ts) ts) ≡ true
+ordered_here from t ts true above whole rest = ordered-cons from t ts above whole rest
+ordered_here from t ts false above whole rest = ordered-weaker from (t.0 + 1) ts (omega (arith, above)) rest
+
+pub filter_ordered : (test : ℕ × ℤ → Bool) (from : ℕ) (ts : List (ℕ × ℤ)) → are_ordered from ts ≡ true → are_ordered from (filter test ts) ≡ true
+filter_ordered test from [] is = refl
+filter_ordered test from (t ∷ ts) is =
+    let parts = ordered from t ts is in
+    ordered_here from t (filter test ts) (test t) parts.above parts.whole (filter_ordered test (t.0 + 1) ts parts.rest)

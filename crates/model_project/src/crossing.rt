@@ -9,6 +9,7 @@ ghost use Rattle.model_project.specs.Substitution.{coefficient, crossed, crossed
 
 use crate::bounds::product;
 use crate::period::short;
+use crate::terms::form_of;
 use crate::{reading, terms};
 use base::{Copied, Memory};
 use lin_atoms::{Divisor, Lin, Lit, WideStop};
@@ -20,18 +21,6 @@ fn minus(a: i64) -> i64
     ensures { result ≡ neg_ℤ a }
 {
     -a
-}
-
-/// The form of terms that rise and of a constant with 64 bits.
-fn form_of(alloc: Global, terms: Vec<(u32, i64)>, constant: i64) -> Result<Lin, Memory>
-    requires { are_ordered 0 terms.items ≡ true }
-    ensures { IfOk result (λ made. made ≡ record { terms = terms.items; constant = constant }) }
-{
-    let _alloc = alloc;
-    match Lin::new(terms, i128::from(constant)) {
-        Ok(made) => Ok(made),
-        Err(_) => Err(Memory),
-    }
 }
 
 /// The form crossed with an equation, unless no variable is left.
@@ -59,7 +48,7 @@ fn crossed(
     match terms::narrowed(alloc, terms.as_slice()) {
         Ok(narrow) => match terms::constant(k, lin.constant(), m, equation.constant()) {
             Some(constant) => {
-                let made = form_of(alloc, narrow, constant)?;
+                let made = form_of(narrow, i128::from(constant));
                 Ok(Some(made))
             }
             None => Err(WideStop::Wide),

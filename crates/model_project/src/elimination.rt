@@ -88,13 +88,9 @@ pub(crate) fn eliminate(
 fn own_equation(alloc: Global, model: &[i64], variable: u32) -> Result<Lit, Memory>
     ensures { IfOk result (λ made. point model.now (variable ∷ []) ≡ made ∷ []) }
 {
-    let mut terms = Vec::with_capacity(alloc, 1)?;
-    terms.push((variable, 1i64))?;
     let value = i128::from(variable_at(model, variable as usize));
-    match Lin::new(terms, -value) {
-        Ok(made) => Ok(Lit::Eq(made)),
-        Err(_) => Err(Memory),
-    }
+    let made = terms::one_variable(alloc, variable, -value)?;
+    Ok(Lit::Eq(made))
 }
 
 /// The model's point: one equation for each kept variable.

@@ -2,13 +2,14 @@
 
 ghost use Rattle.std.specs.Prelude.{◌≡◌, ◌<◌, ◌^◌, ◌==◌, ◌∷◌, [], ◌<ℤ◌, nat_abs, not, pos, Some, None, true, false, IfOk, IfSome, IsErrOf, IsNone, OnOk};
 ghost use Rattle.std.specs.List.{filter, list_all};
-ghost use Rattle.lin_atoms.specs.Linear.{are_ordered, is_short};
+ghost use Rattle.lin_atoms.specs.Linear.{are_ordered, are_short};
 ghost use Rattle.lin_atoms.specs.declared.lit.Lit.TheVariants.{Div};
 ghost use Rattle.model_project.specs.machinery.Steps.{EquationIs};
 ghost use Rattle.model_project.specs.Elimination.{has_variable, has_short_numbers, tidied};
 ghost use Rattle.model_project.specs.Substitution.{coefficient, equation_in, left_over, lin_has, upright, without};
 
 use crate::crossing::ground;
+use crate::terms::form_of;
 use crate::{reading, terms};
 use base::{Copied, Memory};
 use lin_atoms::{Divisor, Lin, Lit, WideStop};
@@ -47,14 +48,14 @@ pub(crate) fn equation_in(
 }
 
 /// The literal that a number divides a form.
-fn of_division(a: i64, terms: Vec<(u32, i64)>, constant: i64) -> Result<Lit, WideStop>
-    ensures made { IfOk result (λ made. made ≡ Div (nat_abs a) (record { terms = terms.items; constant = constant })) }
-    ensures wide { IsErrOf result WideStop.Wide → ⊥ }
+fn of_division(a: i64, terms: Vec<(u32, i64)>, constant: i64) -> Lit
+    requires above { pos 0 <ℤ a }
+    requires ordered { are_ordered 0 terms.items ≡ true }
+    requires short { are_short terms.items ≡ true }
+    ensures { result ≡ Div (nat_abs a) (record { terms = terms.items; constant = constant }) }
 {
-    match (Divisor::new(a), Lin::new(terms, i128::from(constant))) {
-        (Some(d), Ok(made)) => Ok(Lit::Div(d, made)),
-        _ => Err(WideStop::Memory),
-    }
+    let divisor = Divisor::new(a).unwrap();
+    Lit::Div(divisor, form_of(terms, i128::from(constant)))
 }
 
 /// What the equation leaves of itself: nothing where the coefficient is 1, which is any literal
@@ -73,7 +74,7 @@ pub(crate) fn left_over(alloc: Global, variable: usize, equation: &Lin) -> Resul
         return Ok(ground(alloc));
     }
     match terms::narrow(equation.constant()) {
-        Some(constant) => of_division(a, rest, constant),
+        Some(constant) => Ok(of_division(a, rest, constant)),
         None => Err(WideStop::Wide),
     }
 }

@@ -61,7 +61,8 @@ fn copied(alloc: Global, lits: &[Lit]) -> Result<Items<Lit>, Memory>
 /// from the greatest down, or the model's point where that would take a number of 2^63 or more.
 /// (Cooper 1972; Loos and Weispfenning 1993.)
 ///
-/// Each removed variable costs one look at each literal; arithmetic is done where it occurs alone.
+/// Each removed variable costs a few looks at each literal; new literals are made where it occurs
+/// alone.
 pub fn project(
     alloc: Global,
     lits: &[Lit],

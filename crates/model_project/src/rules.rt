@@ -122,12 +122,7 @@ fn rest_equation(alloc: Global, variable: usize, rest: i64) -> Result<Lin, Memor
     requires small { nat_abs rest < 2 ^ 63 }
     ensures { IfOk result (λ made. made ≡ rest_equation variable rest) }
 {
-    let mut terms = Vec::with_capacity(alloc, 1)?;
-    terms.push((variable as u32, 1i64))?;
-    match Lin::new(terms, i128::from(-rest)) {
-        Ok(made) => Ok(made),
-        Err(_) => Err(Memory),
-    }
+    terms::one_variable(alloc, variable as u32, i128::from(-rest))
 }
 
 /// What a number leaves modulo another.

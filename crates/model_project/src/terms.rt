@@ -1,13 +1,13 @@
 //! Terms of combinations, term by term, exactly: a sum of two products of numbers below 2^63 is
 //! below 2^127.
 
-ghost use Rattle.std.specs.Prelude.{◌≡◌, ℕ, ◌+◌, ◌<◌, ◌≤◌, ◌^◌, ◌+ℤ◌, ◌*ℤ◌, ◌++◌, ◌==◌, [], drop, length, nat_abs, not, true, false, IsErrOf, IsNone, IfOk, IfSome, OnOk, ◌↔◌};
+ghost use Rattle.std.specs.Prelude.{◌≡◌, ℕ, ◌+◌, ◌<◌, ◌≤◌, ◌^◌, ◌+ℤ◌, ◌*ℤ◌, ◌++◌, ◌==◌, ◌∷◌, [], drop, length, nat_abs, not, pos, true, false, IsErrOf, IsNone, IfOk, IfSome, OnOk, ◌↔◌};
 ghost use Rattle.std.specs.List.{filter};
 ghost use Rattle.lin_atoms.specs.Linear.{are_ordered, are_short, is_short};
 ghost use Rattle.lin_atoms.specs.Algebra.{collected, scaled_terms, term_on};
 
 use base::Memory;
-use lin_atoms::{Accumulator, WideStop};
+use lin_atoms::{Accumulator, Lin, LinStop, WideStop};
 use std::alloc::Global;
 
 /// The exact product.
@@ -190,5 +190,30 @@ pub(crate) fn without(
         }
         made.push((*v, *a))?;
     }
+    Ok(made)
+}
+
+/// The form of terms and a constant that have room.
+pub(crate) fn form_of(terms: Vec<(u32, i64)>, constant: i128) -> Lin
+    requires ordered { are_ordered 0 terms.items ≡ true }
+    requires short { are_short terms.items ≡ true }
+    requires long { nat_abs constant < 2 ^ 64 }
+    ensures { result ≡ record { terms = terms.items; constant = constant } }
+{
+    match Lin::new(terms, constant) {
+        Ok(made) => made,
+        Err(LinStop::Order) => unreachable!(),
+        Err(LinStop::Wide) => unreachable!(),
+    }
+}
+
+/// The form of one variable, with the coefficient 1.
+pub(crate) fn one_variable(alloc: Global, variable: u32, constant: i128) -> Result<Lin, Memory>
+    requires { nat_abs constant < 2 ^ 64 }
+    ensures { IfOk result (λ made. made ≡ record { terms = (variable, pos 1) ∷ []; constant = constant }) }
+{
+    let mut terms = Vec::with_capacity(alloc, 1)?;
+    terms.push((variable, 1i64))?;
+    let made = form_of(terms, constant);
     Ok(made)
 }

@@ -1,0 +1,12 @@
+#!/bin/sh
+# Measures projection against a plain loop of the same rules on machine integers, in one run.
+set -e
+top=$(cd "$(dirname "$0")/.." && pwd)
+kit=$(dirname "$(dirname "$(readlink -f "$(command -v rt)")")")
+(cd "$top/crates/model_project_c" && rt lib >/dev/null)
+work=$(mktemp -d)
+trap 'rm -rf "$work"' EXIT
+rustc -O -o "$work/projection" "$top/bench/projection.rs" \
+    -C link-arg="$top/crates/model_project_c/out/libmodel_project_c.a" \
+    -C link-arg="$kit/c/liblibc_c.a" -C link-arg="$kit/c/libos_c.a"
+"$work/projection"
