@@ -6,6 +6,7 @@ use Rattle.lin_atoms.specs.Truth.{lit_truth, truth}
 use Rattle.lin_atoms.specs.declared.lit.Lit.{Lit}
 use Rattle.lin_atoms.specs.declared.form.Form.{Form}
 use Rattle.lin_atoms.specs.declared.form.Form.TheVariants.{Lit as Literal}
+use Rattle.lin_atoms.specs.declared.form.Form.TheViews.{And}
 use Rattle.lin_atoms.proofs.Public.{both_true, truth-And}
 use Rattle.farkas_proof.specs.Refutation.{HasNoPoint}
 use Rattle.clause_form.specs.System.{Clauses}
@@ -17,7 +18,7 @@ use Rattle.chc_tokens.specs.declared.goal.Goal.{Goal}
 use Rattle.chc_tokens.specs.declared.goal.Goal.TheVariants.{Query, Holds}
 use Rattle.chc_tokens.specs.declared.used.Used.{Used}
 use Rattle.chc_tokens.specs.Instances.{accepts, args_of, atom_at, head_at}
-use Rattle.chc_tokens.specs.Queries.{base, goal_cube, goal_has_room, has_goal, has_places, has_used, may_use, query, query_at, query_in, used_form, used_have_room}
+use Rattle.chc_tokens.specs.Queries.{base, base_at, base_in, forms_at, forms_in, goal_cube, goal_has_room, has_goal, has_places, has_used, may_use, query, query_at, query_in, used_form, used_have_room}
 use Rattle.chc_tokens.specs.Tokens.{Shows, is_passed, meets}
 
 all_literals : (point : List ℤ) (lits : List Lit) → list_all (truth point) (map Literal lits) ≡ list_all (lit_truth point) lits
@@ -84,3 +85,25 @@ shows sys n goal used form is none clause is_there point guard passed =
     let each = both_true (has_used clause.atoms used) (goal_has_room clause goal) rest.0 in
     let false_there : truth point (query clause goal used) ≡ false = ap (truth point) found.1 ∙ none point in
     left (truth point clause.guard) (meets goal (head_at point clause)) (list_all (is_passed point clause) used) guard passed (sym (truth-query point clause goal used there.0 each.0) ∙ false_there)
+
+abbrev joined : Option Form → Option (List Form) → Option Form
+joined None forms = None
+joined (Some base) None = None
+joined (Some base) (Some forms) = Some (And (base ∷ forms))
+
+both_there : (goal room uses uses_room : Bool) (base : Form) (forms : List Form)
+    → (if goal && (uses && room && uses_room) then Some (And (base ∷ forms)) else None) ≡ joined (if goal && room then Some base else None) (if uses && uses_room then Some forms else None)
+both_there true true true true base forms = refl
+both_there true true true false base forms = refl
+both_there true true false uses_room base forms = refl
+both_there true false true uses_room base forms = refl
+both_there true false false uses_room base forms = refl
+both_there false room uses uses_room base forms = refl
+
+query-joined : (clause : Option Clause) (goal : Goal) (used : List Used) → query_in clause goal used ≡ joined (base_in clause goal) (forms_in clause used)
+query-joined None goal used = refl
+query-joined (Some clause) goal used = both_there (has_goal clause goal) (goal_has_room clause goal) (has_used clause.atoms used) (used_have_room clause.atoms used) (base clause goal) (map (used_form clause.atoms) used)
+
+pub query-parts : (sys : Clauses) (n : ℕ) (goal : Goal) (used : List Used) (base : Form) (forms : List Form) → base_at sys n goal ≡ Some base → forms_at sys n used ≡ Some forms → query_at sys n goal used ≡ Some (And (base ∷ forms))
+query-parts sys n goal used base forms is each =
+    query-joined (slice_get sys.clauses n) goal used ∙ ap (λ (o : Option Form). joined o (forms_at sys n used)) is ∙ ap (joined (Some base)) each

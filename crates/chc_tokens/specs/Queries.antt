@@ -63,12 +63,19 @@ abbrev pub base_in : Option Clause → Goal → Option Form
 base_in None goal = None
 base_in (Some clause) goal = if has_goal clause goal && goal_has_room clause goal then Some (base clause goal) else None
 
+abbrev pub forms_in : Option Clause → List Used → Option (List Form)
+forms_in None used = None
+forms_in (Some clause) used = if has_used clause.atoms used && used_have_room clause.atoms used then Some (map (used_form clause.atoms) used) else None
+
 abbrev pub query_in : Option Clause → Goal → List Used → Option Form
 query_in None goal used = None
 query_in (Some clause) goal used = if has_goal clause goal && may_use clause goal used then Some (query clause goal used) else None
 
 abbrev pub base_at : Clauses → ℕ → Goal → Option Form
 base_at sys n goal = base_in (slice_get sys.clauses n) goal
+
+abbrev pub forms_at : Clauses → ℕ → List Used → Option (List Form)
+forms_at sys n used = forms_in (slice_get sys.clauses n) used
 
 abbrev pub query_at : Clauses → ℕ → Goal → List Used → Option Form
 query_at sys n goal used = query_in (slice_get sys.clauses n) goal used

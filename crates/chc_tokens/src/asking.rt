@@ -1,96 +1,16 @@
-ghost use Rattle.std.specs.Prelude.{◌≡◌, ◌++◌, ◌∷◌, [], ◌&&◌, Option, Some, None, IfOk, OnOk, IsErrOf, is_some, map, slice_get, true, false, if◌then◌else◌};
-ghost use Rattle.lin_atoms.specs.declared.form.Form.{Form as FormNow};
-ghost use Rattle.lin_atoms.specs.declared.form.Form.TheVariants.{Lit as Literal};
-ghost use Rattle.cube_forms.specs.Cubes.{cube_at, has_room};
-ghost use Rattle.chc_tokens.specs.Queries.{base, base_at, base_in, goal_has_room, has_used, may_use, query, query_at, query_in, used_form, used_has_room, used_have_room};
-ghost use Rattle.chc_tokens.specs.declared.goal.Goal.TheVariants.{Query, Holds};
+ghost use Rattle.std.specs.Prelude.{◌≡◌, ◌&&◌, Some, None, IfOk, is_some, map, true, if◌then◌else◌};
+ghost use Rattle.chc_tokens.specs.Queries.{base, base_at, base_in, forms_at, goal_has_room, has_used, may_use, query, query_at, query_in, used_form, used_have_room};
+ghost use Rattle.chc_tokens.specs.declared.goal.Goal.TheVariants.{Holds};
 
-use crate::atoms::{args_at, has_places, has_used, head_args};
+use crate::atoms::{has_places, has_used};
+use crate::forms::{base_form, push_used, query_form};
 use crate::goal::Goal;
 use crate::used::Used;
-use base::{Copied, Items, Memory};
+use base::{Items, Memory};
 use clause_form::{Atom, Clause, System};
-use cube_forms::{Lemma, lit_at};
+use cube_forms::Lemma;
 use lin_atoms::{Form, Lit, WideStop};
 use std::alloc::Global;
-
-fn push(parts: &mut Vec<Form>, form: Form) -> Result<(), Memory>
-    ensures { OnOk result (parts.new.items ≡ parts.old.items ++ form ∷ []) }
-{
-    parts.push(form)?;
-    Ok(())
-}
-
-/// Adds the literals at the arguments, one after another.
-fn push_all(
-    alloc: Global,
-    parts: &mut Vec<Form>,
-    lits: &[Lit],
-    args: &[u32],
-) -> Result<(), WideStop>
-    ensures made { OnOk result (parts.new.items ≡ parts.old.items ++ map Literal (cube_at args.now lits.now)) }
-    ensures within { OnOk result (has_room args.now lits.now ≡ true) }
-    ensures wide { IsErrOf result WideStop.Wide → has_room args.now lits.now ≡ false }
-{
-    for lit in lits {
-        let placed = lit_at(alloc, lit, args)?;
-        push(parts, Form::Lit(placed))?;
-    }
-    Ok(())
-}
-
-/// A used lemma at its atom's arguments.
-fn used_form(alloc: Global, atoms: &[Atom], used: &Used) -> Result<Form, WideStop>
-    ensures made { IfOk result (λ form. form ≡ used_form atoms.now used.now) }
-    ensures within { OnOk result (used_has_room atoms.now used.now ≡ true) }
-    ensures wide { IsErrOf result WideStop.Wide → used_has_room atoms.now used.now ≡ false }
-{
-    let args = args_at(atoms, used.atom);
-    let form = used.lemma.checked_form(alloc, args)?;
-    Ok(form)
-}
-
-/// Adds the used lemmas at their atoms' arguments, one after another.
-fn push_used(
-    alloc: Global,
-    parts: &mut Vec<Form>,
-    atoms: &[Atom],
-    used: &[Used],
-) -> Result<(), WideStop>
-    ensures made { OnOk result (parts.new.items ≡ parts.old.items ++ map (used_form atoms.now) used.now) }
-    ensures within { OnOk result (used_have_room atoms.now used.now ≡ true) }
-    ensures wide { IsErrOf result WideStop.Wide → used_have_room atoms.now used.now ≡ false }
-{
-    for one in used {
-        let form = used_form(alloc, atoms, one)?;
-        push(parts, form)?;
-    }
-    Ok(())
-}
-
-/// The guard, and that the head lies in the cube.
-fn base_form(alloc: Global, clause: &Clause, cube: &[Lit]) -> Result<Form, WideStop>
-    ensures made { IfOk result (λ form. form ≡ base clause.now (Holds cube.now)) }
-    ensures within { OnOk result (goal_has_room clause.now (Holds cube.now) ≡ true) }
-    ensures wide { IsErrOf result WideStop.Wide → goal_has_room clause.now (Holds cube.now) ≡ false }
-{
-    let mut parts = Vec::new(alloc);
-    push(&mut parts, clause.guard.copy(alloc)?)?;
-    push_all(alloc, &mut parts, cube, head_args(&clause.head))?;
-    Ok(Form::And(Items::from_vec(parts)))
-}
-
-/// That form, and each used lemma.
-fn query_form(alloc: Global, clause: &Clause, cube: &[Lit], used: &[Used]) -> Result<Form, WideStop>
-    ensures made { IfOk result (λ form. form ≡ query clause.now (Holds cube.now) used.now) }
-    ensures within { OnOk result ((goal_has_room clause.now (Holds cube.now) && used_have_room clause.now.atoms used.now) ≡ true) }
-    ensures wide { IsErrOf result WideStop.Wide → (goal_has_room clause.now (Holds cube.now) && used_have_room clause.now.atoms used.now) ≡ false }
-{
-    let mut parts = Vec::new(alloc);
-    push(&mut parts, base_form(alloc, clause, cube)?)?;
-    push_used(alloc, &mut parts, clause.atoms.as_slice(), used)?;
-    Ok(Form::And(Items::from_vec(parts)))
-}
 
 fn if_base(alloc: Global, clause: &Clause, cube: &[Lit]) -> Result<Option<Form>, Memory>
     ensures { IfOk result (λ found. found ≡ (if goal_has_room clause.now (Holds cube.now) then Some (base clause.now (Holds cube.now)) else None)) }
@@ -117,6 +37,20 @@ fn if_query(
     }
     match query_form(alloc, clause, cube, used) {
         Ok(form) => Ok(Some(form)),
+        Err(WideStop::Wide) => Ok(None),
+        Err(WideStop::Memory) => Err(Memory),
+    }
+}
+
+fn if_forms(alloc: Global, atoms: &[Atom], used: &[Used]) -> Result<Option<Items<Form>>, Memory>
+    ensures { IfOk result (λ found. found ≡ (if has_used atoms.now used.now && used_have_room atoms.now used.now then Some (map (used_form atoms.now) used.now) else None)) }
+{
+    if !has_used(atoms, used) {
+        return Ok(None);
+    }
+    let mut forms = Vec::new(alloc);
+    match push_used(alloc, &mut forms, atoms, used) {
+        Ok(_) => Ok(Some(Items::from_vec(forms))),
         Err(WideStop::Wide) => Ok(None),
         Err(WideStop::Memory) => Err(Memory),
     }
@@ -182,6 +116,22 @@ pub fn checked_base_of(
     }
 }
 
+/// The forms of used lemmas, as `forms_of` has them. There are none exactly where the clause, a
+/// lemma's atom or a place of it isn't there, or a lemma has no room at its atom's arguments.
+pub fn checked_forms_of(
+    alloc: Global,
+    sys: &System,
+    clause: u32,
+    used: &[Used],
+) -> Result<Option<Items<Form>>, Memory>
+    ensures { IfOk result (λ found. found ≡ forms_at sys.now clause used.now) }
+{
+    match sys.clauses().get(clause as usize) {
+        Some(clause) => if_forms(alloc, clause.atoms.as_slice(), used),
+        None => Ok(None),
+    }
+}
+
 /// The form of a query, as `query_of` has it. There is none exactly where there is none of the
 /// clause and the goal, a used lemma's atom or a place of it isn't there, or a used lemma has no
 /// room at its atom's arguments.
@@ -209,6 +159,24 @@ pub fn base_of(alloc: Global, sys: &System, clause: u32, goal: &Goal) -> Result<
 {
     match checked_base_of(alloc, sys, clause, goal)? {
         Some(form) => Ok(form),
+        None => unreachable!(),
+    }
+}
+
+/// The forms of used lemmas at their atoms' arguments, in order. Where it isn't known that there are
+/// such forms, `checked_forms_of` tells it. A solver that is given the form of `base_of` and these
+/// decides the query of `query_of`: `a_query_joins_its_base_and_lemmas`.
+pub fn forms_of(
+    alloc: Global,
+    sys: &System,
+    clause: u32,
+    used: &[Used],
+) -> Result<Items<Form>, Memory>
+    requires { is_some (forms_at sys.now clause used.now) ≡ true }
+    ensures { IfOk result (λ forms. forms_at sys.now clause used.now ≡ Some forms) }
+{
+    match checked_forms_of(alloc, sys, clause, used)? {
+        Some(forms) => Ok(forms),
         None => unreachable!(),
     }
 }

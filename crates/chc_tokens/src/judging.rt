@@ -125,3 +125,15 @@ pub fn no_lift(alloc: Global, sys: &System, lemma: Lemma, why: Why) -> Result<No
     judge(alloc, sys, &lemma, &why)?;
     Ok(NoLift { lemma, why })
 }
+
+/// The same where the reason is known to keep the lemma from being lifted, as when the very form that
+/// `query_of` made was just given up. No form is made, and nothing is compared.
+pub fn no_lift_by(sys: &System, lemma: Lemma, why: Why) -> NoLift
+    requires { IsKept sys.now lemma why }
+    ensures lemma { kept_lemma result ≡ lemma }
+    ensures why { kept_why result ≡ why }
+    ensures no_lift { IsNoLift sys.now result }
+{
+    let _sys = sys;
+    NoLift { lemma, why }
+}

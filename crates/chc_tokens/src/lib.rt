@@ -4,6 +4,7 @@
 
 mod asking;
 mod atoms;
+mod forms;
 mod goal;
 mod judging;
 mod keeping;
@@ -16,11 +17,15 @@ mod there;
 mod used;
 mod why;
 
-pub use asking::{base_of, checked_base_of, checked_query_of, query_of};
+pub use asking::{
+    base_of, checked_base_of, checked_forms_of, checked_query_of, forms_of, query_of,
+};
 pub use goal::Goal;
-pub use judging::no_lift;
+pub use judging::{no_lift, no_lift_by};
 pub use keeping::NoLift;
-pub use laws::{a_query_asks_for_an_instance, a_refuted_query_shows_its_goal};
+pub use laws::{
+    a_query_asks_for_an_instance, a_query_joins_its_base_and_lemmas, a_refuted_query_shows_its_goal,
+};
 pub use making::{seen, shown, shown_by};
 pub use refuting::Shown;
 pub use seeing::Seen;

@@ -1,6 +1,6 @@
 use Rattle.std.proofs.Common.{◌≡◌, drop, take, map, ◌++◌}
 use Rattle.chc_tokens.specs.Queries.{used_form, used_have_room}
-use Rattle.chc_tokens.proofs.asking.push_used.Given as goal
+use Rattle.chc_tokens.proofs.forms.push_used.Given as goal
 
 -- the forms so far are added, and the lemmas to come decide on the room
 abbrev pub invariant-loop-one : goal.invariant-loop-one

@@ -1,7 +1,7 @@
 use Rattle.std.proofs.Common.{◌≡◌, ◌∙◌}
 use Rattle.chc_tokens.specs.Queries.{used_form, used_has_room}
 use Rattle.chc_tokens.proofs.UsedLemmas.{more-forms, more-room}
-use Rattle.chc_tokens.proofs.asking.push_used.Goals as goal
+use Rattle.chc_tokens.proofs.forms.push_used.Goals as goal
 
 pub loop-one-preserved : goal.loop-one-preserved
 loop-one-preserved c =
