@@ -12,6 +12,7 @@ use cube_forms::Lemma;
 use lin_atoms::{Form, Lit, WideStop};
 use std::alloc::Global;
 
+/// The guard, and that the head lies in the cube, unless the numbers have no room.
 fn if_base(alloc: Global, clause: &Clause, cube: &[Lit]) -> Result<Option<Form>, Memory>
     ensures { IfOk result (λ found. found ≡ (if goal_has_room clause.now (Holds cube.now) then Some (base clause.now (Holds cube.now)) else None)) }
 {
@@ -42,6 +43,7 @@ fn if_query(
     }
 }
 
+/// The forms of used lemmas, unless an atom of one isn't there or the numbers have no room.
 fn if_forms(alloc: Global, atoms: &[Atom], used: &[Used]) -> Result<Option<Items<Form>>, Memory>
     ensures { IfOk result (λ found. found ≡ (if has_used atoms.now used.now && used_have_room atoms.now used.now then Some (map (used_form atoms.now) used.now) else None)) }
 {
@@ -71,6 +73,7 @@ pub(crate) fn query_of_lemma(
     if_query(alloc, clause, lemma.cube().lits(), used)
 }
 
+/// The base of a clause that is there.
 fn base_of_goal(alloc: Global, clause: &Clause, goal: &Goal) -> Result<Option<Form>, Memory>
     ensures { IfOk result (λ found. found ≡ base_in (Some clause.now) goal.now) }
 {
@@ -85,6 +88,7 @@ fn base_of_goal(alloc: Global, clause: &Clause, goal: &Goal) -> Result<Option<Fo
     }
 }
 
+/// The query of a clause that is there.
 fn query_of_goal(
     alloc: Global,
     clause: &Clause,

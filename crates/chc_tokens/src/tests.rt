@@ -6,7 +6,7 @@ ghost use Rattle.lin_atoms.specs.declared.form.Form.TheViews.{And, Or};
 ghost use Rattle.farkas_proof.specs.machinery.Kept.{form_of};
 
 use crate::{
-    Goal, Seen, Shown, TokenStop, Used, Why, base_of, checked_base_of, checked_forms_of,
+    Goal, NoLift, Seen, Shown, TokenStop, Used, Why, base_of, checked_base_of, checked_forms_of,
     checked_query_of, forms_of, has_head, has_values, no_lift, query_of, seen, shown, shown_by,
 };
 use base::{Copied, Items, Same};
@@ -144,19 +144,15 @@ fn used(alloc: Global, atom: u32) -> Result<Vec<Used>, Fail> {
 fn conjunction(alloc: Global, first: Form, second: Form) -> Result<Form, Fail>
     ensures { IfOk result (λ form. form ≡ And (first ∷ second ∷ [])) }
 {
-    let mut parts = Items::new(alloc);
-    parts.push(first)?;
-    parts.push(second)?;
-    Ok(Form::And(parts))
+    let parts = Vec::from_array(alloc, [first, second])?;
+    Ok(Form::And(Items::from_vec(parts)))
 }
 
 fn disjunction(alloc: Global, first: Lit, second: Lit) -> Result<Form, Fail>
     ensures { IfOk result (λ form. form ≡ Or (Literal first ∷ Literal second ∷ [])) }
 {
-    let mut parts = Items::new(alloc);
-    parts.push(Form::Lit(first))?;
-    parts.push(Form::Lit(second))?;
-    Ok(Form::Or(parts))
+    let parts = Vec::from_array(alloc, [Form::Lit(first), Form::Lit(second)])?;
+    Ok(Form::Or(Items::from_vec(parts)))
 }
 
 /// `x1 = x0 + 1 and x1 = 3`: the second clause's guard, and that its head breaks 'not 3'.
@@ -206,14 +202,21 @@ fn has_query(alloc: Global, sys: &System, goal: &Goal, used: &[Used]) -> Result<
     Ok(query.equals(&wanted))
 }
 
+/// Whether the forms of the second clause for 'not 3' on the head and 'not 2' on the body are the
+/// wanted ones.
+fn has_wanted(alloc: Global, sys: &System) -> Result<bool, Fail> {
+    let goal = is_at(alloc, 3)?;
+    let used = used(alloc, 0)?;
+    if !has_base(alloc, sys, &goal)? || !has_forms(alloc, sys, used.as_slice())? {
+        return Ok(false);
+    }
+    has_query(alloc, sys, &goal, used.as_slice())
+}
+
 #[test]
 fn a_query_is_the_guard_then_the_goal_then_the_used_lemmas(rt: HostRuntime) -> Result<(), Fail> {
     let sys = system(rt.alloc())?;
-    let goal = is_at(rt.alloc(), 3)?;
-    let used = used(rt.alloc(), 0)?;
-    assert!(rt; has_base(rt.alloc(), &sys, &goal)?);
-    assert!(rt; has_forms(rt.alloc(), &sys, used.as_slice())?);
-    assert!(rt; has_query(rt.alloc(), &sys, &goal, used.as_slice())?);
+    assert!(rt; has_wanted(rt.alloc(), &sys)?);
     Ok(())
 }
 
@@ -306,6 +309,13 @@ fn just_refuted(alloc: Global, sys: &System, goal: Goal) -> Result<Shown, Fail> 
     Ok(shown_by(sys, 1, goal, used, proof))
 }
 
+/// Whether it has the parts that it was made of.
+fn is_refuted(alloc: Global, sys: &System) -> Result<bool, Fail> {
+    let token = just_refuted(alloc, sys, is_at(alloc, 3)?)?;
+    let goal = is_at(alloc, 3)?;
+    is_wanted(alloc, &token, &goal)
+}
+
 #[test]
 fn a_proof_is_kept_for_its_own_query_alone(rt: HostRuntime) -> Result<(), Fail> {
     let sys = system(rt.alloc())?;
@@ -313,9 +323,13 @@ fn a_proof_is_kept_for_its_own_query_alone(rt: HostRuntime) -> Result<(), Fail> 
         let kept = is_kept(rt.alloc(), &sys, value)?;
         assert_eq!(rt; kept, wanted, "{value}");
     }
-    let goal = is_at(rt.alloc(), 3)?;
-    let token = just_refuted(rt.alloc(), &sys, is_at(rt.alloc(), 3)?)?;
-    assert!(rt; is_wanted(rt.alloc(), &token, &goal)?);
+    Ok(())
+}
+
+#[test]
+fn a_form_that_was_just_refuted_is_not_made_again(rt: HostRuntime) -> Result<(), Fail> {
+    let sys = system(rt.alloc())?;
+    assert!(rt; is_refuted(rt.alloc(), &sys)?);
     Ok(())
 }
 
@@ -382,39 +396,51 @@ fn evidence(alloc: Global) -> Result<GaveUp, Fail> {
     given_up(alloc, guard, three, above, below)
 }
 
-/// What `no_lift` keeps of a lemma with evidence of a query of the second clause.
+/// Whether it is a token, with a copy of the same lemma.
+fn is_token(alloc: Global, made: Result<NoLift, TokenStop>) -> Result<bool, Fail> {
+    match made {
+        Ok(kept) => Ok(kept.copy(alloc)?.lemma().equals(kept.lemma())),
+        Err(TokenStop::OtherForm) => Ok(false),
+        Err(_) => Err("another stop".into()),
+    }
+}
+
+/// What `no_lift` answers for a lemma with evidence of a query of the second clause.
 fn unknown(
     alloc: Global,
     sys: &System,
     goal: Goal,
     used: Items<Used>,
     evidence: GaveUp,
-) -> Result<bool, Fail> {
-    if checked_query_of(alloc, sys, 1, &goal, used.as_slice())?.is_none() {
-        return Err("no query".into());
+) -> Result<Result<NoLift, TokenStop>, Fail> {
+    let found = checked_query_of(alloc, sys, 1, &goal, used.as_slice())?;
+    match (goal, found) {
+        (Goal::Holds(lemma), Some(_)) => {
+            let why = Why::Unknown {
+                clause: 1,
+                used,
+                evidence,
+            };
+            Ok(no_lift(alloc, sys, lemma, why))
+        }
+        _ => Err("no query".into()),
     }
-    let why = Why::Unknown {
-        clause: 1,
-        used,
-        evidence,
-    };
-    match goal {
-        Goal::Query => Err("no lemma".into()),
-        Goal::Holds(lemma) => match no_lift(alloc, sys, lemma, why) {
-            Ok(kept) => Ok(kept.copy(alloc)?.lemma().equals(kept.lemma())),
-            Err(TokenStop::OtherForm) => Ok(false),
-            Err(_) => Err("another stop".into()),
-        },
-    }
+}
+
+/// Whether `no_lift` keeps 'not this value' with evidence of the wanted form.
+fn is_unknown(alloc: Global, sys: &System, value: i128) -> Result<bool, Fail> {
+    let goal = is_at(alloc, value)?;
+    let used = Items::from_vec(used(alloc, 0)?);
+    let evidence = evidence(alloc)?;
+    let made = unknown(alloc, sys, goal, used, evidence)?;
+    is_token(alloc, made)
 }
 
 #[test]
 fn evidence_keeps_the_lemma_of_its_own_query_alone(rt: HostRuntime) -> Result<(), Fail> {
     let sys = system(rt.alloc())?;
     for (value, wanted) in [(3, true), (4, false)] {
-        let goal = is_at(rt.alloc(), value)?;
-        let used = Items::from_vec(used(rt.alloc(), 0)?);
-        let kept = unknown(rt.alloc(), &sys, goal, used, evidence(rt.alloc())?)?;
+        let kept = is_unknown(rt.alloc(), &sys, value)?;
         assert_eq!(rt; kept, wanted, "not {value}");
     }
     Ok(())
