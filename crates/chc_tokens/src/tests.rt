@@ -6,7 +6,7 @@ ghost use Rattle.lin_atoms.specs.declared.form.Form.TheViews.{And, Or};
 ghost use Rattle.farkas_proof.specs.machinery.Kept.{form_of};
 
 use crate::{
-    Goal, NoLift, Seen, Shown, TokenStop, Used, Why, base_of, checked_base_of, checked_forms_of,
+    Goal, NoLift, Shown, TokenStop, Used, Why, base_of, checked_base_of, checked_forms_of,
     checked_query_of, forms_of, has_head, has_values, no_lift, query_of, seen, shown, shown_by,
 };
 use base::{Copied, Items, Same};
@@ -121,7 +121,7 @@ fn system(alloc: Global) -> Result<System, Fail> {
 /// The lemma that a predicate's argument at that place isn't the value.
 fn not_at(alloc: Global, place: u32, value: i128) -> Result<Lemma, Fail> {
     let mut lits = Vec::new(alloc);
-    lits.push(equal(alloc, &[(place, 1)], -value)?)?;
+    lits.push(equal(alloc, &[(place, -1)], value)?)?;
     let cube = Cube::new(alloc, lits)?;
     let lemma = negate(alloc, &cube)?;
     Ok(lemma)
@@ -158,14 +158,14 @@ fn disjunction(alloc: Global, first: Lit, second: Lit) -> Result<Form, Fail>
 /// `x1 = x0 + 1 and x1 = 3`: the second clause's guard, and that its head breaks 'not 3'.
 fn wanted_base(alloc: Global) -> Result<Form, Fail> {
     let guard = next(alloc)?;
-    let three = equal(alloc, &[(1, 1)], -3)?;
+    let three = equal(alloc, &[(1, -1)], 3)?;
     conjunction(alloc, Form::Lit(guard), Form::Lit(three))
 }
 
-/// `x0 <= 1 or x0 >= 3`: 'not 2' at x0.
+/// `x0 >= 3 or x0 <= 1`: 'not 2' at x0.
 fn wanted_lemma(alloc: Global) -> Result<Form, Fail> {
-    let above = most(alloc, &[(0, 1)], -1)?;
-    let below = most(alloc, &[(0, -1)], 3)?;
+    let above = most(alloc, &[(0, -1)], 3)?;
+    let below = most(alloc, &[(0, 1)], -1)?;
     disjunction(alloc, above, below)
 }
 
@@ -251,11 +251,11 @@ fn leaf(alloc: Global, multipliers: &[(u32, i64)]) -> Result<Refutation, Fail> {
     Ok(Refutation::Leaf { multipliers })
 }
 
-/// Where x0 <= 1, `x1 = x0 + 1` leaves x1 <= 2, and where x0 >= 3, x1 >= 4.
+/// Where x0 >= 3, `x1 = x0 + 1` leaves x1 >= 4, and where x0 <= 1, x1 <= 2.
 fn proof(alloc: Global) -> Result<Refutation, Fail> {
     let mut subs = Items::new(alloc);
-    subs.push(leaf(alloc, &[(0, 1), (1, -1), (2, 1)])?)?;
-    subs.push(leaf(alloc, &[(0, -1), (1, 1), (2, 1)])?)?;
+    subs.push(leaf(alloc, &[(0, -1), (1, -1), (2, 1)])?)?;
+    subs.push(leaf(alloc, &[(0, 1), (1, 1), (2, 1)])?)?;
     Ok(Refutation::Cases { which: 0, subs })
 }
 
@@ -333,33 +333,45 @@ fn a_form_that_was_just_refuted_is_not_made_again(rt: HostRuntime) -> Result<(),
     Ok(())
 }
 
-/// What `seen` answers for the second clause at 2 and x1.
-fn instance(alloc: Global, sys: &System, x1: i64) -> Result<Result<Seen, TokenStop>, Fail> {
-    let mut point = Vec::new(alloc);
-    point.push(2)?;
-    point.push(x1)?;
+fn point(alloc: Global, x1: i64) -> Result<Vec<i64>, Fail> {
+    let point = Vec::from_array(alloc, [2, x1])?;
+    Ok(point)
+}
+
+/// Whether `seen` keeps 2 and x1 as an instance of the second clause.
+fn is_instance(alloc: Global, sys: &System, x1: i64) -> Result<bool, Fail> {
+    let point = point(alloc, x1)?;
     if !has_values(sys, 1, point.as_slice()) {
         return Err("a point of other variables".into());
     }
-    Ok(seen(sys, 1, point))
-}
-
-fn is_instance(alloc: Global, sys: &System, x1: i64) -> Result<bool, Fail> {
-    match instance(alloc, sys, x1)? {
+    match seen(sys, 1, point) {
         Ok(seen) => Ok(seen.copy(alloc)?.point() == [2, x1].as_slice()),
         Err(TokenStop::NoInstance) => Ok(false),
         Err(_) => Err("another stop".into()),
     }
 }
 
-/// Whether `no_lift` keeps 'not this value' for the instance of the second clause at 2 and 3.
+/// What `no_lift` answers for a lemma and the second clause's instance at that point.
+fn broken(
+    alloc: Global,
+    sys: &System,
+    lemma: Lemma,
+    point: Vec<i64>,
+) -> Result<Result<NoLift, TokenStop>, Fail> {
+    if !has_head(sys, 1, &lemma) || !has_values(sys, 1, point.as_slice()) {
+        return Err("no head, or a point of other variables".into());
+    }
+    match seen(sys, 1, point) {
+        Ok(seen) => Ok(no_lift(alloc, sys, lemma, Why::Broken(seen))),
+        Err(_) => Err("no instance".into()),
+    }
+}
+
+/// Whether `no_lift` keeps 'not this value' for the instance at 2 and 3.
 fn is_broken(alloc: Global, sys: &System, value: i128) -> Result<bool, Fail> {
     let lemma = not_at(alloc, 0, value)?;
-    if !has_head(sys, 1, &lemma) {
-        return Err("no head".into());
-    }
-    let seen = instance(alloc, sys, 3)??;
-    match no_lift(alloc, sys, lemma, Why::Broken(seen)) {
+    let point = point(alloc, 3)?;
+    match broken(alloc, sys, lemma, point)? {
         Ok(_) => Ok(true),
         Err(TokenStop::NotBroken) => Ok(false),
         Err(_) => Err("another stop".into()),
@@ -390,9 +402,9 @@ fn given_up(alloc: Global, guard: Lit, goal: Lit, above: Lit, below: Lit) -> Res
 /// Evidence that the wanted form was.
 fn evidence(alloc: Global) -> Result<GaveUp, Fail> {
     let guard = next(alloc)?;
-    let three = equal(alloc, &[(1, 1)], -3)?;
-    let above = most(alloc, &[(0, 1)], -1)?;
-    let below = most(alloc, &[(0, -1)], 3)?;
+    let three = equal(alloc, &[(1, -1)], 3)?;
+    let above = most(alloc, &[(0, -1)], 3)?;
+    let below = most(alloc, &[(0, 1)], -1)?;
     given_up(alloc, guard, three, above, below)
 }
 

@@ -1,4 +1,4 @@
-use Rattle.std.proofs.Common.{◌≡◌, ◌∙◌}
+use Rattle.std.proofs.Common.{◌∙◌}
 use Rattle.chc_tokens.specs.Queries.{used_form, used_has_room}
 use Rattle.chc_tokens.proofs.UsedLemmas.{more-forms, more-room}
 use Rattle.chc_tokens.proofs.forms.push_used.Goals as goal
