@@ -1,0 +1,4 @@
+pub mod OpenLemmas
+pub mod Public
+pub mod QueryLemmas
+pub mod UsedLemmas

@@ -1,0 +1,4 @@
+pub mod Instances
+pub mod Kept
+pub mod Queries
+pub mod Tokens

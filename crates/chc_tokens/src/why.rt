@@ -1,0 +1,42 @@
+use crate::seeing::Seen;
+use crate::used::Used;
+use base::{Copied, Items, Memory};
+use farkas_proof::GaveUp;
+use std::alloc::Global;
+
+/// What keeps a lemma from being lifted.
+#[derive(Drop)]
+pub enum Why {
+    /// The head of this instance breaks it.
+    Broken(Seen),
+    /// The query whether an instance of the clause breaks it, under the used lemmas, was given up.
+    Unknown {
+        clause: u32,
+        used: Items<Used>,
+        evidence: GaveUp,
+    },
+}
+
+impl Copied for Why {
+    fn copy(&self, alloc: Global) -> Result<Why, Memory> {
+        match self {
+            Why::Broken(seen) => {
+                let seen = seen.copy(alloc)?;
+                Ok(Why::Broken(seen))
+            }
+            Why::Unknown {
+                clause,
+                used,
+                evidence,
+            } => {
+                let used = used.copy(alloc)?;
+                let evidence = evidence.copy(alloc)?;
+                Ok(Why::Unknown {
+                    clause: *clause,
+                    used,
+                    evidence,
+                })
+            }
+        }
+    }
+}
