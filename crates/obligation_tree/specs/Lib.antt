@@ -1,0 +1,5 @@
+pub mod Nodes
+pub mod Closing
+pub mod Claims
+pub mod Shape
+pub mod machinery
