@@ -41,7 +41,7 @@ length-closing test entry before (x ∷ xs) =
     omega (arith, more, long)
 
 -- what is settled stays
-closing-before : (test : Test) (entry : ℕ) (before xs : List Node) (i : ℕ) → i < length before → node_at (closing test entry before xs) i ≡ node_at before i
+pub closing-before : (test : Test) (entry : ℕ) (before xs : List Node) (i : ℕ) → i < length before → node_at (closing test entry before xs) i ≡ node_at before i
 closing-before test entry before [] i within = refl
 closing-before test entry before (x ∷ xs) i within =
     let s = settled test entry before x in
@@ -60,7 +60,7 @@ closing-became test entry before (x ∷ xs) (suc i) j is within =
     let long : length (before ++ s ∷ []) ≡ length before + 1 = length_push before s in
     closing-became test entry (before ++ s ∷ []) xs i j (omega (arith, long, is)) (omega arith)
 
-became : (test : Test) (entry : ℕ) (xs : List Node) (i : ℕ) → Became entry (node_at xs i) (node_at (closing test entry [] xs) i)
+pub became : (test : Test) (entry : ℕ) (xs : List Node) (i : ℕ) → Became entry (node_at xs i) (node_at (closing test entry [] xs) i)
 became test entry xs i = ⊎_elim (λ within. closing-became test entry [] xs i i (omega arith) within) past (cases_lt i (length xs)) where
   past : length xs ≤ i → Became entry (node_at xs i) (node_at (closing test entry [] xs) i)
   past beyond =

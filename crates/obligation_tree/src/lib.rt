@@ -5,11 +5,15 @@
 mod cause;
 mod closing;
 mod index;
+mod laws;
 mod node;
 mod obligation;
 mod tree;
 
 pub use cause::Cause;
+pub use laws::{
+    closing_only_closes, numbers_ascend, what_is_told_of_falls_with_all_that_hangs_under_it,
+};
 pub use node::Node;
 pub use obligation::Obligation;
 pub use tree::Tree;
