@@ -151,7 +151,7 @@ closing-tree test entry xs tree =
       some = (let some = tree.some in omega (arith, long, some));
       rooted = first ∙ tree.rooted ∙ ap (λ (o : Obligation). root o.level) (sym first);
       ordered = λ i above within. subst (λ (o : Obligation). o.parent < i) (sym (closing-obligation test entry xs i)) (tree.ordered i above (omega (arith, long, within)));
-      hung = closing-hung test entry [] xs (tree-behind xs tree) (λ i live. absurd (false≢true live))
+      hung = closing-hung test entry [] xs (tree-behind xs tree) (λ i live. absurd (false≢true live));
     }
 
 -- ---- the pass over the live obligations
@@ -189,14 +189,14 @@ one-settled test entry k before rest n long behind live =
     let xs = before ++ n ∷ rest in
     let at : node_at xs k ≡ n = get_or_at before n rest absent k long in
     let told : (test k n.obligation || is_closed_at xs n.obligation.parent) ≡ (test (length before) n.obligation || is_closed_at before n.obligation.parent) =
-        ap (λ i. test i n.obligation || is_closed_at xs n.obligation.parent) (sym long)
-        ∙ ap (λ b. test (length before) n.obligation || b) (closed-before before rest n n.obligation.parent (omega (arith, behind, long)) live) in
+    ap (λ i. test i n.obligation || is_closed_at xs n.obligation.parent) (sym long)
+    ∙ ap (λ b. test (length before) n.obligation || b) (closed-before before rest n n.obligation.parent (omega (arith, behind, long)) live) in
     ap (λ (m : Node). cond (test k m.obligation || is_closed_at xs m.obligation.parent) (set xs k (closed_with entry m)) xs) at
     ∙ ap (λ b. cond b (set xs k (closed_with entry n)) xs) told
     ∙ by (test (length before) n.obligation || is_closed_at before n.obligation.parent) where
-  by : (b : Bool) → cond b (set (before ++ n ∷ rest) k (closed_with entry n)) (before ++ n ∷ rest) ≡ before ++ cond (is_live n && b) (closed_with entry n) n ∷ rest
-  by true = set_at before n rest (closed_with entry n) k long ∙ ap (λ l. before ++ cond (l && true) (closed_with entry n) n ∷ rest) (sym live)
-  by false = ap (λ l. before ++ cond (l && false) (closed_with entry n) n ∷ rest) (sym live)
+      by : (b : Bool) → cond b (set (before ++ n ∷ rest) k (closed_with entry n)) (before ++ n ∷ rest) ≡ before ++ cond (is_live n && b) (closed_with entry n) n ∷ rest
+      by true = set_at before n rest (closed_with entry n) k long ∙ ap (λ l. before ++ cond (l && true) (closed_with entry n) n ∷ rest) (sym live)
+      by false = ap (λ l. before ++ cond (l && false) (closed_with entry n) n ∷ rest) (sym live)
 
 settled-closed : (test : Test) (entry : ℕ) (before : List Node) (n : Node) → is_live n ≡ false → settled test entry before n ≡ n
 settled-closed test entry before n closed = ap (λ l. cond (l && (test (length before) n.obligation || is_closed_at before n.obligation.parent)) (closed_with entry n) n) closed

@@ -3,18 +3,18 @@ use Rattle.std.proofs.Common.{◌≡◌, ◌↔◌, ℕ, suc, zero, ◌+◌, ◌
 use Rattle.std.specs.Prelude.{nat_lt}
 use Rattle.std.specs.List.{range_with_len}
 use Rattle.std.specs.List.Sorted.{IsStrictlyIncreasing}
-use Rattle.std.proofs.lemmas.Bool.{lt-ltb, le-ltb, ltb-true, false≢true, and_parts, or_cases, or_parts, not-false, not-true}
+use Rattle.std.proofs.lemmas.Bool.{lt-ltb, le-ltb, ltb-true, ltb-false, false≢true, and_parts, or_cases, or_parts, not-false, not-true}
 use Rattle.std.proofs.lemmas.List.{append_assoc, get_or_at, drop_more, length-take-le, length_push, take-append-drop}
 use Rattle.std.proofs.lemmas.List.FromFn.{get_or-range_with_len, length-range_with_len}
 use Rattle.std.proofs.lemmas.List.Kept.{IsStrictlyIncreasing-filter}
 use Rattle.obligation_tree.specs.Nodes.{absent, closed_with, has_live_child, is_live, is_live_at, leaf_numbers, live_numbers, node_at, parent_at, root}
-use Rattle.obligation_tree.specs.Closing.{closing, is_closed_at, root_at, settled}
+use Rattle.obligation_tree.specs.Closing.{after_raise, closing, is_closed_at, root_at, settled}
 use Rattle.obligation_tree.specs.Hanging.{HangsUnder, beneath, itself}
 use Rattle.obligation_tree.specs.Shape.{IsTree}
 use Rattle.obligation_tree.specs.declared.obligation.Obligation.{Obligation}
 use Rattle.obligation_tree.specs.declared.node.Node.{Node}
-use Rattle.obligation_tree.proofs.ClosingLemmas.{Became, Test, became, closing-before, closing-live, length-closing}
-use Rattle.obligation_tree.proofs.ShapeLemmas.{live-within}
+use Rattle.obligation_tree.proofs.ClosingLemmas.{Became, Test, became, closing-before, closing-live, closing-tree, length-closing}
+use Rattle.obligation_tree.proofs.ShapeLemmas.{live-within, root_at-live, root_at-root}
 
 -- ---- ascending
 
@@ -98,7 +98,7 @@ pub live-untold : (test : Test) (entry : ℕ) (xs : List Node) (i : ℕ) → IsT
 live-untold test entry xs i tree live =
     let was = closing-live test entry xs i live in
     (or_parts (test i (node_at xs i).obligation) (nat_lt 0 i && not (is_live_at (closing test entry [] xs) (parent_at xs i)))
-      (not-true (test i (node_at xs i).obligation || (nat_lt 0 i && not (is_live_at (closing test entry [] xs) (parent_at xs i)))) (sym (live-told test entry xs i tree was) ∙ live))).0
+    (not-true (test i (node_at xs i).obligation || (nat_lt 0 i && not (is_live_at (closing test entry [] xs) (parent_at xs i)))) (sym (live-told test entry xs i tree was) ∙ live))).0
 
 -- what was closed stays as it was
 pub closed-stays : (test : Test) (entry : ℕ) (xs : List Node) (i : ℕ) → is_live_at xs i ≡ false → node_at (closing test entry [] xs) i ≡ node_at xs i
@@ -120,20 +120,20 @@ one-up test entry xs i tree live closed =
     let up : Bool = nat_lt 0 i && not (is_live_at (closing test entry [] xs) (parent_at xs i)) in
     let told : (test i (node_at xs i).obligation || up) ≡ true = not-false (test i (node_at xs i).obligation || up) (sym (live-told test entry xs i tree live) ∙ closed) in
     ⊎_elim (λ here. inl here)
-      (λ above. let parts = and_parts (nat_lt 0 i) (not (is_live_at (closing test entry [] xs) (parent_at xs i))) above in inr (ltb-true 0 i parts.0, not-true (is_live_at (closing test entry [] xs) (parent_at xs i)) parts.1))
-      (or_cases (test i (node_at xs i).obligation) up told)
+    (λ above. let parts = and_parts (nat_lt 0 i) (not (is_live_at (closing test entry [] xs) (parent_at xs i))) above in inr (ltb-true 0 i parts.0, not-true (is_live_at (closing test entry [] xs) (parent_at xs i)) parts.1))
+    (or_cases (test i (node_at xs i).obligation) up told)
 
 pub why-closed : (test : Test) (entry : ℕ) (xs : List Node) → IsTree xs → (fuel i : ℕ) → i ≤ fuel → is_live_at xs i ≡ true → is_live_at (closing test entry [] xs) i ≡ false → IsTold test xs i
 why-closed test entry xs tree zero i least live closed =
     ⊎_elim (λ here. (i, itself, here)) (λ above. let some = above.0 in absurd (omega (arith, least, some))) (one-up test entry xs i tree live closed)
 why-closed test entry xs tree (suc fuel) i least live closed =
     ⊎_elim (λ here. (i, itself, here)) (λ above. up above.0 above.1 (λ low p. why-closed test entry xs tree fuel (parent_at xs i) low p above.1)) (one-up test entry xs i tree live closed) where
-  up : 0 < i → is_live_at (closing test entry [] xs) (parent_at xs i) ≡ false → (parent_at xs i ≤ fuel → is_live_at xs (parent_at xs i) ≡ true → IsTold test xs (parent_at xs i)) → IsTold test xs i
-  up some gone more =
-      let within = live-within xs i live in
-      let below : parent_at xs i < i = tree.ordered i some within in
-      let it : IsTold test xs (parent_at xs i) = more (omega (arith, below, least)) (tree.hung i live) in
-      (it.0, beneath i some it.1, it.2)
+      up : 0 < i → is_live_at (closing test entry [] xs) (parent_at xs i) ≡ false → (parent_at xs i ≤ fuel → is_live_at xs (parent_at xs i) ≡ true → IsTold test xs (parent_at xs i)) → IsTold test xs i
+      up some gone more =
+          let within = live-within xs i live in
+          let below : parent_at xs i < i = tree.ordered i some within in
+          let it : IsTold test xs (parent_at xs i) = more (omega (arith, below, least)) (tree.hung i live) in
+          (it.0, beneath i some it.1, it.2)
 
 pub what-falls : (test : Test) (entry : ℕ) (xs : List Node) (above i : ℕ) → IsTree xs → HangsUnder xs above i → test above (node_at xs above).obligation ≡ true → is_live_at xs i ≡ true → is_live_at (closing test entry [] xs) i ≡ false
 what-falls test entry xs above _ tree itself told live =
@@ -145,10 +145,25 @@ what-falls test entry xs above _ tree (beneath i some under) told live =
     ∙ ap (λ b. not (test i (node_at xs i).obligation || (b && not (is_live_at (closing test entry [] xs) (parent_at xs i))))) first
     ∙ ap (λ b. not (test i (node_at xs i).obligation || not b)) parent
     ∙ ap not (or_true (test i (node_at xs i).obligation)) where
-  or_true : (b : Bool) → (b || true) ≡ true
-  or_true true = refl
-  or_true false = refl
+      or_true : (b : Bool) → (b || true) ≡ true
+      or_true true = refl
+      or_true false = refl
 
 -- what is live afterwards stands as it stood
 pub live-stays : (test : Test) (entry : ℕ) (xs : List Node) (i : ℕ) → is_live_at (closing test entry [] xs) i ≡ true → node_at (closing test entry [] xs) i ≡ node_at xs i
 live-stays test entry xs i live = ⊎_elim (λ same. same) (λ new. absurd (false≢true (sym (ap is_live new.1) ∙ live))) (became test entry xs i)
+
+-- ---- a raise
+
+pub raise-live : (level entry : ℕ) (xs : List Node) (i : ℕ) → IsTree xs → is_live_at (after_raise level entry xs) i ≡ true → i ≡ 0
+raise-live level entry xs i tree live =
+    let test : Test = λ number obligation. nat_lt 0 number in
+    let was : is_live_at (closing test entry [] xs) i ≡ true = sym (root_at-live level (closing test entry [] xs) i) ∙ live in
+    let low : i ≤ 0 = ltb-false 0 i (live-untold test entry xs i tree was) in
+    omega (arith, low)
+
+pub raise-root : (level entry : ℕ) (xs : List Node) → IsTree xs → (node_at (after_raise level entry xs) 0).obligation ≡ root level
+raise-root level entry xs tree =
+    let test : Test = λ number obligation. nat_lt 0 number in
+    let after = closing-tree test entry xs tree in
+    root_at-root level (closing test entry [] xs) after.some after.rooted

@@ -1,4 +1,6 @@
-pub mod NumberLemmas
-pub mod ShapeLemmas
 pub mod ClosingLemmas
 pub mod LawLemmas
+pub mod LeafLemmas
+pub mod NumberLemmas
+pub mod Public
+pub mod ShapeLemmas

@@ -7,7 +7,7 @@ use Rattle.std.proofs.lemmas.List.FromFn.{map-range_with_len_more, get_or-range_
 pub range-suc : (n : ℕ) → range_with_len 0 (suc n) ≡ range_with_len 0 n ++ n ∷ []
 range-suc n =
     let more : range_with_len 0 (n + 1) ≡ range_with_len 0 n ++ n ∷ [] =
-        sym (map-id (range_with_len 0 (n + 1))) ∙ map-range_with_len_more (λ (i : ℕ). i) 0 n n (omega arith) ∙ ap (λ is. is ++ n ∷ []) (map-id (range_with_len 0 n)) in
+    sym (map-id (range_with_len 0 (n + 1))) ∙ map-range_with_len_more (λ (i : ℕ). i) 0 n n (omega arith) ∙ ap (λ is. is ++ n ∷ []) (map-id (range_with_len 0 n)) in
     let one : n + 1 ≡ suc n = omega arith in
     subst (λ m. range_with_len 0 m ≡ range_with_len 0 n ++ n ∷ []) one more
 

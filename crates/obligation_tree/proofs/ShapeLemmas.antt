@@ -46,7 +46,7 @@ same-tree xs ys same rooted tree = record {
       subst (λ p. p < i) (same.parents i) below;
   hung = λ i live.
       let was : is_live_at xs i ≡ true = same.live i ∙ live in
-      ap (λ p. is_live_at ys p) (sym (same.parents i)) ∙ sym (same.live (parent_at xs i)) ∙ tree.hung i was
+      ap (λ p. is_live_at ys p) (sym (same.parents i)) ∙ sym (same.live (parent_at xs i)) ∙ tree.hung i was;
 }
 
 -- an obligation with another one's parent, and live where that is, in its place
@@ -54,7 +54,7 @@ pub set-shape : (xs : List Node) (at : ℕ) (n : Node) → at < length xs → is
 set-shape xs at n within live parent = record {
   long = sym (length-set xs at n);
   live = λ i. ⊎_elim (here i) (λ other. sym (ap is_live (get_or-set_other xs at i n absent other))) (cases_eq i at);
-  parents = λ i. ⊎_elim (there i) (λ other. sym (ap (λ m. m.obligation.parent) (get_or-set_other xs at i n absent other))) (cases_eq i at)
+  parents = λ i. ⊎_elim (there i) (λ other. sym (ap (λ m. m.obligation.parent) (get_or-set_other xs at i n absent other))) (cases_eq i at);
 } where
   here : (i : ℕ) → i ≡ at → is_live_at xs i ≡ is_live_at (set xs at n) i
   here i same = subst (λ j. is_live_at xs j ≡ is_live_at (set xs at n) j) (sym same) (sym live ∙ sym (ap is_live (get_or-set_same xs at n absent within)))
@@ -66,7 +66,7 @@ pub kept-same : (xs ys : List Node) (index : Index) → SameShape xs ys → (nod
 kept-same xs ys index same rooted kept = record {
   tree = same-tree xs ys same rooted kept.tree;
   live = kept.live ∙ same-live_numbers xs ys same;
-  leaves = kept.leaves ∙ same-leaf_numbers xs ys same
+  leaves = kept.leaves ∙ same-leaf_numbers xs ys same;
 }
 
 -- marking changes no obligation
@@ -157,8 +157,8 @@ added-leaves xs o tree below =
     let was_leaf : ℕ → Bool = λ i. not (has_live_child xs i) in
     let other : ℕ → Bool = λ i. not (o.parent == i) in
     let old : filter is_leaf (live_numbers xs) ≡ filter other (leaf_numbers xs) =
-        filter-same is_leaf (λ i. was_leaf i && other i) (live_numbers xs) (λ i. ap not (added-child xs o i tree.some) ∙ not_or (has_live_child xs i) (o.parent == i))
-        ∙ sym (filter-filter was_leaf other (live_numbers xs)) in
+    filter-same is_leaf (λ i. was_leaf i && other i) (live_numbers xs) (λ i. ap not (added-child xs o i tree.some) ∙ not_or (has_live_child xs i) (o.parent == i))
+    ∙ sym (filter-filter was_leaf other (live_numbers xs)) in
     let none : has_live_child ys n ≡ false = added-child xs o n tree.some ∙ ap (λ b. b || o.parent == n) (no-child xs tree) ∙ ne_eqb o.parent n (λ is. omega arith) in
     let new : filter is_leaf (n ∷ []) ≡ n ∷ [] = ap (λ b. cond (not b) (n ∷ []) []) none in
     ap (λ ns. filter is_leaf ns) (added-live xs o)
@@ -177,7 +177,7 @@ added-tree xs o tree live = record {
   some = (let some = tree.some in let long = length_push xs (fresh o) in omega arith);
   rooted = (let first = ap (λ m. m.obligation) (old-at xs o 0 tree.some) in first ∙ tree.rooted ∙ ap (λ q. root q.level) (sym first));
   ordered = λ i above within. ⊎_elim (old-order i above) (new-order i) (at_either xs o i within);
-  hung = λ i is. ⊎_elim (old-hung i is) (new-hung i) (at_either xs o i (live-within ys i is))
+  hung = λ i is. ⊎_elim (old-hung i is) (new-hung i) (at_either xs o i (live-within ys i is));
 } where
   ys : List Node
   ys = xs ++ fresh o ∷ []
@@ -210,5 +210,20 @@ pub kept-added : (xs : List Node) (index next : Index) (o : Obligation) → is_l
 kept-added xs index next o live lives leaves kept = record {
   tree = added-tree xs o kept.tree live;
   live = lives ∙ ap (λ ns. ns ++ length xs ∷ []) kept.live ∙ sym (added-live xs o);
-  leaves = leaves ∙ ap (λ ns. filter (λ leaf. not (o.parent == leaf)) ns ++ length xs ∷ []) kept.leaves ∙ sym (added-leaves xs o kept.tree (live-within xs o.parent live))
+  leaves = leaves ∙ ap (λ ns. filter (λ leaf. not (o.parent == leaf)) ns ++ length xs ∷ []) kept.leaves ∙ sym (added-leaves xs o kept.tree (live-within xs o.parent live));
 }
+
+-- only the root has another level
+pub root_at-others : (level : ℕ) (xs : List Node) (i : ℕ) → 0 < i → node_at (root_at level xs) i ≡ node_at xs i
+root_at-others level [] i above = refl
+root_at-others level (x ∷ xs) zero above = absurd (omega arith)
+root_at-others level (x ∷ xs) (suc i) above = refl
+
+pub root_at-live : (level : ℕ) (xs : List Node) (i : ℕ) → is_live_at (root_at level xs) i ≡ is_live_at xs i
+root_at-live level [] i = refl
+root_at-live level (x ∷ xs) zero = refl
+root_at-live level (x ∷ xs) (suc i) = refl
+
+pub root_at-root : (level : ℕ) (xs : List Node) → 0 < length xs → (node_at xs 0).obligation ≡ root (node_at xs 0).obligation.level → (node_at (root_at level xs) 0).obligation ≡ root level
+root_at-root level [] some rooted = absurd (omega arith)
+root_at-root level (x ∷ xs) some rooted = ap (λ (o : Obligation). record o { level = level }) rooted

@@ -19,7 +19,9 @@ pub enum Cause<'a> {
         tuple: &'a [i64],
     },
     /// One more level is closed, and the root has this level from now on.
-    Raise { level: u32 },
+    Raise {
+        level: u32,
+    },
 }
 
 /// Whether both are the same predicate, or both are false.

@@ -2,8 +2,8 @@
 
 ghost use Rattle.std.specs.Prelude.{◌≡◌, ◌↔◌, ℕ, List, [], Bool, length, true, false};
 ghost use Rattle.std.specs.List.Sorted.{IsStrictlyIncreasing};
-ghost use Rattle.obligation_tree.specs.Nodes.{closed_with, is_live_at, leaf_numbers, live_numbers, node_at};
-ghost use Rattle.obligation_tree.specs.Closing.{closing};
+ghost use Rattle.obligation_tree.specs.Nodes.{closed_with, is_live_at, leaf_numbers, live_numbers, node_at, root};
+ghost use Rattle.obligation_tree.specs.Closing.{after_raise, closing};
 ghost use Rattle.obligation_tree.specs.Hanging.{HangsUnder};
 ghost use Rattle.obligation_tree.specs.Shape.{IsTree};
 ghost use Rattle.obligation_tree.specs.declared.obligation.Obligation.{Obligation};
@@ -21,6 +21,18 @@ pub fn closing_only_closes()
     ensures now { (test : ℕ → Obligation → Bool) (entry : ℕ) (nodes : List Node) (number : ℕ) → is_live_at nodes number ≡ true → is_live_at (closing test entry [] nodes) number ≡ false → node_at (closing test entry [] nodes) number ≡ closed_with entry (node_at nodes number) }
     ensures before { (test : ℕ → Obligation → Bool) (entry : ℕ) (nodes : List Node) (number : ℕ) → is_live_at nodes number ≡ false → node_at (closing test entry [] nodes) number ≡ node_at nodes number }
     ensures live { (test : ℕ → Obligation → Bool) (entry : ℕ) (nodes : List Node) (number : ℕ) → is_live_at (closing test entry [] nodes) number ≡ true → node_at (closing test entry [] nodes) number ≡ node_at nodes number }
+{}
+
+/// The test doesn't tell of what stays live: so a lemma excludes the point of no live obligation of
+/// its predicate and of at most its level, and no live obligation holds a fact.
+pub fn what_stays_live_is_not_told_of()
+    ensures { (test : ℕ → Obligation → Bool) (entry : ℕ) (nodes : List Node) (number : ℕ) → IsTree nodes → is_live_at (closing test entry [] nodes) number ≡ true → test number (node_at nodes number).obligation ≡ false }
+{}
+
+/// After a raise the root alone is live, if it was, and asks for false at the new level.
+pub fn a_raise_leaves_the_root()
+    ensures live { (level entry : ℕ) (nodes : List Node) (number : ℕ) → IsTree nodes → is_live_at (after_raise level entry nodes) number ≡ true → number ≡ 0 }
+    ensures asks { (level entry : ℕ) (nodes : List Node) → IsTree nodes → (node_at (after_raise level entry nodes) 0).obligation ≡ root level }
 {}
 
 /// The numbers of the live obligations, and of those without live children, ascend.

@@ -12,8 +12,12 @@ mod tree;
 
 pub use cause::Cause;
 pub use laws::{
-    closing_only_closes, numbers_ascend, what_is_told_of_falls_with_all_that_hangs_under_it,
+    a_raise_leaves_the_root, closing_only_closes, numbers_ascend,
+    what_is_told_of_falls_with_all_that_hangs_under_it, what_stays_live_is_not_told_of,
 };
 pub use node::Node;
 pub use obligation::Obligation;
 pub use tree::Tree;
+
+#[cfg(test)]
+mod tests;

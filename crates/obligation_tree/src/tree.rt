@@ -1,10 +1,12 @@
-ghost use Rattle.std.specs.Prelude.{◌≡◌, ◌∷◌, [], ◌++◌, ◌<◌, ◌≤◌, ◌-◌, ◌^◌, length, replicate, not, true, false, None, ℕ, slice_index, IsTrue, IfOk, OnOk, OnErr};
+ghost use Rattle.std.specs.Prelude.{◌≡◌, ◌∷◌, [], ◌++◌, ◌<◌, ◌≤◌, ◌-◌, ◌^◌, length, replicate, not, true, false, None, IsTrue, IfOk, OnOk, OnErr};
 ghost use Rattle.std.specs.Bool.{OnTrue, OnFalse};
 ghost use Rattle.std.specs.List.{list_any};
-ghost use Rattle.obligation_tree.specs.Nodes.{fresh, has_live_child, is_child_of, is_live_at, leaf_numbers, live_numbers, marked_at, node_at, root};
+ghost use Rattle.std.specs.List.Sorted.{IsStrictlyIncreasing};
+ghost use Rattle.obligation_tree.specs.Nodes.{fresh, has_live_child, is_live_at, leaf_numbers, live_numbers, marked_at, node_at, root};
 ghost use Rattle.obligation_tree.specs.Closing.{after};
 ghost use Rattle.obligation_tree.specs.Claims.{claimed, is_claim_of, is_held_by_another, most_workers, released};
 ghost use Rattle.obligation_tree.specs.Shape.{IsTree};
+ghost use Rattle.obligation_tree.specs.machinery.Passes.{is_among};
 
 use crate::cause::Cause;
 use crate::closing::closed;
@@ -200,7 +202,7 @@ impl Tree {
         requires { id < length self.now.nodes }
         ensures { result ≡ has_live_child self.now.nodes id }
     {
-        hangs_under(&self.nodes, self.index.get().live.as_slice(), id)
+        self.nodes.get(id).is_live() && !is_among(id, self.index.get().leaves.as_slice())
     }
 
     /// An equal tree, claims too, which shares the obligations and the lists.
@@ -252,17 +254,15 @@ fn first(alloc: Global) -> Result<Index, Memory>
     })
 }
 
-/// Whether one of these obligations hangs right under it.
-fn hangs_under(nodes: &Table<Node>, numbers: &[u32], id: u32) -> bool
-    requires { (k : ℕ) → k < length numbers.now → slice_index numbers.now k < length nodes.now }
-    ensures { result ≡ list_any (is_child_of nodes.now id) numbers.now }
+/// Whether the number is one of these, which ascend.
+fn is_among(number: u32, numbers: &[u32]) -> bool
+    requires { IsStrictlyIncreasing numbers.now }
+    ensures { result ≡ is_among number numbers.now }
 {
-    for number in numbers {
-        if *number > 0 && nodes.get(*number).obligation.get().parent == id {
-            return true;
-        }
+    match numbers.binary_search(&number) {
+        Ok(_) => true,
+        Err(_) => false,
     }
-    false
 }
 
 /// Whether one of these claims is of the obligation.

@@ -1,5 +1,6 @@
 -- How the code closes obligations: a pass over the live ones, and what is kept to find them.
-use Rattle.std.specs.Prelude.{ℕ, ◌≡◌, List, [], ◌∷◌, set, Bool, ◌||◌, if◌then◌else◌}
+use Rattle.std.specs.Prelude.{ℕ, ◌≡◌, List, [], ◌∷◌, set, Bool, ◌||◌, ◌==◌, if◌then◌else◌}
+use Rattle.std.specs.List.{list_any}
 use Rattle.obligation_tree.specs.Nodes.{closed_with, leaf_numbers, live_numbers, node_at}
 use Rattle.obligation_tree.specs.Closing.{is_closed_at, root_at}
 use Rattle.obligation_tree.specs.Shape.{IsTree}
@@ -28,3 +29,7 @@ pub record IsKept (nodes : List Node) (index : Index) : Type 0 where
   pub tree : IsTree nodes
   pub live : index.live.items ≡ live_numbers nodes
   pub leaves : index.leaves.items ≡ leaf_numbers nodes
+
+-- whether the number is one of these
+abbrev pub is_among : ℕ → List ℕ → Bool
+is_among number numbers = list_any (λ n. n == number) numbers

@@ -61,8 +61,8 @@ returns-clause-kept c =
     let now : zs ≡ closing (hits c.args.cause) c.args.entry [] xs = pass-now c.args.cause c.args.entry xs c.args.index.now c.in_ok-nodes.nodes zs c.as_slice.result.now c.requires c.in_ok-nodes.ensures c.as_slice.ensures.value c.in_ok-settle_all.ensures in
     let live : c.in_ok-live.live.items ≡ live_numbers zs = live-now (hits c.args.cause) c.args.entry xs c.args.index.now zs c.as_slice-2.result.now c.in_ok-live.live.items c.requires now c.as_slice-2.ensures.value c.in_ok-live.ensures in
     let kept : IsKept zs (record { live = c.in_ok-live.live; leaves = c.in_ok-leaves.leaves }) = record {
-        tree = tree-now (hits c.args.cause) c.args.entry xs zs c.requires.tree now;
-        live = live;
-        leaves = c.in_ok-leaves.ensures ∙ ap (λ ns. filter (λ number. not (list_any (is_child_of zs number) ns)) ns) (c.as_slice-3.ensures.value ∙ live)
-      } in
+      tree = tree-now (hits c.args.cause) c.args.entry xs zs c.requires.tree now;
+      live = live;
+      leaves = c.in_ok-leaves.ensures ∙ ap (λ ns. filter (λ number. not (list_any (is_child_of zs number) ns)) ns) (c.as_slice-3.ensures.value ∙ live);
+    } in
     rw c.in_ok-level_root.ensures (kept-levelled c.args.cause zs (record { live = c.in_ok-live.live; leaves = c.in_ok-leaves.leaves }) kept)

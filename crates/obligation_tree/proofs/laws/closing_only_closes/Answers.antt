@@ -8,5 +8,5 @@ returns c = record {
   long = λ test entry xs. (let more = length-closing test entry [] xs in omega (arith, more));
   now = closed-now;
   before = closed-stays;
-  live = live-stays
+  live = live-stays;
 }

@@ -11,5 +11,5 @@ invariant_of-self-2 c =
     let id = c.args.id in
     let within : id < length xs = subst (λ (s : State). id < length s.nodes) (sym c.self.view_is) c.requires in
     let node : c.in_ok-node.node ≡ record (node_at xs id) { stalled = true } =
-        c.in_ok-node.ensures ∙ ap (λ (n : Node). record n { stalled = true }) (c.get.ensures ∙ get_or_default xs id c.get.result.now absent within) in
+    c.in_ok-node.ensures ∙ ap (λ (n : Node). record n { stalled = true }) (c.get.ensures ∙ get_or_default xs id c.get.result.now absent within) in
     rw (c.in_ok-set.ensures.ok, node) (kept-marked xs c.self.inside.index id within c.self.invariant)
