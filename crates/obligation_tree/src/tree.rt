@@ -1,4 +1,4 @@
-ghost use Rattle.std.specs.Prelude.{◌≡◌, ◌∷◌, [], ◌++◌, ◌<◌, ◌≤◌, ◌-◌, ◌^◌, length, replicate, not, true, false, None, IsTrue, IfOk, OnOk, OnErr};
+ghost use Rattle.std.specs.Prelude.{◌≡◌, ◌∷◌, [], ◌++◌, ◌<◌, ◌≤◌, ◌-◌, ◌^◌, length, replicate, not, true, false, None, Some, slice_index_or, IsTrue, IfOk, OnOk, OnErr};
 ghost use Rattle.std.specs.Bool.{OnTrue, OnFalse};
 ghost use Rattle.std.specs.List.{list_any};
 ghost use Rattle.std.specs.List.Sorted.{IsStrictlyIncreasing};
@@ -170,11 +170,11 @@ impl Tree {
     /// Claims the obligation for a worker, who holds it and no other then. It is false exactly where
     /// another worker holds it, and then nothing changes. Workers are numbered from 1 to 64.
     pub fn claim(&mut self, id: u32, worker: u32) -> bool
-        requires there { id < length self.old.nodes }
         requires first { 0 < worker }
         requires last { worker ≤ most_workers }
         ensures answer { result ≡ not (is_held_by_another id worker self.old.claims) }
         ensures claimed { OnTrue result (self.new ≡ record self.old { claims = claimed id worker self.old.claims }) }
+        ensures holds { OnTrue result (slice_index_or self.new.claims (worker - 1) None ≡ Some id) }
         ensures unchanged { OnFalse result (self.new ≡ self.old) }
     {
         let own = (worker - 1) as usize;
