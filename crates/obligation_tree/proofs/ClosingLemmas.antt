@@ -1,12 +1,12 @@
 -- Closing: the pass over the live obligations closes what the rule says, and what is left is a tree.
-use Rattle.std.proofs.Common.{◌≡◌, ℕ, suc, zero, ◌+◌, ◌-◌, ◌<◌, ◌≤◌, List, [], ◌∷◌, ◌++◌, length, get_or, set, take, drop, filter, Bool, true, false, cond, not, ◌&&◌, ◌||◌, refl, ap, sym, ◌∙◌, subst, arith, ◌⊎◌, inl, inr, ⊎_elim, Some, None}
+use Rattle.std.proofs.Common.{◌≡◌, ℕ, suc, zero, ◌+◌, ◌-◌, ◌<◌, ◌≤◌, List, [], ◌∷◌, ◌++◌, length, set, take, drop, filter, Bool, true, false, cond, not, ◌&&◌, ◌||◌, refl, ap, sym, ◌∙◌, subst, arith, ◌⊎◌, inl, inr, ⊎_elim}
 use Rattle.std.specs.Prelude.{nat_lt}
-use Rattle.std.specs.List.{range_with_len, list_any}
-use Rattle.std.proofs.lemmas.Bool.{cases_lt, lt-ltb, le-ltb, false≢true, and_parts, cases_Bool, not-false, not-true}
-use Rattle.std.proofs.lemmas.List.{append-nil, append_assoc, get_or_append_left, get_or_at, get_or_past, set_at, take_more, take_all, drop_more, drop_all, length-take-le, length-append, length_push, get_or-take}
+use Rattle.std.specs.List.{range_with_len}
+use Rattle.std.proofs.lemmas.Bool.{cases_lt, lt-ltb, le-ltb, false≢true, not-false}
+use Rattle.std.proofs.lemmas.List.{append-nil, append_assoc, get_or_append_left, get_or_at, get_or_past, set_at, take_more, take_all, drop_more, drop_all, length-take-le, length-append, length_push}
 use Rattle.std.proofs.lemmas.List.Elements.{filter-append}
-use Rattle.obligation_tree.specs.Nodes.{absent, closed_with, has_live_child, is_child_of, is_live, is_live_at, leaf_numbers, live_numbers, node_at, parent_at, root}
-use Rattle.obligation_tree.specs.Closing.{after, closing, hits, is_closed_at, root_at, settled}
+use Rattle.obligation_tree.specs.Nodes.{absent, closed_with, is_live, is_live_at, live_numbers, node_at, parent_at, root}
+use Rattle.obligation_tree.specs.Closing.{after, closing, hits, is_closed_at, settled}
 use Rattle.obligation_tree.specs.Shape.{IsTree}
 use Rattle.obligation_tree.specs.machinery.Passes.{IsKept, levelled, settled_all, settled_at}
 use Rattle.obligation_tree.specs.declared.obligation.Obligation.{Obligation}
@@ -14,7 +14,7 @@ use Rattle.obligation_tree.specs.declared.node.Node.{Node}
 use Rattle.obligation_tree.specs.declared.index.Index.{Index}
 use Rattle.obligation_tree.specs.declared.cause.Cause.{Cause}
 use Rattle.obligation_tree.specs.declared.cause.Cause.TheVariants.{Lemma, Fact, Raise}
-use Rattle.obligation_tree.proofs.NumberLemmas.{range-suc, filter-filter, filter-same, filter-range, any-same}
+use Rattle.obligation_tree.proofs.NumberLemmas.{range-suc, filter-filter, filter-same}
 use Rattle.obligation_tree.proofs.ShapeLemmas.{kept-root_at, live-within}
 
 abbrev pub Test : Type 0

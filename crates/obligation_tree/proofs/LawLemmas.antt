@@ -1,19 +1,18 @@
 -- What closing does to each obligation, said of the whole list.
-use Rattle.std.proofs.Common.{◌≡◌, ◌↔◌, ℕ, suc, zero, ◌+◌, ◌-◌, ◌<◌, ◌≤◌, List, [], ◌∷◌, ◌++◌, length, get_or, take, drop, filter, Bool, true, false, cond, not, ◌&&◌, ◌||◌, ◌==◌, refl, ap, sym, ◌∙◌, subst, arith, ◌⊎◌, inl, inr, ⊎_elim}
+use Rattle.std.proofs.Common.{◌≡◌, ℕ, suc, zero, ◌+◌, ◌<◌, ◌≤◌, List, [], ◌∷◌, ◌++◌, length, get_or, take, drop, Bool, true, false, cond, not, ◌&&◌, ◌||◌, refl, ap, sym, ◌∙◌, arith, ◌⊎◌, inl, inr, ⊎_elim}
 use Rattle.std.specs.Prelude.{nat_lt}
 use Rattle.std.specs.List.{range_with_len}
 use Rattle.std.specs.List.Sorted.{IsStrictlyIncreasing}
 use Rattle.std.proofs.lemmas.Bool.{lt-ltb, le-ltb, ltb-true, ltb-false, false≢true, and_parts, or_cases, or_parts, not-false, not-true}
-use Rattle.std.proofs.lemmas.List.{append_assoc, get_or_at, drop_more, length-take-le, length_push, take-append-drop}
+use Rattle.std.proofs.lemmas.List.{get_or_at, drop_more, length-take-le, length_push, take-append-drop}
 use Rattle.std.proofs.lemmas.List.FromFn.{get_or-range_with_len, length-range_with_len}
 use Rattle.std.proofs.lemmas.List.Kept.{IsStrictlyIncreasing-filter}
 use Rattle.obligation_tree.specs.Nodes.{absent, closed_with, has_live_child, is_live, is_live_at, leaf_numbers, live_numbers, node_at, parent_at, root}
-use Rattle.obligation_tree.specs.Closing.{after_raise, closing, is_closed_at, root_at, settled}
+use Rattle.obligation_tree.specs.Closing.{after_raise, closing, is_closed_at, settled}
 use Rattle.obligation_tree.specs.Hanging.{HangsUnder, beneath, itself}
 use Rattle.obligation_tree.specs.Shape.{IsTree}
-use Rattle.obligation_tree.specs.declared.obligation.Obligation.{Obligation}
 use Rattle.obligation_tree.specs.declared.node.Node.{Node}
-use Rattle.obligation_tree.proofs.ClosingLemmas.{Became, Test, became, closing-before, closing-live, closing-tree, length-closing}
+use Rattle.obligation_tree.proofs.ClosingLemmas.{Test, became, closing-before, closing-live, closing-tree, length-closing}
 use Rattle.obligation_tree.proofs.ShapeLemmas.{live-within, root_at-live, root_at-root}
 
 -- ---- ascending

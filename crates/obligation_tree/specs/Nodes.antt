@@ -2,7 +2,7 @@
 -- reachability", 2012, section 3; Komuravelli, Gurfinkel and Chaki, "SMT-based model checking for recursive programs",
 -- 2014, section 4), as a list in order of number. A node is an obligation, the journal entry that closed it, if there is
 -- one, and whether it is stalled.
-use Rattle.std.specs.Prelude.{ℕ, List, [], ◌∷◌, ◌++◌, length, get_or, set, filter, Bool, true, false, not, ◌&&◌, ◌==◌, nat_lt, Option, Some, None, is_none}
+use Rattle.std.specs.Prelude.{ℕ, List, [], length, get_or, set, filter, Bool, true, false, not, ◌&&◌, ◌==◌, nat_lt, Option, Some, None, is_none}
 use Rattle.std.specs.List.{range_with_len, list_any}
 use Rattle.obligation_tree.specs.declared.obligation.Obligation.{Obligation}
 use Rattle.obligation_tree.specs.declared.node.Node.{Node}

@@ -1,5 +1,5 @@
 -- What every tree of obligations keeps.
-use Rattle.std.specs.Prelude.{ℕ, ◌≡◌, ◌<◌, List, length, Bool, true}
+use Rattle.std.specs.Prelude.{ℕ, ◌≡◌, ◌<◌, List, length, true}
 use Rattle.obligation_tree.specs.Nodes.{is_live_at, node_at, parent_at, root}
 use Rattle.obligation_tree.specs.declared.node.Node.{Node}
 

@@ -1,7 +1,7 @@
-use Rattle.std.proofs.Common.{arith, ◌≡◌, ◌<◌, List, [], filter, length, not, rules, ap, sym, subst, ◌∙◌}
+use Rattle.std.proofs.Common.{arith, ◌≡◌, List, [], filter, length, not, ap, sym, ◌∙◌}
 use Rattle.std.specs.List.{list_any}
-use Rattle.obligation_tree.specs.Nodes.{is_child_of, is_live_at, live_numbers, parent_at}
-use Rattle.obligation_tree.specs.Closing.{after, closing, hits}
+use Rattle.obligation_tree.specs.Nodes.{is_child_of, is_live_at, live_numbers}
+use Rattle.obligation_tree.specs.Closing.{closing, hits}
 use Rattle.obligation_tree.specs.Shape.{IsTree}
 use Rattle.obligation_tree.specs.machinery.Passes.{IsKept, levelled}
 use Rattle.obligation_tree.specs.declared.node.Node.{Node}
