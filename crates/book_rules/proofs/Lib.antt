@@ -2,3 +2,4 @@ pub mod ListLemmas
 pub mod FrameLemmas
 pub mod SameLemmas
 pub mod ProofLemmas
+pub mod SoundLemmas

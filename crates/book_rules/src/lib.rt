@@ -4,6 +4,8 @@
 
 mod by;
 mod end;
+mod laws;
 
 pub use by::By;
 pub use end::End;
+pub use laws::{facts_are_derivable, legal_steps_are_sound, lemmas_are_good};

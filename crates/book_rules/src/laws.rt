@@ -1,0 +1,38 @@
+//! Laws of the definitions, as contracts of functions that do nothing. Each holds of every replay of
+//! a legal journal, from any opening that has what the law keeps.
+
+ghost use Rattle.std.specs.Prelude.{◌≡◌, ◌≤◌, ◌-◌, ◌<◌, ℕ, List, None, true};
+ghost use Rattle.clause_form.specs.System.{Clauses};
+ghost use Rattle.book_rules.specs.Instances.{Relation, IsDerivable, instances};
+ghost use Rattle.book_rules.specs.Frames.{Framed, IsShown, AreRefuted, AreGood};
+ghost use Rattle.book_rules.specs.Kept.{AreDerivable, IsSound};
+ghost use Rattle.book_rules.specs.Legal.{AreLegal, IsLegal, replay};
+ghost use Rattle.book_rules.specs.Effects.{after};
+ghost use Rattle.book_rules.specs.State.{State, opening};
+ghost use Rattle.book_rules.specs.Steps.{Step};
+ghost use Rattle.book_rules.specs.Walks.{AllOf};
+
+/// Each lemma of level k accepts every tuple that is derivable within k. What makes it inductive is
+/// kept beside it, with the frames as they are now: through every instance, F(k - 1) and the lemma
+/// itself on the body imply the lemma; and where the level N is at least 1, no instance of false has
+/// its body in F(N - 1).
+pub fn lemmas_are_good()
+    ensures good { (sys : Clauses) (s : State) (steps : List Step) → IsSound (instances sys) s → AreLegal sys s steps → AreGood (instances sys) (replay sys s steps).lemmas }
+    ensures shown { (sys : Clauses) (s : State) (steps : List Step) → IsSound (instances sys) s → AreLegal sys s steps →
+        AllOf (λ (e : Framed). IsShown (instances sys) (replay sys s steps).lemmas (e.level - 1) e.lemma) (replay sys s steps).lemmas }
+    ensures refuted { (sys : Clauses) (s : State) (steps : List Step) → IsSound (instances sys) s → AreLegal sys s steps → 0 < (replay sys s steps).level →
+        AreRefuted (instances sys) (replay sys s steps).lemmas ((replay sys s steps).level - 1) }
+{}
+
+/// Each recorded fact is derivable within its height, and no derivation of false has a height of
+/// the level or less.
+pub fn facts_are_derivable()
+    ensures facts { (sys : Clauses) (s : State) (steps : List Step) → IsSound (instances sys) s → AreLegal sys s steps → AreDerivable (instances sys) (replay sys s steps).facts }
+    ensures no_false { (sys : Clauses) (s : State) (steps : List Step) → IsSound (instances sys) s → AreLegal sys s steps → (h : ℕ) → h ≤ (replay sys s steps).level → IsDerivable (instances sys) h None → ⊥ }
+{}
+
+/// What makes lemmas good is kept by each legal step, and the opening of a first book has it.
+pub fn legal_steps_are_sound()
+    ensures step { (sys : Clauses) (s : State) (step : Step) → IsSound (instances sys) s → IsLegal sys s step → IsSound (instances sys) (after sys s step) }
+    ensures first { (sys : Clauses) (units : ℕ) → IsSound (instances sys) (opening units) }
+{}
