@@ -3,3 +3,4 @@ pub mod FrameLemmas
 pub mod SameLemmas
 pub mod ProofLemmas
 pub mod SoundLemmas
+pub mod TreeLemmas

@@ -1,6 +1,6 @@
 -- What stands in a book: the state of generalized property directed reachability (Hoder and Bjorner, section 2) with the
 -- facts of Komuravelli, Gurfinkel and Chaki, section 3, over plain lists. Numbers are places in the lists, from 0.
-use Rattle.std.specs.Prelude.{ℕ, ℤ, ◌+◌, ◌-◌, List, [], ◌∷◌, Bool, true, false, ◌&&◌, not, nat_le, nat_lt, ◌==◌, Option, Some, None, is_none, is_some, if◌then◌else◌, slice_get}
+use Rattle.std.specs.Prelude.{ℕ, ℤ, ◌+◌, ◌-◌, List, [], ◌∷◌, Bool, true, false, ◌&&◌, not, nat_le, nat_lt, ◌==◌, Option, Some, None, is_none, is_some, option_map, if◌then◌else◌, slice_get}
 use Rattle.std.specs.List.{list_any, list_all}
 use Rattle.lin_atoms.specs.declared.lit.Lit.{Lit}
 use Rattle.cube_forms.specs.Cubes.{cube_holds}
@@ -60,10 +60,7 @@ is_live o = is_none o.closed
 -- why the obligation of a number isn't live: the entry that closed it, or that there never was one; nothing where it is
 abbrev pub unless_live : Option Obligation → Option By
 unless_live None = Some Step
-unless_live (Some o) = entry_of o.closed where
-  entry_of : Option ℕ → Option By
-  entry_of None = None
-  entry_of (Some entry) = Some (Entry entry)
+unless_live (Some o) = option_map Entry o.closed
 
 -- an obligation holds a conclusion of its predicate that its cube holds; the root holds false alone
 abbrev pub holds_of : Option ℕ → List Lit → Option Ground → Bool
