@@ -4,3 +4,4 @@ pub mod SameLemmas
 pub mod ProofLemmas
 pub mod SoundLemmas
 pub mod TreeLemmas
+pub mod OrderedLemmas

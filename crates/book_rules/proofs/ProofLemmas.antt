@@ -96,7 +96,7 @@ use_accepts es k own point atoms inside itself u None is h = absurd (true≢fals
 use_accepts es k own point atoms inside itself u (Some atom) is h =
     let lemma = on_atom u atom in
     let accepted : accepts lemma (atom_at point atom) ≡ true = either_is (frame_has es k lemma) _ (accepts lemma (atom_at point atom) ≡ true)
-        (frame_accepts es k lemma (atom_at point atom) (all_map_at (atom_at point) (in_frame es k) atoms u.atom atom is inside)) (own_at own point atoms itself u.atom atom is lemma) h in
+    (frame_accepts es k lemma (atom_at point atom) (all_map_at (atom_at point) (in_frame es k) atoms u.atom atom is inside)) (own_at own point atoms itself u.atom atom is lemma) h in
     outside (atom.pred == atom.pred) (cube_holds (tuple_at point atom.args) u.cube) (self_same atom.pred) accepted
 
 may_accept : (sys : Clauses) (es : List Framed) (k : ℕ) (own : Option Lemma) (number : ℕ) (clause : Clause) → slice_get sys.clauses number ≡ Some clause → (point : List ℤ)
@@ -130,7 +130,7 @@ are_usable : (sys : Clauses) (es : List Framed) (k : ℕ) (own : Option Lemma) (
 are_usable sys es k own proofs shows h =
     all_pairs (Shows sys) (λ (p : Shown). all_may_use sys es k own p.clause p.used ≡ true) proofs shows
     (none_told (λ (p : Shown). cond {A = Option By} (all_may_use sys es k own p.clause p.used) None (Some (ByClause p.clause))) (λ (p : Shown). all_may_use sys es k own p.clause p.used ≡ true)
-      (λ p told. (unless_none (all_may_use sys es k own p.clause p.used) (ByClause p.clause) None told).0) proofs h)
+    (λ p told. (unless_none (all_may_use sys es k own p.clause p.used) (ByClause p.clause) None told).0) proofs h)
 
 pub claim_holds : (sys : Clauses) (es : List Framed) (k : ℕ) (claim own : Option Lemma) (proofs : List Shown) → AllOf (Shows sys) proofs → unshown sys k claim proofs ≡ None → misused sys es k own proofs ≡ None
     → (number : ℕ) (clause : Clause) (point : List ℤ) → slice_get sys.clauses number ≡ Some clause → IsInstance clause point → is_head (pred_of claim) clause.head ≡ true
@@ -154,15 +154,15 @@ lemma_meets lemma point None a is f = absurd (cc)
 lemma_meets lemma point (Some atom) a is f =
     let same : atom_at point atom ≡ a = cc in
     subst (λ (x : Ground). accepts lemma x ≡ true) same (by_pred (lemma.pred == atom.pred) (cube_holds (tuple_at point atom.args) lemma.cube) f) where
-  by_pred : (b c : Bool) → (b ≡ true → not c ≡ true) → not (b && c) ≡ true
-  by_pred true c g = g refl
-  by_pred false c g = refl
+      by_pred : (b c : Bool) → (b ≡ true → not c ≡ true) → not (b && c) ≡ true
+      by_pred true c g = g refl
+      by_pred false c g = refl
 
 pub is_shown : (sys : Clauses) (es : List Framed) (k : ℕ) (lemma : Lemma) (proofs : List Shown) → AllOf (Shows sys) proofs → unshown sys k (Some lemma) proofs ≡ None → misused sys es k (Some lemma) proofs ≡ None → IsShown (instances sys) es k lemma
 is_shown sys es k lemma proofs shows unshown misused number body a i inside own =
     lemma_meets lemma i.point i.clause.head a i.has_head
     (λ head. claim_holds sys es k (Some lemma) (Some lemma) proofs shows unshown misused number i.clause i.point i.there i.instance head
-      (ap (list_all (in_frame es k)) i.has_body ∙ inside) (ap (list_all (accepts lemma)) i.has_body ∙ own))
+    (ap (list_all (in_frame es k)) i.has_body ∙ inside) (ap (list_all (accepts lemma)) i.has_body ∙ own))
 
 pub is_implied : (sys : Clauses) (es : List Framed) (k : ℕ) (lemma : Lemma) (proofs : List Shown) → AllOf (Shows sys) proofs → unshown sys k (Some lemma) proofs ≡ None → misused sys es k None proofs ≡ None → IsImplied (instances sys) es k lemma
 is_implied sys es k lemma proofs shows unshown misused number body a i inside =
@@ -176,11 +176,13 @@ no_head point (Some atom) is = absurd (cc)
 pub are_refuted : (sys : Clauses) (es : List Framed) (k : ℕ) (proofs : List Shown) → AllOf (Shows sys) proofs → unshown sys k None proofs ≡ None → misused sys es k None proofs ≡ None → AreRefuted (instances sys) es k
 are_refuted sys es k proofs shows unshown misused number body i = by_test (list_all (in_frame es k) body) (λ inside. impossible (meets-none i.point i.clause.head) (claim_holds sys es k None None proofs shows unshown misused number i.clause i.point i.there i.instance
     (no_head i.point i.clause.head i.has_head) (ap (list_all (in_frame es k)) i.has_body ∙ inside) refl)) where
-  by_test : (b : Bool) → (b ≡ true → ⊥) → b ≡ false
-  by_test true never = absurd (never refl)
-  by_test false never = refl
-  meets-none : (point : List ℤ) (head : Option Atom) → meets point head None ≡ false
-  meets-none point None = refl
-  meets-none point (Some atom) = refl
-  impossible : {b : Bool} → b ≡ false → b ≡ true → ⊥
-  impossible f t = true≢false (sym t ∙ f)
+      by_test : (b : Bool) → (b ≡ true → ⊥) → b ≡ false
+      by_test true never = absurd (never refl)
+      by_test false never = refl
+
+      meets-none : (point : List ℤ) (head : Option Atom) → meets point head None ≡ false
+      meets-none point None = refl
+      meets-none point (Some atom) = refl
+
+      impossible : {b : Bool} → b ≡ false → b ≡ true → ⊥
+      impossible f t = true≢false (sym t ∙ f)

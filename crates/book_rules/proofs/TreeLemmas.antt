@@ -25,8 +25,15 @@ length-push (y ∷ xs) x = omega arith
 
 placed-more : (es : List Framed) (facts : List Fact) (before after : List Obligation) (o : Obligation) → IsPlaced es facts before o → IsPlaced es facts (before ++ after) o
 placed-more es facts before after o p = record {
-  parent = p.parent; there = get-append before after o.parent p.parent p.there; parent_lives = p.parent_lives; one_higher = p.one_higher;
-  pred = p.pred; of_pred = p.of_pred; in_cube = p.in_cube; in_its_frame = p.in_its_frame; without_fact = p.without_fact;
+  parent = p.parent;
+  there = get-append before after o.parent p.parent p.there;
+  parent_lives = p.parent_lives;
+  one_higher = p.one_higher;
+  pred = p.pred;
+  of_pred = p.of_pred;
+  in_cube = p.in_cube;
+  in_its_frame = p.in_its_frame;
+  without_fact = p.without_fact;
 }
 
 -- the place of a live one by its number
@@ -97,8 +104,15 @@ hung-left es new facts more cause entry stays before done same o hung false is s
     let rest = stays o left.0 p.pred p.of_pred in
     let parent_lives : is_live q.0 ≡ true = not_false (is_live q.0) (ap (λ (found : Option Obligation). has found (λ parent. not (is_live parent))) (sym q.1) ∙ left.1) in
     record {
-      parent = q.0; there = q.1; parent_lives = parent_lives; one_higher = q.2 ∙ p.one_higher;
-      pred = p.pred; of_pred = p.of_pred; in_cube = p.in_cube; in_its_frame = rest.frame p.in_its_frame; without_fact = rest.fact p.without_fact;
+      parent = q.0;
+      there = q.1;
+      parent_lives = parent_lives;
+      one_higher = q.2 ∙ p.one_higher;
+      pred = p.pred;
+      of_pred = p.of_pred;
+      in_cube = p.in_cube;
+      in_its_frame = rest.frame p.in_its_frame;
+      without_fact = rest.fact p.without_fact;
     }
 
 same_level : (entry : ℕ) (o : Obligation) (b : Bool) → (cond {A = Obligation} b (closed_at entry o) o).level ≡ o.level
@@ -176,17 +190,25 @@ placed-marked es facts before done same o mark p =
     let q = marked_at before done same o.parent p.parent p.there in
     let as_before = (q.2).1 in
     record {
-      parent = q.0; there = q.1; parent_lives = ap is_live (sym as_before) ∙ p.parent_lives; one_higher = ap (λ (x : Obligation). x.level) (sym as_before) ∙ p.one_higher;
-      pred = p.pred; of_pred = p.of_pred; in_cube = p.in_cube; in_its_frame = p.in_its_frame; without_fact = p.without_fact;
+      parent = q.0;
+      there = q.1;
+      parent_lives = ap is_live (sym as_before) ∙ p.parent_lives;
+      one_higher = ap (λ (x : Obligation). x.level) (sym as_before) ∙ p.one_higher;
+      pred = p.pred;
+      of_pred = p.of_pred;
+      in_cube = p.in_cube;
+      in_its_frame = p.in_its_frame;
+      without_fact = p.without_fact;
     }
 
 hung-marks : (es : List Framed) (facts : List Fact) (before done : List Obligation) → AreMarked before done → (os marked : List Obligation) → AreMarked os marked → AreHung es facts before os → AreHung es facts done marked
 hung-marks es facts before done same [] [] are hung = tt
 hung-marks es facts before done same [] (y ∷ ys) are hung = absurd are
 hung-marks es facts before done same (o ∷ os) [] are hung = absurd are
-hung-marks es facts before done same (o ∷ os) (y ∷ ys) are hung =
-    (subst (λ (x : Obligation). IsHung es facts done x) (are.0).1 (λ some live. placed-marked es facts before done same o (are.0).0 (hung.0 (marked-length before done same some) live)),
-      hung-marks es facts (before ++ o ∷ []) (done ++ y ∷ []) (marked-push before done o y same are.0) os ys are.1 hung.1)
+hung-marks es facts before done same (o ∷ os) (y ∷ ys) are hung = (
+  subst (λ (x : Obligation). IsHung es facts done x) (are.0).1 (λ some live. placed-marked es facts before done same o (are.0).0 (hung.0 (marked-length before done same some) live)),
+  hung-marks es facts (before ++ o ∷ []) (done ++ y ∷ []) (marked-push before done o y same are.0) os ys are.1 hung.1,
+)
 
 pub hung-set : (es : List Framed) (facts : List Fact) (os : List Obligation) (i : ℕ) (o : Obligation) → slice_get os i ≡ Some o → AreHung es facts [] os → AreHung es facts [] (slice_set os i (record o { stalled = true }))
 hung-set es facts os i o is hung = hung-marks es facts [] [] tt os (slice_set os i (record o { stalled = true })) (marked-set os i o is) hung

@@ -5,7 +5,7 @@ ghost use Rattle.std.specs.Prelude.{◌≡◌, ◌≤◌, ◌-◌, ◌<◌, ℕ,
 ghost use Rattle.clause_form.specs.System.{Clauses};
 ghost use Rattle.book_rules.specs.Instances.{Relation, IsDerivable, instances};
 ghost use Rattle.book_rules.specs.Frames.{Framed, IsShown, AreRefuted, AreGood};
-ghost use Rattle.book_rules.specs.Kept.{AreDerivable, IsSound};
+ghost use Rattle.book_rules.specs.Kept.{AreDerivable, AreDistinct, AreInRange, ArePlaced, IsOrdered, IsSound};
 ghost use Rattle.book_rules.specs.Legal.{AreLegal, IsLegal, replay};
 ghost use Rattle.book_rules.specs.Effects.{after};
 ghost use Rattle.book_rules.specs.State.{State, opening};
@@ -35,4 +35,15 @@ pub fn facts_are_derivable()
 pub fn legal_steps_are_sound()
     ensures step { (sys : Clauses) (s : State) (step : Step) → IsSound (instances sys) s → IsLegal sys s step → IsSound (instances sys) (after sys s step) }
     ensures first { (sys : Clauses) (units : ℕ) → IsSound (instances sys) (opening units) }
+{}
+
+/// Each live obligation but the root has a live parent one level higher; its point lies in its cube
+/// and in F of its level, and no recorded fact of its predicate lies in its cube. The levels of
+/// lemmas lie from 1 to the book's level, and no two facts have the same conclusion.
+pub fn live_obligations_are_placed()
+    ensures placed { (sys : Clauses) (s : State) (steps : List Step) → IsOrdered s → AreLegal sys s steps → ArePlaced (replay sys s steps) }
+    ensures levels { (sys : Clauses) (s : State) (steps : List Step) → IsOrdered s → AreLegal sys s steps → AreInRange (replay sys s steps).level (replay sys s steps).lemmas }
+    ensures distinct { (sys : Clauses) (s : State) (steps : List Step) → IsOrdered s → AreLegal sys s steps → AreDistinct (replay sys s steps).facts }
+    ensures step { (sys : Clauses) (s : State) (step : Step) → IsOrdered s → IsLegal sys s step → IsOrdered (after sys s step) }
+    ensures first { (units : ℕ) → IsOrdered (opening units) }
 {}

@@ -8,4 +8,6 @@ mod laws;
 
 pub use by::By;
 pub use end::End;
-pub use laws::{facts_are_derivable, legal_steps_are_sound, lemmas_are_good};
+pub use laws::{
+    facts_are_derivable, legal_steps_are_sound, lemmas_are_good, live_obligations_are_placed,
+};
