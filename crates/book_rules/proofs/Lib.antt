@@ -5,3 +5,4 @@ pub mod ProofLemmas
 pub mod SoundLemmas
 pub mod TreeLemmas
 pub mod OrderedLemmas
+pub mod ExampleLemmas

@@ -16,3 +16,4 @@ pub mod Rules
 pub mod Effects
 pub mod Legal
 pub mod Kept
+pub mod Examples
