@@ -1,6 +1,7 @@
 pub mod ListLemmas
 pub mod FrameLemmas
 pub mod SameLemmas
+pub mod FormLemmas
 pub mod ProofLemmas
 pub mod SoundLemmas
 pub mod TreeLemmas

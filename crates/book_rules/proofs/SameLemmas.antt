@@ -42,7 +42,7 @@ linear_is a b h =
     let whole : a ≡ b = rw (terms, constant) refl in
     whole
 
-lit_is : (a b : Lit) → same_lit a b ≡ true → a ≡ b
+pub lit_is : (a b : Lit) → same_lit a b ≡ true → a ≡ b
 lit_is (Le a) (Le b) h = ap Le (linear_is a b h)
 lit_is (Eq a) (Eq b) h = ap Eq (linear_is a b h)
 lit_is (Div d a) (Div e b) h =

@@ -9,9 +9,7 @@ mod laws;
 
 pub use by::By;
 pub use end::End;
-pub use examples::{
-    legal_steps_are_there, other_steps_break_a_rule, steps_have_their_effects,
-};
+pub use examples::{legal_steps_are_there, other_steps_break_a_rule, steps_have_their_effects};
 pub use laws::{
     facts_are_derivable, legal_steps_are_sound, lemmas_are_good, live_obligations_are_placed,
 };

@@ -1,4 +1,5 @@
 use Rattle.std.proofs.Common.{refl}
+use Rattle.book_rules.proofs.ExampleLemmas.{open_again}
 use Rattle.book_rules.proofs.examples.other_steps_break_a_rule.Goals as goal
 
 pub returns-clause-root_too_low : goal.returns-clause-root_too_low
@@ -14,7 +15,7 @@ pub returns-clause-too_high : goal.returns-clause-too_high
 returns-clause-too_high c = refl
 
 pub returns-clause-twice : goal.returns-clause-twice
-returns-clause-twice c = refl
+returns-clause-twice c = open_again
 
 pub returns-clause-another : goal.returns-clause-another
 returns-clause-another c = refl
