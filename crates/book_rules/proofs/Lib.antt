@@ -6,4 +6,6 @@ pub mod ProofLemmas
 pub mod SoundLemmas
 pub mod TreeLemmas
 pub mod OrderedLemmas
+pub mod EndLemmas
+pub mod RecordLemmas
 pub mod ExampleLemmas

@@ -52,3 +52,8 @@ IsGood I e = (a : Ground) → IsDerivable I e.level (Some a) → accepts e.lemma
 
 abbrev pub AreGood : Relation → List Framed → Type 0
 AreGood I es = (i : ℕ) (e : Framed) → slice_get es i ≡ Some e → IsGood I e
+
+-- F(k) is a solution: each instance with its body in F(k) has its head there, and no instance of false has
+pub record IsSolution (I : Relation) (es : List Framed) (k : ℕ) : Type 0 where
+  pub closed : (number : ℕ) (body : List Ground) (a : Ground) → I number body (Some a) → list_all (in_frame es k) body ≡ true → in_frame es k a ≡ true
+  pub refuted : AreRefuted I es k

@@ -1,11 +1,15 @@
 -- What every replay of a legal journal keeps, and what an opening has to bring for it. The opening of a first book brings the
 -- root alone, that of a later one facts and lemmas besides.
-use Rattle.std.specs.Prelude.{◌≡◌, ◌≤◌, ◌<◌, ◌+◌, ◌-◌, ℕ, List, [], ◌∷◌, ◌++◌, Bool, true, false, Option, Some, None, length, slice_get}
+use Rattle.std.specs.Prelude.{◌≡◌, suc, ◌≤◌, ◌<◌, ◌+◌, ◌-◌, ℕ, List, [], ◌∷◌, ◌++◌, Bool, true, false, Option, Some, None, length, slice_get}
 use Rattle.std.specs.List.{list_any}
+use Rattle.clause_form.specs.System.{Clauses}
+use Rattle.clause_form.specs.declared.clause.Clause.{Clause}
 use Rattle.cube_forms.specs.Cubes.{cube_holds}
 use Rattle.book_rules.specs.Walks.{AllOf}
-use Rattle.book_rules.specs.Instances.{Relation, IsDerivable}
+use Rattle.book_rules.specs.Instances.{Relation, IsDerivable, IsInstance, body_at, head_at}
 use Rattle.book_rules.specs.Frames.{Framed, in_frame, IsShown, AreRefuted}
+use Rattle.book_rules.specs.Effects.{greatest}
+use Rattle.book_rules.specs.FactRules.{are_facts_of}
 use Rattle.book_rules.specs.State.{Fact, Obligation, State, holds, is_live, same_conclusion}
 
 -- lemmas and facts
@@ -19,6 +23,28 @@ pub record IsSound (I : Relation) (s : State) : Type 0 where
   pub shown : AllOf (λ (e : Framed). IsShown I s.lemmas (e.level - 1) e.lemma) s.lemmas
   pub refuted : 0 < s.level → AreRefuted I s.lemmas (s.level - 1)
   pub derived : AreDerivable I s.facts
+
+-- the head of its instance, whose body is concluded by facts before it, which it names in order; its height is one more than
+-- the greatest of theirs
+pub record IsRecorded (sys : Clauses) (before : List Fact) (f : Fact) : Type 0 where
+  pub clause : Clause
+  pub there : slice_get sys.clauses f.clause ≡ Some clause
+  pub instance : IsInstance clause f.point
+  pub head : head_at f.point clause ≡ f.conclusion
+  pub premises : are_facts_of before f.premises (body_at f.point clause) ≡ true
+  pub height : f.height ≡ suc (greatest before f.premises)
+
+-- the facts, in order, are a derivation
+abbrev pub AreRecorded : Clauses → List Fact → List Fact → Type 0
+AreRecorded sys before [] = Unit {0}
+AreRecorded sys before (f ∷ facts) = IsRecorded sys before f × AreRecorded sys (before ++ f ∷ []) facts
+
+-- false, derivable, as the fact of that number
+pub record IsFalse (I : Relation) (s : State) (number : ℕ) : Type 0 where
+  pub fact : Fact
+  pub there : slice_get s.facts number ≡ Some fact
+  pub is_false : fact.conclusion ≡ None
+  pub derivable : IsDerivable I fact.height None
 
 -- levels, and what is recorded once
 

@@ -1,12 +1,13 @@
 //! Laws of the definitions, as contracts of functions that do nothing. Each holds of every replay of
 //! a legal journal, from any opening that has what the law keeps.
 
-ghost use Rattle.std.specs.Prelude.{◌≡◌, ◌≤◌, ◌-◌, ◌<◌, ℕ, List, None, true};
+ghost use Rattle.std.specs.Prelude.{◌≡◌, ◌≤◌, ◌-◌, ◌<◌, ℕ, List, [], Some, None, true};
 ghost use Rattle.clause_form.specs.System.{Clauses};
+ghost use Rattle.book_rules.specs.declared.end.End.TheVariants.{Sat, Unsat};
 ghost use Rattle.book_rules.specs.Instances.{Relation, IsDerivable, instances};
-ghost use Rattle.book_rules.specs.Frames.{Framed, IsShown, AreRefuted, AreGood};
-ghost use Rattle.book_rules.specs.Kept.{AreDerivable, AreDistinct, AreInRange, ArePlaced, IsOrdered, IsSound};
-ghost use Rattle.book_rules.specs.Legal.{AreLegal, IsLegal, replay};
+ghost use Rattle.book_rules.specs.Frames.{Framed, IsShown, AreRefuted, AreGood, IsSolution};
+ghost use Rattle.book_rules.specs.Kept.{AreDerivable, AreDistinct, AreInRange, ArePlaced, AreRecorded, IsFalse, IsOrdered, IsSound};
+ghost use Rattle.book_rules.specs.Legal.{AreLegal, IsLegal, end, replay};
 ghost use Rattle.book_rules.specs.Effects.{after};
 ghost use Rattle.book_rules.specs.State.{State, opening};
 ghost use Rattle.book_rules.specs.Steps.{Step};
@@ -46,4 +47,18 @@ pub fn live_obligations_are_placed()
     ensures distinct { (sys : Clauses) (s : State) (steps : List Step) → IsOrdered s → AreLegal sys s steps → AreDistinct (replay sys s steps).facts }
     ensures step { (sys : Clauses) (s : State) (step : Step) → IsOrdered s → IsLegal sys s step → IsOrdered (after sys s step) }
     ensures first { (units : ℕ) → IsOrdered (opening units) }
+{}
+
+/// The facts, in order, are a derivation: each is the head of its instance, whose body is concluded
+/// by the facts before it that it names, and its height is one more than the greatest of theirs.
+pub fn facts_are_a_derivation()
+    ensures { (sys : Clauses) (s : State) (steps : List Step) → AreRecorded sys [] s.facts → AreLegal sys s steps → AreRecorded sys [] (replay sys s steps).facts }
+{}
+
+/// Where the end is sat, the lemmas of the end's level or more are a solution, and false can't be
+/// derived within any height. Where it is unsat, false is derivable within the height of the fact.
+pub fn ends_are_certified()
+    ensures sat { (sys : Clauses) (s : State) (level : ℕ) → IsSound (instances sys) s → end s ≡ Some (Sat level) → IsSolution (instances sys) s.lemmas level }
+    ensures no_false { (sys : Clauses) (s : State) (level : ℕ) → IsSound (instances sys) s → end s ≡ Some (Sat level) → (h : ℕ) → IsDerivable (instances sys) h None → ⊥ }
+    ensures unsat { (sys : Clauses) (s : State) (fact : ℕ) → IsSound (instances sys) s → end s ≡ Some (Unsat fact) → IsFalse (instances sys) s fact }
 {}
