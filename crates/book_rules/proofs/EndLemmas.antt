@@ -1,19 +1,19 @@
 -- A level below N that no lemma has exactly is a solution, and a recorded false is derivable.
-use Rattle.std.proofs.Common.{◌≡◌, ℕ, ◌+◌, ◌-◌, ◌<◌, ◌≤◌, zero, suc, List, [], ◌∷◌, Bool, true, false, ◌&&◌, ◌||◌, not, cond, Some, None, refl, ap, sym, ◌∙◌, subst, arith}
+use Rattle.std.proofs.Common.{◌≡◌, ℕ, ◌+◌, ◌-◌, ◌<◌, ◌≤◌, zero, suc, List, [], ◌∷◌, Bool, true, false, ◌||◌, not, cond, Some, None, refl, ap, sym, ◌∙◌, subst, arith}
 use Rattle.std.specs.Prelude.{Option, is_none, nat_lt, ◌==◌, option_map, slice_get}
 use Rattle.std.specs.List.{list_all, list_any}
 use Rattle.std.proofs.lemmas.Bool.Decides.{nat_tests}
 use mathlib.Core.Bool.{true≢false}
 use Rattle.book_rules.specs.declared.end.End.{End}
 use Rattle.book_rules.specs.declared.end.End.TheVariants.{Unsat, Sat, Spent, Stalled}
-use Rattle.book_rules.specs.Walks.{AllOf, number_from, first_number, or_else}
+use Rattle.book_rules.specs.Walks.{number_from, first_number, or_else}
 use Rattle.book_rules.specs.Instances.{Ground, Relation, IsDerivable}
-use Rattle.book_rules.specs.Frames.{Lemma, Framed, accepts, in_frame, IsShown, AreRefuted, IsSolution}
-use Rattle.book_rules.specs.State.{Fact, Obligation, State}
+use Rattle.book_rules.specs.Frames.{Framed, accepts, in_frame, IsShown, IsSolution}
+use Rattle.book_rules.specs.State.{Fact, State}
 use Rattle.book_rules.specs.Legal.{is_bare, bare_from, all_stalled_from, end}
 use Rattle.book_rules.specs.Kept.{IsSound, IsFalse}
-use Rattle.book_rules.proofs.ListLemmas.{both_true, from_both, all_weaken, all_at, all_tested, all_of-at, any_false, not_true}
-use Rattle.book_rules.proofs.FrameLemmas.{in_frame-level, refuted-stronger, accepts_else}
+use Rattle.book_rules.proofs.ListLemmas.{both_true, from_both, all_weaken, all_at, all_tested, all_of-at, any_false}
+use Rattle.book_rules.proofs.FrameLemmas.{in_frame-level, accepts_else}
 
 -- which end it is
 

@@ -1,11 +1,9 @@
 -- The short run: what its tokens stand for.
-use Rattle.std.proofs.Common.{◌≡◌, ℕ, List, [], ◌∷◌, Bool, true, false, ◌&&◌, not, Some, None, ◌||◌, cond, refl, ap, ap₂, sym, ◌∙◌, subst, arith}
-use Rattle.std.specs.Prelude.{ℤ, pos, negsuc, ◌+ℤ◌, ◌*ℤ◌, nat_abs, ◌==◌, Option, slice_get, slice_index_or}
+use Rattle.std.proofs.Common.{◌≡◌, [], ◌∷◌, Bool, true, false, ◌&&◌, not, Some, None, ◌||◌, cond, refl, ap₂, sym, ◌∙◌, subst, arith}
+use Rattle.std.specs.Prelude.{ℤ, pos, negsuc, ◌+ℤ◌, ◌*ℤ◌, nat_abs, ◌==◌, Option, slice_index_or}
 use Rattle.std.specs.List.{list_all}
 use Rattle.std.proofs.lemmas.Int.{ints}
 use Rattle.std.proofs.lemmas.Bool.{eqb-true}
-use Rattle.std.proofs.lemmas.Bool.Decides.{nat_tests}
-use mathlib.Core.Bool.{true≢false}
 use Rattle.clause_form.specs.declared.clause.Clause.{Clause}
 use Rattle.lin_atoms.specs.declared.form.Form.TheVariants.{Lit as Literal}
 use Rattle.cube_forms.proofs.Public.{truth-Literal}

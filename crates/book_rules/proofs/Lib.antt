@@ -2,6 +2,7 @@ pub mod ListLemmas
 pub mod FrameLemmas
 pub mod SameLemmas
 pub mod FormLemmas
+pub mod EqualLemmas
 pub mod ProofLemmas
 pub mod SoundLemmas
 pub mod TreeLemmas

@@ -1,5 +1,5 @@
 -- Every legal step keeps levels in range, facts distinct, and each live obligation but the root in its place.
-use Rattle.std.proofs.Common.{◌≡◌, ℕ, ◌+◌, ◌-◌, ◌<◌, ◌≤◌, zero, suc, List, [], ◌∷◌, ◌++◌, map, length, Bool, true, false, ◌&&◌, ◌||◌, not, cond, Some, None, refl, ap, sym, ◌∙◌, subst, arith}
+use Rattle.std.proofs.Common.{◌≡◌, ℕ, ◌+◌, ◌-◌, ◌<◌, ◌≤◌, zero, suc, List, [], ◌∷◌, ◌++◌, map, Bool, true, false, ◌&&◌, ◌||◌, not, cond, Some, None, refl, ap, sym, ◌∙◌, subst, arith}
 use Rattle.std.specs.Prelude.{Option, ℤ, nat_le, nat_lt, ◌==◌, option_map, slice_get, slice_set}
 use Rattle.std.specs.List.{list_any, list_all}
 use Rattle.std.proofs.lemmas.Bool.{eqb-true}
@@ -15,15 +15,15 @@ use Rattle.book_rules.specs.Walks.{AllOf, has, on, first_told, first_number}
 use Rattle.book_rules.specs.Instances.{Ground, atom_at, body_at, head_at}
 use Rattle.book_rules.specs.Frames.{Lemma, Framed, accepts, excludes, in_frame}
 use Rattle.book_rules.specs.State.{Fact, Obligation, State, opening, holds, holds_of, is_live, same_conclusion, unless_live}
-use Rattle.book_rules.specs.Steps.{IsSeen, OpenStep, LemmaStep, FactStep, LiftStep, StallStep, Step, Carries}
+use Rattle.book_rules.specs.Steps.{IsSeen, OpenStep, LemmaStep, FactStep, LiftStep, Step, Carries}
 use Rattle.book_rules.specs.OpenRules.{parent_of, clause_of, atom_of, tuple_of, rule_1, rule_2, rule_3, rule_4, rule_5, rule_6, shut_out}
 use Rattle.book_rules.specs.LemmaRules.{closes, rule_10, rule_30, rule_31, level_is, lifted_of}
 use Rattle.book_rules.specs.FactRules.{concluded, rule_20, rule_21}
 use Rattle.book_rules.specs.Rules.{broken}
-use Rattle.book_rules.specs.Effects.{after, written, close, opened_with, child_of, learnt, lifted_with, recorded, fact_of, raised, stalled_with}
-use Rattle.book_rules.specs.Legal.{IsLegal, replay, AreLegal}
-use Rattle.book_rules.specs.Kept.{AreInRange, AreDistinct, IsPlaced, IsHung, AreHung, IsOrdered, ArePlaced}
-use Rattle.book_rules.proofs.ListLemmas.{both_true, from_both, both_false, not_true, not_false, all_weaken, all_of-map, all_of-push, all_of-set, all_of-at, untold_passes, none_told, cond_none, unless_none, any_false}
+use Rattle.book_rules.specs.Effects.{after, written, opened_with, child_of, learnt, lifted_with, recorded, fact_of, stalled_with}
+use Rattle.book_rules.specs.Legal.{replay, AreLegal}
+use Rattle.book_rules.specs.Kept.{AreInRange, AreDistinct, IsPlaced, IsOrdered, ArePlaced}
+use Rattle.book_rules.proofs.ListLemmas.{both_true, from_both, both_false, all_weaken, all_of-map, all_of-push, all_of-set, untold_passes, none_told, cond_none, unless_none, any_false}
 use Rattle.book_rules.proofs.FrameLemmas.{above}
 use Rattle.book_rules.proofs.SoundLemmas.{unbroken}
 use Rattle.book_rules.proofs.TreeLemmas.{placed_at, hung-push, Stays, hung-closed, hung-raised, hung-set}

@@ -1,6 +1,6 @@
 -- What the proofs of a step show: where no clause lacks its proof and none uses what it may not use, the claim holds through
 -- every clause.
-use Rattle.std.proofs.Common.{◌≡◌, ℕ, ◌+◌, ◌<◌, ◌≤◌, zero, suc, List, [], ◌∷◌, map, Bool, true, false, ◌&&◌, ◌||◌, not, cond, Some, None, refl, ap, sym, ◌∙◌, subst, arith}
+use Rattle.std.proofs.Common.{◌≡◌, ℕ, ◌+◌, ◌≤◌, zero, suc, List, [], ◌∷◌, map, Bool, true, false, ◌&&◌, ◌||◌, not, cond, Some, None, refl, ap, sym, ◌∙◌, subst, arith}
 use Rattle.std.specs.Prelude.{Option, ℤ, nat_le, nat_lt, ◌==◌, option_map, slice_get}
 use Rattle.std.specs.List.{list_all, list_any}
 use Rattle.std.proofs.lemmas.Bool.{eqb-true}
@@ -13,13 +13,13 @@ use Rattle.clause_form.specs.declared.clause.Clause.{Clause}
 use Rattle.cube_forms.specs.Cubes.{cube_holds, tuple_at}
 use Rattle.book_rules.specs.declared.by.By.{By}
 use Rattle.book_rules.specs.declared.by.By.TheVariants.{Clause as ByClause}
-use Rattle.book_rules.specs.Walks.{AllOf, has, on, first_told}
-use Rattle.book_rules.specs.Instances.{Ground, IsInstance, InstanceOf, instances, atom_at, body_at, head_at}
+use Rattle.book_rules.specs.Walks.{AllOf, has, on}
+use Rattle.book_rules.specs.Instances.{Ground, IsInstance, instances, atom_at, body_at}
 use Rattle.book_rules.specs.Frames.{Lemma, Framed, accepts, in_frame, same_lemma, frame_has, IsShown, IsImplied, AreRefuted}
 use Rattle.book_rules.specs.Queries.{Used}
 use Rattle.book_rules.specs.Steps.{Shown, Shows, accepts_used, meets}
 use Rattle.book_rules.specs.Proofs.{is_head, pred_of, same_goal, is_empty, needs, is_proof_of, unshown_from, unshown, used_lemma, may_use, all_may_use, misused}
-use Rattle.book_rules.proofs.ListLemmas.{both_true, from_both, either_is, is_not, not_true, all_weaken, all_at, any_of, any_at, none_told, unless_none}
+use Rattle.book_rules.proofs.ListLemmas.{both_true, from_both, either_is, all_weaken, all_at, any_of, any_at, none_told, unless_none}
 use Rattle.book_rules.proofs.FrameLemmas.{accepts_else, some_suc}
 use Rattle.book_rules.proofs.SameLemmas.{cube_is, lemma_is}
 

@@ -1,5 +1,5 @@
 -- The facts of every replay are a derivation, if those of the opening are.
-use Rattle.std.proofs.Common.{◌≡◌, ℕ, ◌+◌, suc, List, [], ◌∷◌, ◌++◌, Bool, true, Some, None, refl, ap, sym, ◌∙◌, subst, append_assoc, append-nil}
+use Rattle.std.proofs.Common.{◌≡◌, ℕ, List, [], ◌∷◌, ◌++◌, Some, None, refl, ap, sym, ◌∙◌, subst, append_assoc, append-nil}
 use Rattle.std.specs.Prelude.{Option, slice_get}
 use Rattle.clause_form.specs.System.{Clauses}
 use Rattle.clause_form.specs.declared.atom.Atom.{Atom}
@@ -12,7 +12,7 @@ use Rattle.book_rules.specs.State.{Fact, Obligation, State}
 use Rattle.book_rules.specs.Steps.{IsSeen, OpenStep, FactStep, Step, Carries}
 use Rattle.book_rules.specs.OpenRules.{parent_of, atom_of}
 use Rattle.book_rules.specs.LemmaRules.{lifted_of}
-use Rattle.book_rules.specs.FactRules.{are_facts_of, concluded, rule_20}
+use Rattle.book_rules.specs.FactRules.{are_facts_of, rule_20}
 use Rattle.book_rules.specs.Rules.{broken}
 use Rattle.book_rules.specs.Effects.{after, opened_with, lifted_with, stalled_with, fact_of}
 use Rattle.book_rules.specs.Legal.{replay, AreLegal}

@@ -1,5 +1,5 @@
 -- Every legal step keeps lemmas shown, false refuted and facts derivable; so does every replay, from an opening that has it.
-use Rattle.std.proofs.Common.{◌≡◌, ℕ, ◌+◌, ◌-◌, ◌<◌, ◌≤◌, zero, suc, List, [], ◌∷◌, ◌++◌, Bool, true, false, ◌&&◌, not, cond, Some, None, refl, ap, sym, ◌∙◌, subst, arith}
+use Rattle.std.proofs.Common.{◌≡◌, ℕ, ◌+◌, ◌-◌, zero, suc, List, [], ◌∷◌, ◌++◌, true, Some, None, refl, ap, sym, ◌∙◌, subst, arith}
 use Rattle.std.specs.Prelude.{Option, max, slice_get, slice_set, ◌==◌}
 use Rattle.std.proofs.lemmas.Bool.{eqb-true}
 use Rattle.std.proofs.Math.Nat.{le-max_left, le-max_right}
@@ -10,18 +10,18 @@ use Rattle.clause_form.specs.declared.clause.Clause.{Clause}
 use Rattle.book_rules.specs.declared.by.By.{By}
 use Rattle.book_rules.specs.declared.by.By.TheVariants.{Lemma as ByLemma, Step as ByStep}
 use Rattle.book_rules.specs.Walks.{AllOf, has, on}
-use Rattle.book_rules.specs.Instances.{Ground, Relation, IsDerivable, IsInstance, InstanceOf, instances, body_at, head_at}
-use Rattle.book_rules.specs.Frames.{Lemma, Framed, IsShown, AreRefuted}
+use Rattle.book_rules.specs.Instances.{Ground, Relation, IsDerivable, InstanceOf, instances, body_at, head_at}
+use Rattle.book_rules.specs.Frames.{Framed, IsShown, AreRefuted}
 use Rattle.book_rules.specs.State.{Fact, Obligation, State, opening, same_conclusion}
-use Rattle.book_rules.specs.Steps.{Seen, IsSeen, OpenStep, LemmaStep, FactStep, LiftStep, RaiseStep, StallStep, Step, Shows, Carries}
+use Rattle.book_rules.specs.Steps.{IsSeen, OpenStep, LemmaStep, FactStep, LiftStep, Step, Shows, Carries}
 use Rattle.book_rules.specs.Proofs.{unshown, misused}
 use Rattle.book_rules.specs.OpenRules.{parent_of, atom_of}
-use Rattle.book_rules.specs.LemmaRules.{rule_10, rule_11, rule_12, rule_13, rule_14, rule_30, rule_31, rule_32, rule_33, level_is, lifted_of}
-use Rattle.book_rules.specs.FactRules.{concluded, is_fact_of, are_facts_of, rule_20, rule_21, rule_22, rule_23}
-use Rattle.book_rules.specs.RaiseRules.{rule_40, rule_41, rule_42, rule_43, rule_44}
-use Rattle.book_rules.specs.Rules.{Broken, rule, broken, broken_lemma, broken_fact, broken_lift, broken_raise}
-use Rattle.book_rules.specs.Effects.{after, written, opened, opened_with, learnt, lifted, lifted_with, height_at, greatest, fact_of, recorded, raised, stalled_with}
-use Rattle.book_rules.specs.Legal.{IsLegal, replay, AreLegal}
+use Rattle.book_rules.specs.LemmaRules.{rule_10, rule_11, rule_12, rule_30, rule_31, rule_32, rule_33, level_is, lifted_of}
+use Rattle.book_rules.specs.FactRules.{concluded, is_fact_of, are_facts_of, rule_20}
+use Rattle.book_rules.specs.RaiseRules.{rule_40, rule_41}
+use Rattle.book_rules.specs.Rules.{Broken, rule, broken}
+use Rattle.book_rules.specs.Effects.{after, written, opened_with, learnt, lifted_with, height_at, greatest, fact_of, recorded, raised, stalled_with}
+use Rattle.book_rules.specs.Legal.{replay, AreLegal}
 use Rattle.book_rules.specs.Kept.{AreDerivable, IsSound}
 use Rattle.book_rules.proofs.ListLemmas.{both_true, all_of-push, all_of-set, all_of-map, unless_none}
 use Rattle.book_rules.proofs.FrameLemmas.{IsStronger, above, stronger-push, stronger-lift, shown-stronger, refuted-stronger, all_shown-stronger, derivable-higher}

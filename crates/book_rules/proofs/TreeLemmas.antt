@@ -1,16 +1,15 @@
 -- Trees of obligations: each live one but the root has its place among those before it, and what adds, closes and marks
 -- obligations keeps that.
-use Rattle.std.proofs.Common.{◌≡◌, ℕ, ◌+◌, ◌-◌, ◌<◌, ◌≤◌, zero, suc, List, [], ◌∷◌, ◌++◌, map, length, Bool, true, false, ◌&&◌, ◌||◌, not, cond, Some, None, refl, ap, sym, ◌∙◌, subst, arith, append_assoc, append-nil}
+use Rattle.std.proofs.Common.{◌≡◌, ℕ, ◌+◌, ◌<◌, zero, suc, List, [], ◌∷◌, ◌++◌, map, length, Bool, true, false, ◌&&◌, not, cond, Some, refl, ap, sym, ◌∙◌, subst, arith, append_assoc, append-nil}
 use Rattle.std.specs.Prelude.{Option, slice_get, slice_set}
-use Rattle.std.specs.List.{list_any, list_all}
+use Rattle.std.specs.List.{list_any}
 use mathlib.Core.Bool.{true≢false}
-use Rattle.cube_forms.specs.Cubes.{cube_holds}
-use Rattle.book_rules.specs.Walks.{AllOf, has}
+use Rattle.book_rules.specs.Walks.{has}
 use Rattle.book_rules.specs.Frames.{Framed, in_frame}
 use Rattle.book_rules.specs.State.{Fact, Obligation, holds, is_live}
 use Rattle.book_rules.specs.Effects.{closed_at, is_closing, close_from, raised_tree}
 use Rattle.book_rules.specs.Kept.{IsPlaced, IsHung, AreHung}
-use Rattle.book_rules.proofs.ListLemmas.{both_true, both_false, not_true, not_false}
+use Rattle.book_rules.proofs.ListLemmas.{both_false, not_false}
 
 pub get-append : {X : Type 0} (xs ys : List X) (i : ℕ) (x : X) → slice_get xs i ≡ Some x → slice_get (xs ++ ys) i ≡ Some x
 get-append [] ys i x is = absurd (cc)

@@ -1,7 +1,7 @@
 -- Areas and cubes of obligations (Komuravelli, Gurfinkel and Chaki, section 4: an obligation is opened on a projection, so
 -- that each point of its cube extends to an instance whose head the parent holds). Numbers have no bound here: a form in
 -- which added coefficients reach 2 ^ 63 in magnitude equals none that is kept.
-use Rattle.std.specs.Prelude.{ℕ, ℤ, pos, negsuc, neg_ℤ, nat_abs, ◌+◌, ◌^◌, List, [], ◌∷◌, ◌++◌, map, Bool, true, false, ◌&&◌, ◌||◌, not, nat_le, nat_lt, ◌==◌, Option, Some, None, if◌then◌else◌}
+use Rattle.std.specs.Prelude.{ℕ, ℤ, pos, negsuc, neg_ℤ, nat_abs, ◌+◌, ◌^◌, List, [], ◌∷◌, ◌++◌, map, Bool, true, false, ◌&&◌, ◌||◌, nat_le, nat_lt, ◌==◌, if◌then◌else◌}
 use Rattle.std.specs.List.{list_any, list_all}
 use Rattle.lin_atoms.specs.Algebra.{renamed}
 use Rattle.lin_atoms.specs.Denial.{linear_of}
@@ -14,7 +14,7 @@ use Rattle.clause_form.specs.declared.atom.Atom.{Atom}
 use Rattle.clause_form.specs.declared.clause.Clause.{Clause}
 use Rattle.cube_forms.specs.Cubes.{cube_at, lemma_at}
 use Rattle.model_project.specs.Kept.{Kept}
-use Rattle.book_rules.specs.Same.{same_lit, same_cube, same_tuple}
+use Rattle.book_rules.specs.Same.{same_lit, same_tuple}
 use Rattle.book_rules.specs.Frames.{Framed}
 use Rattle.book_rules.specs.Queries.{args_of}
 

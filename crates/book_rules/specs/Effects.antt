@@ -3,12 +3,12 @@ use Rattle.std.specs.Prelude.{ℕ, suc, ◌+◌, ◌-◌, max, List, [], ◌∷�
 use Rattle.clause_form.specs.System.{Clauses}
 use Rattle.clause_form.specs.declared.atom.Atom.{Atom}
 use Rattle.book_rules.specs.Walks.{has}
-use Rattle.book_rules.specs.Frames.{Lemma, Framed}
+use Rattle.book_rules.specs.Frames.{Framed}
 use Rattle.book_rules.specs.LemmaRules.{closes, lifted_of}
 use Rattle.book_rules.specs.FactRules.{concluded}
 use Rattle.book_rules.specs.OpenRules.{parent_of, atom_of, tuple_of}
 use Rattle.book_rules.specs.State.{Fact, Obligation, State, holds, is_live}
-use Rattle.book_rules.specs.Steps.{OpenStep, LemmaStep, FactStep, LiftStep, RaiseStep, StallStep, Step}
+use Rattle.book_rules.specs.Steps.{OpenStep, LemmaStep, FactStep, LiftStep, StallStep, Step}
 
 -- the entry is written; every entry but Stall is one unit
 abbrev pub written : ℕ → State → State

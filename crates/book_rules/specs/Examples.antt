@@ -1,18 +1,15 @@
 -- A short run, step by step: 0 is reached, each number reaches the next, and 3 must not be reached.
 use Rattle.std.specs.Prelude.{ℕ, ℤ, pos, negsuc, List, [], ◌∷◌, Option, Some, None}
-use Rattle.term_tree.specs.declared.sort.Sort.{Sort}
 use Rattle.term_tree.specs.declared.sort.Sort.TheVariants.{Int}
 use Rattle.lin_atoms.specs.declared.lit.Lit.{Lit}
 use Rattle.lin_atoms.specs.declared.lit.Lit.TheVariants.{Eq}
-use Rattle.lin_atoms.specs.declared.form.Form.{Form}
 use Rattle.lin_atoms.specs.declared.form.Form.TheVariants.{True, Lit as Literal}
 use Rattle.clause_form.specs.System.{Clauses}
 use Rattle.clause_form.specs.declared.atom.Atom.{Atom}
 use Rattle.clause_form.specs.declared.clause.Clause.{Clause}
 use Rattle.book_rules.specs.Frames.{Lemma}
-use Rattle.book_rules.specs.Queries.{Used}
 use Rattle.book_rules.specs.State.{State, opening}
-use Rattle.book_rules.specs.Steps.{Seen, Shown, Step}
+use Rattle.book_rules.specs.Steps.{Shown, Step}
 use Rattle.book_rules.specs.Effects.{after}
 
 -- variable v is the number

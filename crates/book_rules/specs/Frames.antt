@@ -1,6 +1,6 @@
 -- Lemmas and frames (Hoder and Bjorner, "Generalized property directed reachability", section 2: the sequence of frames is
 -- kept as lemmas with levels, so that F(k) is contained in F(k + 1)).
-use Rattle.std.specs.Prelude.{◌≡◌, ℕ, ℤ, List, Bool, true, false, ◌&&◌, ◌||◌, not, nat_lt, nat_le, ◌==◌, Option, Some, None, slice_get}
+use Rattle.std.specs.Prelude.{◌≡◌, ℕ, List, Bool, true, false, ◌&&◌, ◌||◌, not, nat_lt, nat_le, ◌==◌, Some, None, slice_get}
 use Rattle.std.specs.List.{list_all, list_any}
 use Rattle.lin_atoms.specs.declared.lit.Lit.{Lit}
 use Rattle.cube_forms.specs.Cubes.{cube_holds}

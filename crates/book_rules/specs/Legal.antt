@@ -1,6 +1,6 @@
 -- The end of a book, its legal steps, and what a journal of legal steps leads to.
-use Rattle.std.specs.Prelude.{◌≡◌, ℕ, zero, suc, ◌+◌, ◌-◌, List, [], ◌∷◌, ◌++◌, Bool, true, false, ◌&&◌, ◌||◌, not, ◌==◌, Option, Some, None, option_map, is_none, if◌then◌else◌}
-use Rattle.std.specs.List.{list_any, list_all}
+use Rattle.std.specs.Prelude.{◌≡◌, ℕ, zero, suc, ◌+◌, ◌-◌, List, [], ◌∷◌, Bool, true, ◌&&◌, ◌||◌, not, ◌==◌, Option, Some, None, option_map, is_none, if◌then◌else◌}
+use Rattle.std.specs.List.{list_any}
 use Rattle.clause_form.specs.System.{Clauses}
 use Rattle.book_rules.specs.declared.end.End.{End}
 use Rattle.book_rules.specs.declared.end.End.TheVariants.{Unsat, Sat, Spent, Stalled}

@@ -1,5 +1,5 @@
 -- The rules of Lemma and of Lift, by their numbers: what breaks each of them, if anything.
-use Rattle.std.specs.Prelude.{ℕ, ◌+◌, ◌-◌, Bool, ◌&&◌, ◌||◌, not, nat_le, nat_lt, ◌==◌, Option, Some, None, if◌then◌else◌, slice_get}
+use Rattle.std.specs.Prelude.{ℕ, ◌+◌, ◌-◌, Bool, ◌&&◌, nat_le, nat_lt, ◌==◌, Option, Some, None, if◌then◌else◌, slice_get}
 use Rattle.clause_form.specs.System.{Clauses}
 use Rattle.cube_forms.specs.Cubes.{cube_holds}
 use Rattle.book_rules.specs.declared.by.By.{By}

@@ -1,6 +1,6 @@
 -- The rules of Open, by their numbers: what breaks each of them, if anything. Where a rule needs a part that isn't there, an
 -- earlier rule is broken.
-use Rattle.std.specs.Prelude.{ℕ, ℤ, ◌-◌, List, Bool, true, false, ◌&&◌, ◌||◌, not, nat_le, nat_lt, ◌==◌, Option, Some, None, option_map, if◌then◌else◌, filter, length, slice_get}
+use Rattle.std.specs.Prelude.{ℕ, ℤ, ◌-◌, List, Bool, ◌&&◌, ◌||◌, not, nat_le, nat_lt, ◌==◌, Option, Some, None, option_map, if◌then◌else◌, filter, length, slice_get}
 use Rattle.std.specs.List.{list_any}
 use Rattle.lin_atoms.specs.declared.lit.Lit.{Lit}
 use Rattle.clause_form.specs.System.{Clauses}

@@ -1,5 +1,5 @@
 -- The rules of Raise, by their numbers: what breaks each of them, if anything.
-use Rattle.std.specs.Prelude.{ℕ, ◌+◌, List, [], ◌∷◌, Bool, true, false, ◌&&◌, not, nat_lt, ◌==◌, Option, Some, None, if◌then◌else◌, slice_get}
+use Rattle.std.specs.Prelude.{ℕ, ◌+◌, List, [], ◌∷◌, Bool, ◌&&◌, nat_lt, Option, Some, None, if◌then◌else◌, slice_get}
 use Rattle.clause_form.specs.System.{Clauses}
 use Rattle.clause_form.specs.declared.clause.Clause.{Clause}
 use Rattle.book_rules.specs.declared.by.By.{By}

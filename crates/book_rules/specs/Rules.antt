@@ -1,5 +1,5 @@
 -- The first rule that a step breaks, with what breaks it. The rules of a kind of step are tried in the order of their numbers.
-use Rattle.std.specs.Prelude.{ℕ, List, [], ◌∷◌, Option, Some, None}
+use Rattle.std.specs.Prelude.{ℕ, Option, Some, None}
 use Rattle.clause_form.specs.System.{Clauses}
 use Rattle.book_rules.specs.declared.by.By.{By}
 use Rattle.book_rules.specs.OpenRules.{rule_1, rule_2, rule_3, rule_4, rule_5, rule_6, rule_7, rule_8, rule_9}

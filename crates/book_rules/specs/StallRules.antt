@@ -1,5 +1,5 @@
 -- The rules of Stall, by their numbers: what breaks each of them, if anything.
-use Rattle.std.specs.Prelude.{ℕ, ◌-◌, List, [], ◌∷◌, Bool, true, false, ◌&&◌, ◌||◌, not, ◌==◌, Option, Some, None, is_some, option_map, if◌then◌else◌, slice_get}
+use Rattle.std.specs.Prelude.{ℕ, ◌-◌, List, Bool, ◌&&◌, ◌||◌, not, ◌==◌, Option, Some, None, is_some, option_map, if◌then◌else◌, slice_get}
 use Rattle.std.specs.List.{list_all}
 use Rattle.clause_form.specs.System.{Clauses}
 use Rattle.clause_form.specs.declared.clause.Clause.{Clause}

@@ -1,13 +1,11 @@
 -- What stands in a book: the state of generalized property directed reachability (Hoder and Bjorner, section 2) with the
 -- facts of Komuravelli, Gurfinkel and Chaki, section 3, over plain lists. Numbers are places in the lists, from 0.
-use Rattle.std.specs.Prelude.{ℕ, ℤ, ◌+◌, ◌-◌, List, [], ◌∷◌, Bool, true, false, ◌&&◌, not, nat_le, nat_lt, ◌==◌, Option, Some, None, is_none, is_some, option_map, if◌then◌else◌, slice_get}
-use Rattle.std.specs.List.{list_any, list_all}
+use Rattle.std.specs.Prelude.{ℕ, ℤ, List, [], ◌∷◌, Bool, true, false, ◌&&◌, ◌==◌, Option, Some, None, is_none, is_some, option_map}
 use Rattle.lin_atoms.specs.declared.lit.Lit.{Lit}
 use Rattle.cube_forms.specs.Cubes.{cube_holds}
 use Rattle.book_rules.specs.declared.by.By.{By}
 use Rattle.book_rules.specs.declared.by.By.TheVariants.{Entry, Step}
 use Rattle.book_rules.specs.Same.{same_tuple}
-use Rattle.book_rules.specs.Walks.{first_number}
 use Rattle.book_rules.specs.Instances.{Ground}
 use Rattle.book_rules.specs.Frames.{Framed}
 

@@ -1,6 +1,6 @@
 -- The steps of a book, with the data that their rules read, and what the tokens among it stand for. A token is made only
 -- where its fact holds; here it is the plain data, and `Carries` the facts of all tokens of a step.
-use Rattle.std.specs.Prelude.{◌≡◌, ℕ, ℤ, List, map, Bool, true, false, not, ◌==◌, Option, Some, None, slice_get}
+use Rattle.std.specs.Prelude.{◌≡◌, ℕ, ℤ, List, Bool, true, false, not, Option, Some, None, slice_get}
 use Rattle.std.specs.List.{list_all}
 use Rattle.lin_atoms.specs.declared.lit.Lit.{Lit}
 use Rattle.lin_atoms.specs.declared.form.Form.{Form}
@@ -13,7 +13,7 @@ use Rattle.model_project.specs.Projection.{IsProjection}
 use Rattle.farkas_proof.specs.GivenUp.{IsGivenUp}
 use Rattle.farkas_proof.specs.declared.evidence.Evidence.{Evidence}
 use Rattle.book_rules.specs.Walks.{AllOf, has}
-use Rattle.book_rules.specs.Instances.{IsInstance, head_at}
+use Rattle.book_rules.specs.Instances.{IsInstance}
 use Rattle.book_rules.specs.Frames.{Lemma}
 use Rattle.book_rules.specs.Queries.{Used, query}
 

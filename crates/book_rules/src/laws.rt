@@ -1,14 +1,17 @@
 //! Laws of the definitions, as contracts of functions that do nothing. Each holds of every replay of
 //! a legal journal, from any opening that has what the law keeps.
 
-ghost use Rattle.std.specs.Prelude.{◌≡◌, ◌≤◌, ◌-◌, ◌<◌, ℕ, List, [], Some, None, true};
+ghost use Rattle.std.specs.Prelude.{◌≡◌, ◌↔◌, ℤ, ◌≤◌, ◌-◌, ◌<◌, ℕ, List, [], Some, None, true};
 ghost use Rattle.clause_form.specs.System.{Clauses};
+ghost use Rattle.lin_atoms.specs.declared.lit.Lit.{Lit as Literal};
+ghost use Rattle.lin_atoms.specs.declared.form.Form.{Form};
 ghost use Rattle.book_rules.specs.declared.end.End.TheVariants.{Sat, Unsat};
 ghost use Rattle.book_rules.specs.Instances.{Relation, IsDerivable, instances};
 ghost use Rattle.book_rules.specs.Frames.{Framed, IsShown, AreRefuted, AreGood, IsSolution};
 ghost use Rattle.book_rules.specs.Kept.{AreDerivable, AreDistinct, AreInRange, ArePlaced, AreRecorded, IsFalse, IsOrdered, IsSound};
 ghost use Rattle.book_rules.specs.Legal.{AreLegal, IsLegal, end, replay};
 ghost use Rattle.book_rules.specs.Effects.{after};
+ghost use Rattle.book_rules.specs.Same.{same_cube, same_form, same_tuple};
 ghost use Rattle.book_rules.specs.State.{State, opening};
 ghost use Rattle.book_rules.specs.Steps.{Step};
 ghost use Rattle.book_rules.specs.Walks.{AllOf};
@@ -61,4 +64,11 @@ pub fn ends_are_certified()
     ensures sat { (sys : Clauses) (s : State) (level : ℕ) → IsSound (instances sys) s → end s ≡ Some (Sat level) → IsSolution (instances sys) s.lemmas level }
     ensures no_false { (sys : Clauses) (s : State) (level : ℕ) → IsSound (instances sys) s → end s ≡ Some (Sat level) → (h : ℕ) → IsDerivable (instances sys) h None → ⊥ }
     ensures unsat { (sys : Clauses) (s : State) (fact : ℕ) → IsSound (instances sys) s → end s ≡ Some (Unsat fact) → IsFalse (instances sys) s fact }
+{}
+
+/// The rules compare by tests; each is true exactly of equal values.
+pub fn equality_is_tested()
+    ensures cubes { (a b : List Literal) → (same_cube a b ≡ true) ↔ (a ≡ b) }
+    ensures tuples { (a b : List ℤ) → (same_tuple a b ≡ true) ↔ (a ≡ b) }
+    ensures forms { (a b : Form) → (same_form a b ≡ true) ↔ (a ≡ b) }
 {}
