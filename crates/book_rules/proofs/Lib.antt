@@ -9,4 +9,5 @@ pub mod TreeLemmas
 pub mod OrderedLemmas
 pub mod EndLemmas
 pub mod RecordLemmas
+pub mod PlaceLemmas
 pub mod ExampleLemmas

@@ -45,7 +45,7 @@ abbrev pub stands_in : Lit → Form → Bool
 stands_in lit = fold-Form Bool (stand_step lit)
 
 abbrev pub are_among : List ℕ → List ℕ → Bool
-are_among those these = list_all (λ v. list_any (λ w. v == w) those) these
+are_among those these = list_all (λ v. list_any (λ w. w == v) those) these
 
 -- the same variables, however often and in whatever order
 abbrev pub same_variables : List ℕ → List ℕ → Bool

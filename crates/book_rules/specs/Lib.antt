@@ -16,4 +16,5 @@ pub mod Rules
 pub mod Effects
 pub mod Legal
 pub mod Kept
+pub mod Reached
 pub mod Examples
