@@ -10,4 +10,6 @@ pub mod OrderedLemmas
 pub mod EndLemmas
 pub mod RecordLemmas
 pub mod PlaceLemmas
+pub mod ReachLemmas
+pub mod OpenedLemmas
 pub mod ExampleLemmas

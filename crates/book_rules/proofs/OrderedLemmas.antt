@@ -122,7 +122,7 @@ weaker_test n k x true is h = either (nat_lt n k) (not x) h where
   either false b t = t
 weaker_test n k x false is h = let below : nat_lt n k ≡ true = grind (arith, nat_tests) in ap (λ b. b || not x) below
 
-frame_from : (es : List Framed) (k : ℕ) (a : Ground) → 0 < k → list_any (λ (e : Framed). nat_le k e.level && excludes e.lemma a) es ≡ false → in_frame es k a ≡ true
+pub frame_from : (es : List Framed) (k : ℕ) (a : Ground) → 0 < k → list_any (λ (e : Framed). nat_le k e.level && excludes e.lemma a) es ≡ false → in_frame es k a ≡ true
 frame_from es k a some none =
     let first : nat_lt 0 k ≡ true = grind (arith, nat_tests) in
     from_both (nat_lt 0 k) _ first (all_weaken (λ (e : Framed). not (nat_le k e.level && excludes e.lemma a)) (λ (e : Framed). nat_lt e.level k || accepts e.lemma a) (λ e. weaker_test e.level k (excludes e.lemma a) (nat_le k e.level) refl) es

@@ -1,22 +1,19 @@
 -- Points from values, and cubes over places: a tuple in the cube of an area gives a point in the area's projection.
-use Rattle.std.proofs.Common.{◌≡◌, ℕ, ◌+◌, ◌-◌, ◌<◌, ◌≤◌, zero, suc, List, [], ◌∷◌, ◌++◌, map, length, Bool, true, false, ◌&&◌, ◌||◌, not, cond, Some, None, refl, ap, ap₂, sym, ◌∙◌, subst, arith}
-use Rattle.std.specs.Prelude.{Option, ℤ, pos, negsuc, neg_ℤ, ◌+ℤ◌, ◌*ℤ◌, int_le, nat_abs, nat_lt, ◌==◌, slice_get, slice_index_or}
-use Rattle.std.specs.List.{list_all, list_any}
+use Rattle.std.proofs.Common.{◌≡◌, ℕ, ◌+◌, ◌<◌, ◌≤◌, zero, suc, List, [], ◌∷◌, map, length, Bool, true, false, not, cond, Some, refl, ap, sym, ◌∙◌, arith}
+use Rattle.std.specs.Prelude.{ℤ, pos, negsuc, neg_ℤ, ◌+ℤ◌, ◌*ℤ◌, int_le, nat_abs, nat_lt, ◌==◌, slice_get}
+use Rattle.std.specs.List.{list_all}
 use Rattle.std.proofs.lemmas.Bool.{eqb-true}
 use Rattle.std.proofs.lemmas.Bool.Decides.{nat_tests}
 use Rattle.std.proofs.lemmas.Int.{ints}
-use Rattle.std.proofs.lemmas.List.Folds.{list_all-append}
-use mathlib.Core.Bool.{true≢false}
-use Rattle.lin_atoms.specs.Linear.{Linear, value_at, variable_at}
-use Rattle.lin_atoms.specs.Algebra.{renamed}
+use Rattle.lin_atoms.specs.Linear.{variable_at}
 use Rattle.lin_atoms.specs.Multiples.{is_multiple}
 use Rattle.lin_atoms.specs.Truth.{lit_truth}
 use Rattle.lin_atoms.specs.declared.lit.Lit.{Lit}
 use Rattle.lin_atoms.specs.declared.lit.Lit.TheVariants.{Le, Eq, Div, NDiv}
 use Rattle.lin_atoms.proofs.ValueLemmas.{value_at-renamed}
-use Rattle.cube_forms.specs.Cubes.{cube_holds, tuple_at}
+use Rattle.cube_forms.specs.Cubes.{cube_holds}
 use Rattle.book_rules.specs.Areas.{place_from, first_place, lit_in_places, equation, equations_from, point_cube_from, point_cube}
-use Rattle.book_rules.proofs.ListLemmas.{both_true, from_both, both_false}
+use Rattle.book_rules.proofs.ListLemmas.{both_true, from_both}
 
 -- the values of a function from i on, so many
 abbrev pub values : (ℕ → ℤ) → ℕ → ℕ → List ℤ
@@ -54,9 +51,9 @@ no_place n [] v below = refl
 no_place n (a ∷ args) v below =
     let both = both_true (nat_lt a v) _ below in
     other (a == v) refl both.0 (no_place (n + 1) args v both.1) where
-  other : (b : Bool) → (a == v) ≡ b → nat_lt a v ≡ true → place_from (n + 1) args v ≡ v → cond {A = ℕ} b n (place_from (n + 1) args v) ≡ v
-  other true is less rest = absurd (let same : a ≡ v = eqb-true a v is in grind (arith, nat_tests))
-  other false is less rest = rest
+      other : (b : Bool) → (a == v) ≡ b → nat_lt a v ≡ true → place_from (n + 1) args v ≡ v → cond {A = ℕ} b n (place_from (n + 1) args v) ≡ v
+      other true is less rest = absurd (let same : a ≡ v = eqb-true a v is in grind (arith, nat_tests))
+      other false is less rest = rest
 
 lower_all : (args : List ℕ) (n v : ℕ) → n ≤ v → list_all (λ a. nat_lt a n) args ≡ true → list_all (λ a. nat_lt a v) args ≡ true
 lower_all [] n v le h = refl
@@ -118,17 +115,17 @@ places_equal args tuple n (v ∷ rest) (t ∷ ts) same there at h =
     let value : variable_at tuple n ≡ t = ap (variable_at tuple) (sym zero_more) ∙ at 0 in
     let shorter : length ts ≡ length rest = omega arith in
     let more = places_equal args tuple (n + 1) rest ts shorter
-        (λ i. let next : n + suc i ≡ n + 1 + i = omega arith in there (suc i) ∙ ap (slice_get args) next)
-        (λ i. let next : n + 1 + i ≡ n + suc i = omega arith in ap (variable_at tuple) next ∙ at (suc i)) in
+    (λ i. let next : n + suc i ≡ n + 1 + i = omega arith in there (suc i) ∙ ap (slice_get args) next)
+    (λ i. let next : n + 1 + i ≡ n + suc i = omega arith in ap (variable_at tuple) next ∙ at (suc i)) in
     let here = split (nat_lt (first_place args v) n) refl low h in
     ap (λ x. x ∷ map (λ w. variable_at tuple (first_place args w)) rest) (here.0 ∙ value) ∙ ap (λ xs. t ∷ xs) (more here.1) where
-  split : (b : Bool) → nat_lt (first_place args v) n ≡ b → first_place args v ≤ n
-      → list_all (lit_truth tuple) (cond {A = List Lit} b (equation (first_place args v) n ∷ equations_from args (n + 1) rest) (equations_from args (n + 1) rest)) ≡ true
-      → (variable_at tuple (first_place args v) ≡ variable_at tuple n) × (list_all (lit_truth tuple) (equations_from args (n + 1) rest) ≡ true)
-  split true is low h' =
-      let both = both_true (lit_truth tuple (equation (first_place args v) n)) _ h' in
-      (equal_there (variable_at tuple (first_place args v)) (variable_at tuple n) both.0, both.1)
-  split false is low h' = let same_place : first_place args v ≡ n = grind (arith, nat_tests) in (ap (variable_at tuple) same_place, h')
+      split : (b : Bool) → nat_lt (first_place args v) n ≡ b → first_place args v ≤ n
+          → list_all (lit_truth tuple) (cond {A = List Lit} b (equation (first_place args v) n ∷ equations_from args (n + 1) rest) (equations_from args (n + 1) rest)) ≡ true
+          → (variable_at tuple (first_place args v) ≡ variable_at tuple n) × (list_all (lit_truth tuple) (equations_from args (n + 1) rest) ≡ true)
+      split true is low h' =
+          let both = both_true (lit_truth tuple (equation (first_place args v) n)) _ h' in
+          (equal_there (variable_at tuple (first_place args v)) (variable_at tuple n) both.0, both.1)
+      split false is low h' = let same_place : first_place args v ≡ n = grind (arith, nat_tests) in (ap (variable_at tuple) same_place, h')
 
 pub tuple_spread : (args : List ℕ) (tuple : List ℤ) → length tuple ≡ length args → list_all (lit_truth tuple) (equations_from args 0 args) ≡ true → map (λ v. variable_at tuple (first_place args v)) args ≡ tuple
 tuple_spread args tuple same h = places_equal args tuple 0 args tuple same (λ i. let next : i ≡ 0 + i = omega arith in ap (slice_get args) next) (λ i. let next : 0 + i ≡ i = omega arith in ap (variable_at tuple) next) h

@@ -1,8 +1,11 @@
 //! Laws of the definitions, as contracts of functions that do nothing. Each holds of every replay of
 //! a legal journal, from any opening that has what the law keeps.
 
-ghost use Rattle.std.specs.Prelude.{◌≡◌, ◌↔◌, ℤ, ◌≤◌, ◌-◌, ◌<◌, ℕ, List, [], Some, None, true};
-ghost use Rattle.clause_form.specs.System.{Clauses};
+ghost use Rattle.std.specs.Prelude.{◌≡◌, ◌↔◌, ℤ, ◌≤◌, ◌-◌, ◌<◌, ℕ, List, [], Some, None, true, length, slice_get};
+ghost use Rattle.clause_form.specs.System.{Clauses, is_system};
+ghost use Rattle.clause_form.specs.declared.atom.Atom.{Atom};
+ghost use Rattle.clause_form.specs.declared.clause.Clause.{Clause};
+ghost use Rattle.cube_forms.specs.Cubes.{cube_holds};
 ghost use Rattle.lin_atoms.specs.declared.lit.Lit.{Lit as Literal};
 ghost use Rattle.lin_atoms.specs.declared.form.Form.{Form};
 ghost use Rattle.book_rules.specs.declared.end.End.TheVariants.{Sat, Unsat};
@@ -11,9 +14,10 @@ ghost use Rattle.book_rules.specs.Frames.{Framed, IsShown, AreRefuted, AreGood, 
 ghost use Rattle.book_rules.specs.Kept.{AreDerivable, AreDistinct, AreInRange, ArePlaced, AreRecorded, IsFalse, IsOrdered, IsSound};
 ghost use Rattle.book_rules.specs.Legal.{AreLegal, IsLegal, end, replay};
 ghost use Rattle.book_rules.specs.Effects.{after};
+ghost use Rattle.book_rules.specs.Reached.{IsReached, have_places};
 ghost use Rattle.book_rules.specs.Same.{same_cube, same_form, same_tuple};
-ghost use Rattle.book_rules.specs.State.{State, opening};
-ghost use Rattle.book_rules.specs.Steps.{Step};
+ghost use Rattle.book_rules.specs.State.{Obligation, State, opening};
+ghost use Rattle.book_rules.specs.Steps.{OpenStep, Opens, Step};
 ghost use Rattle.book_rules.specs.Walks.{AllOf};
 
 /// Each lemma of level k accepts every tuple that is derivable within k. What makes it inductive is
@@ -71,4 +75,13 @@ pub fn equality_is_tested()
     ensures cubes { (a b : List Literal) → (same_cube a b ≡ true) ↔ (a ≡ b) }
     ensures tuples { (a b : List ℤ) → (same_tuple a b ≡ true) ↔ (a ≡ b) }
     ensures forms { (a b : Form) → (same_form a b ≡ true) ↔ (a ≡ b) }
+{}
+
+/// Each point of the cube of a legal Open is the atom's tuple in an instance whose head the parent
+/// holds and whose body is in F of the level below, where the cubes of the parent and of the lemmas
+/// speak of places that their predicates have.
+pub fn opened_cubes_are_reached()
+    ensures { (sys : Clauses) (s : State) (o : OpenStep) → is_system sys ≡ true → IsLegal sys s (Opens o) → (parent : Obligation) (clause : Clause) (atom : Atom) →
+        slice_get s.obligations o.parent ≡ Some parent → slice_get sys.clauses o.seen.clause ≡ Some clause → slice_get clause.atoms o.atom ≡ Some atom → have_places s.lemmas parent clause ≡ true →
+        (tuple : List ℤ) → length tuple ≡ length atom.args → cube_holds tuple o.cube ≡ true → IsReached clause atom parent s.lemmas (parent.level - 1) tuple }
 {}
