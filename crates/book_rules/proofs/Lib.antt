@@ -13,3 +13,5 @@ pub mod PlaceLemmas
 pub mod ReachLemmas
 pub mod OpenedLemmas
 pub mod ExampleLemmas
+pub mod JournalLemmas
+pub mod Public

@@ -1,7 +1,7 @@
 //! Laws of the definitions, as contracts of functions that do nothing. Each holds of every replay of
 //! a legal journal, from any opening that has what the law keeps.
 
-ghost use Rattle.std.specs.Prelude.{◌≡◌, ◌↔◌, ℤ, ◌≤◌, ◌-◌, ◌<◌, ℕ, List, [], Some, None, true, length, slice_get};
+ghost use Rattle.std.specs.Prelude.{◌≡◌, ◌↔◌, ℤ, ◌≤◌, ◌-◌, ◌<◌, ℕ, List, [], ◌∷◌, ◌++◌, Some, None, true, length, slice_get};
 ghost use Rattle.clause_form.specs.System.{Clauses, is_system};
 ghost use Rattle.clause_form.specs.declared.atom.Atom.{Atom};
 ghost use Rattle.clause_form.specs.declared.clause.Clause.{Clause};
@@ -84,4 +84,11 @@ pub fn opened_cubes_are_reached()
     ensures { (sys : Clauses) (s : State) (o : OpenStep) → is_system sys ≡ true → IsLegal sys s (Opens o) → (parent : Obligation) (clause : Clause) (atom : Atom) →
         slice_get s.obligations o.parent ≡ Some parent → slice_get sys.clauses o.seen.clause ≡ Some clause → slice_get clause.atoms o.atom ≡ Some atom → have_places s.lemmas parent clause ≡ true →
         (tuple : List ℤ) → length tuple ≡ length atom.args → cube_holds tuple o.cube ≡ true → IsReached clause atom parent s.lemmas (parent.level - 1) tuple }
+{}
+
+/// A journal that grows by one entry, which is legal where it leads to, is legal, and leads to what
+/// the entry makes of that.
+pub fn journals_grow()
+    ensures state { (sys : Clauses) (s : State) (steps : List Step) (step : Step) → replay sys s (steps ++ step ∷ []) ≡ after sys (replay sys s steps) step }
+    ensures legal { (sys : Clauses) (s : State) (steps : List Step) (step : Step) → AreLegal sys s steps → IsLegal sys (replay sys s steps) step → AreLegal sys s (steps ++ step ∷ []) }
 {}

@@ -12,5 +12,6 @@ pub use end::End;
 pub use examples::{legal_steps_are_there, other_steps_break_a_rule, steps_have_their_effects};
 pub use laws::{
     ends_are_certified, equality_is_tested, facts_are_a_derivation, facts_are_derivable,
-    legal_steps_are_sound, lemmas_are_good, live_obligations_are_placed, opened_cubes_are_reached,
+    journals_grow, legal_steps_are_sound, lemmas_are_good, live_obligations_are_placed,
+    opened_cubes_are_reached,
 };
