@@ -1,0 +1,17 @@
+pub mod ListLemmas
+pub mod FrameLemmas
+pub mod SameLemmas
+pub mod FormLemmas
+pub mod EqualLemmas
+pub mod ProofLemmas
+pub mod SoundLemmas
+pub mod TreeLemmas
+pub mod OrderedLemmas
+pub mod EndLemmas
+pub mod RecordLemmas
+pub mod PlaceLemmas
+pub mod ReachLemmas
+pub mod OpenedLemmas
+pub mod ExampleLemmas
+pub mod JournalLemmas
+pub mod Public

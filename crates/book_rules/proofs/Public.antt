@@ -1,0 +1,10 @@
+-- The lemmas that proofs of other crates cite.
+pub use Rattle.book_rules.proofs.EndLemmas.{sat_is_solution, solution_has_no_false, unsat_is_derivable}
+pub use Rattle.book_rules.proofs.EqualLemmas.{cubes_equal, forms_equal, tuples_equal}
+pub use Rattle.book_rules.proofs.FormLemmas.{covered_is_true}
+pub use Rattle.book_rules.proofs.FrameLemmas.{derivable_in_frame, good, in_frame-level, no_false}
+pub use Rattle.book_rules.proofs.JournalLemmas.{legal-push, replay-push}
+pub use Rattle.book_rules.proofs.OpenedLemmas.{opened_reaches}
+pub use Rattle.book_rules.proofs.OrderedLemmas.{ordered-after, ordered-opening, ordered-replay, placed}
+pub use Rattle.book_rules.proofs.RecordLemmas.{recorded-after, recorded-replay}
+pub use Rattle.book_rules.proofs.SoundLemmas.{sound-after, sound-opening, sound-replay, unbroken}
