@@ -1,0 +1,197 @@
+-- The rows of all predicates after one more fact.
+use Rattle.std.proofs.Common.{◌≡◌, ℕ, ◌+◌, ◌<◌, List, [], ◌∷◌, ◌++◌, map, length, get_or, set, Some, None, refl, ap, sym, subst, ◌∙◌, arith, inl, inr}
+use Rattle.std.specs.Prelude.{ℤ, ◌⊎◌, ◌↔◌, Option}
+use Rattle.std.specs.List.{All, AllPairs, Contains, insert}
+use Rattle.std.proofs.lemmas.Bool.{cases_eq, cases_order}
+use Rattle.std.proofs.lemmas.List.{length-append, length-map, map_push, get_or_append_left, get_or_past, get_or_push, get_or-set_same, get_or-set_other}
+use Rattle.std.proofs.lemmas.List.Elements.{Contains-append_left, Contains-get_or, Contains-push, Contains-push_cases}
+use Rattle.std.proofs.lemmas.List.Quantifiers.{all_pairs_push}
+use Rattle.derivations.specs.declared.fact.Fact.{Fact}
+use Rattle.derivations.specs.declared.row.Row.{Row}
+use Rattle.derivations.specs.Facts.{pred_of, tuple_of, premises_of, AreRecorded, Concludes}
+use Rattle.derivations.specs.machinery.Index.{IsBelow, IsIndexed, IsRank, IsRow, empty}
+use Rattle.derivations.proofs.InsertLemmas.{inserted, insert_has, insert_keeps, pairs_weaker}
+use Rattle.derivations.proofs.SearchLemmas.{row_insert}
+
+-- fields of the facts after a push
+field_push : {Y : Type 0} (g : Fact → Y) (e : Y) (fs : List Fact) (f : Fact) (n : ℕ) → n < length fs → get_or (map g fs) n e ≡ get_or (map g (fs ++ f ∷ [])) n e
+field_push g e fs f n within =
+    let long = length-map fs g in
+    sym (ap (λ xs. get_or xs n e) (map_push g fs f) ∙ get_or_append_left (map g fs) (g f ∷ []) e n (omega (arith, long)))
+
+field_new : {Y : Type 0} (g : Fact → Y) (e : Y) (fs : List Fact) (f : Fact) (n : ℕ) → n ≡ length fs → get_or (map g (fs ++ f ∷ [])) n e ≡ g f
+field_new g e fs f n is = ap (λ xs. get_or xs n e) (map_push g fs f) ∙ get_or_push (map g fs) (g f) e n (length-map fs g ∙ sym is)
+
+more_long : (fs : List Fact) (f : Fact) → length (fs ++ f ∷ []) ≡ length fs + 1
+more_long fs f = length-append fs (f ∷ [])
+
+-- a number of the longer list is the new one or an old one
+split : (fs : List Fact) (f : Fact) (n : ℕ) → n < length (fs ++ f ∷ []) → (n ≡ length fs) ⊎ (n < length fs)
+split fs f n l = by (cases_order n (length fs)) where
+  by : (n ≡ length fs) ⊎ ((n < length fs) ⊎ (length fs < n)) → (n ≡ length fs) ⊎ (n < length fs)
+  by (inl e) = inl e
+  by (inr (inl less)) = inr less
+  by (inr (inr past)) = let long = more_long fs f in absurd (omega arith)
+
+pub recorded_push : (fs : List Fact) (f : Fact) → AreRecorded fs → All (λ p. p < length fs) f.premises → ((n : ℕ) → Concludes fs n f.pred f.tuple → ⊥) → AreRecorded (fs ++ f ∷ [])
+recorded_push fs f recorded there fresh = record {
+  earlier = λ n l. earlier n (split fs f n l);
+  distinct = λ m n lm ln p t. distinct m n (split fs f m lm) (split fs f n ln) p t;
+} where
+  more : List Fact
+  more = fs ++ f ∷ []
+
+  earlier : (n : ℕ) → (n ≡ length fs) ⊎ (n < length fs) → All (λ p. p < n) (premises_of more n)
+  earlier n (inl e) = subst (λ ps. All (λ p. p < n) ps) (sym (field_new (λ g. g.premises) [] fs f n e)) (λ k d l. (let less = there k d l in omega arith))
+  earlier n (inr less) = subst (λ ps. All (λ p. p < n) ps) (field_push (λ g. g.premises) [] fs f n less) (recorded.earlier n less)
+
+  -- the new conclusion is no old one
+  clash : (m n : ℕ) → m < length fs → n ≡ length fs → pred_of more m ≡ pred_of more n → tuple_of more m ≡ tuple_of more n → ⊥
+  clash m n lm e p t = fresh m (lm, field_push (λ g. g.pred) None fs f m lm ∙ p ∙ field_new (λ g. g.pred) None fs f n e, field_push (λ g. g.tuple) [] fs f m lm ∙ t ∙ field_new (λ g. g.tuple) [] fs f n e)
+
+  distinct : (m n : ℕ) → (m ≡ length fs) ⊎ (m < length fs) → (n ≡ length fs) ⊎ (n < length fs) → pred_of more m ≡ pred_of more n → tuple_of more m ≡ tuple_of more n → m ≡ n
+  distinct m n (inl a) (inl b) p t = a ∙ sym b
+  distinct m n (inl a) (inr b) p t = absurd (clash n m b a (sym p) (sym t))
+  distinct m n (inr a) (inl b) p t = absurd (clash m n a b p t)
+  distinct m n (inr a) (inr b) p t = recorded.distinct m n a b
+      (field_push (λ g. g.pred) None fs f m a ∙ p ∙ sym (field_push (λ g. g.pred) None fs f n b))
+      (field_push (λ g. g.tuple) [] fs f m a ∙ t ∙ sym (field_push (λ g. g.tuple) [] fs f n b))
+
+-- numbers of a predicate after a push
+abbrev IsOf : List Fact → ℕ → ℕ → Type 0
+IsOf fs pred n = (n < length fs) × (pred_of fs n ≡ Some pred)
+
+of_push : (fs : List Fact) (f : Fact) (pred n : ℕ) → IsOf fs pred n → IsOf (fs ++ f ∷ []) pred n
+of_push fs f pred n old = (let l = old.0 in let long = more_long fs f in omega arith, sym (field_push (λ g. g.pred) None fs f n old.0) ∙ old.1)
+
+of_old : (fs : List Fact) (f : Fact) (pred n : ℕ) → n < length fs → IsOf (fs ++ f ∷ []) pred n → IsOf fs pred n
+of_old fs f pred n less new = (less, field_push (λ g. g.pred) None fs f n less ∙ new.1)
+
+of_new : (fs : List Fact) (f : Fact) (pred n : ℕ) → n ≡ length fs → f.pred ≡ Some pred → IsOf (fs ++ f ∷ []) pred n
+of_new fs f pred n e is = (let long = more_long fs f in omega arith, field_new (λ g. g.pred) None fs f n e ∙ is)
+
+-- the row of another predicate stays
+row_other : (fs : List Fact) (f : Fact) (pred : ℕ) (row : Row) → (f.pred ≡ Some pred → ⊥) → IsRow fs pred row → IsRow (fs ++ f ∷ []) pred row
+row_other fs f pred row other is = record {
+  numbers = record { order = is.numbers.order; exact = λ n. (λ has. of_push fs f pred n ((is.numbers.exact n).0 has), λ new. (is.numbers.exact n).1 (old n new (split fs f n new.0))) };
+  order = pairs_weaker (IsBelow (tuple_of fs)) (IsBelow (tuple_of (fs ++ f ∷ []))) row.by_tuple same is.order;
+  exact = λ n. (λ has. of_push fs f pred n ((is.exact n).0 has), λ new. (is.exact n).1 (old n new (split fs f n new.0)));
+} where
+  old : (n : ℕ) → IsOf (fs ++ f ∷ []) pred n → (n ≡ length fs) ⊎ (n < length fs) → IsOf fs pred n
+  old n new (inl e) = absurd (other (sym (field_new (λ g. g.pred) None fs f n e) ∙ new.1))
+  old n new (inr less) = of_old fs f pred n less new
+
+  same : (x y : ℕ) → Contains row.by_tuple x → Contains row.by_tuple y → IsBelow (tuple_of fs) x y → IsBelow (tuple_of (fs ++ f ∷ [])) x y
+  same x y hx hy below = rw (sym (field_push (λ g. g.tuple) [] fs f x ((is.exact x).0 hx).0), sym (field_push (λ g. g.tuple) [] fs f y ((is.exact y).0 hy).0)) below
+
+-- the row of its own predicate
+row_own : (fs : List Fact) (f : Fact) (pred : ℕ) (row : Row) (rank : ℕ) → f.pred ≡ Some pred → ((n : ℕ) → Concludes fs n f.pred f.tuple → ⊥) → IsRow fs pred row → IsRank (tuple_of fs) row.by_tuple f.tuple rank
+    → IsRow (fs ++ f ∷ []) pred (record { by_number = row.by_number ++ length fs ∷ []; by_tuple = insert row.by_tuple rank (length fs) })
+row_own fs f pred row rank own fresh is at = record {
+  numbers = record {
+    order = all_pairs_push (λ x y. x < y) row.by_number (length fs) is.numbers.order (λ j d l. ((is.numbers.exact (get_or row.by_number j d)).0 (Contains-get_or row.by_number j d l)).0);
+    exact = λ n. (λ has. numbers n (Contains-push_cases row.by_number (length fs) n has), λ new. listed n new (split fs f n new.0));
+  };
+  order = row_insert (tuple_of more) row.by_tuple (length fs) rank order rank_more apart;
+  exact = λ n. (λ has. tuples n (inserted row.by_tuple rank (length fs) n has), λ new. placed n new (split fs f n new.0));
+} where
+  more : List Fact
+  more = fs ++ f ∷ []
+
+  numbers : (n : ℕ) → Contains row.by_number n ⊎ (length fs ≡ n) → IsOf more pred n
+  numbers n (inl has) = of_push fs f pred n ((is.numbers.exact n).0 has)
+  numbers n (inr e) = of_new fs f pred n (sym e) own
+
+  listed : (n : ℕ) → IsOf more pred n → (n ≡ length fs) ⊎ (n < length fs) → Contains (row.by_number ++ length fs ∷ []) n
+  listed n new (inl e) = subst (λ m. Contains (row.by_number ++ length fs ∷ []) m) (sym e) (Contains-push row.by_number (length fs))
+  listed n new (inr less) = Contains-append_left row.by_number (length fs ∷ []) n ((is.numbers.exact n).1 (of_old fs f pred n less new))
+
+  tuples : (n : ℕ) → (length fs ≡ n) ⊎ Contains row.by_tuple n → IsOf more pred n
+  tuples n (inl e) = of_new fs f pred n (sym e) own
+  tuples n (inr has) = of_push fs f pred n ((is.exact n).0 has)
+
+  placed : (n : ℕ) → IsOf more pred n → (n ≡ length fs) ⊎ (n < length fs) → Contains (insert row.by_tuple rank (length fs)) n
+  placed n new (inl e) = subst (λ m. Contains (insert row.by_tuple rank (length fs)) m) (sym e) (insert_has row.by_tuple rank (length fs))
+  placed n new (inr less) = insert_keeps row.by_tuple rank (length fs) n ((is.exact n).1 (of_old fs f pred n less new))
+
+  same : (x : ℕ) → Contains row.by_tuple x → tuple_of fs x ≡ tuple_of more x
+  same x has = field_push (λ g. g.tuple) [] fs f x ((is.exact x).0 has).0
+
+  mine : tuple_of more (length fs) ≡ f.tuple
+  mine = field_new (λ g. g.tuple) [] fs f (length fs) refl
+
+  order : AllPairs (IsBelow (tuple_of more)) row.by_tuple
+  order = pairs_weaker (IsBelow (tuple_of fs)) (IsBelow (tuple_of more)) row.by_tuple (λ x y hx hy below. rw (sym (same x hx), sym (same y hy)) below) is.order
+
+  rank_more : IsRank (tuple_of more) row.by_tuple (tuple_of more (length fs)) rank
+  rank_more = subst (λ t. IsRank (tuple_of more) row.by_tuple t rank) (sym mine) (record {
+    within = at.within;
+    before = λ k d l. (let w = at.within in rw (sym (same (get_or row.by_tuple k d) (Contains-get_or row.by_tuple k d (omega arith)))) (at.before k d l));
+    behind = λ k d l m. rw (sym (same (get_or row.by_tuple k d) (Contains-get_or row.by_tuple k d m))) (at.behind k d l m);
+  })
+
+  apart : (x : ℕ) → Contains row.by_tuple x → tuple_of more x ≡ tuple_of more (length fs) → ⊥
+  apart x has e =
+      let old = (is.exact x).0 has in
+      fresh x (old.0, old.1 ∙ sym own, same x has ∙ e ∙ mine)
+
+pub index_of : (rows : List Row) (fs : List Fact) (f : Fact) (pred rank : ℕ) (row : Row) → IsIndexed rows fs → f.pred ≡ Some pred → pred < length rows → All (λ p. p < length fs) f.premises → ((n : ℕ) → Concludes fs n f.pred f.tuple → ⊥)
+    → IsRank (tuple_of fs) (get_or rows pred empty).by_tuple f.tuple rank
+    → row ≡ record { by_number = (get_or rows pred empty).by_number ++ length fs ∷ []; by_tuple = insert (get_or rows pred empty).by_tuple rank (length fs) }
+    → IsIndexed (set rows pred row) (fs ++ f ∷ [])
+index_of rows fs f pred rank row index own within there fresh at is = record { recorded = recorded_push fs f index.recorded there fresh; each = λ other. each other (cases_eq other pred) } where
+  each : (other : ℕ) → (other ≡ pred) ⊎ (other ≡ pred → ⊥) → IsRow (fs ++ f ∷ []) other (get_or (set rows pred row) other empty)
+  each other (inl e) =
+      let here : get_or (set rows pred row) other empty ≡ row = ap (λ k. get_or (set rows pred row) k empty) e ∙ get_or-set_same rows pred row empty within in
+      subst (λ k. IsRow (fs ++ f ∷ []) k (get_or (set rows pred row) other empty)) (sym e) (subst (λ r. IsRow (fs ++ f ∷ []) pred r) (sym (here ∙ is)) (row_own fs f pred (get_or rows pred empty) rank own fresh (index.each pred) at))
+  each other (inr far) = subst (λ r. IsRow (fs ++ f ∷ []) other r) (sym (get_or-set_other rows pred other row empty far))
+      (row_other fs f other (get_or rows other empty) (λ e. (let both : Some pred ≡ Some other = sym own ∙ e in far (sym (some_inj pred other both)))) (index.each other)) where
+        some_inj : (a b : ℕ) → Some a ≡ Some b → a ≡ b
+        some_inj a b e = cc
+
+pub index_false : (rows : List Row) (fs : List Fact) (f : Fact) → IsIndexed rows fs → f.pred ≡ None → All (λ p. p < length fs) f.premises → ((n : ℕ) → Concludes fs n f.pred f.tuple → ⊥) → IsIndexed rows (fs ++ f ∷ [])
+index_false rows fs f index own there fresh = record {
+  recorded = recorded_push fs f index.recorded there fresh;
+  each = λ pred. row_other fs f pred (get_or rows pred empty) (λ e. (let both : None ≡ Some pred = sym own ∙ e in absurd (cc))) (index.each pred);
+}
+
+pub index_none : IsIndexed [] []
+index_none = record {
+  recorded = record { earlier = λ n l. absurd (omega arith); distinct = λ m n lm ln p t. absurd (omega arith) };
+  each = λ pred. record {
+    numbers = record { order = λ i j d l in'. absurd (omega arith); exact = λ n. (none pred n, λ new. (let l = new.0 in absurd (omega arith))) };
+    order = λ i j d l in'. absurd (omega arith);
+    exact = λ n. (none pred n, λ new. (let l = new.0 in absurd (omega arith)));
+  };
+} where
+  none : (pred n : ℕ) → Contains {X = ℕ} [] n → IsOf [] pred n
+  none pred n (k, l, is) = absurd (omega arith)
+
+-- rows that are the same by look-up serve the same
+pub index_same : (old new : List Row) (fs : List Fact) → ((k : ℕ) → get_or new k empty ≡ get_or old k empty) → IsIndexed old fs → IsIndexed new fs
+index_same old new fs same index = record { recorded = index.recorded; each = λ pred. subst (λ r. IsRow fs pred r) (sym (same pred)) (index.each pred) }
+
+-- what a search needs of a row
+pub tuples_order : (rows : List Row) (fs : List Fact) (pred : ℕ) (row : List ℕ) → IsIndexed rows fs → row ≡ (get_or rows pred empty).by_tuple → AllPairs (IsBelow (tuple_of fs)) row
+tuples_order rows fs pred row index is = subst (λ r. AllPairs (IsBelow (tuple_of fs)) r) (sym is) (index.each pred).order
+
+pub tuples_there : (rows : List Row) (fs : List Fact) (pred : ℕ) (row : List ℕ) → IsIndexed rows fs → row ≡ (get_or rows pred empty).by_tuple → All (λ n. n < length fs) row
+tuples_there rows fs pred row index is = subst (λ r. All (λ n. n < length fs) r) (sym is) (λ k d l. (((index.each pred).exact (get_or (get_or rows pred empty).by_tuple k d)).0 (Contains-get_or (get_or rows pred empty).by_tuple k d l)).0)
+
+-- one empty row more
+pub more_same : (rows : List Row) (k : ℕ) → get_or (rows ++ empty ∷ []) k empty ≡ get_or rows k empty
+more_same rows k = by (cases_order k (length rows)) where
+  by : (k ≡ length rows) ⊎ ((k < length rows) ⊎ (length rows < k)) → get_or (rows ++ empty ∷ []) k empty ≡ get_or rows k empty
+  by (inl e) = get_or_push rows empty empty k (sym e) ∙ sym (get_or_past rows k empty (omega arith))
+  by (inr (inl less)) = get_or_append_left rows (empty ∷ []) empty k less
+  by (inr (inr past)) = get_or_past (rows ++ empty ∷ []) k empty (let long = length-append rows (empty ∷ []) in omega arith) ∙ sym (get_or_past rows k empty (omega arith))
+
+-- what a search in a row says of the facts
+pub find_is : (rows : List Row) (fs : List Fact) (pred : ℕ) (row : List ℕ) (tuple : List ℤ) (r : Option ℕ) → IsIndexed rows fs → row ≡ (get_or rows pred empty).by_tuple
+    → ((n : ℕ) → (r ≡ Some n) ↔ (Contains row n × (tuple_of fs n ≡ tuple))) → (n : ℕ) → (r ≡ Some n) ↔ Concludes fs n (Some pred) tuple
+find_is rows fs pred row tuple r index is same n = (λ found. front ((same n).0 found), λ told. (same n).1 (subst (λ xs. Contains xs n) (sym is) (((index.each pred).exact n).1 (told.0, told.1)), told.2)) where
+  front : Contains row n × (tuple_of fs n ≡ tuple) → Concludes fs n (Some pred) tuple
+  front both = (let of = ((index.each pred).exact n).0 (subst (λ xs. Contains xs n) is both.0) in (of.0, of.1, both.1))
+
+pub row_is : (ns ms ts us : List ℕ) (at n m : ℕ) → ns ≡ ms → ts ≡ us → n ≡ m → ◌≡◌ {A = Row} (record { by_number = ns ++ n ∷ []; by_tuple = insert ts at n }) (record { by_number = ms ++ m ∷ []; by_tuple = insert us at m })
+row_is ns ms ts us at n m a b c = rw (a, b, c) refl

@@ -1,0 +1,2 @@
+-- What proofs of other crates may cite of this one's.
+pub use Rattle.derivations.proofs.LawLemmas.{height_above, steps_closed, steps_last}

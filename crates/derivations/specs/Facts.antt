@@ -1,0 +1,52 @@
+-- Derivations by hyperresolution (Komuravelli, Gurfinkel and Chaki, "SMT-based model checking for recursive programs",
+-- section 2): each fact is the head of an instance of a clause, and names for each body atom an earlier fact.
+use Rattle.std.specs.Prelude.{ℕ, ℤ, ◌≡◌, ◌<◌, ◌+◌, ◌↔◌, max, List, [], ◌∷◌, ◌++◌, map, length, get_or, Option, Some, None}
+use Rattle.std.specs.List.{All, AllPairs, Contains, fold}
+use Rattle.derivations.specs.declared.fact.Fact.{Fact}
+
+-- the predicate of fact n, none for false
+abbrev pub pred_of : List Fact → ℕ → Option ℕ
+pred_of facts n = get_or (map (λ f. f.pred) facts) n None
+
+abbrev pub tuple_of : List Fact → ℕ → List ℤ
+tuple_of facts n = get_or (map (λ f. f.tuple) facts) n []
+
+abbrev pub premises_of : List Fact → ℕ → List ℕ
+premises_of facts n = get_or (map (λ f. f.premises) facts) n []
+
+-- fact n concludes that the tuple is in the predicate
+abbrev pub Concludes : List Fact → ℕ → Option ℕ → List ℤ → Type 0
+Concludes facts n pred tuple = (n < length facts) × (pred_of facts n ≡ pred) × (tuple_of facts n ≡ tuple)
+
+-- premises are earlier facts, and nothing is concluded twice
+pub record AreRecorded (facts : List Fact) : Type 0 where
+  pub earlier : (n : ℕ) → n < length facts → All (λ p. p < n) (premises_of facts n)
+  pub distinct : (m n : ℕ) → m < length facts → n < length facts → pred_of facts m ≡ pred_of facts n → tuple_of facts m ≡ tuple_of facts n → m ≡ n
+
+-- exactly the facts of the predicate, in order of number
+pub record AreOf (facts : List Fact) (pred : ℕ) (numbers : List ℕ) : Type 0 where
+  pub order : AllPairs (λ x y. x < y) numbers
+  pub exact : (n : ℕ) → Contains numbers n ↔ ((n < length facts) × (pred_of facts n ≡ Some pred))
+
+abbrev pub greatest : List ℕ → ℕ
+greatest = fold max 0
+
+-- a fact's height is 1 plus the greatest height of its premises, 0 for none
+abbrev pub with_height : List ℕ → Fact → List ℕ
+with_height heights fact = heights ++ (1 + greatest (map (λ p. get_or heights p 0) fact.premises)) ∷ []
+
+abbrev pub heights : List Fact → List ℕ
+heights = fold with_height []
+
+abbrev pub height_of : List Fact → ℕ → ℕ
+height_of facts n = get_or (heights facts) n 0
+
+-- fact n rests on itself, and on all on which one of its premises rests
+pub data RestsOn (facts : List Fact) : ℕ → ℕ → Type 0 where
+  itself : {n : ℕ} → RestsOn facts n n
+  through : {n m : ℕ} (p : ℕ) → Contains (premises_of facts n) p → RestsOn facts p m → RestsOn facts n m
+
+-- exactly the facts on which fact n rests, in order of number
+pub record AreSteps (facts : List Fact) (n : ℕ) (steps : List ℕ) : Type 0 where
+  pub order : AllPairs (λ x y. x < y) steps
+  pub exact : (m : ℕ) → Contains steps m ↔ RestsOn facts n m

@@ -1,0 +1,33 @@
+-- The rows of the predicates, beside the facts.
+use Rattle.std.specs.Prelude.{ℕ, ℤ, ◌≡◌, ◌≢◌, ◌<◌, ◌≤◌, ◌↔◌, List, [], length, get_or, Some}
+use Rattle.std.specs.List.{AllPairs, Contains}
+use Rattle.std.specs.Ordering.{int_cmp}
+use Rattle.std.specs.declared.cmp.Ordering.TheVariants.{Less}
+use Rattle.std.specs.Cmp.Lexicographic.{slice_cmp}
+use Rattle.derivations.specs.declared.fact.Fact.{Fact}
+use Rattle.derivations.specs.declared.row.Row.{Row}
+use Rattle.derivations.specs.Facts.{pred_of, tuple_of, AreOf, AreRecorded}
+
+-- x stands before y by its tuple, where T gives the tuple of a number
+abbrev pub IsBelow : (ℕ → List ℤ) → ℕ → ℕ → Type 0
+IsBelow T x y = slice_cmp int_cmp (T x) (T y) ≡ Less
+
+-- so many of a row stand before the tuple, and they come first
+pub record IsRank (T : ℕ → List ℤ) (row : List ℕ) (tuple : List ℤ) (rank : ℕ) : Type 0 where
+  pub within : rank ≤ length row
+  pub before : (k d : ℕ) → k < rank → slice_cmp int_cmp (T (get_or row k d)) tuple ≡ Less
+  pub behind : (k d : ℕ) → rank ≤ k → k < length row → slice_cmp int_cmp (T (get_or row k d)) tuple ≢ Less
+
+-- the facts of one predicate, by number and by tuple
+pub record IsRow (facts : List Fact) (pred : ℕ) (row : Row) : Type 0 where
+  pub numbers : AreOf facts pred row.by_number
+  pub order : AllPairs (IsBelow (tuple_of facts)) row.by_tuple
+  pub exact : (n : ℕ) → Contains row.by_tuple n ↔ ((n < length facts) × (pred_of facts n ≡ Some pred))
+
+abbrev pub empty : Row
+empty = record { by_number = []; by_tuple = [] }
+
+-- a predicate past the last row has no fact
+pub record IsIndexed (rows : List Row) (facts : List Fact) : Type 0 where
+  pub recorded : AreRecorded facts
+  pub each : (pred : ℕ) → IsRow facts pred (get_or rows pred empty)

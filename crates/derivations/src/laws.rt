@@ -1,0 +1,21 @@
+//! Laws of the definitions, as contracts of functions that do nothing.
+
+ghost use Rattle.std.specs.Prelude.{◌≡◌, ◌<◌, ◌+◌, ◌-◌, ℕ, List, length, map, get_or};
+ghost use Rattle.std.specs.List.{Contains};
+ghost use Rattle.derivations.specs.Facts.{AreRecorded, AreSteps, greatest, height_of, premises_of};
+ghost use Rattle.derivations.specs.declared.fact.Fact.{Fact};
+
+/// A fact's height is 1 plus the greatest height of its premises.
+pub fn a_height_is_one_more()
+    ensures { (facts : List Fact) (n : ℕ) → AreRecorded facts → n < length facts → height_of facts n ≡ 1 + greatest (map (height_of facts) (premises_of facts n)) }
+{}
+
+/// The fact itself is the last of the steps to it.
+pub fn steps_end_in_the_fact()
+    ensures { (facts : List Fact) (n : ℕ) (steps : List ℕ) → AreRecorded facts → n < length facts → AreSteps facts n steps → (0 < length steps) × (get_or steps (length steps - 1) 0 ≡ n) }
+{}
+
+/// With each step its premises are among the steps.
+pub fn steps_have_their_premises()
+    ensures { (facts : List Fact) (n m p : ℕ) (steps : List ℕ) → AreSteps facts n steps → Contains steps m → Contains (premises_of facts m) p → Contains steps p }
+{}

@@ -1,0 +1,19 @@
+//! The facts of a book: derived tuples by number, each with the instance and the earlier facts from
+//! which it follows.
+#![tactic(auto)]
+
+mod fact;
+mod facts;
+mod laws;
+mod marks;
+mod notes;
+mod row;
+mod rows;
+mod search;
+
+pub use fact::Fact;
+pub use facts::Facts;
+pub use laws::{a_height_is_one_more, steps_end_in_the_fact, steps_have_their_premises};
+
+#[cfg(test)]
+mod tests;

@@ -1,0 +1,51 @@
+ghost use Rattle.std.specs.Prelude.{◌≡◌, ◌≢◌, ◌↔◌, ◌<◌, ℕ, length, Some, true, false};
+ghost use Rattle.std.specs.List.{All, AllPairs, Contains};
+ghost use Rattle.std.specs.Ordering.{int_cmp};
+ghost use Rattle.std.specs.Cmp.Lexicographic.{slice_cmp};
+ghost use Rattle.std.specs.declared.cmp.Ordering.TheVariants.{Less};
+ghost use Rattle.derivations.specs.Facts.{tuple_of};
+ghost use Rattle.derivations.specs.machinery.Index.{IsBelow, IsRank};
+
+use crate::notes::Notes;
+use std::cmp::Ordering;
+
+/// Whether a fact's tuple stands before a tuple, by the first value that differs.
+fn is_below(notes: &Notes, id: u32, tuple: &[i64]) -> bool
+    requires { id < length notes.now }
+    ensures before { result ≡ true → slice_cmp int_cmp (tuple_of notes.now id) tuple.now ≡ Less }
+    ensures behind { result ≡ false → slice_cmp int_cmp (tuple_of notes.now id) tuple.now ≢ Less }
+{
+    notes.tuple(id).cmp(tuple) == Ordering::Less
+}
+
+/// How many of a row in order of tuple stand before a tuple, by halving.
+pub(crate) fn rank(notes: &Notes, row: &[u32], tuple: &[i64]) -> usize
+    requires order { AllPairs (IsBelow (tuple_of notes.now)) row.now }
+    requires there { All (λ n. n < length notes.now) row.now }
+    ensures { IsRank (tuple_of notes.now) row.now tuple.now result }
+{
+    let mut low = 0;
+    let mut high = row.len();
+    while low < high {
+        let middle = low + (high - low) / 2;
+        if is_below(notes, row[middle], tuple) {
+            low = middle + 1;
+        } else {
+            high = middle;
+        }
+    }
+    low
+}
+
+/// The number in a row whose fact has the tuple.
+pub(crate) fn found(notes: &Notes, row: &[u32], tuple: &[i64]) -> Option<u32>
+    requires order { AllPairs (IsBelow (tuple_of notes.now)) row.now }
+    requires there { All (λ n. n < length notes.now) row.now }
+    ensures { (n : ℕ) → (result ≡ Some n) ↔ (Contains row.now n × (tuple_of notes.now n ≡ tuple.now)) }
+{
+    let at = rank(notes, row, tuple);
+    if at < row.len() && notes.tuple(row[at]) == tuple {
+        return Some(row[at]);
+    }
+    None
+}

@@ -1,0 +1,159 @@
+//! Facts worked out by hand. The tuple of a fact has one value, and that of false none.
+
+ghost use Rattle.std.specs.Prelude.{◌≡◌, ◌<◌, length, true};
+ghost use Rattle.std.specs.List.{All};
+
+use crate::{Fact, Facts};
+use base::Items;
+use cube_forms::Tuple;
+use std::alloc::Global;
+use std::test::Fail;
+
+/// Whether each is the number of a fact.
+fn are_there(facts: &Facts, premises: &[u32]) -> bool
+    ensures { result ≡ true → All (λ p. p < length facts.now) premises.now }
+{
+    for id in premises {
+        if *id >= facts.count() {
+            return false;
+        }
+    }
+    true
+}
+
+/// Adds a fact that isn't there, and answers its number.
+fn put(
+    alloc: Global,
+    facts: &mut Facts,
+    pred: u32,
+    value: i64,
+    premises: &[u32],
+) -> Result<Option<u32>, Fail> {
+    if facts.count() >= 1000 || !are_there(facts, premises) {
+        return Ok(None);
+    }
+    let values = [value];
+    match facts.find(pred, &values) {
+        Some(_) => Ok(None),
+        None => {
+            let fact = Fact {
+                clause: 0,
+                point: Items::from_slice(alloc, &values)?,
+                premises: Items::from_slice(alloc, premises)?,
+                pred: Some(pred),
+                tuple: Tuple::from_slice(alloc, &values)?,
+            };
+            Ok(Some(facts.add(fact)?))
+        }
+    }
+}
+
+/// Facts 0 to 4: p(5), q(5) from 0, p(3), q(9) from 2 and 1, and p(-7) from 2.
+fn made(alloc: Global) -> Result<Facts, Fail> {
+    let mut facts = Facts::new(alloc)?;
+    put(alloc, &mut facts, 0, 5, &[])?;
+    put(alloc, &mut facts, 1, 5, &[0])?;
+    put(alloc, &mut facts, 0, 3, &[])?;
+    put(alloc, &mut facts, 1, 9, &[2, 1])?;
+    put(alloc, &mut facts, 0, -7, &[2])?;
+    Ok(facts)
+}
+
+fn height(facts: &Facts, id: u32) -> Option<u32> {
+    if id < facts.count() {
+        Some(facts.height(id))
+    } else {
+        None
+    }
+}
+
+/// Whether a fact rests on exactly these.
+fn rests_on(facts: &Facts, id: u32, wanted: &[u32]) -> Result<bool, Fail> {
+    if id >= facts.count() {
+        return Ok(false);
+    }
+    Ok(facts.steps_to(id)?.as_slice() == wanted)
+}
+
+/// Whether these are the facts of a predicate.
+fn are_of(facts: &Facts, pred: u32, wanted: &[u32]) -> bool {
+    facts.of(pred) == wanted
+}
+
+/// Whether a fact has this one value and these premises.
+fn stands(facts: &Facts, id: u32, value: i64, premises: &[u32]) -> bool {
+    if id >= facts.count() {
+        return false;
+    }
+    let fact = facts.fact(id);
+    fact.tuple.as_slice() == [value].as_slice() && fact.premises.as_slice() == premises
+}
+
+#[test]
+fn a_tuple_is_found_with_its_predicate(rt: HostRuntime) -> Result<(), Fail> {
+    let facts = made(rt.alloc())?;
+    for (pred, value, wanted) in [
+        (0, 5, Some(0)),
+        (1, 5, Some(1)),
+        (0, 3, Some(2)),
+        (1, 3, None),
+        (1, 9, Some(3)),
+        (0, -7, Some(4)),
+        (0, 4, None),
+        (2, 5, None),
+    ] {
+        assert_eq!(rt; facts.find(pred, &[value]), wanted, "{pred} {value}");
+    }
+    assert_eq!(rt; facts.find(0, &[]), None);
+    assert!(rt;
+        are_of(&facts, 0, &[0, 2, 4]) && are_of(&facts, 1, &[1, 3]) && are_of(&facts, 7, &[])
+    );
+    Ok(())
+}
+
+#[test]
+fn a_fact_rests_on_its_premises(rt: HostRuntime) -> Result<(), Fail> {
+    let facts = made(rt.alloc())?;
+    for (id, wanted) in [(0, 1), (1, 2), (2, 1), (3, 3), (4, 2)] {
+        assert_eq!(rt; height(&facts, id), Some(wanted), "{id}");
+    }
+    assert!(rt; rests_on(&facts, 3, &[0, 1, 2, 3])?);
+    assert!(rt; rests_on(&facts, 4, &[2, 4])?);
+    assert!(rt; rests_on(&facts, 2, &[2])?);
+    Ok(())
+}
+
+#[test]
+fn a_version_keeps_what_it_had(rt: HostRuntime) -> Result<(), Fail> {
+    let mut facts = made(rt.alloc())?;
+    let before = facts.share()?;
+    assert_eq!(rt; put(rt.alloc(), &mut facts, 0, 4, &[3])?, Some(5));
+    assert_eq!(rt; put(rt.alloc(), &mut facts, 0, 4, &[])?, None);
+    assert!(rt; before.count() == 5 && are_of(&before, 0, &[0, 2, 4]));
+    assert_eq!(rt; before.find(0, &[4]), None);
+    assert!(rt; stands(&before, 3, 9, &[2, 1]) && stands(&facts, 5, 4, &[3]));
+    assert_eq!(rt; facts.find(0, &[4]), Some(5));
+    Ok(())
+}
+
+/// The facts with false alone, from an instance without a body.
+fn refuted(alloc: Global) -> Result<Facts, Fail> {
+    let mut facts = Facts::new(alloc)?;
+    facts.add(Fact {
+        clause: 0,
+        point: Items::new(alloc),
+        premises: Items::new(alloc),
+        pred: None,
+        tuple: Tuple::from_slice(alloc, &[])?,
+    })?;
+    Ok(facts)
+}
+
+#[test]
+fn false_is_of_no_predicate(rt: HostRuntime) -> Result<(), Fail> {
+    let facts = refuted(rt.alloc())?;
+    assert_eq!(rt; facts.find(0, &[]), None);
+    assert!(rt; are_of(&facts, 0, &[]));
+    assert!(rt; rests_on(&facts, 0, &[0])?);
+    Ok(())
+}
