@@ -1,0 +1,4 @@
+pub mod BelowLemmas
+pub mod ColumnLemmas
+pub mod FitLemmas
+pub mod GatherLemmas
