@@ -17,7 +17,7 @@ use Rattle.int_rows.specs.declared.bounds.Ready.TheVariants.{Truth, Bounds}
 use Rattle.node_rows.specs.Known.{are_known}
 use Rattle.node_rows.specs.machinery.Columns.{is_said_below}
 
-terms-weaker : (m n : ℕ) (ts : List (ℕ × ℤ)) → m ≤ n → list_all (λ (t : ℕ × ℤ). nat_lt t.0 m) ts ≡ true → list_all (λ (t : ℕ × ℤ). nat_lt t.0 n) ts ≡ true
+pub terms-weaker : (m n : ℕ) (ts : List (ℕ × ℤ)) → m ≤ n → list_all (λ (t : ℕ × ℤ). nat_lt t.0 m) ts ≡ true → list_all (λ (t : ℕ × ℤ). nat_lt t.0 n) ts ≡ true
 terms-weaker m n [] le h = refl
 terms-weaker m n (t ∷ ts) le h =
     let both = both_true (nat_lt t.0 m) _ h in

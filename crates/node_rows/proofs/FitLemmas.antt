@@ -15,8 +15,7 @@ use Rattle.int_rows.specs.Ready.{between, bounded, bounded_fits, less_multiple, 
 use Rattle.int_rows.specs.declared.bounds.Bounded.{Bounded}
 use Rattle.int_rows.specs.declared.bounds.Ready.TheVariants.{Truth, Bounds}
 use Rattle.int_rows.proofs.ContentLemmas.{coefficients-content}
-use Rattle.node_rows.specs.Known.{has_short_constant}
-use Rattle.node_rows.specs.machinery.Legal.{is_legal}
+use Rattle.node_rows.specs.Known.{has_short_constant, is_legal}
 
 -- a quotient isn't greater than the number
 pub quotient-small : (a : ℤ) (g : ℕ) → 0 < g → nat_abs (int_div_euclid a (pos g)) ≤ nat_abs a
@@ -84,7 +83,7 @@ step : (b t : Bool) (made : Bounded) → (b ≡ false → bounded_fits made ≡ 
 step true t made h = refl
 step false t made h = h refl
 
-some-terms : (lin : Linear) → (length lin.terms == 0) ≡ false → 0 < length lin.terms
+pub some-terms : (lin : Linear) → (length lin.terms == 0) ≡ false → 0 < length lin.terms
 some-terms lin h = let some = eqb-false _ _ h in omega (arith, some)
 
 -- a literal made ready has room

@@ -2,3 +2,9 @@ pub mod BelowLemmas
 pub mod ColumnLemmas
 pub mod FitLemmas
 pub mod GatherLemmas
+pub mod HoldLemmas
+pub mod NodeLemmas
+pub mod Public
+pub mod RowLemmas
+pub mod SaidLemmas
+pub mod TidyLemmas

@@ -1,6 +1,6 @@
 -- Which literals a node of a split tree may have.
-use Rattle.std.specs.Prelude.{ℕ, ◌+◌, List, [], ◌∷◌, Bool, true, ◌&&◌}
-use Rattle.lin_atoms.specs.Linear.{is_short}
+use Rattle.std.specs.Prelude.{ℕ, ◌+◌, ◌^◌, List, [], ◌∷◌, Bool, true, ◌&&◌, nat_lt}
+use Rattle.lin_atoms.specs.Linear.{is_linear, is_short}
 use Rattle.lin_atoms.specs.Truth.{lit_is_below}
 use Rattle.lin_atoms.specs.declared.lit.Lit.{Lit}
 use Rattle.lin_atoms.specs.declared.lit.Lit.TheVariants.{Le, Eq, Div, NDiv}
@@ -17,3 +17,10 @@ has_short_constant (Le lin) = true
 has_short_constant (Eq lin) = true
 has_short_constant (Div n lin) = is_short lin.constant
 has_short_constant (NDiv n lin) = is_short lin.constant
+
+-- a literal as the code has it: its form has rising variables and room, and its divisor is positive and has room
+abbrev pub is_legal : Lit → Bool
+is_legal (Le lin) = is_linear lin
+is_legal (Eq lin) = is_linear lin
+is_legal (Div n lin) = nat_lt 0 n && (nat_lt n (2 ^ 63) && is_linear lin)
+is_legal (NDiv n lin) = nat_lt 0 n && (nat_lt n (2 ^ 63) && is_linear lin)

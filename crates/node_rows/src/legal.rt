@@ -1,7 +1,8 @@
 //! What is known of a literal of the code.
 
 ghost use Rattle.std.specs.Prelude.{◌≡◌, true};
-ghost use Rattle.node_rows.specs.machinery.Legal.{is_legal};
+ghost use Rattle.std.specs.List.{list_all};
+ghost use Rattle.node_rows.specs.Known.{is_legal};
 
 use lin_atoms::Lit;
 
@@ -24,5 +25,14 @@ pub(crate) fn is_legal(lit: &Lit)
             let _divisor = n.get();
             let _constant = lin.constant();
         }
+    }
+}
+
+/// Says nothing: that the literals' numbers are legal, for whoever needs it.
+pub fn are_legal(lits: &[Lit])
+    ensures { list_all is_legal lits.now ≡ true }
+{
+    for lit in lits {
+        is_legal(lit);
     }
 }

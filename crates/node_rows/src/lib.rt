@@ -3,9 +3,12 @@
 
 mod columns;
 mod gathering;
+mod laws;
 mod legal;
 mod tableau;
 mod tightest;
 
+pub use laws::whole_solutions_are_points;
+pub use legal::are_legal;
 pub use tableau::node_tableau;
 

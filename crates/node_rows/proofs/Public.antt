@@ -1,0 +1,3 @@
+-- The lemmas that proofs of other crates cite.
+pub use Rattle.node_rows.proofs.ColumnLemmas.{length-system}
+pub use Rattle.node_rows.proofs.NodeLemmas.{solution-met}
