@@ -95,6 +95,7 @@ pub(crate) fn gather(alloc: Global, lits: &[Lit], end: u32) -> Result<Gathered, 
     ensures fit { IfOk result (λ made. list_all bounded_fits made.bounds.items ≡ true) }
     ensures variables { IfOk result (λ made. made.variables ≡ end_of_quotients end lits.now) }
     ensures below { IfOk result (λ made. list_all (is_said_below made.variables) made.bounds.items ≡ true) }
+    ensures few { IfOk result (λ made. made.variables ≤ end + most_rows) }
     ensures within { IfOk result (λ made. length (in_rows made.bounds.items) ≤ most_rows) }
     ensures too_many { IsErrOf result RowStop.TooMany → most_rows < length (in_rows (all_bounds end lits.now)) }
 {

@@ -1,6 +1,6 @@
 //! The tableau of a node's literals.
 
-ghost use Rattle.std.specs.Prelude.{◌≡◌, ◌≤◌, ◌<◌, ◌^◌, length, IfOk, OnOk, IsErrOf, true};
+ghost use Rattle.std.specs.Prelude.{◌≡◌, ◌+◌, ◌≤◌, ◌<◌, ◌^◌, length, IfOk, OnOk, IsErrOf, true};
 ghost use Rattle.std.specs.List.{list_all};
 ghost use Rattle.base.specs.Limits.{most_rows};
 ghost use Rattle.int_rows.specs.Node.{in_rows, system, system_of};
@@ -44,6 +44,7 @@ pub fn node_tableau(alloc: Global, lits: &[Lit], end: u32) -> Result<Tableau, Ro
     requires short { list_all has_short_constant lits.now ≡ true }
     requires few { end < 2 ^ 31 }
     ensures made { IfOk result (λ tableau. tableau ≡ node_table end lits.now) }
+    ensures small { IfOk result (λ tableau. tableau.variables ≤ end + most_rows) }
     ensures within { OnOk result (length (system end lits.now).equations ≤ most_rows) }
     ensures too_many { IsErrOf result RowStop.TooMany → most_rows < length (system end lits.now).equations }
 {
