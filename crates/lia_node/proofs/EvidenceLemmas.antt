@@ -26,14 +26,18 @@ node-system q lits =
     ap made (node-width q lits)
 
 pub row-evidence : (q : ℕ) (lits : List Lit) (basis : List ℕ) (wide : ℤ) → IsWideRow (width (node_table q lits)) (system q lits).equations basis wide → IsEvidenceAt q lits (Row lits basis wide)
-row-evidence q lits basis wide is form end node =
-    (node, subst (λ (k : ℕ). IsWideRow (system k lits).columns (system k lits).equations basis wide) (sym end)
-    (subst (λ (n : ℕ). IsWideRow n (system q lits).equations basis wide) (node-width q lits) is))
+row-evidence q lits basis wide is form end node = (
+  node,
+  subst (λ (k : ℕ). IsWideRow (system k lits).columns (system k lits).equations basis wide) (sym end)
+      (subst (λ (n : ℕ). IsWideRow n (system q lits).equations basis wide) (node-width q lits) is),
+)
 
 pub coordinate-evidence : (q : ℕ) (lits : List Lit) (basis : List ℕ) (outside : List ℤ) (c : ℕ) → IsWideCoordinate (system_of (node_table q lits)) basis outside c → IsEvidenceAt q lits (Coordinate lits basis outside c)
-coordinate-evidence q lits basis outside c is form end node =
-    (node, subst (λ (k : ℕ). IsWideCoordinate (system k lits) basis outside c) (sym end)
-    (subst (λ (s : System). IsWideCoordinate s basis outside c) (node-system q lits) is))
+coordinate-evidence q lits basis outside c is form end node = (
+  node,
+  subst (λ (k : ℕ). IsWideCoordinate (system k lits) basis outside c) (sym end)
+      (subst (λ (s : System). IsWideCoordinate s basis outside c) (node-system q lits) is),
+)
 
 pub rows-evidence : (q : ℕ) (lits : List Lit) → most_rows < length (system q lits).equations → IsEvidenceAt q lits (Rows lits)
 rows-evidence q lits many form end node = (node, subst (λ (k : ℕ). most_rows < length (system k lits).equations) (sym end) many)

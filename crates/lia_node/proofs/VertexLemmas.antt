@@ -53,7 +53,7 @@ whole-value q e d some positive same test =
     let none : nat_abs (int_rem_euclid q.num q.den) ≡ 0 = eqb-true _ _ test in
     let num : q.num ≡ f *ℤ pos k = let turned = ap (λ z. f *ℤ z) den in omega (arith, ints, rest, none, turned) in
     let left : (f *ℤ pos d) *ℤ pos k ≡ e *ℤ pos k =
-        *ℤ_assoc f (pos d) (pos k) ∙ ap (λ z. f *ℤ z) (*ℤ_comm (pos d) (pos k)) ∙ sym (*ℤ_assoc f (pos k) (pos d)) ∙ ap (λ z. z *ℤ pos d) (sym num) ∙ same ∙ ap (λ z. e *ℤ z) den in
+    *ℤ_assoc f (pos d) (pos k) ∙ ap (λ z. f *ℤ z) (*ℤ_comm (pos d) (pos k)) ∙ sym (*ℤ_assoc f (pos k) (pos d)) ∙ ap (λ z. z *ℤ pos d) (sym num) ∙ same ∙ ap (λ z. e *ℤ z) den in
     sym (cancel (f *ℤ pos d) e k (omega (arith, ints, some, den)) left)
 
 -- one that is none lies strictly between two
@@ -120,11 +120,11 @@ at-model q lits qs point legal known constants vertex is whole =
     let each = vertex.each in
     let long : length firsts ≡ n = length-take-le n qs (omega (arith, each)) in
     let are : AreWhole n vertex.point point = λ v less.
-        let within : v < length firsts = omega (arith, less, long) in
-        let inside : v < (system q lits).columns = omega (arith, less) in
-        let value : variable_at point v ≡ floored (get_or qs v no_number) = ap (λ (p : List ℤ). get_or p v (pos 0)) is ∙ get_or-map floored firsts v no_number (pos 0) within ∙ ap floored (get_or-take n qs v no_number less) in
-        let test : is_whole (get_or qs v no_number) ≡ true = ap is_whole (sym (get_or-take n qs v no_number less)) ∙ all-at is_whole firsts v no_number within whole in
-        whole-value (get_or qs v no_number) (entry vertex.point.nums v) vertex.point.den (vertex.positive v no_number inside) vertex.is_basic.positive (vertex.same v no_number inside) test ∙ ap (λ z. z *ℤ pos vertex.point.den) (sym value) in
+    let within : v < length firsts = omega (arith, less, long) in
+    let inside : v < (system q lits).columns = omega (arith, less) in
+    let value : variable_at point v ≡ floored (get_or qs v no_number) = ap (λ (p : List ℤ). get_or p v (pos 0)) is ∙ get_or-map floored firsts v no_number (pos 0) within ∙ ap floored (get_or-take n qs v no_number less) in
+    let test : is_whole (get_or qs v no_number) ≡ true = ap is_whole (sym (get_or-take n qs v no_number less)) ∙ all-at is_whole firsts v no_number within whole in
+    whole-value (get_or qs v no_number) (entry vertex.point.nums v) vertex.point.den (vertex.positive v no_number inside) vertex.is_basic.positive (vertex.same v no_number inside) test ∙ ap (λ z. z *ℤ pos vertex.point.den) (sym value) in
     let met = solution-met q lits vertex.point point legal known vertex.is_basic.positive vertex.is_basic.width are vertex.is_basic.solves vertex.meets in
     (ap length is ∙ length-map firsts floored ∙ long, met-true point lits met constants)
 
@@ -139,18 +139,19 @@ at-fraction q lits qs v floor constants vertex within test value =
     let same = get_or-take n qs v no_number less in
     let here : is_whole (get_or qs v no_number) ≡ false = ap is_whole (sym same) ∙ test no_number in
     let is : floor ≡ floored (get_or qs v no_number) = value no_number ∙ ap floored same in
-    let between = fraction-value (get_or qs v no_number) (entry vertex.point.nums v) vertex.point.den (vertex.positive v no_number inside) vertex.is_basic.positive (vertex.same v no_number inside) here in
-    (record { constants = constants; point = vertex.point; positive = vertex.is_basic.positive; width = vertex.is_basic.width; solves = vertex.is_basic.solves; meets = vertex.meets },
-    record {
-      variable = less;
-      basis = vertex.basis;
-      values = vertex.outside;
-      point = vertex.point;
-      is_basic = vertex.is_basic;
-      meets = vertex.meets;
-      beyond = subst (λ c. (c *ℤ pos vertex.point.den) <ℤ entry vertex.point.nums v) (sym is) between.0;
-      beneath = subst (λ c. entry vertex.point.nums v <ℤ ((c +ℤ pos 1) *ℤ pos vertex.point.den)) (sym is) between.1;
-    })
+    let between = fraction-value (get_or qs v no_number) (entry vertex.point.nums v) vertex.point.den (vertex.positive v no_number inside) vertex.is_basic.positive (vertex.same v no_number inside) here in (
+      record { constants = constants; point = vertex.point; positive = vertex.is_basic.positive; width = vertex.is_basic.width; solves = vertex.is_basic.solves; meets = vertex.meets },
+      record {
+        variable = less;
+        basis = vertex.basis;
+        values = vertex.outside;
+        point = vertex.point;
+        is_basic = vertex.is_basic;
+        meets = vertex.meets;
+        beyond = subst (λ c. (c *ℤ pos vertex.point.den) <ℤ entry vertex.point.nums v) (sym is) between.0;
+        beneath = subst (λ c. entry vertex.point.nums v <ℤ ((c +ℤ pos 1) *ℤ pos vertex.point.den)) (sym is) between.1;
+      },
+    )
 
 pub vertex-at : (q : ℕ) (lits : List Lit) (t : Table) (qs : List Number) → t ≡ node_table q lits → IsVertex (system_of t) qs → IsVertex (system q lits) qs
 vertex-at q lits t qs is vertex = subst (λ (s : System). IsVertex s qs) (node-system q lits) (subst (λ (u : Table). IsVertex (system_of u) qs) is vertex)

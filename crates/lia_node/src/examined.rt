@@ -11,10 +11,7 @@ pub enum Examined {
     /// Values of the variables and quotients at which all literals are true.
     Model(Vec<i64>),
     /// At a vertex the variable or quotient lies strictly between `floor` and `floor` + 1.
-    Fraction {
-        variable: u32,
-        floor: i64,
-    },
+    Fraction { variable: u32, floor: i64 },
     /// A number has no room, or there are more than 1,024 rows: evidence of giving up.
     Wide(Evidence),
 }

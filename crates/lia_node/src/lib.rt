@@ -9,3 +9,6 @@ mod wide;
 
 pub use examined::Examined;
 pub use examining::examine;
+
+#[cfg(test)]
+mod tests;

@@ -26,11 +26,7 @@ fn copies(alloc: Global, lits: &[Lit]) -> Result<Items<Lit>, Memory>
 }
 
 /// A number of the node's tableau without room, as evidence.
-pub(crate) fn of_number(
-    alloc: Global,
-    lits: &[Lit],
-    wide: WideEvidence,
-) -> Result<Evidence, Memory>
+pub(crate) fn of_number(alloc: Global, lits: &[Lit], wide: WideEvidence) -> Result<Evidence, Memory>
     ensures { IfOk result (λ evidence. (q : ℕ) → Means (node_table q lits.now) (IsWide wide) → IsEvidenceAt q lits.now evidence) }
 {
     let lits = copies(alloc, lits)?;

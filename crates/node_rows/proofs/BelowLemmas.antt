@@ -44,7 +44,7 @@ said-weaker : (m n : ℕ) (bs : List Bounded) → m ≤ n → list_all (is_said_
 said-weaker m n [] le h = refl
 said-weaker m n (b ∷ bs) le h = let both = both_true (is_said_below m b) _ h in and_from _ _ (terms-weaker m n b.form.terms le both.0) (said-weaker m n bs le both.1)
 
-said-below : (q : ℕ) (lit : Lit) → lit_is_below q lit ≡ true → list_all (is_said_below (q + quotients lit)) (bounds_of (ready q lit)) ≡ true
+pub said-below : (q : ℕ) (lit : Lit) → lit_is_below q lit ≡ true → list_all (is_said_below (q + quotients lit)) (bounds_of (ready q lit)) ≡ true
 said-below q (Le lin) h = said-weaker q (q + 0) (bounds_of (ready q (Le lin))) (omega arith) (said-tight q _ (bounded q (Le lin)) (length lin.terms == 0) (terms-divided q (pos (lin_content lin)) lin.terms h))
 said-below q (Eq lin) h = said-weaker q (q + 0) (bounds_of (ready q (Eq lin))) (omega arith) (said-tight q _ (bounded q (Eq lin)) (length lin.terms == 0) (terms-divided q (pos (lin_content lin)) lin.terms h))
 said-below q (Div n lin) h = said-division q _ (bounded q (Div n lin)) (length lin.terms == 0) (terms-last q (neg_ℤ (pos n)) lin.terms h)

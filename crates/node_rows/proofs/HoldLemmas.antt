@@ -30,10 +30,10 @@ not-both : (b : Bool) → b ≡ true → b ≡ false → ⊥
 not-both true h e = cc
 not-both false h e = cc
 
-none-some : (k : ℤ) → None ≡ Some k → ⊥
+pub none-some : (k : ℤ) → None ≡ Some k → ⊥
 none-some k e = cc
 
-some-same : (j k : ℤ) → Some j ≡ Some k → j ≡ k
+pub some-same : (j k : ℤ) → Some j ≡ Some k → j ≡ k
 some-same j k e = cc
 
 -- numbers over one denominator
@@ -56,15 +56,15 @@ bounded-by s None (Some u) f g = and_from _ _ refl (true-le s u (g u refl))
 bounded-by s (Some l) None f g = and_from _ _ (true-le l s (f l refl)) refl
 bounded-by s (Some l) (Some u) f g = and_from _ _ (true-le l s (f l refl)) (true-le s u (g u refl))
 
-abbrev no_bounded : Bounded
+abbrev pub no_bounded : Bounded
 no_bounded = record { form = of_constant (pos 0); lower = None; upper = None }
 
 -- the bounds of a slack, and of a variable
-bound-slack : (f : Bounded → Option ℤ) (front : List (Option ℤ)) (rows : List Bounded) (n i : ℕ) → length front ≡ n → i < length rows → bound (front ++ map f rows) (n + i) ≡ f (get_or rows i no_bounded)
+pub bound-slack : (f : Bounded → Option ℤ) (front : List (Option ℤ)) (rows : List Bounded) (n i : ℕ) → length front ≡ n → i < length rows → bound (front ++ map f rows) (n + i) ≡ f (get_or rows i no_bounded)
 bound-slack f front rows n i long h =
     ap (λ k. get_or (front ++ map f rows) (k + i) None) (sym long) ∙ get_or-append-add front (map f rows) i None ∙ get_or-map f rows i no_bounded None h
 
-bound-variable : (f : ℕ → Option ℤ) (back : List (Option ℤ)) (n v : ℕ) → v < n → bound (map f (range_with_len 0 n) ++ back) v ≡ f v
+pub bound-variable : (f : ℕ → Option ℤ) (back : List (Option ℤ)) (n v : ℕ) → v < n → bound (map f (range_with_len 0 n) ++ back) v ≡ f v
 bound-variable f back n v h =
     let long = length-map (range_with_len 0 n) f ∙ length-range_with_len 0 n in
     get_or_append_left (map f (range_with_len 0 n)) back None v (omega (arith, long, h)) ∙ get_or-map-range_with_len f 0 n v v None h (omega arith)
@@ -98,7 +98,7 @@ all-from : {X : Type 0} (test : X → Bool) (xs : List X) (d : X) → ((i : ℕ)
 all-from test [] d h = refl
 all-from test (x ∷ xs) d h = and_from _ _ (h 0 (omega arith)) (all-from test xs d (λ i less. h (suc i) (omega (arith, less))))
 
-kept : (test : Bounded → Bool) (bs : List Bounded) → list_all test bs ≡ true → list_all test (in_rows bs) ≡ true
+pub kept : (test : Bounded → Bool) (bs : List Bounded) → list_all test bs ≡ true → list_all test (in_rows bs) ≡ true
 kept test [] h = refl
 kept test (b ∷ bs) h = let both = both_true (test b) _ h in step (has_row b) both.0 (kept test bs both.1) where
   step : (c : Bool) → test b ≡ true → list_all test (in_rows bs) ≡ true → list_all test (cond c (b ∷ in_rows bs) (in_rows bs)) ≡ true
@@ -129,7 +129,7 @@ lesser-parts (Some j) (Some k) w h =
     (λ l e. subst (λ z. w ≤ℤ z) (some-same j l e) both.0, λ l e. subst (λ z. w ≤ℤ z) (some-same k l e) both.1)
 
 -- what is said of one variable alone
-abbrev said_of : List (ℕ × ℤ) → ℤ → Option ℤ → Option ℤ → Bounded
+abbrev pub said_of : List (ℕ × ℤ) → ℤ → Option ℤ → Option ℤ → Bounded
 said_of ts k low high = record { form = record { terms = ts; constant = k }; lower = low; upper = high }
 
 same-test : (n : ℕ) → (n == n) ≡ true
@@ -179,15 +179,15 @@ all-hold n whole (b ∷ bs) tidy below rows f g =
     let good = both_true (is_tidy b) _ tidy in
     let said = both_true (is_said_below n b) _ below in
     let rest : list_all (is_bounded_at whole) (in_rows bs) ≡ true → list_all (is_bounded_at whole) bs ≡ true = λ h. all-hold n whole bs good.1 said.1 h
-        (λ v l less e. (greater-parts (lower_on v b) (greatest_lower bs v) (variable_at whole v) (λ m k. f v m less k)).1 l e)
-        (λ v u less e. (lesser-parts (upper_on v b) (least_upper bs v) (variable_at whole v) (λ m k. g v m less k)).1 u e) in
+    (λ v l less e. (greater-parts (lower_on v b) (greatest_lower bs v) (variable_at whole v) (λ m k. f v m less k)).1 l e)
+    (λ v u less e. (lesser-parts (upper_on v b) (least_upper bs v) (variable_at whole v) (λ m k. g v m less k)).1 u e) in
     by-row (has_row b) refl rows rest
     (λ row. lone-holds n b.form.terms b.form.constant b.lower b.upper whole (both_true (names_rise 0 b.form.terms) _ good.0).1 row said.0
-        (λ v l less e. (greater-parts (lower_on v b) (greatest_lower bs v) (variable_at whole v) (λ m k. f v m less k)).0 l e)
-        (λ v u less e. (lesser-parts (upper_on v b) (least_upper bs v) (variable_at whole v) (λ m k. g v m less k)).0 u e)) where
-  by-row : (c : Bool) → has_row b ≡ c → list_all (is_bounded_at whole) (cond c (b ∷ in_rows bs) (in_rows bs)) ≡ true → (list_all (is_bounded_at whole) (in_rows bs) ≡ true → list_all (is_bounded_at whole) bs ≡ true) → (has_row b ≡ false → is_bounded_at whole b ≡ true) → list_all (is_bounded_at whole) (b ∷ bs) ≡ true
-  by-row true e h more here = let both = both_true (is_bounded_at whole b) _ h in and_from _ _ both.0 (more both.1)
-  by-row false e h more here = and_from _ _ (here e) (more h)
+    (λ v l less e. (greater-parts (lower_on v b) (greatest_lower bs v) (variable_at whole v) (λ m k. f v m less k)).0 l e)
+    (λ v u less e. (lesser-parts (upper_on v b) (least_upper bs v) (variable_at whole v) (λ m k. g v m less k)).0 u e)) where
+      by-row : (c : Bool) → has_row b ≡ c → list_all (is_bounded_at whole) (cond c (b ∷ in_rows bs) (in_rows bs)) ≡ true → (list_all (is_bounded_at whole) (in_rows bs) ≡ true → list_all (is_bounded_at whole) bs ≡ true) → (has_row b ≡ false → is_bounded_at whole b ≡ true) → list_all (is_bounded_at whole) (b ∷ bs) ≡ true
+      by-row true e h more here = let both = both_true (is_bounded_at whole b) _ h in and_from _ _ both.0 (more both.1)
+      by-row false e h more here = and_from _ _ (here e) (more h)
 
 -- all that is said holds at whole coordinates of a solution within the bounds
 pub solution-holds : (n : ℕ) (bs : List Bounded) (p : Point) (whole : List ℤ) → list_all is_tidy bs ≡ true → list_all (is_said_below n) bs ≡ true → 0 < p.den → length p.nums ≡ n + length (in_rows bs) → AreWhole n p whole

@@ -45,8 +45,9 @@ fn quotients_of(no_variable: bool) -> u32
 }
 
 /// How many quotients the literal brings.
-fn quotients(lit: &Lit) -> u32
-    ensures { result ≡ quotients lit.now }
+pub(crate) fn quotients(lit: &Lit) -> u32
+    ensures is { result ≡ quotients lit.now }
+    ensures few { result ≤ 1 }
 {
     match lit {
         Lit::Le(_) => 0,
