@@ -1,2 +1,3 @@
+pub mod ConflictLemmas
 pub mod EvidenceLemmas
 pub mod VertexLemmas

@@ -4,11 +4,13 @@
 mod constants;
 mod examined;
 mod examining;
+mod laws;
 mod vertex;
 mod wide;
 
 pub use examined::Examined;
 pub use examining::examine;
+pub use laws::{conflicts_have_no_point, conflicts_have_no_solution};
 
 #[cfg(test)]
 mod tests;
