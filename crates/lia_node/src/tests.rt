@@ -42,10 +42,10 @@ fn equations(
 }
 
 /// 2 divides x, and x is a number.
-fn even(alloc: Global, x: i128) -> Result<Option<Examined>, Fail> {
+fn even(alloc: Global, x: i64) -> Result<Option<Examined>, Fail> {
     let two = Divisor::new(2).ok_or("no divisor")?;
     let first = Lit::Div(two, form(alloc, 1, 0, 0)?);
-    let second = Lit::Eq(form(alloc, 1, 0, -x)?);
+    let second = Lit::Eq(form(alloc, 1, 0, -i128::from(x))?);
     told(alloc, first, second)
 }
 
