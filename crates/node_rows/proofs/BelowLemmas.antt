@@ -1,17 +1,17 @@
 -- The variables of what the literals say.
-use Rattle.std.proofs.Common.{◌≡◌, ℕ, suc, zero, List, [], ◌∷◌, ◌++◌, refl, ap, sym, ◌∙◌, arith, ◌<◌, ◌≤◌, ◌+◌, true, false, Bool, cond, ◌==◌, ◌&&◌, length, map}
+use Rattle.std.proofs.Common.{◌≡◌, ℕ, List, [], ◌∷◌, ◌++◌, refl, ◌∙◌, arith, ◌<◌, ◌≤◌, ◌+◌, true, false, Bool, cond, ◌==◌, length, map}
 use Rattle.std.specs.Prelude.{ℤ, nat_lt, pos, neg_ℤ}
 use Rattle.std.specs.Int.{int_div_euclid}
-use Rattle.std.specs.List.{filter, list_all}
+use Rattle.std.specs.List.{list_all}
 use Rattle.std.proofs.lemmas.Bool.{and_from, lt-ltb, ltb-true}
-use Rattle.std.proofs.lemmas.List.Folds.{list_all-append, list_all-map}
-use Rattle.lin_atoms.specs.Linear.{Linear, lin_is_below}
+use Rattle.std.proofs.lemmas.List.Folds.{list_all-append}
+use Rattle.lin_atoms.specs.Linear.{lin_is_below}
 use Rattle.lin_atoms.specs.Truth.{lit_is_below}
 use Rattle.lin_atoms.specs.declared.lit.Lit.{Lit}
 use Rattle.lin_atoms.specs.declared.lit.Lit.TheVariants.{Le, Eq, Div, NDiv}
 use Rattle.lin_atoms.proofs.Public.{both_true}
 use Rattle.int_rows.specs.Node.{all_bounds, bounds_of, end_of_quotients, has_row, in_rows, quotients}
-use Rattle.int_rows.specs.Ready.{between, bounded, less_multiple, lin_content, ready, tightened}
+use Rattle.int_rows.specs.Ready.{bounded, lin_content, ready}
 use Rattle.int_rows.specs.declared.bounds.Bounded.{Bounded}
 use Rattle.int_rows.specs.declared.bounds.Ready.TheVariants.{Truth, Bounds}
 use Rattle.node_rows.specs.Known.{are_known}

@@ -1,10 +1,9 @@
 -- The bounds of all columns, and the tableau that has them.
-use Rattle.std.proofs.Common.{◌≡◌, ℕ, suc, zero, List, [], ◌∷◌, ◌++◌, refl, ap, sym, ◌∙◌, arith, ◌<◌, ◌≤◌, ◌+◌, true, Bool, length, map, take, drop, set, get_or, append_assoc}
+use Rattle.std.proofs.Common.{◌≡◌, ℕ, suc, zero, List, [], ◌∷◌, ◌++◌, refl, ap, sym, ◌∙◌, arith, ◌<◌, ◌+◌, true, Bool, length, map, take, drop, set, get_or, append_assoc}
 use Rattle.std.specs.Prelude.{ℤ, Option}
 use Rattle.std.specs.List.{list_all, range_with_len}
-use Rattle.std.proofs.lemmas.List.{append-nil, drop_all, drop_more, length-append, length-map, length-take-le, map-append, map_more, set_at, take_all}
+use Rattle.std.proofs.lemmas.List.{drop_more, length-append, length-map, length-take-le, map-append, map_more, set_at}
 use Rattle.std.proofs.lemmas.List.FromFn.{length-range_with_len}
-use Rattle.lin_atoms.specs.declared.lit.Lit.{Lit}
 use Rattle.lin_atoms.proofs.Public.{both_true}
 use Rattle.int_rows.specs.Node.{equations, greatest_lower, in_rows, least_upper, system_of}
 use Rattle.int_rows.specs.Table.{Table, first_table, width}
@@ -48,9 +47,6 @@ set-more f sides old now new i d value h same is put said =
     ∙ set_at front (get_or old i value) (drop (i + 1) old) value i long
     ∙ sym (append_assoc front (value ∷ []) (drop (i + 1) old))
     ∙ ap (λ (l : List (Option ℤ)). l ++ drop (i + 1) old) (ap (λ (v : Option ℤ). front ++ v ∷ []) put ∙ sym (map_more f sides i d h))
-
-pub at-end : {X : Type 0} (f : X → Option ℤ) (sides : List X) (old : List (Option ℤ)) (i : ℕ) → length sides ≤ i → length old ≤ i → map f (take i sides) ++ drop i old ≡ map f sides
-at-end f sides old i h k = ap (λ (l : List _). map f l ++ drop i old) (take_all i sides h) ∙ ap (λ (l : List (Option ℤ)). map f sides ++ l) (drop_all i old k) ∙ append-nil (map f sides)
 
 pub all-at : {X : Type 0} (p : X → Bool) (xs : List X) (i : ℕ) (d : X) → i < length xs → list_all p xs ≡ true → p (get_or xs i d) ≡ true
 all-at p [] i d h all = absurd (omega arith)

@@ -1,13 +1,13 @@
 -- A point of the literals has values for their quotients.
-use Rattle.std.proofs.Common.{◌≡◌, ℕ, suc, zero, List, [], ◌∷◌, ◌++◌, refl, ap, sym, ◌∙◌, arith, subst, ◌<◌, ◌≤◌, ◌+◌, true, false, Bool, cond, ◌==◌, ◌&&◌, length, append_assoc, append-nil}
+use Rattle.std.proofs.Common.{◌≡◌, ℕ, List, [], ◌∷◌, ◌++◌, refl, ap, sym, ◌∙◌, arith, ◌≤◌, ◌+◌, true, false, Bool, cond, ◌==◌, ◌&&◌, length, append_assoc, append-nil}
 use Rattle.std.specs.Prelude.{ℤ, pos, ◌*ℤ◌, int_le, nat_lt}
 use Rattle.std.specs.Option.{option_map_or}
 use Rattle.std.specs.List.{list_all}
-use Rattle.std.proofs.lemmas.Bool.{and_from, lt-ltb, ltb-true}
+use Rattle.std.proofs.lemmas.Bool.{and_from, ltb-true}
 use Rattle.std.proofs.lemmas.Int.{ints}
 use Rattle.std.proofs.lemmas.List.{get_or_append_left, length-append}
 use Rattle.std.proofs.lemmas.List.Folds.{list_all-append}
-use Rattle.lin_atoms.specs.Linear.{Linear, sum_at, variable_at, value_at}
+use Rattle.lin_atoms.specs.Linear.{sum_at}
 use Rattle.lin_atoms.specs.Truth.{lit_is_below, lit_truth}
 use Rattle.lin_atoms.specs.declared.lit.Lit.{Lit}
 use Rattle.lin_atoms.specs.declared.lit.Lit.TheVariants.{Le, Eq, Div, NDiv}
@@ -111,11 +111,13 @@ extended q (lit ∷ lits) point legal below long h =
     let next = q + quotients lit in
     let here = point ++ first.0 in
     let rest = extended next lits here made.1 (lits-weaker q next lits (omega arith) said.1) first.1.long (lits-longer q point first.0 lits long said.1 both.1) in
-    let same : here ++ rest.0 ≡ point ++ (first.0 ++ rest.0) = append_assoc point first.0 rest.0 in
-    (first.0 ++ rest.0, ap length (sym same) ∙ rest.1,
-    ap (λ (p : List ℤ). list_all (is_bounded_at p) (all_bounds q (lit ∷ lits))) (sym same)
-    ∙ list_all-append (is_bounded_at (here ++ rest.0)) (bounds_of (ready q lit)) (all_bounds next lits)
-    ∙ and_from _ _ (bounded-longer here rest.0 (bounds_of (ready q lit)) next (sym first.1.long) (said-below q lit said.0) first.1.holds) rest.2)
+    let same : here ++ rest.0 ≡ point ++ (first.0 ++ rest.0) = append_assoc point first.0 rest.0 in (
+      first.0 ++ rest.0,
+      ap length (sym same) ∙ rest.1,
+      ap (λ (p : List ℤ). list_all (is_bounded_at p) (all_bounds q (lit ∷ lits))) (sym same)
+          ∙ list_all-append (is_bounded_at (here ++ rest.0)) (bounds_of (ready q lit)) (all_bounds next lits)
+          ∙ and_from _ _ (bounded-longer here rest.0 (bounds_of (ready q lit)) next (sym first.1.long) (said-below q lit said.0) first.1.holds) rest.2,
+    )
 
 known-below : (q n : ℕ) (lits : List Lit) → q ≤ n → list_all (lit_is_below q) lits ≡ true → are_known n lits ≡ true
 known-below q n [] le h = refl
@@ -130,11 +132,15 @@ point-solution q lits point legal below long h =
     let whole = point ++ found.0 in
     let known = known-below q q lits (omega arith) below in
     let tidy = all-tidy q lits legal known in
-    let said = all-below q lits known in
-    (whole, with_slacks whole bs, record { quotients = found.0; is = refl; long = found.1 }, record {
-      positive = omega arith;
-      width = slacks-width n whole bs found.1;
-      values = slacks-whole n whole bs found.1;
-      solves = slacks-solve n whole bs found.1 tidy said;
-      meets = slacks-meet n whole bs found.1 tidy found.2;
-    })
+    let said = all-below q lits known in (
+      whole,
+      with_slacks whole bs,
+      record { quotients = found.0; is = refl; long = found.1 },
+      record {
+        positive = omega arith;
+        width = slacks-width n whole bs found.1;
+        values = slacks-whole n whole bs found.1;
+        solves = slacks-solve n whole bs found.1 tidy said;
+        meets = slacks-meet n whole bs found.1 tidy found.2;
+      },
+    )

@@ -1,8 +1,7 @@
 -- The numbers of a literal made ready have room.
-use Rattle.std.proofs.Common.{◌≡◌, ℕ, List, [], ◌∷◌, ◌++◌, refl, ap, ◌∙◌, arith, ◌<◌, ◌≤◌, ◌^◌, true, false, Bool, cond, ◌==◌, ◌&&◌, length, map}
-use Rattle.std.specs.Prelude.{ℤ, pos, negsuc, neg_ℤ, nat_abs, nat_lt, ◌-ℤ◌, ◌+ℤ◌, ◌*ℤ◌, ◌<ℤ◌, ◌≤ℤ◌, Some}
+use Rattle.std.proofs.Common.{◌≡◌, ℕ, List, [], ◌∷◌, ◌++◌, refl, ◌∙◌, arith, ◌<◌, ◌≤◌, ◌^◌, true, false, Bool, cond, ◌==◌, length, map}
+use Rattle.std.specs.Prelude.{ℤ, pos, negsuc, neg_ℤ, nat_abs, nat_lt, ◌-ℤ◌, ◌+ℤ◌, ◌*ℤ◌, ◌<ℤ◌}
 use Rattle.std.specs.Int.{int_div_euclid, int_rem_euclid}
-use Rattle.std.specs.List.{list_all}
 use Rattle.std.proofs.lemmas.Int.{ints}
 use Rattle.std.proofs.lemmas.Bool.{and_from, eqb-false, lt-ltb, ltb-true}
 use Rattle.std.proofs.lemmas.List.Folds.{list_all-append}
@@ -11,7 +10,7 @@ use Rattle.lin_atoms.specs.declared.lit.Lit.{Lit}
 use Rattle.lin_atoms.specs.declared.lit.Lit.TheVariants.{Le, Eq, Div, NDiv}
 use Rattle.lin_atoms.proofs.DivisionLemmas.{quotient_above, quotient_below}
 use Rattle.lin_atoms.proofs.Public.{both_true, quotient-rest, rest-below, rest-natural}
-use Rattle.int_rows.specs.Ready.{between, bounded, bounded_fits, less_multiple, lin_content, least, most, ready, ready_fits, tightened, without_constant}
+use Rattle.int_rows.specs.Ready.{between, bounded_fits, less_multiple, lin_content, least, most, ready, ready_fits, tightened, without_constant}
 use Rattle.int_rows.specs.declared.bounds.Bounded.{Bounded}
 use Rattle.int_rows.specs.declared.bounds.Ready.TheVariants.{Truth, Bounds}
 use Rattle.int_rows.proofs.ContentLemmas.{coefficients-content}

@@ -1,9 +1,9 @@
 -- Literals made ready one after the other.
-use Rattle.std.proofs.Common.{◌≡◌, ℕ, suc, zero, List, [], ◌∷◌, ◌++◌, refl, ap, sym, ◌∙◌, arith, ◌<◌, ◌≤◌, ◌+◌, true, false, Bool, cond, ◌==◌, ◌&&◌, length, append_assoc}
-use Rattle.std.specs.Prelude.{ℤ, nat_lt, neg_ℤ, pos, ◌-ℤ◌}
+use Rattle.std.proofs.Common.{◌≡◌, ℕ, List, [], ◌∷◌, ◌++◌, refl, ap, ◌∙◌, arith, ◌<◌, ◌≤◌, ◌+◌, true, false, Bool, cond, ◌==◌, length, append_assoc}
+use Rattle.std.specs.Prelude.{ℤ, neg_ℤ, pos, ◌-ℤ◌}
 use Rattle.std.specs.List.{list_all}
 use Rattle.base.specs.Limits.{most_rows}
-use Rattle.std.proofs.lemmas.Bool.{and_from, eqb-false, lt-ltb, ltb-true}
+use Rattle.std.proofs.lemmas.Bool.{and_from, eqb-false, lt-ltb}
 use Rattle.std.proofs.lemmas.List.{length-append}
 use Rattle.std.proofs.lemmas.List.Elements.{filter-append}
 use Rattle.std.proofs.lemmas.List.Folds.{list_all-append}

@@ -1,7 +1,7 @@
 -- What is said holds at whole coordinates of a solution within the bounds.
-use Rattle.std.proofs.Common.{◌≡◌, ℕ, suc, zero, List, [], ◌∷◌, ◌++◌, refl, ap, sym, ◌∙◌, arith, subst, ◌<◌, ◌≤◌, ◌+◌, ◌*◌, ◌-◌, true, false, Bool, cond, ◌==◌, ◌&&◌, length, map, get_or}
-use Rattle.std.specs.Prelude.{ℤ, pos, negsuc, neg_ℤ, ◌+ℤ◌, ◌-ℤ◌, ◌*ℤ◌, ◌≤ℤ◌, ◌<ℤ◌, int_le, int_lt, nat_abs, nat_lt, not, Option, Some, None}
-use Rattle.std.specs.List.{All, list_all, range_with_len}
+use Rattle.std.proofs.Common.{◌≡◌, ℕ, suc, zero, List, [], ◌∷◌, ◌++◌, refl, ap, sym, ◌∙◌, arith, subst, ◌<◌, ◌+◌, true, false, Bool, cond, ◌==◌, ◌&&◌, length, map, get_or}
+use Rattle.std.specs.Prelude.{ℤ, pos, negsuc, neg_ℤ, ◌+ℤ◌, ◌-ℤ◌, ◌*ℤ◌, ◌≤ℤ◌, ◌<ℤ◌, int_le, nat_abs, nat_lt, Option, Some, None}
+use Rattle.std.specs.List.{list_all, range_with_len}
 use Rattle.std.specs.Option.{option_map, option_map_or}
 use Rattle.std.proofs.lemmas.Bool.{and_from, eq-eqb, eqb-true, ltb-false, ltb-true}
 use Rattle.std.proofs.lemmas.Int.{by_lt_z, ints}
@@ -12,7 +12,7 @@ use Rattle.lin_atoms.specs.Dot.{dot}
 use Rattle.lin_atoms.specs.Linear.{Linear, lin_is_below, of_constant, sum_at, variable_at}
 use Rattle.lin_atoms.proofs.Public.{both_true}
 use Rattle.int_rows.specs.Basis.{MeetsBounds, Point, bound}
-use Rattle.int_rows.specs.Node.{coefficient, equation, equations, greater, greatest_lower, has_row, in_rows, is_on, least_upper, lesser, lower_on, system_of, upper_on}
+use Rattle.int_rows.specs.Node.{equation, equations, greater, greatest_lower, has_row, in_rows, least_upper, lesser, lower_on, system_of, upper_on}
 use Rattle.int_rows.specs.Ready.{is_bounded_at}
 use Rattle.int_rows.specs.Rows.{SolvesAll, entry}
 use Rattle.int_rows.specs.declared.bounds.Bounded.{Bounded}

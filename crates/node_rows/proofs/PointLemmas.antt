@@ -1,17 +1,17 @@
 -- Integer values at which all that is said holds, with the slacks that they give, are a solution within the bounds.
-use Rattle.std.proofs.Common.{◌≡◌, ℕ, suc, zero, List, [], ◌∷◌, ◌++◌, refl, ap, sym, ◌∙◌, arith, subst, ◌<◌, ◌≤◌, ◌+◌, ◌-◌, true, false, Bool, cond, ◌==◌, ◌&&◌, length, map, get_or, ⊎_elim}
-use Rattle.std.specs.Prelude.{ℤ, pos, negsuc, neg_ℤ, ◌-ℤ◌, ◌*ℤ◌, ◌≤ℤ◌, ◌<ℤ◌, int_le, nat_abs, nat_lt, Option, Some, None}
-use Rattle.std.specs.List.{All, list_all, range_with_len}
+use Rattle.std.proofs.Common.{◌≡◌, ℕ, suc, zero, List, [], ◌∷◌, ◌++◌, refl, ap, sym, ◌∙◌, arith, subst, ◌<◌, ◌≤◌, ◌+◌, ◌-◌, true, false, Bool, cond, ◌==◌, length, map, get_or, ⊎_elim}
+use Rattle.std.specs.Prelude.{ℤ, pos, negsuc, neg_ℤ, ◌*ℤ◌, ◌≤ℤ◌, int_le, nat_abs, Option, Some, None}
+use Rattle.std.specs.List.{list_all, range_with_len}
 use Rattle.std.specs.Option.{option_map, option_map_or}
-use Rattle.std.proofs.lemmas.Bool.{and_from, cases_lt, eq-eqb, eqb-true, ltb-true, ne_eqb}
-use Rattle.std.proofs.lemmas.Int.{by_lt_z, ints}
+use Rattle.std.proofs.lemmas.Bool.{cases_lt, eq-eqb, eqb-true, ne_eqb}
+use Rattle.std.proofs.lemmas.Int.{ints}
 use Rattle.std.proofs.lemmas.List.{get_or-append-add, get_or-map, get_or_append_left, get_or_past, length-append, length-map}
 use Rattle.std.proofs.lemmas.List.Elements.{All-from_get_or}
 use Rattle.std.proofs.lemmas.List.FromFn.{length-range_with_len}
 use Rattle.lin_atoms.specs.Dot.{dot}
-use Rattle.lin_atoms.specs.Linear.{Linear, lin_is_below, of_constant, sum_at, variable_at}
+use Rattle.lin_atoms.specs.Linear.{Linear, of_constant, sum_at, variable_at}
 use Rattle.lin_atoms.proofs.Public.{both_true}
-use Rattle.int_rows.specs.Basis.{MeetsBounds, Point, System, bound}
+use Rattle.int_rows.specs.Basis.{MeetsBounds, Point, bound}
 use Rattle.int_rows.specs.Node.{equation, equations, greater, greatest_lower, in_rows, least_upper, lesser, lower_on, system_of, upper_on}
 use Rattle.int_rows.specs.Ready.{is_bounded_at}
 use Rattle.int_rows.specs.Rows.{Solves, SolvesAll, entry}

@@ -1,10 +1,10 @@
 -- A literal is true where what it says holds.
-use Rattle.std.proofs.Common.{◌≡◌, ℕ, List, [], ◌∷◌, ◌++◌, refl, ap, sym, ◌∙◌, arith, ◌<◌, ◌≤◌, ◌+◌, true, false, Bool, cond, ◌==◌, ◌&&◌, length}
-use Rattle.std.specs.Prelude.{ℤ, pos, neg_ℤ, ◌+ℤ◌, ◌-ℤ◌, ◌*ℤ◌, ◌≤ℤ◌, ◌<ℤ◌, int_le, nat_abs, nat_lt, not, ◌||◌}
+use Rattle.std.proofs.Common.{◌≡◌, ℕ, List, [], ◌∷◌, refl, ap, sym, ◌∙◌, arith, ◌<◌, ◌+◌, true, false, Bool, cond, ◌==◌, length}
+use Rattle.std.specs.Prelude.{ℤ, pos, neg_ℤ, ◌+ℤ◌, ◌-ℤ◌, ◌*ℤ◌, ◌≤ℤ◌, int_le, nat_abs, nat_lt, not, ◌||◌}
 use Rattle.std.specs.Int.{int_rem_euclid}
 use Rattle.std.specs.List.{list_all}
 use Rattle.std.proofs.Math.IntN.{*ℤ_comm}
-use Rattle.std.proofs.lemmas.Bool.{and_from, eqb-true, ltb-true}
+use Rattle.std.proofs.lemmas.Bool.{and_from, ltb-true}
 use Rattle.std.proofs.lemmas.Int.{ints}
 use Rattle.std.proofs.lemmas.List.Folds.{list_all-append}
 use Rattle.base.proofs.Public.{neg_ℤ-*ℤ}
@@ -15,9 +15,8 @@ use Rattle.lin_atoms.specs.declared.lit.Lit.{Lit}
 use Rattle.lin_atoms.specs.declared.lit.Lit.TheVariants.{Le, Eq, Div, NDiv}
 use Rattle.lin_atoms.proofs.Public.{both_true, sum_at-++}
 use Rattle.int_rows.specs.Node.{all_bounds, bounds_of, quotients}
-use Rattle.int_rows.specs.Ready.{between, bounded, has_no_variable, is_bounded_at, less_multiple, ready, ready_truth}
+use Rattle.int_rows.specs.Ready.{between, bounded, is_bounded_at, less_multiple, ready, ready_truth}
 use Rattle.int_rows.specs.declared.bounds.Bounded.{Bounded}
-use Rattle.int_rows.specs.declared.bounds.Ready.{Ready}
 use Rattle.int_rows.specs.declared.bounds.Ready.TheVariants.{Truth, Bounds}
 use Rattle.int_rows.proofs.ReadyLemmas.{le-true, ready-eq, ready-le, true-zero, zero-true}
 use Rattle.lin_atoms.proofs.DivisionLemmas.{multiple_where, rest_is}

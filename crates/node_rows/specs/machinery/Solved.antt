@@ -1,5 +1,5 @@
 -- What makes bounds hold at a point.
-use Rattle.std.specs.Prelude.{◌≡◌, ℕ, ◌+◌, ◌<◌, List, [], ◌∷◌, ℤ, pos, ◌*ℤ◌, ◌≤ℤ◌, nat_abs, nat_le, Bool, true, false, ◌&&◌, ◌==◌, Some}
+use Rattle.std.specs.Prelude.{◌≡◌, ℕ, ◌+◌, ◌<◌, List, [], ◌∷◌, ℤ, ◌≤ℤ◌, nat_abs, nat_le, Bool, true, false, ◌&&◌, ◌==◌, Some}
 use Rattle.lin_atoms.specs.Linear.{variable_at}
 use Rattle.int_rows.specs.Node.{greatest_lower, least_upper}
 use Rattle.int_rows.specs.declared.bounds.Bounded.{Bounded}

@@ -1,10 +1,9 @@
-use Rattle.std.proofs.Common.{◌≡◌, ◌∙◌, ◌<◌, ap, sym, refl, arith, length, map, take, drop, ◌++◌, ◌+◌, set, true, List, rules}
+use Rattle.std.proofs.Common.{◌≡◌, ◌∙◌, ◌<◌, ap, sym, refl, arith, length, map, take, drop, ◌++◌, ◌+◌, List}
 use Rattle.std.specs.Prelude.{None, Option, ℤ}
 use Rattle.lin_atoms.proofs.Public.{both_true}
-use Rattle.int_rows.specs.Ready.{bound_fits}
-use Rattle.int_rows.specs.Table.{Table, width}
+use Rattle.int_rows.specs.Table.{Table}
 use Rattle.node_rows.specs.machinery.Columns.{first_of, second_of, sides_fit}
-use Rattle.node_rows.proofs.ColumnLemmas.{all-at, at-end, set-more}
+use Rattle.node_rows.proofs.ColumnLemmas.{all-at, set-more}
 use Rattle.node_rows.proofs.columns.set_all.Goals as goal
 
 pub set_bounds-requires-clause-lower : goal.set_bounds-requires-clause-lower

@@ -1,4 +1,4 @@
-use Rattle.std.proofs.Common.{◌≡◌, ◌++◌, ◌≤◌, map, take, drop}
+use Rattle.std.proofs.Common.{◌≡◌, ◌++◌, map, take, drop}
 use Rattle.node_rows.specs.machinery.Columns.{first_of, second_of}
 use Rattle.node_rows.proofs.columns.set_all.Given as goal
 

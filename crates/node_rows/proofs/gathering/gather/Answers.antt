@@ -1,6 +1,6 @@
-use Rattle.std.proofs.Common.{◌≡◌, ◌∙◌, ◌≤◌, ap, sym, arith, true, length, drop, append-nil, List, ℕ, ◌++◌, []}
+use Rattle.std.proofs.Common.{◌≡◌, ◌∙◌, ◌≤◌, ap, sym, arith, length, drop, append-nil, List, ℕ, ◌++◌, []}
 use Rattle.std.specs.List.{list_all}
-use Rattle.std.proofs.lemmas.List.{at_drop_all, drop_all}
+use Rattle.std.proofs.lemmas.List.{drop_all}
 use Rattle.lin_atoms.specs.declared.lit.Lit.{Lit}
 use Rattle.int_rows.specs.Node.{all_bounds, end_of_quotients}
 use Rattle.int_rows.specs.declared.bounds.Bounded.{Bounded}

@@ -1,10 +1,8 @@
-use Rattle.std.proofs.Common.{◌≡◌, ◌<◌, ap, sym, subst, ℕ, Err}
+use Rattle.std.proofs.Common.{◌<◌, ap, sym, subst, ℕ, Err}
 use Rattle.std.specs.Prelude.{Result, Ok, IsErrOf}
 use Rattle.base.specs.Limits.{most_rows}
 use Rattle.int_rows.specs.Node.{all_bounds, end_of_quotients}
-use Rattle.int_rows.specs.declared.stop.RowStop.{RowStop}
 use Rattle.int_rows.specs.declared.stop.RowStop.TheVariants.{TooMany}
-use Rattle.node_rows.specs.declared.gathering.Gathered.{Gathered}
 use Rattle.node_rows.proofs.ColumnLemmas.{length-system}
 use Rattle.node_rows.proofs.tableau.node_tableau.Goals as goal
 

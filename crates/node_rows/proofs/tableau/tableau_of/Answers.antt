@@ -1,8 +1,6 @@
-use Rattle.std.proofs.Common.{◌≡◌, ◌∙◌, ap, sym, map, length, List}
+use Rattle.std.proofs.Common.{◌∙◌, ap, map}
 use Rattle.std.specs.List.{list_all}
-use Rattle.std.specs.Prelude.{Option, ℤ}
-use Rattle.lin_atoms.specs.Linear.{Linear, lin_is_below}
-use Rattle.int_rows.specs.Node.{in_rows}
+use Rattle.lin_atoms.specs.Linear.{lin_is_below}
 use Rattle.int_rows.specs.Table.{Table}
 use Rattle.node_rows.specs.machinery.Columns.{first_of, second_of}
 use Rattle.node_rows.proofs.BelowLemmas.{rows-below}
