@@ -1,20 +1,18 @@
 -- Multipliers of bounds that contradict leave no solution (Farkas).
-use Rattle.std.proofs.Common.{◌≡◌, ℕ, suc, zero, List, [], ◌∷◌, refl, ap, sym, ◌∙◌, arith, ◌<◌, ◌≤◌, ◌+◌, ◌*◌, true, Bool, length, map, get_or, ⊎_elim}
-use Rattle.std.specs.Prelude.{ℤ, pos, ◌+ℤ◌, ◌-ℤ◌, ◌*ℤ◌, ◌<ℤ◌, ◌≤ℤ◌, int_le, negsuc, Option, Some, None}
+use Rattle.std.proofs.Common.{◌≡◌, ℕ, suc, zero, List, [], ◌∷◌, refl, ap, sym, ◌∙◌, arith, ◌<◌, ◌≤◌, ◌+◌, ◌*◌, true, length}
+use Rattle.std.specs.Prelude.{ℤ, pos, ◌+ℤ◌, ◌-ℤ◌, ◌*ℤ◌, ◌≤ℤ◌, int_le, negsuc, Option, Some, None}
 use Rattle.std.specs.List.{list_all, range_with_len}
 use Rattle.std.specs.Option.{unwrap_or}
 use Rattle.std.proofs.Math.IntN.{*ℤ_comm, zero-*ℤ}
-use Rattle.std.proofs.lemmas.Bool.{cases_lt}
 use Rattle.std.proofs.lemmas.Int.{ints}
-use Rattle.std.proofs.lemmas.List.{get_or_past, length-map}
+use Rattle.std.proofs.lemmas.List.{length-map}
 use Rattle.std.proofs.lemmas.List.FromFn.{get_or-map-range_with_len, length-range_with_len}
-use Rattle.base.proofs.Public.{*ℤ_assoc, +ℤ-*ℤ, *ℤ-+ℤ, neg_ℤ-*ℤ}
+use Rattle.base.proofs.Public.{*ℤ_assoc, +ℤ-*ℤ}
 use Rattle.lin_atoms.specs.Dot.{dot}
 use Rattle.lin_atoms.specs.Truth.{lit_is_below, lit_truth}
 use Rattle.lin_atoms.specs.declared.lit.Lit.{Lit}
 use Rattle.lin_atoms.proofs.Public.{both_true}
-use Rattle.int_rows.specs.Basis.{MeetsBounds, Point, System, bound}
-use Rattle.int_rows.specs.Node.{system}
+use Rattle.int_rows.specs.Basis.{MeetsBounds, Point, bound}
 use Rattle.int_rows.specs.Rows.{SolvesAll, entry}
 use Rattle.int_rows.specs.Table.{Table, width}
 use Rattle.int_rows.proofs.FollowLemmas.{follows-solved}
@@ -87,7 +85,7 @@ no-solution t ms p is some long solves meets =
     let solved : dot row p.nums ≡ pos 0 = follows-solved t.rows row p.nums is.follows solves in
     let spread = dot-total row p.nums n wide long in
     let each : total (λ c. entry row c *ℤ x c) 0 n ≡ total (λ c. (up c -ℤ lo c) *ℤ x c) 0 n =
-        total-same (λ c. entry row c *ℤ x c) (λ c. (up c -ℤ lo c) *ℤ x c) 0 n (λ c from less. ap (λ z. z *ℤ x c) (get_or-map-range_with_len (λ v. of_upper ms v -ℤ of_lower ms v) 0 n c c (pos 0) (omega (arith, less)) (omega arith))) in
+    total-same (λ c. entry row c *ℤ x c) (λ c. (up c -ℤ lo c) *ℤ x c) 0 n (λ c from less. ap (λ z. z *ℤ x c) (get_or-map-range_with_len (λ v. of_upper ms v -ℤ of_lower ms v) 0 n c c (pos 0) (omega (arith, less)) (omega arith))) in
     let none : total (λ c. (up c -ℤ lo c) *ℤ x c) 0 n ≡ pos 0 = sym each ∙ sym spread ∙ solved in
     let lows = dot-made lo low 0 n in
     let highs = dot-made up high 0 n in
@@ -96,26 +94,27 @@ no-solution t ms p is some long solves meets =
     let is_constant : summed_bounds t ms ≡ constant = omega (arith, ints, lows, highs, both) in
     let scaled = total-times (λ c. lo c *ℤ low c -ℤ up c *ℤ high c) d 0 n in
     let below : total (λ c. (lo c *ℤ low c -ℤ up c *ℤ high c) *ℤ d) 0 n ≤ℤ total (λ c. pos 0 -ℤ (up c -ℤ lo c) *ℤ x c) 0 n =
-        total-below (λ c. (lo c *ℤ low c -ℤ up c *ℤ high c) *ℤ d) (λ c. pos 0 -ℤ (up c -ℤ lo c) *ℤ x c) 0 n (λ c from less.
-        let inside : c < n = omega (arith, less) in
-        let first = lower-part (lo c) (x c) p.den (bound t.lower c) (natural-at ms (2 * c) is.natural) (is.lower c inside) (meets.lower c) in
-        let second = upper-part (up c) (x c) p.den (bound t.upper c) (natural-at ms (2 * c + 1) is.natural) (is.upper c inside) (meets.upper c) in
-        let apart = minus-times (lo c *ℤ low c) (up c *ℤ high c) d in
-        let other = minus-times (up c) (lo c) (x c) in
-        omega (arith, ints, first, second, apart, other)) in
+    total-below (λ c. (lo c *ℤ low c -ℤ up c *ℤ high c) *ℤ d) (λ c. pos 0 -ℤ (up c -ℤ lo c) *ℤ x c) 0 n (λ c from less.
+    let inside : c < n = omega (arith, less) in
+    let first = lower-part (lo c) (x c) p.den (bound t.lower c) (natural-at ms (2 * c) is.natural) (is.lower c inside) (meets.lower c) in
+    let second = upper-part (up c) (x c) p.den (bound t.upper c) (natural-at ms (2 * c + 1) is.natural) (is.upper c inside) (meets.upper c) in
+    let apart = minus-times (lo c *ℤ low c) (up c *ℤ high c) d in
+    let other = minus-times (up c) (lo c) (x c) in
+    omega (arith, ints, first, second, apart, other)) in
     let zeros = total-minus (λ c. pos 0) (λ c. (up c -ℤ lo c) *ℤ x c) 0 n in
     let zero_total = total-none 0 n in
     let more = keeps-strict (pos 0) constant p.den some (let above = is.above in omega (arith, ints, above, is_constant)) in
     let zero_d = zero-*ℤ d in
     absurd (omega (arith, ints, none, scaled, below, zeros, zero_total, more, zero_d)) where
-  minus-times : (a b z : ℤ) → (a -ℤ b) *ℤ z ≡ a *ℤ z -ℤ b *ℤ z
-  minus-times a b z =
-    let parts = +ℤ-*ℤ (a -ℤ b) b z in
-    let whole : ((a -ℤ b) +ℤ b) *ℤ z ≡ a *ℤ z = let e : (a -ℤ b) +ℤ b ≡ a = omega (arith, ints) in ap (λ y. y *ℤ z) e in
-    omega (arith, ints, parts, whole)
-  total-none : (a n : ℕ) → total (λ c. pos 0) a n ≡ pos 0
-  total-none a zero = refl
-  total-none a (suc n) = let rest = total-none (a + 1) n in omega (arith, ints, rest)
+      minus-times : (a b z : ℤ) → (a -ℤ b) *ℤ z ≡ a *ℤ z -ℤ b *ℤ z
+      minus-times a b z =
+          let parts = +ℤ-*ℤ (a -ℤ b) b z in
+          let whole : ((a -ℤ b) +ℤ b) *ℤ z ≡ a *ℤ z = let e : (a -ℤ b) +ℤ b ≡ a = omega (arith, ints) in ap (λ y. y *ℤ z) e in
+          omega (arith, ints, parts, whole)
+
+      total-none : (a n : ℕ) → total (λ c. pos 0) a n ≡ pos 0
+      total-none a zero = refl
+      total-none a (suc n) = let rest = total-none (a + 1) n in omega (arith, ints, rest)
 
 -- and so no point of the literals
 pub no-point : (q : ℕ) (lits : List Lit) (ms point : List ℤ) → list_all is_legal lits ≡ true → list_all (lit_is_below q) lits ≡ true → length point ≡ q → IsConflict (node_table q lits) ms → list_all (lit_truth point) lits ≡ true → ⊥

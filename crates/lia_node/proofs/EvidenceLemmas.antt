@@ -1,15 +1,12 @@
 -- Evidence of a node, from what the simplex says of its tableau.
-use Rattle.std.proofs.Common.{◌≡◌, ℕ, List, refl, ap, sym, ◌∙◌, subst, ◌<◌, ◌+◌, length}
+use Rattle.std.proofs.Common.{◌≡◌, ℕ, List, ap, sym, subst, ◌<◌, ◌+◌, length}
 use Rattle.std.specs.Prelude.{ℤ}
 use Rattle.base.specs.Limits.{most_rows}
-use Rattle.lin_atoms.specs.declared.form.Form.{Form}
 use Rattle.lin_atoms.specs.declared.lit.Lit.{Lit}
 use Rattle.int_rows.specs.Basis.{IsWideCoordinate, IsWideRow, System}
 use Rattle.int_rows.specs.Node.{all_bounds, end_of_quotients, system}
 use Rattle.int_rows.specs.Table.{width}
 use Rattle.simplex_core.specs.Meaning.{system_of}
-use Rattle.farkas_proof.specs.GivenUp.{AreOfNode, IsEvidence, tableau}
-use Rattle.farkas_proof.specs.Refutation.{form_end}
 use Rattle.farkas_proof.specs.declared.evidence.Evidence.TheVariants.{Row, Coordinate, Rows}
 use Rattle.node_rows.specs.Nodes.{node_table}
 use Rattle.node_rows.proofs.Public.{length-system}

@@ -1,6 +1,6 @@
 -- What the values at a vertex tell of a node.
-use Rattle.std.proofs.Common.{◌≡◌, ℕ, suc, zero, List, [], ◌∷◌, refl, ap, sym, ◌∙◌, arith, subst, ◌<◌, ◌≤◌, ◌+◌, true, false, Bool, cond, ◌==◌, length, map, take, get_or}
-use Rattle.std.specs.Prelude.{ℤ, pos, ◌+ℤ◌, ◌*ℤ◌, ◌<ℤ◌, ◌≤ℤ◌, int_le, nat_abs, not, ◌||◌}
+use Rattle.std.proofs.Common.{◌≡◌, ℕ, suc, zero, List, [], ◌∷◌, refl, ap, sym, ◌∙◌, arith, subst, ◌<◌, ◌+◌, true, false, Bool, ◌==◌, length, map, take, get_or}
+use Rattle.std.specs.Prelude.{ℤ, pos, ◌+ℤ◌, ◌*ℤ◌, ◌<ℤ◌, int_le, nat_abs, not, ◌||◌}
 use Rattle.std.specs.Int.{int_div_euclid, int_rem_euclid}
 use Rattle.std.specs.List.{list_all}
 use Rattle.std.proofs.Math.IntN.{*ℤ_comm}
@@ -14,7 +14,7 @@ use Rattle.lin_atoms.specs.Truth.{lit_truth}
 use Rattle.lin_atoms.specs.declared.lit.Lit.{Lit}
 use Rattle.lin_atoms.specs.declared.lit.Lit.TheVariants.{Le, Eq, Div, NDiv}
 use Rattle.lin_atoms.proofs.Public.{both_true, quotient-rest, rest-below, rest-natural}
-use Rattle.int_rows.specs.Basis.{MeetsBounds, Point, System}
+use Rattle.int_rows.specs.Basis.{System}
 use Rattle.int_rows.specs.Node.{end_of_quotients, system}
 use Rattle.int_rows.specs.Rows.{entry}
 use Rattle.int_rows.specs.Table.{Table}
@@ -162,7 +162,7 @@ pub told-by-values : (q : ℕ) (lits : List Lit) (qs firsts : List Number) (answ
 told-by-values q lits qs firsts answer legal known constants vertex is of = by-kind answer (subst (λ (f : List Number). IsOfValues f answer) is of) where
   by-kind : (answer : Examined) → IsOfValues (take (end_of_quotients q lits) qs) answer → Tells q lits answer
   by-kind (Fraction v floor) h = at-fraction q lits qs v floor constants vertex h.0 h.1 h.2
-  by-kind (Model point) h = at-model q lits qs point.items legal known constants vertex h.0 h.1
+  by-kind (Model point) h = let model = at-model q lits qs point.items legal known constants vertex h.0 h.1 in (model.0, h.2, model.1)
   by-kind (False at) h = absurd h
   by-kind (Conflict ms) h = absurd h
   by-kind (Wide evidence) h = absurd h

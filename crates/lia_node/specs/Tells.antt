@@ -2,6 +2,7 @@
 use Rattle.std.specs.Prelude.{◌≡◌, ℕ, List, length, false, true, slice_get}
 use Rattle.std.specs.List.{list_all}
 use Rattle.std.specs.Option.{option_map_or}
+use Rattle.lin_atoms.specs.Linear.{is_short}
 use Rattle.lin_atoms.specs.Truth.{lit_truth}
 use Rattle.lin_atoms.specs.declared.form.Form.{Form}
 use Rattle.lin_atoms.specs.declared.lit.Lit.{Lit}
@@ -22,6 +23,6 @@ IsEvidenceAt q lits evidence = (form : Form) → form_end form ≡ q → AreOfNo
 abbrev pub Tells : ℕ → List Lit → Examined → Type 0
 Tells q lits (False at) = option_map_or is_no_falsehood (slice_get lits at) true ≡ false
 Tells q lits (Conflict ms) = IsConflict (node_table q lits) ms.items
-Tells q lits (Model point) = (length point.items ≡ end_of_quotients q lits) × (list_all (lit_truth point.items) lits ≡ true)
+Tells q lits (Model point) = (length point.items ≡ end_of_quotients q lits) × (list_all is_short point.items ≡ true) × (list_all (lit_truth point.items) lits ≡ true)
 Tells q lits (Fraction variable floor) = HasSolution q lits × HasVertexBetween (system q lits) variable floor
 Tells q lits (Wide evidence) = IsEvidenceAt q lits evidence

@@ -1,5 +1,5 @@
 -- Coordinates of a vertex that are integers, and those rounded down.
-use Rattle.std.specs.Prelude.{List, map, ℤ, nat_abs, ◌==◌, Bool}
+use Rattle.std.specs.Prelude.{ℤ, nat_abs, ◌==◌, Bool}
 use Rattle.std.specs.Int.{int_div_euclid, int_rem_euclid}
 use Rattle.lin_atoms.specs.Ratio.{Fraction}
 

@@ -15,7 +15,8 @@ use std::alloc::Global;
 /// The value rounded down.
 fn floored(ratio: &Ratio) -> i64
     requires { is_short (floored ratio.now) ≡ true }
-    ensures { result ≡ floored ratio.now }
+    ensures is { result ≡ floored ratio.now }
+    ensures short { is_short result ≡ true }
 {
     ratio.num().div_euclid(ratio.den()) as i64
 }
@@ -53,7 +54,8 @@ fn floor_at(ratios: &[Ratio], v: usize) -> i64
 /// The values rounded down.
 fn floors(alloc: Global, ratios: &[Ratio]) -> Result<Vec<i64>, Memory>
     requires { list_all (λ q. is_short (floored q)) ratios.now ≡ true }
-    ensures { IfOk result (λ made. made.items ≡ map floored ratios.now) }
+    ensures is { IfOk result (λ made. made.items ≡ map floored ratios.now) }
+    ensures short { IfOk result (λ made. list_all is_short made.items ≡ true) }
 {
     let mut made = Vec::with_capacity(alloc, ratios.len())?;
     for ratio in ratios {
@@ -73,6 +75,9 @@ pub(crate) fn of_values(alloc: Global, ratios: &[Ratio]) -> Result<Examined, Mem
             variable: v as u32,
             floor: floor_at(ratios, v),
         }),
-        None => Ok(Examined::Model(floors(alloc, ratios)?)),
+        None => {
+            let point = floors(alloc, ratios)?;
+            Ok(Examined::Model(point))
+        }
     }
 }

@@ -1,14 +1,12 @@
-use Rattle.std.proofs.Common.{◌≡◌, ◌∙◌, ◌<◌, ap, sym, subst, take, true, List, ℕ}
-use Rattle.std.specs.Int.{int_div_euclid}
+use Rattle.std.proofs.Common.{◌≡◌, ◌∙◌, ap, subst, take, List, ℕ}
 use Rattle.std.specs.List.{list_all}
 use Rattle.lin_atoms.specs.Linear.{is_short}
 use Rattle.lin_atoms.specs.Ratio.{Fraction as Number}
 use Rattle.lin_atoms.specs.declared.lit.Lit.{Lit}
 use Rattle.int_rows.specs.Node.{end_of_quotients}
 use Rattle.int_rows.specs.Table.{Table}
-use Rattle.simplex_core.specs.Meaning.{HasShortFloors, IsVertex, Means, system_of}
+use Rattle.simplex_core.specs.Meaning.{HasShortFloors, Means}
 use Rattle.simplex_core.specs.declared.answer.Feasible.TheVariants.{Wide as IsWide}
-use Rattle.node_rows.specs.Nodes.{node_table}
 use Rattle.lia_node.specs.Vertices.{floored}
 use Rattle.lia_node.proofs.VertexLemmas.{first-short, told-by-values, vertex-at}
 use Rattle.lia_node.proofs.examining.solved.Goals as goal
