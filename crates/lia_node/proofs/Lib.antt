@@ -1,0 +1,4 @@
+pub mod BranchLemmas
+pub mod ConflictLemmas
+pub mod EvidenceLemmas
+pub mod VertexLemmas

@@ -1,0 +1,3 @@
+pub mod Tells
+pub mod Vertices
+pub mod machinery

@@ -1,0 +1,12 @@
+pub mod BelowLemmas
+pub mod ColumnLemmas
+pub mod ExtendLemmas
+pub mod FitLemmas
+pub mod GatherLemmas
+pub mod HoldLemmas
+pub mod NodeLemmas
+pub mod PointLemmas
+pub mod Public
+pub mod RowLemmas
+pub mod SaidLemmas
+pub mod TidyLemmas

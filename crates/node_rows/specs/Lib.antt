@@ -1,0 +1,4 @@
+pub mod Known
+pub mod Nodes
+pub mod Whole
+pub mod machinery
