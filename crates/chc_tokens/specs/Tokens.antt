@@ -6,8 +6,8 @@ use Rattle.std.specs.Prelude.{◌≡◌, ℕ, ℤ, List, slice_get, Option, Some
 use Rattle.std.specs.List.{list_all}
 use Rattle.lin_atoms.specs.Truth.{truth}
 use Rattle.lin_atoms.specs.declared.lit.Lit.{Lit}
-use Rattle.farkas_proof.specs.machinery.Kept.{form_of}
-use Rattle.farkas_proof.specs.machinery.KeptEvidence.{given_form}
+use Rattle.farkas_proof.specs.Kept.{form_of}
+use Rattle.farkas_proof.specs.KeptEvidence.{given_form}
 use Rattle.clause_form.specs.System.{Clauses}
 use Rattle.clause_form.specs.declared.atom.Atom.{Atom}
 use Rattle.clause_form.specs.declared.clause.Clause.{Clause}

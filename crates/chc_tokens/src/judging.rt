@@ -4,7 +4,7 @@ ghost use Rattle.chc_tokens.specs.Kept.{kept_lemma, kept_why};
 ghost use Rattle.chc_tokens.specs.Queries.{query_at};
 ghost use Rattle.chc_tokens.specs.Tokens.{IsKept, IsNoLift, IsNotBroken, IsOther, MayKeep, breaks};
 ghost use Rattle.chc_tokens.specs.declared.goal.Goal.TheVariants.{Holds};
-ghost use Rattle.farkas_proof.specs.machinery.KeptEvidence.{given_form};
+ghost use Rattle.farkas_proof.specs.KeptEvidence.{given_form};
 
 use crate::asking::query_of_lemma;
 use crate::keeping::NoLift;

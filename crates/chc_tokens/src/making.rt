@@ -3,7 +3,7 @@ ghost use Rattle.chc_tokens.specs.Kept.{seen_clause, seen_point, shown_clause, s
 ghost use Rattle.chc_tokens.specs.Queries.{query_at};
 ghost use Rattle.chc_tokens.specs.Instances.{is_instance_of, is_point_of};
 ghost use Rattle.chc_tokens.specs.Tokens.{IsShown, is_seen};
-ghost use Rattle.farkas_proof.specs.machinery.Kept.{form_of};
+ghost use Rattle.farkas_proof.specs.Kept.{form_of};
 
 use crate::asking::query_of;
 use crate::goal::Goal;

@@ -3,7 +3,7 @@
 ghost use Rattle.std.specs.Prelude.{◌≡◌, ◌∷◌, [], IfOk};
 ghost use Rattle.lin_atoms.specs.declared.form.Form.TheVariants.{Lit as Literal};
 ghost use Rattle.lin_atoms.specs.declared.form.Form.TheViews.{And, Or};
-ghost use Rattle.farkas_proof.specs.machinery.Kept.{form_of};
+ghost use Rattle.farkas_proof.specs.Kept.{form_of};
 
 use crate::{
     Goal, NoLift, Shown, TokenStop, Used, Why, base_of, checked_base_of, checked_forms_of,

@@ -2,6 +2,8 @@ pub mod Combination
 pub mod Flatten
 pub mod GivenUp
 pub mod Instances
+pub mod Kept
+pub mod KeptEvidence
 pub mod Refutation
 pub mod Split
 pub mod machinery

@@ -1,8 +1,6 @@
 -- What the code keeps for itself: no rule cites it.
 pub mod Copying
 pub mod Ends
-pub mod Kept
-pub mod KeptEvidence
 pub mod Narrow
 pub mod Sum
 pub mod Tells

@@ -1,6 +1,6 @@
 ghost use Rattle.std.specs.Prelude.{◌≡◌, ℕ, true, IfOk, OnOk, IsErrOf};
 ghost use Rattle.lin_atoms.specs.Denial.{lit_fits};
-ghost use Rattle.farkas_proof.specs.machinery.Kept.{form_of, proof_of};
+ghost use Rattle.farkas_proof.specs.Kept.{form_of, proof_of};
 ghost use Rattle.farkas_proof.specs.Refutation.{Illegal, Wide, is_refutation, is_sound, judged};
 
 use crate::refuted::Refuted;

@@ -16,7 +16,7 @@ pub struct GaveUp {
 
 impl GaveUp {
     ghost use Rattle.std.specs.Prelude.{◌≡◌, IfOk};
-    ghost use Rattle.farkas_proof.specs.machinery.KeptEvidence.{given_form, given_evidence};
+    ghost use Rattle.farkas_proof.specs.KeptEvidence.{given_form, given_evidence};
 
     /// Keeps the evidence with its form.
     pub fn keep(form: Form, evidence: Evidence) -> GaveUp

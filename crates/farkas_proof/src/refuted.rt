@@ -19,7 +19,7 @@ pub struct Refuted {
 
 impl Refuted {
     ghost use Rattle.std.specs.Prelude.{◌≡◌, IfOk};
-    ghost use Rattle.farkas_proof.specs.machinery.Kept.{form_of, proof_of};
+    ghost use Rattle.farkas_proof.specs.Kept.{form_of, proof_of};
 
     /// The form that no integer point satisfies.
     pub fn form(&self) -> &Form
