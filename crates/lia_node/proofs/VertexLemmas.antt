@@ -1,5 +1,5 @@
 -- What the values at a vertex tell of a node.
-use Rattle.std.proofs.Common.{◌≡◌, ℕ, suc, zero, List, [], ◌∷◌, refl, ap, sym, ◌∙◌, arith, subst, ◌<◌, ◌+◌, true, false, Bool, ◌==◌, length, map, take, get_or}
+use Rattle.std.proofs.Common.{◌≡◌, ℕ, suc, zero, List, [], ◌∷◌, refl, ap, sym, ◌∙◌, arith, subst, ◌<◌, true, false, Bool, ◌==◌, length, map, take, get_or}
 use Rattle.std.specs.Prelude.{ℤ, pos, ◌+ℤ◌, ◌*ℤ◌, ◌<ℤ◌, int_le, nat_abs, not, ◌||◌}
 use Rattle.std.specs.Int.{int_div_euclid, int_rem_euclid}
 use Rattle.std.specs.List.{list_all}
