@@ -1,12 +1,12 @@
 -- Heights by their premises, and what the steps to a fact have.
-use Rattle.std.proofs.Common.{◌≡◌, ℕ, zero, suc, ◌+◌, ◌-◌, ◌<◌, ◌≤◌, List, [], ◌∷◌, ◌++◌, map, length, get_or, refl, ap, sym, subst, ◌∙◌, arith, inl, inr}
+use Rattle.std.proofs.Common.{◌≡◌, ℕ, zero, suc, ◌+◌, ◌-◌, ◌<◌, ◌≤◌, List, [], ◌∷◌, map, length, get_or, refl, ap, sym, subst, ◌∙◌, arith, inl, inr}
 use Rattle.std.specs.Prelude.{◌⊎◌}
 use Rattle.std.specs.List.{All, Contains, fold}
 use Rattle.std.proofs.lemmas.Bool.{cases_lt}
 use Rattle.std.proofs.lemmas.List.{length-append, get_or_append_left, get_or_default, get_or_push}
 use Rattle.std.proofs.lemmas.List.Elements.{All-contains, Contains-get_or}
 use Rattle.derivations.specs.declared.fact.Fact.{Fact}
-use Rattle.derivations.specs.Facts.{greatest, height_of, heights, premises_of, with_height, AreRecorded, AreSteps, RestsOn}
+use Rattle.derivations.specs.Facts.{greatest, height_of, premises_of, with_height, AreRecorded, AreSteps, RestsOn}
 use Rattle.derivations.specs.Facts.RestsOn.{itself, through}
 use Rattle.derivations.proofs.MarkLemmas.{rests_more}
 
