@@ -1,5 +1,5 @@
 -- What every replay of a legal journal keeps, and what an opening has to bring for it. The opening of a first book brings the
--- root alone, that of a later one facts and lemmas besides.
+-- root alone, that of a later one facts besides.
 use Rattle.std.specs.Prelude.{◌≡◌, suc, ◌≤◌, ◌<◌, ◌+◌, ◌-◌, ℕ, List, [], ◌∷◌, ◌++◌, true, false, Some, None, length, slice_get}
 use Rattle.std.specs.List.{list_any}
 use Rattle.clause_form.specs.System.{Clauses}
