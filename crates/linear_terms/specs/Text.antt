@@ -11,13 +11,9 @@ use Rattle.term_tree.specs.declared.node.Node.{Node}
 use Rattle.term_tree.specs.declared.node.Node.TheVariants.{True, False, Var, Pred, Op, Divisible, Let, Forall, Exists}
 use Rattle.term_tree.specs.Fold.{told_of}
 use Rattle.term_tree.specs.Sorts.{has_sort}
+use Rattle.linear_terms.specs.declared.standing.Spot.{Spot}
 use Rattle.linear_terms.specs.declared.standing.Standing.{Standing}
 use Rattle.linear_terms.specs.declared.standing.Standing.TheVariants.{Plain, Bit, Argument}
-
--- a term by number, and what it stands as
-pub record Spot : Type 0 where
-  pub id : ℕ
-  pub standing : Standing
 
 abbrev pub spot_as : Standing → TermId → Spot
 spot_as standing id = record { id = id.0; standing = standing }

@@ -8,3 +8,10 @@ pub enum Standing {
     /// As an argument of a predicate.
     Argument,
 }
+
+/// A term by number, and what it stands as.
+#[derive(Clone, Copy, Debug, PartialEq, Eq)]
+pub struct Spot {
+    pub id: u32,
+    pub standing: Standing,
+}
