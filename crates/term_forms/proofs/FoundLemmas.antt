@@ -1,5 +1,5 @@
 -- What is read of a term is its linear form, or the first of its subterms that is wide.
-use Rattle.std.proofs.Common.{◌≡◌, ℕ, zero, suc, ◌+◌, ◌<◌, ◌≤◌, List, [], ◌∷◌, ◌++◌, length, map, Bool, true, false, ◌&&◌, inl, inr, refl, ap, sym, ◌∙◌, subst, arith, append_assoc}
+use Rattle.std.proofs.Common.{◌≡◌, ℕ, zero, suc, ◌+◌, ◌<◌, ◌≤◌, List, [], ◌∷◌, ◌++◌, length, map, Bool, true, false, inl, inr, refl, ap, sym, ◌∙◌, arith, append_assoc}
 use Rattle.std.specs.Prelude.{slice_get, Option, Some, None, Result, Ok, Err, OnOk, ℤ, nat_lt, not, if◌then◌else◌}
 use Rattle.std.specs.List.{list_all}
 use Rattle.std.proofs.lemmas.Bool.{cases_lt}
@@ -12,7 +12,7 @@ use Rattle.term_tree.specs.declared.node.Node.TheVariants.{Num, True, False, Var
 use Rattle.term_tree.specs.Arena.{IsArena, is_below, has_parts_below}
 use Rattle.term_tree.proofs.Public.{arena_below, below_from, both_true, there_is, told_at_each, told_past}
 use Rattle.lin_atoms.specs.Linear.{Linear}
-use Rattle.linear_terms.specs.Linear.{Naming, auxiliary_form, is_narrow, node_linear, operation_form, told_linear, zero_form}
+use Rattle.linear_terms.specs.Linear.{Naming, is_narrow, node_linear, told_linear, zero_form}
 use Rattle.linear_terms.specs.Width.{first_among, first_of_two, first_where, node_first, text_parts}
 use Rattle.linear_terms.proofs.PartLemmas.{linear_at}
 use Rattle.term_forms.specs.Found.{AreFound, form_by, form_or_wide, is_wide, unless_wide}

@@ -2,6 +2,7 @@
 #![tactic(auto)]
 
 mod found;
+mod laws;
 mod leaves;
 mod names;
 mod node_form;
@@ -9,6 +10,7 @@ mod reading;
 mod stop;
 
 pub use found::{linear_form, nothing_read};
+pub use laws::kept_constants_give_linear_forms;
 pub use names::Names;
 pub use stop::FormStop;
 

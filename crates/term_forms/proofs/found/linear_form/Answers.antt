@@ -1,4 +1,4 @@
-use Rattle.std.proofs.Common.{◌≡◌, ℕ, sym, subst}
+use Rattle.std.proofs.Common.{ℕ, subst}
 use Rattle.std.specs.Prelude.{Result}
 use Rattle.lin_atoms.specs.Linear.{Linear}
 use Rattle.term_tables.specs.machinery.Table.{constant_in}

@@ -1,4 +1,4 @@
-use Rattle.std.proofs.Common.{◌≡◌, List, [], ap, sym, ◌∙◌, subst}
+use Rattle.std.proofs.Common.{◌≡◌, List, [], ap, ◌∙◌, subst}
 use Rattle.std.specs.Prelude.{Some, Ok, Err}
 use Rattle.term_tree.specs.declared.node.TermId.{TermId}
 use Rattle.lin_atoms.specs.Linear.{Linear}
