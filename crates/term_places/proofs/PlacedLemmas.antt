@@ -1,11 +1,11 @@
 -- The text of a term by its node.
-use Rattle.std.proofs.Common.{◌≡◌, ℕ, ◌+◌, ◌<◌, List, [], ◌∷◌, ◌++◌, length, map, drop, get_or, Bool, true, false, ◌&&◌, refl, ap, sym, ◌∙◌, arith, append_assoc}
+use Rattle.std.proofs.Common.{◌≡◌, ℕ, ◌+◌, ◌<◌, List, [], ◌∷◌, ◌++◌, length, map, drop, get_or, Bool, true, false, ◌&&◌, refl, ap, sym, ◌∙◌, append_assoc}
 use Rattle.std.specs.Prelude.{filter, slice_get, Option, Some, IsTrue, nat_lt, if◌then◌else◌}
 use Rattle.std.specs.List.{flat_map, list_all}
 use Rattle.std.proofs.lemmas.List.{drop_more}
 use Rattle.term_tree.specs.declared.node.TermId.{TermId}
 use Rattle.term_tree.specs.declared.node.Node.{Node}
-use Rattle.term_tree.specs.declared.node.Node.TheVariants.{Num, True, False, Var, LetVar, Pred, Op, Divisible, Let, Forall, Exists}
+use Rattle.term_tree.specs.declared.node.Node.TheVariants.{Pred, Op, Divisible, Let, Forall, Exists}
 use Rattle.term_tree.specs.declared.node.OpKind.{OpKind}
 use Rattle.term_tree.specs.declared.node.OpKind.TheVariants.{Xor, Eq, Distinct, Ite}
 use Rattle.term_tree.specs.Arena.{is_below, has_parts_below}
@@ -13,10 +13,10 @@ use Rattle.term_tree.proofs.Public.{below_from, both_true, told_at_each}
 use Rattle.linear_terms.specs.declared.standing.Spot.{Spot}
 use Rattle.linear_terms.specs.declared.standing.Standing.{Standing}
 use Rattle.linear_terms.specs.declared.standing.Standing.TheVariants.{Plain, Bit, Argument}
-use Rattle.linear_terms.specs.Text.{Sorting, are_truths, chosen, compared, has_auxiliary, inner, needs_one, node_spots, operands, spot_as, spots}
+use Rattle.linear_terms.specs.Text.{Sorting, are_truths, chosen, has_auxiliary, inner, needs_one, node_spots, operands, spot_as, spots}
 use Rattle.term_places.specs.machinery.Placed.{all_placed, placed}
 
-abbrev are_below : ℕ → List Spot → Bool
+abbrev pub are_below : ℕ → List Spot → Bool
 are_below n parts = list_all (λ s. nat_lt s.id n) parts
 
 spots_below : (n : ℕ) (standing : Standing) (ids : List TermId) → list_all (is_below n) ids ≡ true → are_below n (map (spot_as standing) ids) ≡ true

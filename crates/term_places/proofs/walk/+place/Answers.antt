@@ -5,7 +5,7 @@ use Rattle.term_tree.specs.declared.sort.Sort.{Sort}
 use Rattle.linear_terms.specs.declared.standing.Spot.{Spot}
 use Rattle.linear_terms.specs.Text.{inner, needs_one}
 use Rattle.term_tables.specs.machinery.Table.{sort_in}
-use Rattle.term_places.specs.machinery.Placed.{all_placed, placed}
+use Rattle.term_places.specs.machinery.Placed.{all_placed}
 use Rattle.term_places.proofs.PlacedLemmas.{inner_below, placed_at}
 use Rattle.term_places.proofs.walk.+place.Goals as goal
 
