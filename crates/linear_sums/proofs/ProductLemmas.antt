@@ -1,19 +1,18 @@
 -- Products that stay narrow, or never become so again.
 use Rattle.std.proofs.Common.{◌≡◌, ℕ, zero, suc, ◌+◌, ◌*◌, ◌<◌, ◌≤◌, ◌^◌, List, [], ◌∷◌, length, drop, get_or, Bool, true, false, ◌&&◌, ◌||◌, ◌==◌, refl, ap, sym, ◌∙◌, subst, arith}
-use Rattle.std.specs.Prelude.{ℤ, pos, negsuc, ◌*ℤ◌, nat_abs, nat_lt, nat_le, fold, Option, Some, None, slice_get, if◌then◌else◌}
+use Rattle.std.specs.Prelude.{ℤ, pos, ◌*ℤ◌, nat_abs, nat_lt, nat_le, fold, Option, Some, None, slice_get, if◌then◌else◌}
 use Rattle.std.proofs.Math.Nat.{le-mul_of_pos_right}
 use Rattle.std.proofs.Math.IntN.{*ℤ-zero, zero-*ℤ}
 use Rattle.std.proofs.lemmas.Int.{ints, unsigned_abs-mul}
 use Rattle.std.proofs.lemmas.List.{drop_more, drop_all}
 use Rattle.std.proofs.lemmas.Bool.Decides.{nat_tests}
-use Rattle.std.specs.List.{list_any}
 use Rattle.term_tree.specs.Constants.{constants_among}
 use Rattle.term_tree.specs.Operators.{product_of}
 use Rattle.lin_atoms.specs.Linear.{Linear, is_short, are_short, are_ordered}
 use Rattle.lin_atoms.specs.Algebra.{scaled, scaled_terms, term_on}
 use Rattle.lin_atoms.proofs.Public.{both_true}
 use Rattle.linear_terms.specs.Linear.{is_narrow, varying}
-use Rattle.linear_sums.specs.Narrow.{has_zero, is_nothing, is_zero_constant, if_short, is_zero_form, has_no_terms, times}
+use Rattle.linear_sums.specs.Narrow.{has_zero, is_nothing, if_short, is_zero_form, has_no_terms, times}
 
 pub abs_product : (a b : ℤ) → nat_abs (a *ℤ b) ≡ nat_abs a * nat_abs b
 abs_product a b = unsigned_abs-mul a b

@@ -1,4 +1,4 @@
-use Rattle.std.proofs.Common.{◌≡◌, sym, ◌∙◌}
+use Rattle.std.proofs.Common.{sym, ◌∙◌}
 use Rattle.linear_sums.proofs.ProductLemmas.{short_none, wide_scaled}
 use Rattle.linear_sums.proofs.product.multiple.Goals as goal
 

@@ -1,4 +1,4 @@
-use Rattle.std.proofs.Common.{◌≡◌, sym, ◌∙◌, to_z}
+use Rattle.std.proofs.Common.{sym, ◌∙◌, to_z}
 use Rattle.std.specs.Int.{w64}
 use Rattle.term_tree.specs.Constants.{constants_among}
 use Rattle.term_tree.specs.Operators.{product_of}

@@ -1,4 +1,3 @@
-use Rattle.std.proofs.Common.{◌≡◌}
 use Rattle.lin_atoms.proofs.Public.{both_true}
 use Rattle.lin_atoms.specs.Linear.{are_ordered, fits}
 use Rattle.linear_sums.proofs.product.rises.Goals as goal

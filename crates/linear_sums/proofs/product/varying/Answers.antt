@@ -1,4 +1,4 @@
-use Rattle.std.proofs.Common.{◌≡◌, sym, ◌∙◌, rules, [], true, false, get_or}
+use Rattle.std.proofs.Common.{sym, ◌∙◌, [], true, false}
 use Rattle.std.specs.Prelude.{pos}
 use Rattle.lin_atoms.specs.Linear.{Linear}
 use Rattle.linear_sums.proofs.ProductLemmas.{varying_at, varying_past, some_at}

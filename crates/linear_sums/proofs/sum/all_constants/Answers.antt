@@ -1,6 +1,5 @@
-use Rattle.std.proofs.Common.{◌≡◌, ◌<◌, ◌^◌, ℕ, length, get_or, rules, arith}
+use Rattle.std.proofs.Common.{◌<◌, ◌^◌, length, rules, arith}
 use Rattle.std.proofs.lemmas.Int.{ints}
-use Rattle.linear_sums.proofs.SumLemmas.{constants_more, constants_end}
 use Rattle.linear_sums.proofs.sum.all_constants.Goals as goal
 
 pub overflow_add-sum : goal.overflow_add-sum

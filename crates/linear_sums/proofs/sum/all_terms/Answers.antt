@@ -1,4 +1,4 @@
-use Rattle.std.proofs.Common.{◌≡◌, ◌<◌, ℕ, ◌++◌, List, length, get_or, rules, arith}
+use Rattle.std.proofs.Common.{◌≡◌, ℕ, ◌++◌, List, get_or, rules}
 use Rattle.std.specs.Prelude.{ℤ}
 use Rattle.linear_sums.proofs.SumLemmas.{terms_more, terms_end}
 use Rattle.linear_sums.proofs.sum.all_terms.Goals as goal
