@@ -1,0 +1,13 @@
+pub mod AuxiliaryLemmas
+pub mod BitLemmas
+pub mod ConstantLemmas
+pub mod DivisionLemmas
+pub mod FormulaLemmas
+pub mod JunctionLemmas
+pub mod LinearLemmas
+pub mod PartLemmas
+pub mod PlaceLemmas
+pub mod ProductLemmas
+pub mod Public
+pub mod RelationLemmas
+pub mod SortLemmas

@@ -1,0 +1,7 @@
+pub mod Examples
+pub mod Formula
+pub mod Linear
+pub mod Meeting
+pub mod Place
+pub mod Text
+pub mod Width

@@ -1,0 +1,67 @@
+//! Linear forms of terms by hand.
+
+use crate::{FormStop, Names, linear_form, nothing_read};
+use base::{Items, Same};
+use lin_atoms::Lin;
+use std::alloc::Global;
+use std::collections::BTreeMap;
+use std::process::Abort;
+use term_tables::ConstantTable;
+use term_tree::{Node, OpKind, Sort, TermId, Terms};
+
+fn put(rt: &impl Abort, terms: &mut Terms, node: Node) {
+    assert!(rt; terms.len() < 1000);
+    assert!(rt; node.has_parts_below(terms.len()));
+    terms.add(node, 0).expect(rt, "memory");
+}
+
+fn apply(rt: &impl Abort, alloc: Global, terms: &mut Terms, op: OpKind, args: &[TermId]) {
+    let args = Items::from_slice(alloc, args).expect(rt, "memory");
+    put(rt, terms, Node::Op { op, args });
+}
+
+/// 3 * x + ((div x 3) - m) and a sum of two of m * x, where x is term 0 and m is 2^63 - 1.
+fn samples(rt: &impl Abort, alloc: Global) -> Terms {
+    let mut terms = Terms::new(alloc);
+    let sort = Sort::Int;
+    put(rt, &mut terms, Node::Var { binder: 0, sort });
+    put(rt, &mut terms, Node::Num(3));
+    put(rt, &mut terms, Node::Num(i64::MAX));
+    apply(rt, alloc, &mut terms, OpKind::Mul, &[TermId(1), TermId(0)]);
+    apply(rt, alloc, &mut terms, OpKind::Div, &[TermId(0), TermId(1)]);
+    apply(rt, alloc, &mut terms, OpKind::Sub, &[TermId(4), TermId(2)]);
+    apply(rt, alloc, &mut terms, OpKind::Add, &[TermId(3), TermId(5)]);
+    apply(rt, alloc, &mut terms, OpKind::Mul, &[TermId(2), TermId(0)]);
+    apply(rt, alloc, &mut terms, OpKind::Add, &[TermId(7), TermId(7)]);
+    terms
+}
+
+fn read(rt: &impl Abort, alloc: Global, id: u32) -> Result<Lin, FormStop> {
+    let terms = samples(rt, alloc);
+    let constants = ConstantTable::of(alloc, &terms).expect(rt, "memory");
+    let mut auxiliary = BTreeMap::new(alloc);
+    let put: Result<_, _> = auxiliary.insert(4, 7);
+    let _ = put.expect(rt, "memory");
+    let own = Vec::new(alloc);
+    let names = Names { own, auxiliary };
+    let mut known = nothing_read(alloc);
+    assert!(rt; (id as usize) < terms.len());
+    linear_form(alloc, &terms, &constants, &names, &mut known, TermId(id))
+}
+
+#[test]
+fn a_division_is_a_variable_of_a_sum(rt: HostRuntime) {
+    let alloc = rt.alloc();
+    let terms = Vec::from_array(alloc, [(0, 3), (7, 1)]).expect(&rt, "memory");
+    let awaited = Lin::new(terms, -i128::from(i64::MAX)).expect(&rt, "a form");
+    match read(&rt, alloc, 6) {
+        Ok(form) => assert!(rt; form.equals(&awaited)),
+        Err(_) => assert!(rt; false, "no form"),
+    }
+}
+
+#[test]
+fn the_first_wide_term_is_named(rt: HostRuntime) {
+    let found = read(&rt, rt.alloc(), 8);
+    assert!(rt; matches!(found, Err(FormStop::Wide { term: TermId(8) })));
+}
