@@ -1,17 +1,17 @@
 -- A form with a disjunction that stands open is split at once, so it is given up by a tree with one inner node.
-use Rattle.std.proofs.Common.{◌≡◌, ℕ, suc, zero, ◌+◌, ◌<◌, List, [], ◌∷◌, ◌++◌, length, map, refl, ap, sym, ◌∙◌, arith, true, Option, Some, None}
+use Rattle.std.proofs.Common.{◌≡◌, ℕ, suc, zero, ◌+◌, List, [], ◌∷◌, ◌++◌, length, map, refl, ap, ◌∙◌, arith, Some}
 use Rattle.std.specs.Prelude.{ℤ, pos, slice_get}
 use Rattle.std.specs.List.{range_with_len}
 use Rattle.lin_atoms.specs.declared.lit.Lit.{Lit}
 use Rattle.lin_atoms.specs.declared.form.Form.{Form}
 use Rattle.lin_atoms.specs.declared.form.Form.TheVariants.{Lit as Literal}
 use Rattle.lin_atoms.specs.declared.form.Form.TheViews.{And, Or}
-use Rattle.int_rows.specs.Basis.{MeetsBounds, bound}
-use Rattle.int_rows.specs.Node.{greatest_lower, least_upper, system}
+use Rattle.int_rows.specs.Basis.{bound}
+use Rattle.int_rows.specs.Node.{greatest_lower, least_upper}
 use Rattle.farkas_proof.specs.Flatten.{disjunctions}
 use Rattle.farkas_proof.specs.GivenUp.{IsEvidence}
 use Rattle.farkas_proof.specs.Refutation.{form_end}
-use Rattle.farkas_proof.specs.Split.{HasSolution, HaveTrees, by_cases, inner, start, with_part}
+use Rattle.farkas_proof.specs.Split.{HasSolution, by_cases, inner, start, with_part}
 use Rattle.farkas_proof.specs.declared.evidence.Evidence.TheVariants.{Nodes}
 use Rattle.farkas_proof.proofs.FlattenLemmas.{disjunctions-And, disjunctions-Or}
 use Rattle.farkas_proof.proofs.ForestLemmas.{all-leaves}

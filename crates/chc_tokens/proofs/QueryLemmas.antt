@@ -1,5 +1,5 @@
 -- The truth of a query at a point, and what a query without a point shows.
-use Rattle.std.proofs.Common.{◌≡◌, ℕ, suc, zero, List, [], ◌∷◌, map, refl, ap, sym, ◌∙◌, length, ◌&&◌, true, false, Bool}
+use Rattle.std.proofs.Common.{◌≡◌, ℕ, suc, zero, List, [], ◌∷◌, map, refl, ap, sym, ◌∙◌, ◌&&◌, true, false, Bool}
 use Rattle.std.specs.Prelude.{ℤ, not, Option, Some, None, option_map, slice_get, if◌then◌else◌}
 use Rattle.std.specs.List.{list_all}
 use Rattle.lin_atoms.specs.Truth.{lit_truth, truth}

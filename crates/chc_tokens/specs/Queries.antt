@@ -1,7 +1,7 @@
 -- The queries about one clause (Hoder and Bjorner, "Generalized property directed reachability", section 3; Komuravelli,
 -- Gurfinkel and Chaki, "SMT-based model checking for recursive programs", section 4): is there a point of the guard whose
 -- head lies in a cube, and whose body atoms some lemmas accept?
-use Rattle.std.specs.Prelude.{ℕ, ℤ, List, [], ◌∷◌, map, length, slice_get, Option, Some, None, Bool, true, false, ◌&&◌, if◌then◌else◌}
+use Rattle.std.specs.Prelude.{ℕ, List, [], ◌∷◌, map, length, slice_get, Option, Some, None, Bool, true, false, ◌&&◌, if◌then◌else◌}
 use Rattle.std.specs.List.{list_all}
 use Rattle.lin_atoms.specs.declared.lit.Lit.{Lit}
 use Rattle.lin_atoms.specs.declared.form.Form.{Form}
@@ -10,11 +10,11 @@ use Rattle.lin_atoms.specs.declared.form.Form.TheVariants.{Lit as Literal}
 use Rattle.clause_form.specs.System.{Clauses}
 use Rattle.clause_form.specs.declared.atom.Atom.{Atom}
 use Rattle.clause_form.specs.declared.clause.Clause.{Clause}
-use Rattle.cube_forms.specs.Cubes.{cube_at, cube_is_below, has_room, lemma_at, tuple_at}
+use Rattle.cube_forms.specs.Cubes.{cube_at, cube_is_below, has_room, lemma_at}
 use Rattle.chc_tokens.specs.declared.goal.Goal.{Goal}
 use Rattle.chc_tokens.specs.declared.goal.Goal.TheVariants.{Query, Holds}
 use Rattle.chc_tokens.specs.declared.used.Used.{Used}
-use Rattle.chc_tokens.specs.Instances.{accepts, args_of}
+use Rattle.chc_tokens.specs.Instances.{args_of}
 
 -- the cube that a goal asks of the head
 abbrev pub goal_cube : Goal → List Lit

@@ -9,9 +9,7 @@ use Rattle.lin_atoms.specs.declared.lit.Lit.{Lit}
 use Rattle.farkas_proof.specs.Kept.{form_of}
 use Rattle.farkas_proof.specs.KeptEvidence.{given_form}
 use Rattle.clause_form.specs.System.{Clauses}
-use Rattle.clause_form.specs.declared.atom.Atom.{Atom}
 use Rattle.clause_form.specs.declared.clause.Clause.{Clause}
-use Rattle.cube_forms.specs.Cubes.{cube_holds, tuple_at}
 use Rattle.chc_tokens.specs.declared.goal.Goal.{Goal}
 use Rattle.chc_tokens.specs.declared.goal.Goal.TheVariants.{Query, Holds}
 use Rattle.chc_tokens.specs.declared.used.Used.{Used}
