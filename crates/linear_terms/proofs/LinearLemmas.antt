@@ -28,11 +28,11 @@ use Rattle.term_tree.proofs.Public.{eqb_self, part_below}
 use Rattle.term_tree.proofs.Public.{value_at}
 use Rattle.lin_atoms.specs.Linear.{Linear, sum_at, variable_at}
 use Rattle.lin_atoms.specs.Linear.{value_at as worth_at}
-use Rattle.lin_atoms.specs.Algebra.{added, negated}
+use Rattle.lin_atoms.specs.Algebra.{negated}
 use Rattle.lin_atoms.proofs.Public.{sum_at-++, value_at-added, value_at-negated}
 use Rattle.lin_atoms.proofs.TermLemmas.{sum_at-collected}
 use Rattle.linear_terms.specs.Text.{is_unit}
-use Rattle.linear_terms.specs.Linear.{Naming, variable_form, zero_form, auxiliary_form, less, all_terms, all_constants, sum_form, difference_form, operation_form, node_linear, linear_of, told_linear}
+use Rattle.linear_terms.specs.Linear.{Naming, variable_form, auxiliary_form, less, all_terms, all_constants, sum_form, difference_form, operation_form, node_linear, linear_of, told_linear}
 use Rattle.linear_terms.specs.Meeting.{number, IsTyped, MeetsVariables, MeetsBelow, NamesUnits}
 use Rattle.linear_terms.proofs.PartLemmas.{by_parts, linear_at, first_among, later_among, body_among}
 use Rattle.linear_terms.proofs.ProductLemmas.{HaveValues, product_value}

@@ -1,6 +1,6 @@
 -- In a legal term what a table keeps of a constant is its value.
-use Rattle.std.proofs.Common.{◌≡◌, ℕ, zero, suc, ◌+◌, ◌<◌, List, [], ◌∷◌, length, map, Bool, true, false, ◌&&◌, ◌||◌, ◌==◌, refl, ap, sym, ◌∙◌, subst, arith}
-use Rattle.std.specs.Prelude.{slice_get, Option, Some, None, option_map, IsTrue, ℤ, pos, ◌*ℤ◌, nat_abs, fold, if◌then◌else◌}
+use Rattle.std.proofs.Common.{◌≡◌, ℕ, zero, suc, ◌<◌, List, [], ◌∷◌, length, map, Bool, true, false, ◌||◌, ◌==◌, refl, ap, sym, ◌∙◌, subst, arith}
+use Rattle.std.specs.Prelude.{slice_get, Option, Some, None, option_map, ℤ, pos, ◌*ℤ◌, nat_abs, fold, if◌then◌else◌}
 use Rattle.std.specs.List.{list_all}
 use Rattle.std.specs.Int.{int_div_euclid, int_rem_euclid}
 use Rattle.term_tree.specs.declared.node.TermId.{TermId}
@@ -15,7 +15,7 @@ use Rattle.term_tree.specs.Operators.{difference_of, first_of_all, integer, on_t
 use Rattle.term_tree.specs.Subterms.{EverySubterm, IsSubterm, inside, is_among, is_part}
 use Rattle.term_tree.specs.Width.{prefix_results}
 use Rattle.term_tree.proofs.Public.{arena_below, both_true, constant_at, eqb_self, part_below, there_is}
-use Rattle.term_tables.specs.machinery.Table.{if_short, product_from, short_applied, short_constant, short_constant_of, short_kept, short_operation, short_product}
+use Rattle.term_tables.specs.machinery.Table.{if_short, product_from, short_constant, short_constant_of, short_kept, short_operation, short_product}
 use Rattle.term_tables.proofs.TableLemmas.{short_at}
 
 short_is : (n : ℤ) → is_short n ≡ true → if_short n ≡ Some n

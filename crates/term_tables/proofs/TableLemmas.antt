@@ -1,5 +1,5 @@
 -- Tables of what is told of terms, filled from the first term on.
-use Rattle.std.proofs.Common.{◌≡◌, ℕ, ◌+◌, ◌<◌, ◌≤◌, ◌^◌, ◌-◌, ◌==◌, List, [], ◌∷◌, ◌++◌, length, map, take, drop, get_or, append_assoc, length-drop, Bool, true, false, ◌&&◌, inl, inr, refl, ap, sym, ◌∙◌, subst, arith}
+use Rattle.std.proofs.Common.{◌≡◌, ℕ, ◌+◌, ◌<◌, ◌≤◌, ◌-◌, ◌==◌, List, [], ◌∷◌, ◌++◌, length, map, take, drop, get_or, append_assoc, length-drop, Bool, true, false, ◌&&◌, inl, inr, refl, ap, sym, ◌∙◌, arith}
 use Rattle.std.proofs.lemmas.List.{drop_all, drop_more, get_or_append_left, get_or_past, get_or_push, take_more}
 use Rattle.std.proofs.lemmas.Bool.Decides.{nat_tests}
 use Rattle.std.proofs.lemmas.Bool.{cases_lt}
@@ -10,7 +10,7 @@ use Rattle.term_tree.specs.declared.sort.Sort.TheVariants.{Int as IntSort, Bool 
 use Rattle.term_tree.specs.declared.script.Pred.{Pred as Declared}
 use Rattle.term_tree.specs.declared.node.TermId.{TermId}
 use Rattle.term_tree.specs.declared.node.Node.{Node}
-use Rattle.term_tree.specs.declared.node.Node.TheVariants.{Num, True, False, Var, LetVar, Pred, Op, Divisible, Let, Forall, Exists}
+use Rattle.term_tree.specs.declared.node.Node.TheVariants.{LetVar, Pred, Op, Divisible, Let, Forall, Exists}
 use Rattle.term_tree.specs.Arena.{is_below, has_parts_below}
 use Rattle.term_tree.specs.Constants.{all_constant}
 use Rattle.term_tree.specs.Sorts.{has_sort, have_sorts, is_sorted, node_sort, operation_sort, predicate_sort, sort_if, sort_of}

@@ -1,4 +1,4 @@
-use Rattle.std.proofs.Common.{◌≡◌, ◌<◌, ◌^◌, ℕ, length, rules, arith}
+use Rattle.std.proofs.Common.{◌<◌, ◌^◌, length, rules, arith}
 use Rattle.std.proofs.lemmas.Int.{ints}
 use Rattle.term_tables.proofs.constants.reduced.Goals as goal
 

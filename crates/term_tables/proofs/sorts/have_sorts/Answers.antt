@@ -1,4 +1,4 @@
-use Rattle.std.proofs.Common.{◌≡◌, ℕ, ◌==◌, sym, ◌∙◌, ap, arith, length, true, false, Bool}
+use Rattle.std.proofs.Common.{◌≡◌, ℕ, ◌==◌, sym, ◌∙◌, ap, arith, length, false}
 use Rattle.term_tree.specs.declared.sort.Sort.TheVariants.{Int as IntSort}
 use Rattle.term_tables.proofs.TableLemmas.{sorts_at, sorts_short, sorts_end}
 use Rattle.term_tables.proofs.sorts.have_sorts.Goals as goal

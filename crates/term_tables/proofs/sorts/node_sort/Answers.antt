@@ -1,4 +1,4 @@
-use Rattle.std.proofs.Common.{◌≡◌, Bool, List, map, ap, sym, ◌∙◌}
+use Rattle.std.proofs.Common.{Bool, List, map, ap, sym, ◌∙◌}
 use Rattle.std.specs.Prelude.{slice_get, Option, None, if◌then◌else◌}
 use Rattle.std.specs.List.{list_all}
 use Rattle.term_tree.specs.declared.sort.Sort.{Sort}

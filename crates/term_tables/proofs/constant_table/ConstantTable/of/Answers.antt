@@ -1,8 +1,6 @@
-use Rattle.std.proofs.Common.{◌≡◌, ℕ, ◌+◌, ◌++◌, length, ap, ◌∙◌, subst, length-append, arith, sym, rules, ◌∷◌, []}
+use Rattle.std.proofs.Common.{◌≡◌, ℕ, ◌+◌, ◌++◌, length, ap, ◌∙◌, subst, length-append, arith, rules, ◌∷◌, []}
 use Rattle.std.specs.Prelude.{slice_get, ℤ, Option, Some, None, true}
-use Rattle.term_tree.specs.declared.node.Node.{Node}
 use Rattle.term_tree.specs.Arena.{has_parts_below}
-use Rattle.term_tree.specs.Constants.{all_constant}
 use Rattle.term_tables.specs.machinery.Table.{constant_in, short_constant, short_constant_of}
 use Rattle.term_tables.proofs.TableLemmas.{table_more, constant_here, all_constants}
 use Rattle.term_tables.proofs.constant_table.ConstantTable.of.Goals as goal

@@ -1,5 +1,5 @@
 use Rattle.std.proofs.Common.{◌≡◌, ℕ, ◌<◌, length}
-use Rattle.term_tables.specs.machinery.Table.{constant_in, short_constant, short_constant_of}
+use Rattle.term_tables.specs.machinery.Table.{constant_in, short_constant_of}
 use Rattle.term_tables.proofs.constant_table.ConstantTable.of.Given as goal
 
 abbrev pub invariant-loop-i : goal.invariant-loop-i

@@ -1,4 +1,4 @@
-use Rattle.std.proofs.Common.{◌≡◌, ℕ, ◌+◌, ◌++◌, length, ap, ◌∙◌, subst, length-append, arith, sym, rules, ◌∷◌, []}
+use Rattle.std.proofs.Common.{◌≡◌, ℕ, ◌+◌, ◌++◌, length, ap, ◌∙◌, subst, length-append, arith, rules, ◌∷◌, []}
 use Rattle.std.specs.Prelude.{slice_get, Option, Some, None, true}
 use Rattle.term_tree.specs.declared.sort.Sort.{Sort}
 use Rattle.term_tree.specs.Arena.{has_parts_below}
