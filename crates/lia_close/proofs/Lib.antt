@@ -1,0 +1,10 @@
+pub mod FalsehoodLemmas
+pub mod LeafLemmas
+pub mod PlacedLemmas
+pub mod Public
+pub mod RoundLemmas
+pub mod SideLemmas
+pub mod TakenLemmas
+pub mod TightestLemmas
+pub mod ValueLemmas
+pub mod WrittenLemmas

@@ -1,0 +1,10 @@
+pub mod CoverLemmas
+pub mod FirstLemmas
+pub mod FlatLemmas
+pub mod MoreLemmas
+pub mod NameLemmas
+pub mod NamingLemmas
+pub mod NodeLemmas
+pub mod PartLemmas
+pub mod SearchLemmas
+pub mod TurnLemmas
