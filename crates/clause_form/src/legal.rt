@@ -9,7 +9,7 @@ use base::{Items, MOST_ARGUMENTS};
 use term_tree::Sort;
 
 /// How many variables a clause may have.
-const MOST_VARIABLES: usize = 2048;
+pub(crate) const MOST_VARIABLES: usize = 2048;
 
 fn have_arguments(preds: &[Items<Sort>], pred: u32, args: &[u32]) -> bool
     ensures { result ≡ has_arguments (slice_get preds.now pred) args.now }

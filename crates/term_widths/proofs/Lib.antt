@@ -1,0 +1,9 @@
+pub mod AlikeSideLemmas
+pub mod ConstantLemmas
+pub mod OrderLemmas
+pub mod PositionLemmas
+pub mod RenamingLemmas
+pub mod SeekLemmas
+pub mod SideLemmas
+pub mod UnitLemmas
+pub mod WorthLemmas
