@@ -1,0 +1,9 @@
+pub mod ViewLemmas
+pub mod ClosingLemmas
+pub mod TokenLemmas
+pub mod WalkLemmas
+pub mod LiteralLemmas
+pub mod BookLemmas
+pub mod MakingLemmas
+pub mod LawLemmas
+pub mod Public

@@ -1,0 +1,5 @@
+-- The lemmas that proofs of other crates cite.
+pub use Rattle.chc_core.proofs.ClosingLemmas.{closes-fact, closes-lemma, closes-raise}
+pub use Rattle.chc_core.proofs.LawLemmas.{steps-derivation}
+pub use Rattle.chc_core.proofs.TokenLemmas.{carries}
+pub use Rattle.chc_core.proofs.ViewLemmas.{fact-height, fact_of-at, framed_of-at, obligation_of-at}

@@ -1,0 +1,10 @@
+use Rattle.std.proofs.Common.{◌≡◌, drop, ◌&&◌}
+use Rattle.std.specs.Prelude.{nat_le}
+use Rattle.book_rules.specs.Frames.{Framed, excludes}
+use Rattle.book_rules.specs.Walks.{first_number, number_from}
+use Rattle.chc_core.specs.Views.{lemmas_of}
+use Rattle.chc_core.proofs.framed.shut_out.Given as goal
+
+-- the rest decides
+abbrev pub invariant-loop-id : goal.invariant-loop-id
+invariant-loop-id l = number_from l.id (λ (e : Framed). nat_le l.k e.level && excludes e.lemma l.ground) (drop l.id (lemmas_of l.frames.lemmas)) ≡ first_number (λ (e : Framed). nat_le l.k e.level && excludes e.lemma l.ground) (lemmas_of l.frames.lemmas)

@@ -1,0 +1,7 @@
+pub mod Tokens
+pub mod Taken
+pub mod Contents
+pub mod Views
+pub mod Openings
+pub mod Derivations
+pub mod machinery
