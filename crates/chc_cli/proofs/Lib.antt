@@ -1,7 +1,10 @@
 pub mod AnswerLemmas
 pub mod DeclaredLemmas
+pub mod FormedLemmas
+pub mod FormulaLemmas
 pub mod ModelLemmas
 pub mod NameLemmas
+pub mod PartnerLemmas
 pub mod PlanLemmas
 pub mod ReadBackLemmas
 pub mod SymbolLemmas

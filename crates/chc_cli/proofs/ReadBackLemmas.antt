@@ -1,9 +1,8 @@
 -- The printed text of a solution is read as definitions that are a solution.
-use Rattle.std.proofs.Common.{◌≡◌, ℕ, zero, suc, ◌+◌, ◌<◌, ◌≤◌, ◌^◌, List, [], ◌∷◌, length, true, refl, ap, sym, ◌∙◌, subst, arith}
-use Rattle.std.specs.Prelude.{slice_get, Option, Some, None, IsTrue}
+use Rattle.std.proofs.Common.{◌≡◌, ℕ, zero, suc, ◌+◌, List, [], ◌∷◌, length, refl, ap, sym, ◌∙◌, arith}
+use Rattle.std.specs.Prelude.{IsTrue}
 use Rattle.std.specs.List.{AllByRecursion}
 use Rattle.term_tree.specs.declared.node.Node.{Node}
-use Rattle.term_tree.specs.declared.scalar.Value.{Value}
 use Rattle.term_tree.specs.declared.script.Name.{Name}
 use Rattle.term_tree.specs.declared.script.Pred.{Pred}
 use Rattle.term_tree.specs.declared.script.Script.{Script}
@@ -19,6 +18,7 @@ use Rattle.answer_text.specs.machinery.ReadBack.{AreSameDefinitions, IsReadAs, I
 use Rattle.answer_text.proofs.Public.{read_as}
 use Rattle.chc_cli.specs.Headline.{IsSatAnswer}
 use Rattle.chc_cli.proofs.DeclaredLemmas.{declared_law}
+use Rattle.chc_cli.proofs.FormedLemmas.{IsInArena, PlainLaw, read_formed}
 use Rattle.chc_cli.proofs.NameLemmas.{HasFewArguments}
 
 -- definitions by formulas, of predicates with few arguments, are such that their text is read back
@@ -60,9 +60,10 @@ module _ (same_value : (nodes others : List Node) (id other : ℕ) (env : Enviro
 
   module _ (still : (script : Script) (old new : List Definition) → AgreeEverywhere (interpretation_of old) (interpretation_of new) → DefinesEach 0 script.preds new → AreFormulas script.preds new
       → IsSolution script old → IsSolution script new) where
-    pub solved : (bytes printed : List ℕ) → (h : IsSatAnswer bytes printed) → (es : List Definition) → Spells h.script.preds printed (Sat es) → AreFormulas h.script.preds es → IsSolution h.script es
-    solved bytes printed h es spells formed =
+    pub solved : PlainLaw → (bytes printed : List ℕ) → (h : IsSatAnswer bytes printed) → (es : List Definition) → Spells h.script.preds printed (Sat es) → AllByRecursion IsInArena es → IsSolution h.script es
+    solved plain_law bytes printed h es spells arenas =
         let same = (read_back bytes printed h).same (Sat es) spells in
         let preds = h.script.preds in
         let ds = h.definitions in
+        let formed = read_formed plain_law printed preds ds es h.solution.formed same arenas spells in
         still h.script ds es (agree 0 preds ds es h.solution.defined h.solution.formed formed same) (defines_same 0 preds ds es h.solution.defined same) formed h.solution
