@@ -21,18 +21,18 @@ pub raise_is_legal : IsLegal counting at_start (raise_by [])
 raise_is_legal = record { goes_on = refl; carries = (tt, tt); unbroken = refl }
 
 pub fact_is_legal : IsLegal contradiction at_start fact_false
-fact_is_legal = record { goes_on = refl; carries = record { clause = _; there = refl; instance = record { whole = refl; guard = truth-True [] } }; unbroken = refl }
+fact_is_legal = record { goes_on = refl; carries = record { clause = _; there = refl; instance = record { whole = refl; guard = truth-True [] }; short = refl }; unbroken = refl }
 
 -- the area and the cube fit: the tests of the guard, a form of one literal, are what they say
-open_fits : (others : Broken) → rule 3 (cond {A = Option By} (((cover (is_3 ∷ []) (Literal is_3) && true) && (((stands_in is_3 (Literal is_3) || false) || false) && true)) && true) None (Some ByStep)) others ≡ others
+pub open_fits : (others : Broken) → rule 3 (cond {A = Option By} (((cover (is_3 ∷ []) (Literal is_3) && true) && (((stands_in is_3 (Literal is_3) || false) || false) && true)) && true) None (Some ByStep)) others ≡ others
 open_fits others = ap₂ (λ (c d : Bool). rule 3 (cond {A = Option By} (((c && true) && (((d || false) || false) && true)) && true) None (Some ByStep)) others) (cover-Literal (is_3 ∷ []) is_3) (stands-Literal is_3 is_3)
 
 pub open_is_legal : IsLegal counting after_raise open_3
 open_is_legal = record {
   goes_on = refl;
   carries = (
-    record { clause = bad_clause; there = refl; instance = record { whole = refl; guard = truth-Literal (pos 3 ∷ []) is_3 } },
-    record { variables = refl; has_model = refl; extends = λ p holds. record { whole = p; same = λ v kept. refl; holds = holds } },
+    record { clause = bad_clause; there = refl; instance = record { whole = refl; guard = truth-Literal (pos 3 ∷ []) is_3 }; short = refl },
+    record { exact = refl; projects = record { variables = refl; has_model = refl; extends = λ p holds. record { whole = p; same = λ v kept. refl; holds = holds } } },
   );
   unbroken = open_fits None;
 }
@@ -48,7 +48,7 @@ apart x h =
     let is : x ≡ pos 0 = omega (arith, ints, zero_is) in
     rw is refl
 
-shows_first : Shows counting through_first
+pub shows_first : Shows counting through_first
 shows_first clause point there instance used =
     let same : first_clause ≡ clause = cc in
     subst (λ (c : Clause). IsInstance c point → meets point c.head through_first.goal ≡ true) same (λ i. apart (slice_index_or point 0 (pos 0)) (sym (truth-Literal point (is_number 0 (pos 0))) ∙ i.guard)) instance
@@ -57,7 +57,7 @@ clash : (b : Bool) → b ≡ true → (not (b && true) && true) ≡ true → fal
 clash true is h = h
 clash false is h = is
 
-shows_bad : Shows counting through_bad
+pub shows_bad : Shows counting through_bad
 shows_bad clause point there instance used =
     let same : bad_clause ≡ clause = cc in
     subst (λ (c : Clause). IsInstance c point → list_all (accepts_used point c.atoms) through_bad.used ≡ true → meets point c.head through_bad.goal ≡ true) same

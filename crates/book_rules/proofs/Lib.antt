@@ -12,6 +12,15 @@ pub mod RecordLemmas
 pub mod PlaceLemmas
 pub mod ReachLemmas
 pub mod OpenedLemmas
+pub mod StepLemmas
+pub mod CountLemmas
+pub mod RootLemmas
+pub mod ValueLemmas
+pub mod OverLemmas
+pub mod HangingLemmas
+pub mod OpeningLemmas
 pub mod ExampleLemmas
+pub mod WitnessLemmas
+pub mod CaseLemmas
 pub mod JournalLemmas
 pub mod Public

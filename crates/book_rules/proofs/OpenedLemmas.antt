@@ -1,5 +1,5 @@
 -- A legal Open, by its rules: each point of its cube is reached.
-use Rattle.std.proofs.Common.{◌≡◌, ℕ, ◌-◌, ◌<◌, ◌≤◌, List, [], ◌∷◌, length, Bool, true, false, ◌&&◌, not, cond, Some, None, refl, ap, sym, ◌∙◌, subst, arith}
+use Rattle.std.proofs.Common.{◌≡◌, ◌-◌, ◌<◌, ◌≤◌, List, length, Bool, true, false, ◌&&◌, not, cond, Some, None, ap, sym, ◌∙◌, subst, arith}
 use Rattle.std.specs.Prelude.{Option, ℤ, nat_le, nat_lt, ◌==◌, slice_get}
 use Rattle.std.specs.List.{list_any}
 use Rattle.std.proofs.lemmas.Bool.Decides.{nat_tests}
@@ -7,7 +7,7 @@ use Rattle.clause_form.specs.System.{Clauses, is_system, is_clause, is_atom}
 use Rattle.clause_form.specs.declared.atom.Atom.{Atom}
 use Rattle.clause_form.specs.declared.clause.Clause.{Clause}
 use Rattle.clause_form.proofs.Public.{keeps}
-use Rattle.cube_forms.specs.Cubes.{cube_holds, tuple_at}
+use Rattle.cube_forms.specs.Cubes.{cube_holds}
 use Rattle.book_rules.specs.declared.by.By.{By}
 use Rattle.book_rules.specs.declared.by.By.TheVariants.{Lemma as ByLemma, Obligation as ByObligation, Step as ByStep}
 use Rattle.book_rules.specs.Same.{same_cube}
@@ -20,12 +20,14 @@ use Rattle.book_rules.specs.State.{Obligation, State, holds}
 use Rattle.book_rules.specs.Steps.{IsSeen, OpenStep, Step}
 use Rattle.book_rules.specs.OpenRules.{parent_of, clause_of, atom_of, tuple_of, atom_fits, clause_fits, is_cube, shut_out, unknown, rule_1, rule_2, rule_3, rule_4, rule_5, rule_6, rule_7, rule_8, rule_9}
 use Rattle.book_rules.specs.Legal.{IsLegal}
-use Rattle.book_rules.specs.Reached.{IsReached, have_places}
+use Rattle.book_rules.specs.Reached.{IsReached}
+use Rattle.book_rules.specs.Places.{AreOver}
 use Rattle.book_rules.proofs.ListLemmas.{both_true, either_is, all_at, all_tested, cond_none, unless_none, none_told, untold_passes}
 use Rattle.book_rules.proofs.SameLemmas.{cube_is}
 use Rattle.book_rules.proofs.SoundLemmas.{unbroken}
 use Rattle.book_rules.proofs.OrderedLemmas.{frame_from}
 use Rattle.book_rules.proofs.PlaceLemmas.{point_alone}
+use Rattle.book_rules.proofs.OverLemmas.{length_at, places-have}
 use Rattle.book_rules.proofs.ReachLemmas.{area_has, projected_reaches}
 
 -- what the rules say of the parent, clause and atom that are there
@@ -56,10 +58,6 @@ opened_by sys s o parent clause atom there clause_there r2 r3 r4 r5 r9 =
           ∙ ap (λ (found : Option Obligation). on found (λ (p : Obligation). on (clause_of sys o) (λ (c : Clause). first_told (unknown s.lemmas (p.level - 1) o) c.atoms))) (sym there) ∙ r9;
     }
 
-length_at : (point : List ℤ) (args : List ℕ) → length (tuple_at point args) ≡ length args
-length_at point [] = refl
-length_at point (v ∷ args) = let more = length_at point args in omega (arith, more)
-
 -- a tuple in the cube of a single point is the step's own
 point_reaches : (sys : Clauses) (s : State) (o : OpenStep) (parent : Obligation) (clause : Clause) (atom : Atom) → IsInstance clause o.seen.point → AreOpened s o parent clause atom
     → (tuple : List ℤ) → length tuple ≡ length atom.args → cube_holds tuple (point_cube (tuple_of o atom)) ≡ true → IsReached clause atom parent s.lemmas (parent.level - 1) tuple
@@ -78,9 +76,9 @@ point_reaches sys s o parent clause atom instance opened tuple long held =
     }
 
 pub opened_reaches : (sys : Clauses) (s : State) (o : OpenStep) → is_system sys ≡ true → IsLegal sys s (Step.Opens o) → (parent : Obligation) (clause : Clause) (atom : Atom)
-    → slice_get s.obligations o.parent ≡ Some parent → slice_get sys.clauses o.seen.clause ≡ Some clause → slice_get clause.atoms o.atom ≡ Some atom → have_places s.lemmas parent clause ≡ true
+    → slice_get s.obligations o.parent ≡ Some parent → slice_get sys.clauses o.seen.clause ≡ Some clause → slice_get clause.atoms o.atom ≡ Some atom → AreOver sys s
     → (tuple : List ℤ) → length tuple ≡ length atom.args → cube_holds tuple o.cube ≡ true → IsReached clause atom parent s.lemmas (parent.level - 1) tuple
-opened_reaches sys s o system legal parent clause atom there clause_there atom_there places tuple long held =
+opened_reaches sys s o system legal parent clause atom there clause_there atom_there over tuple long held =
     let k = parent.level - 1 in
     let r1 = unbroken 1 (rule_1 s o) _ legal.unbroken in
     let r2 = unbroken 2 (rule_2 s o) _ r1.1 in
@@ -99,11 +97,12 @@ opened_reaches sys s o system legal parent clause atom there clause_there atom_t
     let fits : atom_fits s o parent clause atom ≡ true = ap (λ (found : Option Atom). has found (atom_fits s o parent clause)) (sym atom_there) ∙ head_and_atom.1 in
     let area_and_cube = both_true (is_area clause o.seen.point atom parent.cube s.lemmas k o.area) (is_cube s o atom) fits in
     let one = all_at (is_clause sys.preds) sys.clauses o.seen.clause clause clause_there system in
+    let places = places-have sys s o.parent parent clause over one there head_and_atom.0 in
     let its_atom = all_at (is_atom sys.preds (length clause.sorts)) clause.atoms o.atom atom atom_there (keeps sys.preds clause one).atoms in
     let known = none_told (unknown s.lemmas k o) (λ (a : Atom). list_any (λ (e : Framed). nat_le k e.level && (e.lemma.pred == a.pred) && not (knows o.area a e.lemma.cube)) s.lemmas ≡ false)
     (λ a told. untold_passes ByLemma (λ (e : Framed). nat_le k e.level && (e.lemma.pred == a.pred) && not (knows o.area a e.lemma.cube)) s.lemmas told) clause.atoms opened.known in
     either_is (same_cube o.cube (projected_cube atom o.area)) _ (IsReached clause atom parent s.lemmas k tuple)
-    (λ same. projected_reaches sys clause atom parent s.lemmas k o.area one its_atom head_and_atom.0 (area_has clause o.seen.point atom parent.cube s.lemmas k o.area area_and_cube.0) (legal.carries).1 opened.some known places tuple long
+    (λ same. projected_reaches sys clause atom parent s.lemmas k o.area one its_atom head_and_atom.0 (area_has clause o.seen.point atom parent.cube s.lemmas k o.area area_and_cube.0) ((legal.carries).1).projects opened.some known places tuple long
     (ap (cube_holds tuple) (sym (cube_is o.cube (projected_cube atom o.area) same)) ∙ held))
     (λ other. point_reaches sys s o parent clause atom instance opened tuple long
     (ap (cube_holds tuple) (sym (cube_is o.cube (point_cube (tuple_of o atom)) (both_true (same_cube o.cube (point_cube (tuple_of o atom))) _ other).0)) ∙ held))

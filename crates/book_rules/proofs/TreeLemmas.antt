@@ -16,7 +16,7 @@ get-append [] ys i x is = absurd (cc)
 get-append (y ∷ xs) ys zero x is = is
 get-append (y ∷ xs) ys (suc i) x is = get-append xs ys i x is
 
-length-push : {X : Type 0} (xs : List X) (x : X) → 0 < length (xs ++ x ∷ [])
+pub length-push : {X : Type 0} (xs : List X) (x : X) → 0 < length (xs ++ x ∷ [])
 length-push [] x = omega arith
 length-push (y ∷ xs) x = omega arith
 

@@ -17,4 +17,11 @@ pub mod Effects
 pub mod Legal
 pub mod Kept
 pub mod Reached
+pub mod Rooted
+pub mod Counts
+pub mod Values
+pub mod Places
+pub mod Hanging
+pub mod Openings
 pub mod Examples
+pub mod Cases

@@ -2,6 +2,7 @@
 -- where its fact holds; here it is the plain data, and `Carries` the facts of all tokens of a step.
 use Rattle.std.specs.Prelude.{◌≡◌, ℕ, ℤ, List, Bool, true, false, not, Option, Some, None, slice_get}
 use Rattle.std.specs.List.{list_all}
+use Rattle.base.specs.Widths.{is_short}
 use Rattle.lin_atoms.specs.declared.lit.Lit.{Lit}
 use Rattle.lin_atoms.specs.declared.form.Form.{Form}
 use Rattle.clause_form.specs.System.{Clauses}
@@ -9,7 +10,7 @@ use Rattle.clause_form.specs.declared.atom.Atom.{Atom}
 use Rattle.clause_form.specs.declared.clause.Clause.{Clause}
 use Rattle.cube_forms.specs.Cubes.{cube_holds, tuple_at}
 use Rattle.model_project.specs.Kept.{Kept}
-use Rattle.model_project.specs.Projection.{IsProjection}
+use Rattle.model_project.specs.Projection.{IsProjection, projection}
 use Rattle.farkas_proof.specs.GivenUp.{IsGivenUp}
 use Rattle.farkas_proof.specs.declared.evidence.Evidence.{Evidence}
 use Rattle.book_rules.specs.Walks.{AllOf, has}
@@ -85,10 +86,17 @@ pub data Step : Type 0 where
 
 -- what the tokens stand for
 
+-- an instance of a clause that is there, with each value below 2 ^ 63 in magnitude
 pub record IsSeen (sys : Clauses) (seen : Seen) : Type 0 where
   pub clause : Clause
   pub there : slice_get sys.clauses seen.clause ≡ Some clause
   pub instance : IsInstance clause seen.point
+  pub short : list_all is_short seen.point ≡ true
+
+-- the area's cube is exactly that of the elimination, and so has what a projection has
+pub record IsProjected (area : Kept) : Type 0 where
+  pub exact : area.cube ≡ projection area.model area.keep area.lits
+  pub projects : IsProjection area.lits area.model area.keep area.cube
 
 -- whether a used lemma accepts the tuple of its atom
 abbrev pub accepts_used : List ℤ → List Atom → Used → Bool
@@ -124,7 +132,7 @@ IsWhy sys cube (Broken seen) = Breaks sys cube seen
 IsWhy sys cube (Unknown clause used left) = IsUnknown sys cube clause used left
 
 abbrev pub Carries : Clauses → Step → Type 0
-Carries sys (Opens o) = IsSeen sys o.seen × IsProjection o.area.lits o.area.model o.area.keep o.area.cube
+Carries sys (Opens o) = IsSeen sys o.seen × IsProjected o.area
 Carries sys (Learns l) = AllOf (Shows sys) l.proofs
 Carries sys (Records f) = IsSeen sys f.seen
 Carries sys (Lifts l) = AllOf (Shows sys) l.proofs

@@ -14,7 +14,8 @@ ghost use Rattle.book_rules.specs.Frames.{Framed, IsShown, AreRefuted, AreGood, 
 ghost use Rattle.book_rules.specs.Kept.{AreDerivable, AreDistinct, AreInRange, ArePlaced, AreRecorded, IsFalse, IsOrdered, IsSound};
 ghost use Rattle.book_rules.specs.Legal.{AreLegal, IsLegal, end, replay};
 ghost use Rattle.book_rules.specs.Effects.{after};
-ghost use Rattle.book_rules.specs.Reached.{IsReached, have_places};
+ghost use Rattle.book_rules.specs.Places.{AreOver};
+ghost use Rattle.book_rules.specs.Reached.{IsReached};
 ghost use Rattle.book_rules.specs.Same.{same_cube, same_form, same_tuple};
 ghost use Rattle.book_rules.specs.State.{Obligation, State, opening};
 ghost use Rattle.book_rules.specs.Steps.{OpenStep, Opens, Step};
@@ -78,11 +79,10 @@ pub fn equality_is_tested()
 {}
 
 /// Each point of the cube of a legal Open is the atom's tuple in an instance whose head the parent
-/// holds and whose body is in F of the level below, where the cubes of the parent and of the lemmas
-/// speak of places that their predicates have.
+/// holds and whose body is in F of the level below, in a book whose cubes are over their predicates.
 pub fn opened_cubes_are_reached()
     ensures { (sys : Clauses) (s : State) (o : OpenStep) → is_system sys ≡ true → IsLegal sys s (Opens o) → (parent : Obligation) (clause : Clause) (atom : Atom) →
-        slice_get s.obligations o.parent ≡ Some parent → slice_get sys.clauses o.seen.clause ≡ Some clause → slice_get clause.atoms o.atom ≡ Some atom → have_places s.lemmas parent clause ≡ true →
+        slice_get s.obligations o.parent ≡ Some parent → slice_get sys.clauses o.seen.clause ≡ Some clause → slice_get clause.atoms o.atom ≡ Some atom → AreOver sys s →
         (tuple : List ℤ) → length tuple ≡ length atom.args → cube_holds tuple o.cube ≡ true → IsReached clause atom parent s.lemmas (parent.level - 1) tuple }
 {}
 

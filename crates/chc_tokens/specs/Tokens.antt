@@ -2,8 +2,9 @@
 -- being lifted (Hoder and Bjorner, "Generalized property directed reachability", section 3; Komuravelli, Gurfinkel and
 -- Chaki, "SMT-based model checking for recursive programs", section 4). Each is a relation between the token's own
 -- parts and the clauses, so it holds of equal tokens and of equal systems.
-use Rattle.std.specs.Prelude.{◌≡◌, ℕ, ℤ, List, slice_get, Option, Some, None, is_some, Bool, true, false}
+use Rattle.std.specs.Prelude.{◌≡◌, ℕ, ℤ, List, slice_get, Option, Some, None, is_some, Bool, true, false, ◌&&◌}
 use Rattle.std.specs.List.{list_all}
+use Rattle.base.specs.Widths.{is_short}
 use Rattle.lin_atoms.specs.Truth.{truth}
 use Rattle.lin_atoms.specs.declared.lit.Lit.{Lit}
 use Rattle.farkas_proof.specs.Kept.{form_of}
@@ -42,9 +43,9 @@ Shows sys n goal used =
     (clause : Clause) → slice_get sys.clauses n ≡ Some clause → (point : List ℤ) → truth point clause.guard ≡ true
     → list_all (is_passed point clause) used ≡ true → meets goal (head_at point clause) ≡ true
 
--- it is an instance of its clause
+-- it is an instance of its clause, and each value is below 2^63 in magnitude
 abbrev pub is_seen : Clauses → Seen → Bool
-is_seen sys seen = is_instance_of sys (seen_clause seen) (seen_point seen)
+is_seen sys seen = is_instance_of sys (seen_clause seen) (seen_point seen) && list_all is_short (seen_point seen)
 
 -- whether the head of a clause is there, with each place of the lemma
 abbrev pub has_head : Option Clause → List Lit → Bool

@@ -1,4 +1,6 @@
 ghost use Rattle.std.specs.Prelude.{◌≡◌, ◌↔◌, Some, IfOk, IsErrOf, is_some, true, false};
+ghost use Rattle.std.specs.List.{list_all};
+ghost use Rattle.base.specs.Widths.{is_short};
 ghost use Rattle.chc_tokens.specs.Kept.{seen_clause, seen_point, shown_clause, shown_goal, shown_proof, shown_used};
 ghost use Rattle.chc_tokens.specs.Queries.{query_at};
 ghost use Rattle.chc_tokens.specs.Instances.{is_instance_of, is_point_of};
@@ -78,9 +80,11 @@ fn is_instance(sys: &System, clause: u32, point: &[i64]) -> bool
 }
 
 /// Keeps an instance of the clause. It is `NoInstance` exactly where the guard doesn't hold at the
-/// point. It takes no memory.
+/// point. The values are below 2^63 in magnitude, as in every model, fact and tuple; `are_short` tells
+/// that. It takes no memory.
 pub fn seen(sys: &System, clause: u32, point: Vec<i64>) -> Result<Seen, TokenStop>
-    requires { is_point_of sys.now clause point.items ≡ true }
+    requires point { is_point_of sys.now clause point.items ≡ true }
+    requires short { list_all is_short point.items ≡ true }
     ensures clause { IfOk result (λ s. seen_clause s ≡ clause) }
     ensures point { IfOk result (λ s. seen_point s ≡ point.items) }
     ensures seen { IfOk result (λ s. is_seen sys.now s ≡ true) }

@@ -1,8 +1,8 @@
 use base::{Copied, Items, Memory};
 use std::alloc::Global;
 
-/// An instance of a clause: a value for each of its variables, at which the guard holds. Only `seen`
-/// makes one.
+/// An instance of a clause: a value below 2^63 in magnitude for each of its variables, at which the
+/// guard holds. Only `seen` makes one.
 #[derive(Drop)]
 pub struct Seen {
     pub(crate) clause: u32,

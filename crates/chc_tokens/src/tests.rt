@@ -6,8 +6,9 @@ ghost use Rattle.lin_atoms.specs.declared.form.Form.TheViews.{And, Or};
 ghost use Rattle.farkas_proof.specs.Kept.{form_of};
 
 use crate::{
-    Goal, NoLift, Shown, TokenStop, Used, Why, base_of, checked_base_of, checked_forms_of,
-    checked_query_of, forms_of, has_head, has_values, no_lift, query_of, seen, shown, shown_by,
+    Goal, NoLift, Shown, TokenStop, Used, Why, are_short, base_of, checked_base_of,
+    checked_forms_of, checked_query_of, forms_of, has_head, has_values, no_lift, query_of, seen,
+    shown, shown_by,
 };
 use base::{Copied, Items, Same};
 use clause_form::{Atom, Clause, System};
@@ -333,19 +334,19 @@ fn a_form_that_was_just_refuted_is_not_made_again(rt: HostRuntime) -> Result<(),
     Ok(())
 }
 
-fn point(alloc: Global, x1: i64) -> Result<Vec<i64>, Fail> {
-    let point = Vec::from_array(alloc, [2, x1])?;
+fn point(alloc: Global, x0: i64, x1: i64) -> Result<Vec<i64>, Fail> {
+    let point = Vec::from_array(alloc, [x0, x1])?;
     Ok(point)
 }
 
-/// Whether `seen` keeps 2 and x1 as an instance of the second clause.
-fn is_instance(alloc: Global, sys: &System, x1: i64) -> Result<bool, Fail> {
-    let point = point(alloc, x1)?;
-    if !has_values(sys, 1, point.as_slice()) {
-        return Err("a point of other variables".into());
+/// Whether `seen` keeps x0 and x1 as an instance of the second clause.
+fn is_instance(alloc: Global, sys: &System, x0: i64, x1: i64) -> Result<bool, Fail> {
+    let point = point(alloc, x0, x1)?;
+    if !has_values(sys, 1, point.as_slice()) || !are_short(point.as_slice()) {
+        return Err("a point of other variables, or a value of -2^63".into());
     }
     match seen(sys, 1, point) {
-        Ok(seen) => Ok(seen.copy(alloc)?.point() == [2, x1].as_slice()),
+        Ok(seen) => Ok(seen.copy(alloc)?.point() == [x0, x1].as_slice()),
         Err(TokenStop::NoInstance) => Ok(false),
         Err(_) => Err("another stop".into()),
     }
@@ -361,6 +362,9 @@ fn broken(
     if !has_head(sys, 1, &lemma) || !has_values(sys, 1, point.as_slice()) {
         return Err("no head, or a point of other variables".into());
     }
+    if !are_short(point.as_slice()) {
+        return Err("a value of -2^63".into());
+    }
     match seen(sys, 1, point) {
         Ok(seen) => Ok(no_lift(alloc, sys, lemma, Why::Broken(seen))),
         Err(_) => Err("no instance".into()),
@@ -370,7 +374,7 @@ fn broken(
 /// Whether `no_lift` keeps 'not this value' for the instance at 2 and 3.
 fn is_broken(alloc: Global, sys: &System, value: i128) -> Result<bool, Fail> {
     let lemma = not_at(alloc, 0, value)?;
-    let point = point(alloc, 3)?;
+    let point = point(alloc, 2, 3)?;
     match broken(alloc, sys, lemma, point)? {
         Ok(_) => Ok(true),
         Err(TokenStop::NotBroken) => Ok(false),
@@ -382,11 +386,20 @@ fn is_broken(alloc: Global, sys: &System, value: i128) -> Result<bool, Fail> {
 fn an_instance_breaks_what_its_head_breaks(rt: HostRuntime) -> Result<(), Fail> {
     let sys = system(rt.alloc())?;
     for (value, wanted) in [(2, false), (3, true), (4, false)] {
-        let is = is_instance(rt.alloc(), &sys, value)?;
+        let is = is_instance(rt.alloc(), &sys, 2, value)?;
         assert_eq!(rt; is, wanted, "2 and {value}");
         let broken = is_broken(rt.alloc(), &sys, i128::from(value))?;
         assert_eq!(rt; broken, wanted, "not {value}");
     }
+    Ok(())
+}
+
+#[test]
+fn the_values_of_an_instance_are_below_2_to_63(rt: HostRuntime) -> Result<(), Fail> {
+    let sys = system(rt.alloc())?;
+    assert!(rt; is_instance(rt.alloc(), &sys, -i64::MAX, 1 - i64::MAX)?);
+    assert!(rt; are_short(&[-i64::MAX, i64::MAX]));
+    assert!(rt; !are_short(&[0, i64::MIN]));
     Ok(())
 }
 

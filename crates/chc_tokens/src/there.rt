@@ -1,4 +1,6 @@
 ghost use Rattle.std.specs.Prelude.{◌≡◌, slice_get};
+ghost use Rattle.std.specs.List.{list_all};
+ghost use Rattle.base.specs.Widths.{is_short};
 ghost use Rattle.chc_tokens.specs.Instances.{is_point_of};
 ghost use Rattle.chc_tokens.specs.Tokens.{has_head};
 
@@ -6,7 +8,7 @@ use crate::atoms::has_places;
 use clause_form::System;
 use cube_forms::Lemma;
 
-/// Whether the clause is there and the point has a value for each of its variables: what `seen` asks.
+/// Whether the clause is there and the point has a value for each of its variables: `seen` asks it.
 pub fn has_values(sys: &System, clause: u32, point: &[i64]) -> bool
     ensures { result ≡ is_point_of sys.now clause point.now }
 {
@@ -14,6 +16,13 @@ pub fn has_values(sys: &System, clause: u32, point: &[i64]) -> bool
         Some(clause) => point.len() == clause.sorts.len(),
         None => false,
     }
+}
+
+/// Whether each value is below 2^63 in magnitude: `seen` asks it, too. All but -2^63 are.
+pub fn are_short(point: &[i64]) -> bool
+    ensures { result ≡ list_all is_short point.now }
+{
+    point.iter().all(|value| value.unsigned_abs() < 1 << 63)
 }
 
 /// Whether the clause is there and has a head with each place of the lemma: what `no_lift` asks of

@@ -8,7 +8,7 @@ use Rattle.std.proofs.lemmas.List.Elements.{Contains-append_left, Contains-get_o
 use Rattle.std.proofs.lemmas.List.Quantifiers.{all_pairs_push}
 use Rattle.derivations.specs.declared.fact.Fact.{Fact}
 use Rattle.derivations.specs.declared.row.Row.{Row}
-use Rattle.derivations.specs.Facts.{pred_of, tuple_of, premises_of, AreRecorded, Concludes}
+use Rattle.derivations.specs.Facts.{pred_of, tuple_of, premises_of, AreRecorded, Concludes, IsBare}
 use Rattle.derivations.specs.machinery.Index.{IsBelow, IsIndexed, IsRank, IsRow, empty}
 use Rattle.derivations.proofs.InsertLemmas.{inserted, insert_has, insert_keeps, pairs_weaker}
 use Rattle.derivations.proofs.SearchLemmas.{row_insert}
@@ -33,10 +33,11 @@ split fs f n l = by (cases_order n (length fs)) where
   by (inr (inl less)) = inr less
   by (inr (inr past)) = let long = more_long fs f in absurd (omega arith)
 
-pub recorded_push : (fs : List Fact) (f : Fact) → AreRecorded fs → All (λ p. p < length fs) f.premises → ((n : ℕ) → Concludes fs n f.pred f.tuple → ⊥) → AreRecorded (fs ++ f ∷ [])
-recorded_push fs f recorded there fresh = record {
+pub recorded_push : (fs : List Fact) (f : Fact) → AreRecorded fs → All (λ p. p < length fs) f.premises → ((n : ℕ) → Concludes fs n f.pred f.tuple → ⊥) → IsBare f → AreRecorded (fs ++ f ∷ [])
+recorded_push fs f recorded there fresh bare = record {
   earlier = λ n l. earlier n (split fs f n l);
   distinct = λ m n lm ln p t. distinct m n (split fs f m lm) (split fs f n ln) p t;
+  bare = λ n l p. none n (split fs f n l) p;
 } where
   more : List Fact
   more = fs ++ f ∷ []
@@ -44,6 +45,10 @@ recorded_push fs f recorded there fresh = record {
   earlier : (n : ℕ) → (n ≡ length fs) ⊎ (n < length fs) → All (λ p. p < n) (premises_of more n)
   earlier n (inl e) = subst (λ ps. All (λ p. p < n) ps) (sym (field_new (λ g. g.premises) [] fs f n e)) (λ k d l. (let less = there k d l in omega arith))
   earlier n (inr less) = subst (λ ps. All (λ p. p < n) ps) (field_push (λ g. g.premises) [] fs f n less) (recorded.earlier n less)
+
+  none : (n : ℕ) → (n ≡ length fs) ⊎ (n < length fs) → pred_of more n ≡ None → tuple_of more n ≡ []
+  none n (inl e) p = field_new (λ g. g.tuple) [] fs f n e ∙ bare (sym (field_new (λ g. g.pred) None fs f n e) ∙ p)
+  none n (inr less) p = sym (field_push (λ g. g.tuple) [] fs f n less) ∙ recorded.bare n less (field_push (λ g. g.pred) None fs f n less ∙ p)
 
   -- the new conclusion is no old one
   clash : (m n : ℕ) → m < length fs → n ≡ length fs → pred_of more m ≡ pred_of more n → tuple_of more m ≡ tuple_of more n → ⊥
@@ -135,11 +140,11 @@ row_own fs f pred row rank own fresh is at = record {
       let old = (is.exact x).0 has in
       fresh x (old.0, old.1 ∙ sym own, same x has ∙ e ∙ mine)
 
-pub index_of : (rows : List Row) (fs : List Fact) (f : Fact) (pred rank : ℕ) (row : Row) → IsIndexed rows fs → f.pred ≡ Some pred → pred < length rows → All (λ p. p < length fs) f.premises → ((n : ℕ) → Concludes fs n f.pred f.tuple → ⊥)
+pub index_of : (rows : List Row) (fs : List Fact) (f : Fact) (pred rank : ℕ) (row : Row) → IsIndexed rows fs → f.pred ≡ Some pred → pred < length rows → All (λ p. p < length fs) f.premises → ((n : ℕ) → Concludes fs n f.pred f.tuple → ⊥) → IsBare f
     → IsRank (tuple_of fs) (get_or rows pred empty).by_tuple f.tuple rank
     → row ≡ record { by_number = (get_or rows pred empty).by_number ++ length fs ∷ []; by_tuple = insert (get_or rows pred empty).by_tuple rank (length fs) }
     → IsIndexed (set rows pred row) (fs ++ f ∷ [])
-index_of rows fs f pred rank row index own within there fresh at is = record { recorded = recorded_push fs f index.recorded there fresh; each = λ other. each other (cases_eq other pred) } where
+index_of rows fs f pred rank row index own within there fresh bare at is = record { recorded = recorded_push fs f index.recorded there fresh bare; each = λ other. each other (cases_eq other pred) } where
   each : (other : ℕ) → (other ≡ pred) ⊎ (other ≡ pred → ⊥) → IsRow (fs ++ f ∷ []) other (get_or (set rows pred row) other empty)
   each other (inl e) =
       let here : get_or (set rows pred row) other empty ≡ row = ap (λ k. get_or (set rows pred row) k empty) e ∙ get_or-set_same rows pred row empty within in
@@ -149,15 +154,15 @@ index_of rows fs f pred rank row index own within there fresh at is = record { r
         some_inj : (a b : ℕ) → Some a ≡ Some b → a ≡ b
         some_inj a b e = cc
 
-pub index_false : (rows : List Row) (fs : List Fact) (f : Fact) → IsIndexed rows fs → f.pred ≡ None → All (λ p. p < length fs) f.premises → ((n : ℕ) → Concludes fs n f.pred f.tuple → ⊥) → IsIndexed rows (fs ++ f ∷ [])
-index_false rows fs f index own there fresh = record {
-  recorded = recorded_push fs f index.recorded there fresh;
+pub index_false : (rows : List Row) (fs : List Fact) (f : Fact) → IsIndexed rows fs → f.pred ≡ None → All (λ p. p < length fs) f.premises → ((n : ℕ) → Concludes fs n f.pred f.tuple → ⊥) → IsBare f → IsIndexed rows (fs ++ f ∷ [])
+index_false rows fs f index own there fresh bare = record {
+  recorded = recorded_push fs f index.recorded there fresh bare;
   each = λ pred. row_other fs f pred (get_or rows pred empty) (λ e. (let both : None ≡ Some pred = sym own ∙ e in absurd (cc))) (index.each pred);
 }
 
 pub index_none : IsIndexed [] []
 index_none = record {
-  recorded = record { earlier = λ n l. absurd (omega arith); distinct = λ m n lm ln p t. absurd (omega arith) };
+  recorded = record { earlier = λ n l. absurd (omega arith); distinct = λ m n lm ln p t. absurd (omega arith); bare = λ n l p. absurd (omega arith) };
   each = λ pred. record {
     numbers = record { order = λ i j d l in'. absurd (omega arith); exact = λ n. (none pred n, λ new. (let l = new.0 in absurd (omega arith))) };
     order = λ i j d l in'. absurd (omega arith);

@@ -1,14 +1,17 @@
 -- Heights by their premises, and what the steps to a fact have.
-use Rattle.std.proofs.Common.{◌≡◌, ℕ, zero, suc, ◌+◌, ◌-◌, ◌<◌, ◌≤◌, List, [], ◌∷◌, map, length, get_or, refl, ap, sym, subst, ◌∙◌, arith, inl, inr}
+use Rattle.std.proofs.Common.{◌≡◌, ℕ, zero, suc, ◌+◌, ◌-◌, ◌<◌, ◌≤◌, List, [], ◌∷◌, map, length, get_or, None, refl, ap, sym, subst, ◌∙◌, arith, inl, inr}
 use Rattle.std.specs.Prelude.{◌⊎◌}
 use Rattle.std.specs.List.{All, Contains, fold}
 use Rattle.std.proofs.lemmas.Bool.{cases_lt}
 use Rattle.std.proofs.lemmas.List.{length-append, get_or_append_left, get_or_default, get_or_push}
 use Rattle.std.proofs.lemmas.List.Elements.{All-contains, Contains-get_or}
 use Rattle.derivations.specs.declared.fact.Fact.{Fact}
-use Rattle.derivations.specs.Facts.{greatest, height_of, premises_of, with_height, AreRecorded, AreSteps, RestsOn}
+use Rattle.derivations.specs.Facts.{greatest, height_of, pred_of, premises_of, with_height, AreRecorded, AreSteps, RestsOn}
 use Rattle.derivations.specs.Facts.RestsOn.{itself, through}
 use Rattle.derivations.proofs.MarkLemmas.{rests_more}
+
+pub once : (facts : List Fact) (m n : ℕ) → AreRecorded facts → m < length facts → n < length facts → pred_of facts m ≡ None → pred_of facts n ≡ None → m ≡ n
+once facts m n recorded lm ln pm pn = recorded.distinct m n lm ln (pm ∙ sym pn) (recorded.bare m lm pm ∙ sym (recorded.bare n ln pn))
 
 map_agree : (g h : ℕ → ℕ) (ps : List ℕ) → ((p : ℕ) → Contains ps p → g p ≡ h p) → map g ps ≡ map h ps
 map_agree g h [] same = refl

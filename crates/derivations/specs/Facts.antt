@@ -18,10 +18,15 @@ premises_of facts n = get_or (map (λ f. f.premises) facts) n []
 abbrev pub Concludes : List Fact → ℕ → Option ℕ → List ℤ → Type 0
 Concludes facts n pred tuple = (n < length facts) × (pred_of facts n ≡ pred) × (tuple_of facts n ≡ tuple)
 
--- premises are earlier facts, and nothing is concluded twice
+-- where a fact is of false, its tuple is empty
+abbrev pub IsBare : Fact → Type 0
+IsBare fact = fact.pred ≡ None → fact.tuple ≡ []
+
+-- premises are earlier facts, nothing is concluded twice, and false has no tuple
 pub record AreRecorded (facts : List Fact) : Type 0 where
   pub earlier : (n : ℕ) → n < length facts → All (λ p. p < n) (premises_of facts n)
   pub distinct : (m n : ℕ) → m < length facts → n < length facts → pred_of facts m ≡ pred_of facts n → tuple_of facts m ≡ tuple_of facts n → m ≡ n
+  pub bare : (n : ℕ) → n < length facts → pred_of facts n ≡ None → tuple_of facts n ≡ []
 
 -- exactly the facts of the predicate, in order of number
 pub record AreOf (facts : List Fact) (pred : ℕ) (numbers : List ℕ) : Type 0 where

@@ -1,6 +1,6 @@
 ghost use Rattle.std.specs.Prelude.{◌≡◌, ◌↔◌, [], ◌∷◌, ◌++◌, ◌<◌, ◌-◌, ◌^◌, ℕ, Some, length, slice_index_or, IfOk, OnOk, OnErr};
 ghost use Rattle.std.specs.List.{All};
-ghost use Rattle.derivations.specs.Facts.{AreOf, AreRecorded, AreSteps, Concludes, height_of};
+ghost use Rattle.derivations.specs.Facts.{AreOf, AreRecorded, AreSteps, Concludes, IsBare, height_of};
 
 use crate::fact::Fact;
 use crate::marks::steps;
@@ -92,7 +92,8 @@ impl Facts {
         steps(alloc, &self.notes, id)
     }
 
-    /// Tells that premises are earlier facts, and that no conclusion is recorded twice.
+    /// Tells that premises are earlier facts, that no conclusion is recorded twice, and that false has
+    /// no tuple: so it is recorded once at most.
     pub fn are_recorded(&self)
         ensures { AreRecorded self.now }
     {
@@ -110,10 +111,12 @@ impl Facts {
         Ok(Facts { notes, rows })
     }
 
-    /// Adds a fact, and answers its number. Its premises are there, and its conclusion isn't.
+    /// Adds a fact, and answers its number. Its premises are there, and its conclusion isn't; that of
+    /// false has no tuple.
     pub fn add(&mut self, fact: Fact) -> Result<u32, Memory>
         requires there { All (λ p. p < length self.old) fact.premises }
         requires fresh { (n : ℕ) → Concludes self.old n fact.pred fact.tuple → ⊥ }
+        requires bare { IsBare fact }
         requires room { length self.old < 2 ^ 32 - 1 }
         ensures number { IfOk result (λ number. number ≡ length self.old) }
         ensures ok { OnOk result (self.new ≡ self.old ++ fact ∷ []) }

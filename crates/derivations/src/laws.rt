@@ -1,9 +1,14 @@
 //! Laws of the definitions, as contracts of functions that do nothing.
 
-ghost use Rattle.std.specs.Prelude.{◌≡◌, ◌<◌, ◌+◌, ◌-◌, ℕ, List, length, map, get_or};
+ghost use Rattle.std.specs.Prelude.{◌≡◌, ◌<◌, ◌+◌, ◌-◌, ℕ, List, None, length, map, get_or};
 ghost use Rattle.std.specs.List.{Contains};
-ghost use Rattle.derivations.specs.Facts.{AreRecorded, AreSteps, greatest, height_of, premises_of};
+ghost use Rattle.derivations.specs.Facts.{AreRecorded, AreSteps, greatest, height_of, pred_of, premises_of};
 ghost use Rattle.derivations.specs.declared.fact.Fact.{Fact};
+
+/// False is recorded once at most.
+pub fn false_is_recorded_once()
+    ensures { (facts : List Fact) (m n : ℕ) → AreRecorded facts → m < length facts → n < length facts → pred_of facts m ≡ None → pred_of facts n ≡ None → m ≡ n }
+{}
 
 /// A fact's height is 1 plus the greatest height of its premises.
 pub fn a_height_is_one_more()

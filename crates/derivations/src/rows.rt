@@ -1,6 +1,6 @@
 ghost use Rattle.std.specs.Prelude.{◌≡◌, ◌∷◌, ◌++◌, [], ◌<◌, ◌≤◌, ◌+◌, ◌-◌, ◌^◌, ℕ, length, slice_index_or, slice_set, IfOk, OnOk, OnErr};
 ghost use Rattle.std.specs.List.{All};
-ghost use Rattle.derivations.specs.Facts.{Concludes};
+ghost use Rattle.derivations.specs.Facts.{Concludes, IsBare};
 ghost use Rattle.derivations.specs.machinery.Index.{IsIndexed, empty};
 
 use crate::fact::Fact;
@@ -104,6 +104,7 @@ pub(crate) fn add_in(
     requires index { IsIndexed rows.old.items notes.old }
     requires there { All (λ p. p < length notes.old) fact.premises }
     requires fresh { (n : ℕ) → Concludes notes.old n fact.pred fact.tuple → ⊥ }
+    requires bare { IsBare fact }
     requires room { length notes.old < 2 ^ 32 - 1 }
     ensures facts { OnOk result (notes.new ≡ notes.old ++ fact ∷ []) }
     ensures index { IsIndexed rows.new.items notes.new }

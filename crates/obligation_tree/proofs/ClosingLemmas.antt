@@ -1,6 +1,6 @@
 -- Closing: the pass over the live obligations closes what the rule says, and what is left is a tree.
 use Rattle.std.proofs.Common.{◌≡◌, ℕ, suc, zero, ◌+◌, ◌-◌, ◌<◌, ◌≤◌, List, [], ◌∷◌, ◌++◌, length, set, take, drop, filter, Bool, true, false, cond, not, ◌&&◌, ◌||◌, refl, ap, sym, ◌∙◌, subst, arith, ◌⊎◌, inl, inr, ⊎_elim}
-use Rattle.std.specs.Prelude.{nat_lt}
+use Rattle.std.specs.Prelude.{is_some, nat_lt}
 use Rattle.std.specs.List.{range_with_len}
 use Rattle.std.proofs.lemmas.Bool.{cases_lt, lt-ltb, le-ltb, false≢true, not-false}
 use Rattle.std.proofs.lemmas.List.{append-nil, append_assoc, get_or_append_left, get_or_at, get_or_past, set_at, take_more, take_all, drop_more, drop_all, length-take-le, length-append, length_push}
@@ -150,6 +150,7 @@ closing-tree test entry xs tree =
     record {
       some = (let some = tree.some in omega (arith, long, some));
       rooted = first ∙ tree.rooted ∙ ap (λ (o : Obligation). root o.level) (sym first);
+      others = λ i above within. ap (λ (o : Obligation). is_some o.pred) (closing-obligation test entry xs i) ∙ tree.others i above (omega (arith, long, within));
       ordered = λ i above within. subst (λ (o : Obligation). o.parent < i) (sym (closing-obligation test entry xs i)) (tree.ordered i above (omega (arith, long, within)));
       hung = closing-hung test entry [] xs (tree-behind xs tree) (λ i live. absurd (false≢true live));
     }

@@ -1,6 +1,6 @@
 -- What a tree keeps, when an obligation comes, is marked or changes its level.
 use Rattle.std.proofs.Common.{◌≡◌, ℕ, suc, zero, ◌+◌, ◌<◌, List, [], ◌∷◌, ◌++◌, length, set, filter, Bool, true, false, cond, not, ◌&&◌, ◌||◌, ◌==◌, refl, ap, sym, ◌∙◌, subst, arith, ◌⊎◌, inl, inr, ⊎_elim}
-use Rattle.std.specs.Prelude.{nat_lt}
+use Rattle.std.specs.Prelude.{Option, is_some, nat_lt}
 use Rattle.std.specs.List.{range_with_len, list_any}
 use Rattle.std.proofs.lemmas.Bool.{cases_lt, cases_eq, ne_eqb, lt-ltb, false≢true, and_right}
 use Rattle.std.proofs.lemmas.List.{get_or_append_left, get_or_push, get_or_past, get_or-set_same, get_or-set_other, length-set, length_push}
@@ -15,11 +15,16 @@ use Rattle.obligation_tree.specs.declared.node.Node.{Node}
 use Rattle.obligation_tree.specs.declared.index.Index.{Index}
 use Rattle.obligation_tree.proofs.NumberLemmas.{range-suc, filter-filter, filter-same, any-same, filter-range, any-below, any-never}
 
--- two lists of obligations that hang alike, and of which the same are live
+-- whose predicate an obligation asks for
+abbrev pub pred_at : List Node → ℕ → Option ℕ
+pred_at nodes number = (node_at nodes number).obligation.pred
+
+-- two lists of obligations that ask and hang alike, and of which the same are live
 pub record SameShape (xs ys : List Node) : Type 0 where
   pub long : length xs ≡ length ys
   pub live : (i : ℕ) → is_live_at xs i ≡ is_live_at ys i
   pub parents : (i : ℕ) → parent_at xs i ≡ parent_at ys i
+  pub preds : (i : ℕ) → pred_at xs i ≡ pred_at ys i
 
 pub same-live_numbers : (xs ys : List Node) → SameShape xs ys → live_numbers xs ≡ live_numbers ys
 same-live_numbers xs ys same =
@@ -40,6 +45,7 @@ pub same-tree : (xs ys : List Node) → SameShape xs ys → (node_at ys 0).oblig
 same-tree xs ys same rooted tree = record {
   some = (let long = same.long in let some = tree.some in omega arith);
   rooted = rooted;
+  others = λ i above within. (let long = same.long in ap is_some (sym (same.preds i)) ∙ tree.others i above (omega arith));
   ordered = λ i above within.
       let long = same.long in
       let below : parent_at xs i < i = tree.ordered i above (omega arith) in
@@ -50,17 +56,21 @@ same-tree xs ys same rooted tree = record {
 }
 
 -- an obligation with another one's parent, and live where that is, in its place
-pub set-shape : (xs : List Node) (at : ℕ) (n : Node) → at < length xs → is_live n ≡ is_live_at xs at → n.obligation.parent ≡ parent_at xs at → SameShape xs (set xs at n)
-set-shape xs at n within live parent = record {
+pub set-shape : (xs : List Node) (at : ℕ) (n : Node) → at < length xs → is_live n ≡ is_live_at xs at → n.obligation.parent ≡ parent_at xs at → n.obligation.pred ≡ pred_at xs at → SameShape xs (set xs at n)
+set-shape xs at n within live parent pred = record {
   long = sym (length-set xs at n);
   live = λ i. ⊎_elim (here i) (λ other. sym (ap is_live (get_or-set_other xs at i n absent other))) (cases_eq i at);
   parents = λ i. ⊎_elim (there i) (λ other. sym (ap (λ m. m.obligation.parent) (get_or-set_other xs at i n absent other))) (cases_eq i at);
+  preds = λ i. ⊎_elim (asks i) (λ other. sym (ap (λ m. m.obligation.pred) (get_or-set_other xs at i n absent other))) (cases_eq i at);
 } where
   here : (i : ℕ) → i ≡ at → is_live_at xs i ≡ is_live_at (set xs at n) i
   here i same = subst (λ j. is_live_at xs j ≡ is_live_at (set xs at n) j) (sym same) (sym live ∙ sym (ap is_live (get_or-set_same xs at n absent within)))
 
   there : (i : ℕ) → i ≡ at → parent_at xs i ≡ parent_at (set xs at n) i
   there i same = subst (λ j. parent_at xs j ≡ parent_at (set xs at n) j) (sym same) (sym parent ∙ sym (ap (λ m. m.obligation.parent) (get_or-set_same xs at n absent within)))
+
+  asks : (i : ℕ) → i ≡ at → pred_at xs i ≡ pred_at (set xs at n) i
+  asks i same = subst (λ j. pred_at xs j ≡ pred_at (set xs at n) j) (sym same) (sym pred ∙ sym (ap (λ m. m.obligation.pred) (get_or-set_same xs at n absent within)))
 
 pub kept-same : (xs ys : List Node) (index : Index) → SameShape xs ys → (node_at ys 0).obligation ≡ root (node_at ys 0).obligation.level → IsKept xs index → IsKept ys index
 kept-same xs ys index same rooted kept = record {
@@ -77,7 +87,7 @@ marked-obligation xs at i within = ⊎_elim same (λ other. ap (λ m. m.obligati
 
 pub kept-marked : (xs : List Node) (index : Index) (at : ℕ) → at < length xs → IsKept xs index → IsKept (marked_at at xs) index
 kept-marked xs index at within kept =
-    let same : SameShape xs (marked_at at xs) = set-shape xs at (record (node_at xs at) { stalled = true }) within refl refl in
+    let same : SameShape xs (marked_at at xs) = set-shape xs at (record (node_at xs at) { stalled = true }) within refl refl refl in
     let first = marked-obligation xs at 0 within in
     kept-same xs (marked_at at xs) index same (first ∙ kept.tree.rooted ∙ ap (λ o. root o.level) (sym first)) kept
 
@@ -93,7 +103,7 @@ root_at-rooted level (x ∷ xs) some rooted = ap (λ (o : Obligation). record o 
 pub kept-root_at : (level : ℕ) (xs : List Node) (index : Index) → IsKept xs index → IsKept (root_at level xs) index
 kept-root_at level xs index kept =
     let n : Node = record (node_at xs 0) { obligation = record (node_at xs 0).obligation { level = level } } in
-    let same : SameShape xs (root_at level xs) = subst (λ ys. SameShape xs ys) (sym (root_at-is level xs)) (set-shape xs 0 n kept.tree.some refl refl) in
+    let same : SameShape xs (root_at level xs) = subst (λ ys. SameShape xs ys) (sym (root_at-is level xs)) (set-shape xs 0 n kept.tree.some refl refl refl) in
     kept-same xs (root_at level xs) index same (root_at-rooted level xs kept.tree.some kept.tree.rooted) kept
 
 -- what is live was given out
@@ -172,10 +182,11 @@ at_either xs o i within =
     let long : length (xs ++ fresh o ∷ []) ≡ length xs + 1 = length_push xs (fresh o) in
     ⊎_elim (λ h. inl h) (λ h. inr (omega arith)) (cases_lt i (length xs))
 
-added-tree : (xs : List Node) (o : Obligation) → IsTree xs → is_live_at xs o.parent ≡ true → IsTree (xs ++ fresh o ∷ [])
-added-tree xs o tree live = record {
+added-tree : (xs : List Node) (o : Obligation) → IsTree xs → is_live_at xs o.parent ≡ true → is_some o.pred ≡ true → IsTree (xs ++ fresh o ∷ [])
+added-tree xs o tree live asked = record {
   some = (let some = tree.some in let long = length_push xs (fresh o) in omega arith);
   rooted = (let first = ap (λ m. m.obligation) (old-at xs o 0 tree.some) in first ∙ tree.rooted ∙ ap (λ q. root q.level) (sym first));
+  others = λ i above within. ⊎_elim (λ old. ap (λ m. is_some m.obligation.pred) (old-at xs o i old) ∙ tree.others i above old) (new-asks i) (at_either xs o i within);
   ordered = λ i above within. ⊎_elim (old-order i above) (new-order i) (at_either xs o i within);
   hung = λ i is. ⊎_elim (old-hung i is) (new-hung i) (at_either xs o i (live-within ys i is));
 } where
@@ -184,6 +195,9 @@ added-tree xs o tree live = record {
 
   below : o.parent < length xs
   below = live-within xs o.parent live
+
+  new-asks : (i : ℕ) → i ≡ length xs → is_some (node_at (xs ++ fresh o ∷ []) i).obligation.pred ≡ true
+  new-asks i is = ap (λ j. is_some (node_at (xs ++ fresh o ∷ []) j).obligation.pred) is ∙ ap (λ m. is_some m.obligation.pred) (new-at xs o) ∙ asked
 
   old-order : (i : ℕ) → 0 < i → i < length xs → parent_at (xs ++ fresh o ∷ []) i < i
   old-order i above within = subst (λ m. m.obligation.parent < i) (sym (old-at xs o i within)) (tree.ordered i above within)
@@ -204,11 +218,11 @@ added-tree xs o tree live = record {
       ap (λ j. is_live_at (xs ++ fresh o ∷ []) (parent_at (xs ++ fresh o ∷ []) j)) is
       ∙ ap (λ m. is_live_at (xs ++ fresh o ∷ []) m.obligation.parent) (new-at xs o) ∙ stays o.parent live
 
-pub kept-added : (xs : List Node) (index next : Index) (o : Obligation) → is_live_at xs o.parent ≡ true
+pub kept-added : (xs : List Node) (index next : Index) (o : Obligation) → is_live_at xs o.parent ≡ true → is_some o.pred ≡ true
     → next.live.items ≡ index.live.items ++ length xs ∷ [] → next.leaves.items ≡ filter (λ leaf. not (o.parent == leaf)) index.leaves.items ++ length xs ∷ []
     → IsKept xs index → IsKept (xs ++ fresh o ∷ []) next
-kept-added xs index next o live lives leaves kept = record {
-  tree = added-tree xs o kept.tree live;
+kept-added xs index next o live asked lives leaves kept = record {
+  tree = added-tree xs o kept.tree live asked;
   live = lives ∙ ap (λ ns. ns ++ length xs ∷ []) kept.live ∙ sym (added-live xs o);
   leaves = leaves ∙ ap (λ ns. filter (λ leaf. not (o.parent == leaf)) ns ++ length xs ∷ []) kept.leaves ∙ sym (added-leaves xs o kept.tree (live-within xs o.parent live));
 }

@@ -1,4 +1,4 @@
-ghost use Rattle.std.specs.Prelude.{◌≡◌, ◌∷◌, [], ◌++◌, ◌<◌, ◌≤◌, ◌-◌, ◌^◌, length, replicate, not, true, false, None, Some, slice_index_or, IsTrue, IfOk, OnOk, OnErr};
+ghost use Rattle.std.specs.Prelude.{◌≡◌, ◌∷◌, [], ◌++◌, ◌<◌, ◌≤◌, ◌-◌, ◌^◌, length, replicate, not, true, false, None, Some, is_some, slice_index_or, IsTrue, IfOk, OnOk, OnErr};
 ghost use Rattle.std.specs.Bool.{OnTrue, OnFalse};
 ghost use Rattle.std.specs.List.{list_any};
 ghost use Rattle.std.specs.List.Sorted.{IsStrictlyIncreasing};
@@ -124,9 +124,11 @@ impl Tree {
         Ok(Vec::from_slice(alloc, self.live_leaves())?)
     }
 
-    /// Adds a live obligation, which hangs under a live one, and answers its number.
+    /// Adds a live obligation of a predicate, which hangs under a live one, and answers its number. Of
+    /// false only the root asks.
     pub fn add(&mut self, obligation: Obligation) -> Result<u32, Memory>
         requires parent { IsTrue (is_live_at self.old.nodes obligation.parent) }
+        requires pred { is_some obligation.pred ≡ true }
         requires room { length self.old.nodes < 2 ^ 32 - 1 }
         ensures number { IfOk result (λ number. number ≡ length self.old.nodes) }
         ensures ok { OnOk result (self.new ≡ record self.old { nodes = self.old.nodes ++ fresh obligation ∷ [] }) }

@@ -23,7 +23,7 @@ fn one_term(alloc: Global, variable: u32) -> Result<Vec<(u32, i64)>, Memory>
 }
 
 /// The form that is a variable.
-pub(crate) fn variable_form(alloc: Global, variable: u32) -> Result<Lin, Memory>
+pub fn variable_form(alloc: Global, variable: u32) -> Result<Lin, Memory>
     ensures { IfOk result (λ form. form ≡ variable_form variable) }
 {
     let terms = one_term(alloc, variable)?;
@@ -44,7 +44,7 @@ pub(crate) fn auxiliary_form(alloc: Global, variable: Option<u32>) -> Result<Lin
 }
 
 /// The variable that stands for a variable of the term.
-pub(crate) fn name_of(names: &Names, binder: u32) -> u32
+pub fn name_of(names: &Names, binder: u32) -> u32
     ensures { result ≡ name_in names.now.own.items binder }
 {
     let place = binder as usize;
@@ -56,7 +56,7 @@ pub(crate) fn name_of(names: &Names, binder: u32) -> u32
 }
 
 /// The auxiliary variable of the term, where it has one.
-pub(crate) fn auxiliary_of(names: &Names, id: TermId) -> Option<u32>
+pub fn auxiliary_of(names: &Names, id: TermId) -> Option<u32>
     ensures { result ≡ get nat_cmp names.now.auxiliary id.0 }
 {
     names.auxiliary.get(&id.0).copied()
@@ -71,7 +71,7 @@ fn bound_and_body(alloc: Global, bound: &[TermId], body: TermId) -> Result<Vec<T
 }
 
 /// The parts of a node in the order of the text.
-pub(crate) fn text_parts(alloc: Global, node: &Node) -> Result<Vec<TermId>, Memory>
+pub fn text_parts(alloc: Global, node: &Node) -> Result<Vec<TermId>, Memory>
     ensures { IfOk result (λ parts. parts.items ≡ text_parts node.now) }
 {
     let parts = match node {

@@ -1,4 +1,4 @@
-use Rattle.std.proofs.Common.{◌≡◌, ◌∷◌, ◌++◌, [], length, get_or, sym, subst, ◌∙◌}
+use Rattle.std.proofs.Common.{◌≡◌, ◌∷◌, ◌++◌, [], length, get_or, Some, None, sym, subst, ◌∙◌}
 use Rattle.std.specs.List.{insert}
 use Rattle.derivations.specs.Facts.{tuple_of}
 use Rattle.derivations.specs.machinery.Index.{IsIndexed, IsRank, empty}
@@ -34,4 +34,4 @@ returns-clause-index c =
     subst (λ r. IsRank (tuple_of fs) r c.args.fact.tuple at) c.by_tuple-tuples.ensures (subst (λ t. IsRank (tuple_of fs) c.by_tuple-tuples.result.now t at) c.as_slice.ensures c.rank-at.ensures) in
     let is : c.in_ok-row-2.row ≡ record { by_number = old.by_number ++ length fs ∷ []; by_tuple = insert old.by_tuple at (length fs) } =
     c.in_ok-row-2.ensures ∙ c.in_ok-row.ensures ∙ row_is c.by_number.result.now old.by_number c.by_tuple-tuples.result.now old.by_tuple at c.count-id.result (length fs) c.by_number.ensures c.by_tuple-tuples.ensures c.count-id.ensures in
-    rw (c.put.ensures, c.in_ok-add.ensures.ok) (index_of rows fs c.args.fact c.args.pred at c.in_ok-row-2.row index c.requires.pred c.in_ok-grow.ensures.there c.requires.there c.requires.fresh rank is)
+    rw (c.put.ensures, c.in_ok-add.ensures.ok) (index_of rows fs c.args.fact c.args.pred at c.in_ok-row-2.row index c.requires.pred c.in_ok-grow.ensures.there c.requires.there c.requires.fresh (λ none. (let both : Some c.args.pred ≡ None = sym c.requires.pred ∙ none in absurd (cc))) rank is)

@@ -11,4 +11,4 @@ invariant_of-self-2 c =
     let live : is_live_at xs o.parent ≡ true = ap (λ (s : State). is_live_at s.nodes o.parent) c.self.view_is ∙ c.requires.parent in
     let lives : next.live.items ≡ c.self.inside.index.live.items ++ length xs ∷ [] = search rules in
     let leaves : next.leaves.items ≡ filter (λ leaf. not (o.parent == leaf)) c.self.inside.index.leaves.items ++ length xs ∷ [] = search rules in
-    rw (c.in_ok-push.ensures.ok, c.in_ok-node.ensures, c.in_ok-index-2.ensures) (kept-added xs c.self.inside.index next o live lives leaves c.self.invariant)
+    rw (c.in_ok-push.ensures.ok, c.in_ok-node.ensures, c.in_ok-index-2.ensures) (kept-added xs c.self.inside.index next o live c.requires.pred lives leaves c.self.invariant)

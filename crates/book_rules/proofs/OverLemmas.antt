@@ -1,0 +1,125 @@
+-- Places: each legal step whose cubes are over their predicates keeps those of the book so.
+use Rattle.std.proofs.Common.{◌≡◌, ℕ, List, [], ◌∷◌, length, Bool, true, false, ◌&&◌, ◌||◌, not, Some, None, refl, ap, sym, ◌∙◌, arith}
+use Rattle.std.specs.Prelude.{Option, ℤ, ◌==◌, option_map, slice_get}
+use Rattle.std.specs.List.{list_all}
+use Rattle.std.proofs.lemmas.Bool.{eqb-true}
+use Rattle.std.proofs.lemmas.Bool.Decides.{nat_tests}
+use mathlib.Core.Bool.{true≢false}
+use Rattle.term_tree.specs.declared.sort.Sort.{Sort}
+use Rattle.lin_atoms.specs.declared.lit.Lit.{Lit}
+use Rattle.clause_form.specs.System.{Clauses, is_system, is_clause, is_atom}
+use Rattle.clause_form.specs.System.{is_head as is_head_of}
+use Rattle.clause_form.specs.declared.atom.Atom.{Atom}
+use Rattle.clause_form.specs.declared.clause.Clause.{Clause}
+use Rattle.clause_form.specs.Kept.{Keeps}
+use Rattle.clause_form.proofs.Public.{keeps, keeps_atom}
+use Rattle.cube_forms.specs.Cubes.{cube_is_below, tuple_at}
+use Rattle.book_rules.specs.Walks.{AllOf, has, on}
+use Rattle.book_rules.specs.Frames.{Framed}
+use Rattle.book_rules.specs.Queries.{args_of}
+use Rattle.book_rules.specs.Proofs.{is_head}
+use Rattle.book_rules.specs.State.{Obligation, State, opening}
+use Rattle.book_rules.specs.Steps.{OpenStep, Step}
+use Rattle.book_rules.specs.OpenRules.{clause_of, tuple_of}
+use Rattle.book_rules.specs.Effects.{after, child_of}
+use Rattle.book_rules.specs.Legal.{replay}
+use Rattle.book_rules.specs.Reached.{has_places_of, have_places}
+use Rattle.book_rules.specs.Places.{places_of, is_over, is_over_atom, has_places, shown_has_places, obligation_fits, AreOver}
+use Rattle.book_rules.proofs.ListLemmas.{both_true, from_both, all_at, all_of-at, all_tested, all_weaken}
+use Rattle.book_rules.proofs.StepLemmas.{ChildHas, LemmaHas, steady-after, lemmas-after}
+
+same_number : (n m : ℕ) → n ≡ m → (n == m) ≡ true
+same_number n m is = grind (arith, nat_tests, is)
+
+pub length_at : (point : List ℤ) (args : List ℕ) → length (tuple_at point args) ≡ length args
+length_at point [] = refl
+length_at point (v ∷ args) = let more = length_at point args in omega (arith, more)
+
+-- the atom of a clause of a system has as many arguments as its predicate has places
+pub atom_places : (preds : List (List Sort)) (n : ℕ) (atom : Atom) → is_atom preds n atom ≡ true → places_of preds (Some atom.pred) ≡ Some (length atom.args)
+atom_places preds n atom h =
+    let one = keeps_atom preds n atom h in
+    ap (option_map (λ (sorts : List Sort). length sorts)) one.there ∙ ap (λ k. Some k) (sym one.each)
+
+atom_there : (sys : Clauses) (number i : ℕ) (atom : Atom) (found : Option Clause) → is_system sys ≡ true → slice_get sys.clauses number ≡ found → on found (λ (clause : Clause). slice_get clause.atoms i) ≡ Some atom
+    → places_of sys.preds (Some atom.pred) ≡ Some (length atom.args)
+atom_there sys number i atom None system is there = absurd (cc)
+atom_there sys number i atom (Some clause) system is there =
+    let one = all_at (is_clause sys.preds) sys.clauses number clause is system in
+    atom_places sys.preds (length clause.sorts) atom (all_at (is_atom sys.preds (length clause.sorts)) clause.atoms i atom there (keeps sys.preds clause one).atoms)
+
+abbrev Fits : Clauses → Obligation → Type 0
+Fits sys o = obligation_fits sys.preds o ≡ true
+
+child_fits : (sys : Clauses) (o : OpenStep) (parent : Obligation) (atom : Atom) → places_of sys.preds (Some atom.pred) ≡ Some (length atom.args) → is_over sys.preds atom.pred o.cube ≡ true → Fits sys (child_of o parent atom)
+child_fits sys o parent atom places over =
+    let n = length atom.args in
+    let below : cube_is_below n o.cube ≡ true = ap (λ (found : Option ℕ). has found (λ k. cube_is_below k o.cube)) (sym places) ∙ over in
+    let long = same_number (length (tuple_of o atom)) n (length_at o.seen.point atom.args) in
+    ap (λ (found : Option ℕ). has found (λ k. cube_is_below k o.cube && (length (tuple_of o atom) == k))) places ∙ from_both (cube_is_below n o.cube) _ below long
+
+child_over : (sys : Clauses) (s : State) (step : Step) → is_system sys ≡ true → has_places sys step ≡ true → ChildHas (Fits sys) sys s step
+child_over sys s (Step.Opens o) system places = λ parent atom there is.
+    child_fits sys o parent atom (atom_there sys o.seen.clause o.atom atom (clause_of sys o) system refl is) (ap (λ (found : Option Atom). is_over_atom sys.preds found o.cube) (sym is) ∙ places)
+child_over sys s (Step.Learns l) system places = tt
+child_over sys s (Step.Records f) system places = tt
+child_over sys s (Step.Lifts l) system places = tt
+child_over sys s (Step.Raises r) system places = tt
+child_over sys s (Step.Stalls t) system places = tt
+
+abbrev LemmaFits : Clauses → Framed → Type 0
+LemmaFits sys e = is_over sys.preds e.lemma.pred e.lemma.cube ≡ true
+
+lemma_over : (sys : Clauses) (step : Step) → has_places sys step ≡ true → LemmaHas (LemmaFits sys) step
+lemma_over sys (Step.Opens o) places = tt
+lemma_over sys (Step.Learns l) places = (both_true (is_over sys.preds l.lemma.pred l.lemma.cube) (list_all (shown_has_places sys) l.proofs) places).0
+lemma_over sys (Step.Records f) places = tt
+lemma_over sys (Step.Lifts l) places = tt
+lemma_over sys (Step.Raises r) places = tt
+lemma_over sys (Step.Stalls t) places = tt
+
+pub over-after : (sys : Clauses) (s : State) (step : Step) → is_system sys ≡ true → AreOver sys s → has_places sys step ≡ true → AreOver sys (after sys s step)
+over-after sys s step system over places = record {
+  lemmas = lemmas-after (LemmaFits sys) (λ e level h. h) sys s step over.lemmas (lemma_over sys step places);
+  obligations = steady-after (Fits sys) (λ o level closed stalled h. h) sys s step over.obligations (child_over sys s step system places);
+}
+
+pub over-replay : (sys : Clauses) (s : State) (steps : List Step) → is_system sys ≡ true → AreOver sys s → AllOf (λ step. has_places sys step ≡ true) steps → AreOver sys (replay sys s steps)
+over-replay sys s [] system over places = over
+over-replay sys s (step ∷ steps) system over places = over-replay sys (after sys s step) steps system (over-after sys s step system over places.0) places.1
+
+pub over-opening : (sys : Clauses) (units : ℕ) → AreOver sys (opening units)
+over-opening sys units = record { lemmas = tt; obligations = (refl, tt) }
+
+-- what an Open reads of the book
+
+below_there : (preds : List (List Sort)) (pred n : ℕ) (cube : List Lit) → places_of preds (Some pred) ≡ Some n → is_over preds pred cube ≡ true → cube_is_below n cube ≡ true
+below_there preds pred n cube places over = ap (λ (found : Option ℕ). has found (λ k. cube_is_below k cube)) (sym places) ∙ over
+
+head_below : (preds : List (List Sort)) (n long : ℕ) (pred : Option ℕ) (cube : List Lit) (head : Option Atom) → is_head pred head ≡ true → is_head_of preds n head ≡ true
+    → has (places_of preds pred) (λ k. cube_is_below k cube && (long == k)) ≡ true → cube_is_below (length (args_of head)) cube ≡ true
+head_below preds n long None cube None is of h = (both_true (cube_is_below 0 cube) (long == 0) h).0
+head_below preds n long None cube (Some atom) is of h = absurd (true≢false (sym is))
+head_below preds n long (Some p) cube None is of h = absurd (true≢false (sym is))
+head_below preds n long (Some p) cube (Some atom) is of h =
+    let same : p ≡ atom.pred = eqb-true p atom.pred is in
+    let places : places_of preds (Some p) ≡ Some (length atom.args) = ap (λ q. places_of preds (Some q)) same ∙ atom_places preds n atom of in
+    (both_true (cube_is_below (length atom.args) cube) (long == length atom.args) (ap (λ (found : Option ℕ). has found (λ k. cube_is_below k cube && (long == k))) (sym places) ∙ h)).0
+
+lemma_below : (preds : List (List Sort)) (e : Framed) (atom : Atom) → places_of preds (Some atom.pred) ≡ Some (length atom.args) → is_over preds e.lemma.pred e.lemma.cube ≡ true → has_places_of e atom ≡ true
+lemma_below preds e atom places over = by_pred (e.lemma.pred == atom.pred) refl where
+  by_pred : (b : Bool) → (e.lemma.pred == atom.pred) ≡ b → (not b || cube_is_below (length atom.args) e.lemma.cube) ≡ true
+  by_pred true is =
+      let same : e.lemma.pred ≡ atom.pred = eqb-true e.lemma.pred atom.pred is in
+      below_there preds e.lemma.pred (length atom.args) e.lemma.cube (ap (λ q. places_of preds (Some q)) same ∙ places) over
+  by_pred false is = refl
+
+pub places-have : (sys : Clauses) (s : State) (number : ℕ) (parent : Obligation) (clause : Clause) → AreOver sys s → is_clause sys.preds clause ≡ true → slice_get s.obligations number ≡ Some parent → is_head parent.pred clause.head ≡ true
+    → have_places s.lemmas parent clause ≡ true
+places-have sys s number parent clause over one there head =
+    let of_clause : Keeps sys.preds clause = keeps sys.preds clause one in
+    let n = length clause.sorts in
+    let fits = all_of-at (Fits sys) s.obligations number parent there over.obligations in
+    from_both (cube_is_below (length (args_of clause.head)) parent.cube) _ (head_below sys.preds n (length parent.point) parent.pred parent.cube clause.head head of_clause.head fits)
+    (all_weaken (is_atom sys.preds n) (λ (atom : Atom). list_all (λ e. has_places_of e atom) s.lemmas)
+    (λ atom is. all_tested (LemmaFits sys) (λ e. has_places_of e atom) (λ e h. lemma_below sys.preds e atom (atom_places sys.preds n atom is) h) s.lemmas over.lemmas) clause.atoms of_clause.atoms)

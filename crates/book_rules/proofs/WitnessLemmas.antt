@@ -1,0 +1,70 @@
+-- A form with a disjunction that stands open is split at once, so it is given up by a tree with one inner node.
+use Rattle.std.proofs.Common.{◌≡◌, ℕ, suc, zero, ◌+◌, List, [], ◌∷◌, ◌++◌, length, map, refl, ap, ◌∙◌, arith, Some}
+use Rattle.std.specs.Prelude.{ℤ, pos, negsuc, slice_get}
+use Rattle.std.specs.List.{range_with_len}
+use Rattle.lin_atoms.specs.declared.lit.Lit.{Lit}
+use Rattle.lin_atoms.specs.declared.lit.Lit.TheVariants.{Le, Eq}
+use Rattle.lin_atoms.specs.declared.form.Form.{Form}
+use Rattle.lin_atoms.specs.declared.form.Form.TheVariants.{Lit as Literal}
+use Rattle.lin_atoms.specs.declared.form.Form.TheViews.{And, Or}
+use Rattle.int_rows.specs.Basis.{bound}
+use Rattle.int_rows.specs.Node.{greatest_lower, least_upper}
+use Rattle.farkas_proof.specs.Flatten.{disjunctions}
+use Rattle.farkas_proof.specs.GivenUp.{IsEvidence}
+use Rattle.farkas_proof.specs.Refutation.{form_end}
+use Rattle.farkas_proof.specs.Split.{HasSolution, by_cases, inner, start, with_part}
+use Rattle.farkas_proof.specs.declared.evidence.Evidence.TheVariants.{Nodes}
+use Rattle.farkas_proof.proofs.FlattenLemmas.{disjunctions-And, disjunctions-Or}
+use Rattle.farkas_proof.proofs.ForestLemmas.{all-leaves}
+use Rattle.farkas_proof.proofs.PairLemmas.{both-disjunctions}
+use Rattle.book_rules.specs.Examples.{is_number}
+use Rattle.book_rules.specs.Cases.{query_2, not_3_used}
+
+abbrev zeros : ℕ → List ℤ
+zeros zero = []
+zeros (suc n) = pos 0 ∷ zeros n
+
+zeros-length : (n : ℕ) → length (zeros n) ≡ n + 0
+zeros-length zero = omega arith
+zeros-length (suc n) = let rest = zeros-length n in omega (arith, rest)
+
+-- without literals no column has a bound
+no-lower : (from n c : ℕ) (l : ℤ) → bound (map (greatest_lower []) (range_with_len from n) ++ []) c ≡ Some l → ⊥
+no-lower from zero c l h = cc
+no-lower from (suc n) zero l h = cc
+no-lower from (suc n) (suc c) l h = no-lower (from + 1) n c l h
+
+no-upper : (from n c : ℕ) (u : ℤ) → bound (map (least_upper []) (range_with_len from n) ++ []) c ≡ Some u → ⊥
+no-upper from zero c u h = cc
+no-upper from (suc n) zero u h = cc
+no-upper from (suc n) (suc c) u h = no-upper (from + 1) n c u h
+
+nothing-solved : (q : ℕ) → HasSolution q []
+nothing-solved q = record {
+  constants = refl;
+  point = record { nums = zeros q; den = 1 };
+  positive = omega arith;
+  width = zeros-length q;
+  solves = λ k d h. absurd (omega (arith, h));
+  meets = record { lower = λ c l h. absurd (no-lower 0 q c l h); upper = λ c u h. absurd (no-upper 0 q c u h) };
+}
+
+split-open : (form : Form) (parts : List Form) → disjunctions form ≡ parts ∷ [] → IsEvidence form (Nodes 1)
+split-open form parts is =
+    let q = form_end form in
+    let below = map (with_part 0 (start form)) parts in
+    (omega arith, inner (start form) [] below 0 (record { solution = nothing-solved q; split = by_cases 0 parts (ap (λ (ds : List (List Form)). slice_get ds 0) is) refl }) (all-leaves q (below ++ [])))
+
+open-given_up : (a b c d : Lit) → IsEvidence (And (And (Literal a ∷ Literal b ∷ []) ∷ Or (Literal c ∷ Literal d ∷ []) ∷ [])) (Nodes 1)
+open-given_up a b c d =
+    let conjunction = And (Literal a ∷ Literal b ∷ []) in
+    let disjunction = Or (Literal c ∷ Literal d ∷ []) in
+    split-open (And (conjunction ∷ disjunction ∷ [])) (Literal c ∷ Literal d ∷ [])
+    (disjunctions-And (conjunction ∷ disjunction ∷ [])
+    ∙ ap (λ (ds : List (List Form)). ds ++ (disjunctions disjunction ++ [])) (both-disjunctions a b)
+    ∙ ap (λ (ds : List (List Form)). ds ++ []) (disjunctions-Or (Literal c ∷ Literal d ∷ [])))
+
+-- the query of the stalled obligation: the next number is 2, and this one isn't 3
+pub query-given_up : IsEvidence (query_2 not_3_used) (Nodes 1)
+query-given_up = open-given_up (Eq (record { terms = (0, pos 1) ∷ (1, negsuc 0) ∷ []; constant = pos 1 })) (is_number 1 (negsuc 1))
+    (Le (record { terms = (0, pos 1) ∷ []; constant = negsuc 1 })) (Le (record { terms = (0, negsuc 0) ∷ []; constant = pos 4 }))

@@ -1,0 +1,12 @@
+pub mod AlikeSideLemmas
+pub mod ApartLemmas
+pub mod ConstantLemmas
+pub mod FirstLemmas
+pub mod FormLemmas
+pub mod OrderLemmas
+pub mod PositionLemmas
+pub mod RenamingLemmas
+pub mod SeekLemmas
+pub mod SideLemmas
+pub mod UnitLemmas
+pub mod WorthLemmas

@@ -1,0 +1,19 @@
+//! The first term of a text that has no room: whose linear form is wide, or a comparison of which a
+//! difference of two sides is.
+#![tactic(auto)]
+
+mod apart;
+mod first;
+mod laws;
+mod relation;
+mod seek;
+mod sides;
+
+pub use apart::apart_names;
+pub use first::first_wide;
+pub use laws::{alike_names_judge_alike, kept_constants_judge};
+pub use relation::{is_relation, narrow_form, narrow_forms};
+pub use sides::has_wide_difference;
+
+#[cfg(test)]
+mod wide_tests;

@@ -1,0 +1,67 @@
+//! First terms without room, found by hand.
+
+use crate::{apart_names, first_wide};
+use base::Items;
+use std::alloc::Global;
+use std::process::Abort;
+use term_forms::nothing_read;
+use term_tables::ConstantTable;
+use term_tree::{Node, OpKind, Sort, TermId, Terms};
+
+fn put(rt: &impl Abort, terms: &mut Terms, node: Node) {
+    assert!(rt; terms.len() < 1000);
+    assert!(rt; node.has_parts_below(terms.len()));
+    terms.add(node, 0).expect(rt, "memory");
+}
+
+fn apply(rt: &impl Abort, alloc: Global, terms: &mut Terms, op: OpKind, args: &[TermId]) {
+    let args = Items::from_slice(alloc, args).expect(rt, "memory");
+    put(rt, terms, Node::Op { op, args });
+}
+
+/// Over the integer x, which is term 0, and m = 2^63 - 1: m * x is term 2, -x is 3, m * x <= -x is 4,
+/// m * x + x is 5, its comparison with x is 6, (and 4 6) is 7, m * x <= x is 8, (and 8 4) is 9, and
+/// (distinct (m * x) x (- x)) is 10.
+fn samples(rt: &impl Abort, alloc: Global) -> Terms {
+    let mut terms = Terms::new(alloc);
+    let sort = Sort::Int;
+    put(rt, &mut terms, Node::Var { binder: 5, sort });
+    put(rt, &mut terms, Node::Num(i64::MAX));
+    apply(rt, alloc, &mut terms, OpKind::Mul, &[TermId(1), TermId(0)]);
+    apply(rt, alloc, &mut terms, OpKind::Sub, &[TermId(0)]);
+    apply(rt, alloc, &mut terms, OpKind::Le, &[TermId(2), TermId(3)]);
+    apply(rt, alloc, &mut terms, OpKind::Add, &[TermId(2), TermId(0)]);
+    apply(rt, alloc, &mut terms, OpKind::Eq, &[TermId(5), TermId(0)]);
+    apply(rt, alloc, &mut terms, OpKind::And, &[TermId(4), TermId(6)]);
+    apply(rt, alloc, &mut terms, OpKind::Le, &[TermId(2), TermId(0)]);
+    apply(rt, alloc, &mut terms, OpKind::And, &[TermId(8), TermId(4)]);
+    let sides = [TermId(2), TermId(0), TermId(3)];
+    apply(rt, alloc, &mut terms, OpKind::Distinct, &sides);
+    terms
+}
+
+fn found(rt: &impl Abort, alloc: Global, top: u32) -> Option<TermId> {
+    let terms = samples(rt, alloc);
+    let constants = ConstantTable::of(alloc, &terms).expect(rt, "memory");
+    let names = apart_names(alloc, &terms, &[], &[]).expect(rt, "memory");
+    let mut known = nothing_read(alloc);
+    assert!(rt; (top as usize) < terms.len());
+    first_wide(alloc, &terms, &constants, &names, &mut known, TermId(top)).expect(rt, "memory")
+}
+
+#[test]
+fn integer_terms_come_before_comparisons_and_parts_before_the_whole(rt: HostRuntime) {
+    let alloc = rt.alloc();
+    // m * x - (-x) is wide, m * x - x isn't, and m * x + x is
+    let awaited = [
+        (4, Some(4)),
+        (6, Some(5)),
+        (7, Some(5)),
+        (8, None),
+        (9, Some(4)),
+        (10, Some(10)),
+    ];
+    for (top, place) in awaited {
+        assert!(rt; found(&rt, alloc, top) == place.map(TermId), "{top}");
+    }
+}
