@@ -128,6 +128,9 @@ at-model q lits qs point legal known constants vertex is whole =
     let met = solution-met q lits vertex.point point legal known vertex.is_basic.positive vertex.is_basic.width are vertex.is_basic.solves vertex.meets in
     (ap length is ∙ length-map firsts floored ∙ long, met-true point lits met constants)
 
+pub vertex-solution : (q : ℕ) (lits : List Lit) (qs : List Number) → list_all is_no_falsehood lits ≡ true → IsVertex (system q lits) qs → HasSolution q lits
+vertex-solution q lits qs constants vertex = record { constants = constants; point = vertex.point; positive = vertex.is_basic.positive; width = vertex.is_basic.width; solves = vertex.is_basic.solves; meets = vertex.meets }
+
 -- the value of a variable or quotient is none
 pub at-fraction : (q : ℕ) (lits : List Lit) (qs : List Number) (v : ℕ) (floor : ℤ) → list_all is_no_falsehood lits ≡ true → IsVertex (system q lits) qs → v < length (take (end_of_quotients q lits) qs)
     → ((d : Number) → is_whole (get_or (take (end_of_quotients q lits) qs) v d) ≡ false) → ((d : Number) → floor ≡ floored (get_or (take (end_of_quotients q lits) qs) v d)) → HasSolution q lits × HasVertexBetween (system q lits) v floor
@@ -140,7 +143,7 @@ at-fraction q lits qs v floor constants vertex within test value =
     let here : is_whole (get_or qs v no_number) ≡ false = ap is_whole (sym same) ∙ test no_number in
     let is : floor ≡ floored (get_or qs v no_number) = value no_number ∙ ap floored same in
     let between = fraction-value (get_or qs v no_number) (entry vertex.point.nums v) vertex.point.den (vertex.positive v no_number inside) vertex.is_basic.positive (vertex.same v no_number inside) here in (
-      record { constants = constants; point = vertex.point; positive = vertex.is_basic.positive; width = vertex.is_basic.width; solves = vertex.is_basic.solves; meets = vertex.meets },
+      vertex-solution q lits qs constants vertex,
       record {
         variable = less;
         basis = vertex.basis;
@@ -162,7 +165,7 @@ pub told-by-values : (q : ℕ) (lits : List Lit) (qs firsts : List Number) (answ
 told-by-values q lits qs firsts answer legal known constants vertex is of = by-kind answer (subst (λ (f : List Number). IsOfValues f answer) is of) where
   by-kind : (answer : Examined) → IsOfValues (take (end_of_quotients q lits) qs) answer → Tells q lits answer
   by-kind (Fraction v floor) h = at-fraction q lits qs v floor constants vertex h.0 h.1 h.2
-  by-kind (Model point) h = let model = at-model q lits qs point.items legal known constants vertex h.0 h.1 in (model.0, h.2, model.1)
+  by-kind (Model point) h = let model = at-model q lits qs point.items legal known constants vertex h.0 h.1 in (vertex-solution q lits qs constants vertex, model.0, h.2, model.1)
   by-kind (False at) h = absurd h
   by-kind (Conflict ms) h = absurd h
   by-kind (Wide evidence) h = absurd h

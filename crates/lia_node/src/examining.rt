@@ -1,11 +1,13 @@
 //! A node's literals are examined.
 
-ghost use Rattle.std.specs.Prelude.{◌≡◌, ◌<◌, ◌^◌, IfOk, true};
+ghost use Rattle.std.specs.Prelude.{◌≡◌, ◌+◌, ◌<◌, ◌≤◌, ◌^◌, IfOk, true};
 ghost use Rattle.std.specs.List.{list_all};
+ghost use Rattle.base.specs.Limits.{most_rows};
+ghost use Rattle.int_rows.specs.Node.{end_of_quotients};
 ghost use Rattle.farkas_proof.specs.Split.{is_no_falsehood};
 ghost use Rattle.node_rows.specs.Known.{are_known, has_short_constant};
 ghost use Rattle.node_rows.specs.Nodes.{node_table};
-ghost use Rattle.lia_node.specs.Tells.{Tells};
+ghost use Rattle.lia_node.specs.Tells.{Tells, has_tableau};
 
 use crate::constants::first_falsehood;
 use crate::examined::Examined;
@@ -46,11 +48,13 @@ fn solved(alloc: Global, lits: &[Lit], end: u32, tableau: &mut Tableau) -> Resul
 /// a fraction, or evidence of giving up. The literals stand in the order in which they joined the
 /// node or one above it. Those of the form speak of variables below `end`; quotients are numbered on
 /// from there, and a branch may be on a quotient of a literal before it. The tableau is made anew.
+/// Where there is one, there are at most as many quotients as rows.
 pub fn examine(alloc: Global, lits: &[Lit], end: u32) -> Result<Examined, Memory>
     requires known { are_known end lits.now ≡ true }
     requires short { list_all has_short_constant lits.now ≡ true }
     requires few { end < 2 ^ 31 }
-    ensures { IfOk result (λ answer. Tells end lits.now answer) }
+    ensures tells { IfOk result (λ answer. Tells end lits.now answer) }
+    ensures small { IfOk result (λ answer. has_tableau answer ≡ true → end_of_quotients end lits.now ≤ end + most_rows) }
 {
     if let Some(at) = first_falsehood(lits) {
         return Ok(Examined::False(at));

@@ -32,4 +32,4 @@ returns-in_ok-told-in-Ok-Vertex c =
 pub returns-in_ok-evidence-in-Ok-Wide : goal.returns-in_ok-evidence-in-Ok-Wide
 returns-in_ok-evidence-in-Ok-Wide c =
     let means = subst (λ a. Means c.args.tableau.now a) c.in-Ok-Wide.field-0-is c.in-Ok-Wide.ensures.means in
-    c.in_ok-evidence-in-Ok-Wide.ensures c.args.end (subst (λ (t : Table). Means t (IsWide c.in-Ok-Wide.wide)) c.requires.is means)
+    (c.in_ok-evidence-in-Ok-Wide.ensures.is c.args.end (subst (λ (t : Table). Means t (IsWide c.in-Ok-Wide.wide)) c.requires.is means), c.in_ok-evidence-in-Ok-Wide.ensures.of_node)

@@ -14,8 +14,8 @@ use Rattle.lia_node.specs.Tells.{IsEvidenceAt}
 use Rattle.lia_node.proofs.EvidenceLemmas.{coordinate-evidence, row-evidence}
 use Rattle.lia_node.proofs.wide.of_number.Goals as goal
 
-pub returns-in-Row : goal.returns-in-Row
-returns-in-Row c q means =
+pub returns-in-Row-clause-is : goal.returns-in-Row-clause-is
+returns-in-Row-clause-is c q means =
     let lits : List Lit = c.args.lits.now in
     let basis : List ℕ = c.in-Row.basis.items in
     let is : IsWideRow (width (node_table q lits)) (system q lits).equations basis c.in-Row.entry = subst (λ w. Means (node_table q lits) (IsWide w)) c.in-Row.is means in
@@ -23,8 +23,8 @@ returns-in-Row c q means =
     simp to_z-of_z (subst (λ (ls : List Lit). IsEvidenceAt q lits (Row ls c.from_vec.result c.in-Row.entry)) (sym c.in_ok-lits.ensures)
     (subst (λ (bs : List ℕ). IsEvidenceAt q lits (Row lits bs c.in-Row.entry)) (sym c.from_vec.ensures) (row-evidence q lits basis c.in-Row.entry is)))
 
-pub returns-in-Coordinate : goal.returns-in-Coordinate
-returns-in-Coordinate c q means =
+pub returns-in-Coordinate-clause-is : goal.returns-in-Coordinate-clause-is
+returns-in-Coordinate-clause-is c q means =
     let lits : List Lit = c.args.lits.now in
     let basis : List ℕ = c.in-Coordinate.basis.items in
     let outside : List ℤ = c.in-Coordinate.outside.items in
