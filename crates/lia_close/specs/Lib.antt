@@ -1,0 +1,4 @@
+pub mod Placed
+pub mod Said
+pub mod Written
+pub mod machinery
