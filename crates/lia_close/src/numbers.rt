@@ -1,14 +1,13 @@
 //! Numbers of literals in a refutation.
 
-ghost use Rattle.std.specs.Prelude.{◌≡◌, ◌+◌, ◌<◌, ◌^◌, IfOk, IsOk};
+ghost use Rattle.std.specs.Prelude.{◌≡◌, ◌+◌, IfOk};
 
 use base::Memory;
 
 /// The number as a refutation writes it. One of 2^32 or more counts as want of memory: so many
 /// literals take over 2^37 bytes.
 pub fn numbered(number: usize) -> Result<u32, Memory>
-    ensures is { IfOk result (λ n. n ≡ number) }
-    ensures room { number < 2 ^ 32 → IsOk result }
+    ensures { IfOk result (λ n. n ≡ number) }
 {
     if number < 1 << 32 {
         Ok(number as u32)
@@ -19,8 +18,7 @@ pub fn numbered(number: usize) -> Result<u32, Memory>
 
 /// The sum of two numbers as a refutation writes it.
 pub(crate) fn numbered_sum(first: usize, second: usize) -> Result<u32, Memory>
-    ensures is { IfOk result (λ n. n ≡ first + second) }
-    ensures room { first + second < 2 ^ 32 → IsOk result }
+    ensures { IfOk result (λ n. n ≡ first + second) }
 {
     match first.checked_add(second) {
         Some(sum) => numbered(sum),
