@@ -1,0 +1,9 @@
+pub mod ClosingLemmas
+pub mod TokenLemmas
+pub mod BookLemmas
+pub mod EndLemmas
+pub mod MakingLemmas
+pub mod MadeLemmas
+pub mod AskLemmas
+pub mod LawLemmas
+pub mod Public

@@ -1,0 +1,163 @@
+-- The state, as the parts' lists grow and change.
+use Rattle.std.proofs.Common.{◌≡◌, ℕ, zero, suc, ◌+◌, ◌<◌, List, [], ◌∷◌, ◌++◌, ◌≤◌, map, length, drop, set, get_or, max, Some, None, refl, ap, sym, ◌∙◌, subst, arith}
+use Rattle.std.specs.Prelude.{Option, option_map, slice_get, slice_set, true}
+use Rattle.std.specs.List.{fold}
+use Rattle.std.proofs.lemmas.List.{map-append, map-set, length_push}
+use Rattle.std.proofs.lemmas.List.Sums.{fold-append}
+use Rattle.std.proofs.lemmas.Option.{get_or_from_slice_get, slice_get-get_or, slice_get-map}
+use Rattle.lemma_frames.specs.Frames.{lemma_of, level_of, lifted, pred_of}
+use Rattle.lemma_frames.specs.declared.framed.Framed.{Framed as KeptLemma}
+use Rattle.derivations.specs.Facts.{greatest as kept_greatest, height_of, heights, with_height}
+use Rattle.derivations.specs.declared.fact.Fact.{Fact as KeptFact}
+use Rattle.obligation_tree.specs.Nodes.{absent, is_live as is_live_node, marked_at, node_at}
+use Rattle.obligation_tree.specs.declared.node.Node.{Node}
+use Rattle.book_rules.specs.Effects.{greatest, height_at}
+use Rattle.book_rules.specs.Frames.{Framed}
+use Rattle.book_rules.specs.State.{Fact, Obligation}
+use Rattle.step_rules.specs.Views.{conclusion_of, facts_of, new_fact, framed_at, framed_of, lemmas_of, obligation_of, obligations_of, with_fact}
+use Rattle.step_rules.proofs.TestLemmas.{plus-one}
+
+-- lists that grow by one
+
+pub lemmas-push : (lemmas : List KeptLemma) (f : KeptLemma) → lemmas_of (lemmas ++ f ∷ []) ≡ lemmas_of lemmas ++ framed_of f ∷ []
+lemmas-push lemmas f = map-append framed_of lemmas (f ∷ [])
+
+pub length-lemmas : (lemmas : List KeptLemma) → length (lemmas_of lemmas) ≡ length lemmas
+length-lemmas [] = refl
+length-lemmas (f ∷ lemmas) = ap suc (length-lemmas lemmas)
+
+pub facts-push : (facts : List KeptFact) (f : KeptFact) → facts_of (facts ++ f ∷ []) ≡ with_fact (facts_of facts) f
+facts-push facts f = fold-append with_fact [] facts (f ∷ [])
+
+pub obligations-push : (nodes : List Node) (n : Node) → obligations_of (nodes ++ n ∷ []) ≡ obligations_of nodes ++ obligation_of n ∷ []
+obligations-push nodes n = map-append obligation_of nodes (n ∷ [])
+
+-- what stands at a number
+
+pub framed_of-at : (lemmas : List KeptLemma) (n : ℕ) → n < length lemmas → slice_get (lemmas_of lemmas) n ≡ Some (framed_at lemmas n)
+framed_of-at [] n within = absurd (omega arith)
+framed_of-at (f ∷ lemmas) zero within = refl
+framed_of-at (f ∷ lemmas) (suc n) within = framed_of-at lemmas n (omega arith)
+
+pub obligation_of-at : (nodes : List Node) (n : ℕ) → n < length nodes → slice_get (obligations_of nodes) n ≡ Some (obligation_of (node_at nodes n))
+obligation_of-at nodes n within = slice_get-map obligation_of nodes n ∙ ap (option_map obligation_of) (slice_get-get_or nodes n absent within)
+
+pub obligation-past : (nodes : List Node) (n : ℕ) → length nodes ≤ n → slice_get (obligations_of nodes) n ≡ None
+obligation-past [] n past = refl
+obligation-past (x ∷ nodes) zero past = absurd (omega arith)
+obligation-past (x ∷ nodes) (suc n) past = obligation-past nodes n (omega arith)
+
+pub framed-past : (lemmas : List KeptLemma) (n : ℕ) → length lemmas ≤ n → slice_get (lemmas_of lemmas) n ≡ None
+framed-past [] n past = refl
+framed-past (f ∷ lemmas) zero past = absurd (omega arith)
+framed-past (f ∷ lemmas) (suc n) past = framed-past lemmas n (omega arith)
+
+length-fold : (before : List Fact) (facts : List KeptFact) → length (fold with_fact before facts) ≡ length before + length facts
+length-fold before [] = omega arith
+length-fold before (f ∷ facts) =
+    let more = length-fold (with_fact before f) facts in
+    let long : length (with_fact before f) ≡ length before + 1 = length_push before (new_fact before f) in
+    omega (arith, more, long)
+
+pub length-facts : (facts : List KeptFact) → length (facts_of facts) ≡ length facts
+length-facts facts = (let whole : length (facts_of facts) ≡ 0 + length facts = length-fold [] facts in omega (arith, whole))
+
+-- the heights are those that the facts tell
+
+height-at : (before : List Fact) (p : ℕ) → height_at (slice_get before p) ≡ get_or (map (λ (f : Fact). f.height) before) p 0
+height-at [] p = refl
+height-at (f ∷ before) zero = refl
+height-at (f ∷ before) (suc p) = height-at before p
+
+greatest-from : (before : List Fact) (most : ℕ) (premises : List ℕ) → fold max most (map (λ p. get_or (map (λ (f : Fact). f.height) before) p 0) premises) ≡ max most (greatest before premises)
+greatest-from before most [] = omega arith
+greatest-from before most (p ∷ premises) =
+    let here = height-at before p in
+    let rest = greatest-from before (max most (get_or (map (λ (f : Fact). f.height) before) p 0)) premises in
+    rest ∙ omega (arith, here)
+
+heights-with : (before : List Fact) (f : KeptFact) → map (λ (g : Fact). g.height) (with_fact before f) ≡ with_height (map (λ (g : Fact). g.height) before) f
+heights-with before f =
+    let most : greatest before f.premises ≡ kept_greatest (map (λ p. get_or (map (λ (g : Fact). g.height) before) p 0) f.premises) = sym (greatest-from before 0 f.premises ∙ (let none : max 0 (greatest before f.premises) ≡ greatest before f.premises = omega arith in none)) in
+    map-append (λ (g : Fact). g.height) before (new_fact before f ∷ []) ∙ ap (λ h. map (λ (g : Fact). g.height) before ++ suc h ∷ []) most
+
+heights-fold : (before : List Fact) (facts : List KeptFact) → map (λ (g : Fact). g.height) (fold with_fact before facts) ≡ fold with_height (map (λ (g : Fact). g.height) before) facts
+heights-fold before [] = refl
+heights-fold before (f ∷ facts) = heights-fold (with_fact before f) facts ∙ ap (λ hs. fold with_height hs facts) (heights-with before f)
+
+pub heights_are : (facts : List KeptFact) → map (λ (g : Fact). g.height) (facts_of facts) ≡ heights facts
+heights_are facts = heights-fold [] facts
+
+pub fact-height : (facts : List KeptFact) (n : ℕ) (fact : Fact) → slice_get (facts_of facts) n ≡ Some fact → fact.height ≡ height_of facts n
+fact-height facts n fact there =
+    sym (get_or_from_slice_get (map (λ (g : Fact). g.height) (facts_of facts)) n fact.height 0 (slice_get-map (λ (g : Fact). g.height) (facts_of facts) n ∙ ap (option_map (λ (g : Fact). g.height)) there))
+    ∙ ap (λ hs. get_or hs n 0) (heights_are facts)
+
+-- the fact of a number, with the height that the facts tell
+
+abbrev made : KeptFact → ℕ → Fact
+made f h = record { conclusion = conclusion_of f.pred f.tuple; clause = f.clause; point = f.point; premises = f.premises; height = h }
+
+slice-left : {X : Type 0} (xs ys : List X) (i : ℕ) (x : X) → slice_get xs i ≡ Some x → slice_get (xs ++ ys) i ≡ Some x
+slice-left [] ys i x h = absurd (cc)
+slice-left (y ∷ xs) ys zero x h = h
+slice-left (y ∷ xs) ys (suc i) x h = slice-left xs ys i x h
+
+slice-end : {X : Type 0} (xs : List X) (x : X) → slice_get (xs ++ x ∷ []) (length xs) ≡ Some x
+slice-end [] x = refl
+slice-end (y ∷ xs) x = slice-end xs x
+
+fold-keeps : (before : List Fact) (facts : List KeptFact) (i : ℕ) (g : Fact) → slice_get before i ≡ Some g → slice_get (fold with_fact before facts) i ≡ Some g
+fold-keeps before [] i g h = h
+fold-keeps before (f ∷ facts) i g h = fold-keeps (with_fact before f) facts i g (slice-left before (new_fact before f ∷ []) i g h)
+
+fold-at : (before : List Fact) (facts : List KeptFact) (n : ℕ) (f : KeptFact) → slice_get facts n ≡ Some f → (h : ℕ) × (slice_get (fold with_fact before facts) (length before + n) ≡ Some (made f h))
+fold-at before [] n f there = absurd (cc)
+fold-at before (x ∷ facts) zero f there =
+    let same : x ≡ f = cc in
+    let h = suc (greatest before x.premises) in
+    let here = fold-keeps (with_fact before x) facts (length before) (new_fact before x) (slice-end before (new_fact before x)) ∙ ap (λ (y : KeptFact). Some (made y h)) same in
+    (h, subst (λ (i : ℕ). slice_get (fold with_fact (with_fact before x) facts) i ≡ Some (made f h)) (omega arith) here)
+fold-at before (x ∷ facts) (suc n) f there =
+    let rest = fold-at (with_fact before x) facts n f there in
+    let long : length (with_fact before x) ≡ length before + 1 = length_push before (new_fact before x) in
+    (rest.0, subst (λ (i : ℕ). slice_get (fold with_fact (with_fact before x) facts) i ≡ Some (made f rest.0)) (omega (arith, long)) rest.1)
+
+pub fact_of-at : (facts : List KeptFact) (n : ℕ) (f : KeptFact) → slice_get facts n ≡ Some f → slice_get (facts_of facts) n ≡ Some (made f (height_of facts n))
+fact_of-at facts n f there =
+    let found = fold-at [] facts n f there in
+    let first : n ≡ 0 + n = omega arith in
+    let here : slice_get (facts_of facts) n ≡ Some (made f found.0) = ap (slice_get (facts_of facts)) first ∙ found.1 in
+    here ∙ ap (λ h. Some (made f h)) (fact-height facts n (made f found.0) here)
+
+-- what changes in its place
+
+pub lemmas-lifted : (lemmas : List KeptLemma) (n : ℕ) → n < length lemmas → lemmas_of (lifted lemmas n) ≡ slice_set (lemmas_of lemmas) n (record { lemma = (framed_at lemmas n).lemma; level = level_of lemmas n + 1 })
+lemmas-lifted lemmas n within = map-set framed_of lemmas n (record { pred = pred_of lemmas n; level = level_of lemmas n + 1; lemma = lemma_of lemmas n })
+
+pub obligations-marked : (nodes : List Node) (n : ℕ) → n < length nodes → obligations_of (marked_at n nodes) ≡ slice_set (obligations_of nodes) n (record (obligation_of (node_at nodes n)) { stalled = true })
+obligations-marked nodes n within = map-set obligation_of nodes n (record (node_at nodes n) { stalled = true })
+
+-- what is still to come
+
+framed-suc : (lemmas : List KeptLemma) (i : ℕ) → i < length lemmas → drop i (lemmas_of lemmas) ≡ framed_at lemmas i ∷ drop (suc i) (lemmas_of lemmas)
+framed-suc [] i within = absurd (omega arith)
+framed-suc (f ∷ lemmas) zero within = refl
+framed-suc (f ∷ lemmas) (suc i) within = framed-suc lemmas i (omega arith)
+
+pub framed-drop : (lemmas : List KeptLemma) (i : ℕ) → i < length lemmas → drop i (lemmas_of lemmas) ≡ framed_at lemmas i ∷ drop (i + 1) (lemmas_of lemmas)
+framed-drop lemmas i within = framed-suc lemmas i within ∙ ap (λ k. framed_at lemmas i ∷ drop k (lemmas_of lemmas)) (sym (plus-one i))
+
+mapped-suc : {X Y : Type 0} (f : X → Y) (xs : List X) (i : ℕ) (x : X) → i < length xs → x ≡ get_or xs i x → map f (drop i xs) ≡ f x ∷ map f (drop (suc i) xs)
+mapped-suc f [] i x within is = absurd (omega arith)
+mapped-suc f (y ∷ xs) zero x within is = ap (λ z. f z ∷ map f xs) (sym is)
+mapped-suc f (y ∷ xs) (suc i) x within is = mapped-suc f xs i x (omega arith) is
+
+pub mapped-drop : {X Y : Type 0} (f : X → Y) (xs : List X) (i : ℕ) (x : X) → i < length xs → x ≡ get_or xs i x → map f (drop i xs) ≡ f x ∷ map f (drop (i + 1) xs)
+mapped-drop f xs i x within is = mapped-suc f xs i x within is ∙ ap (λ k. f x ∷ map f (drop k xs)) (sym (plus-one i))
+
+pub mapped-end : {X Y : Type 0} (f : X → Y) (xs : List X) (i : ℕ) → length xs ≤ i → map f (drop i xs) ≡ []
+mapped-end f [] zero past = refl
+mapped-end f [] (suc i) past = refl
+mapped-end f (y ∷ xs) zero past = absurd (omega arith)
+mapped-end f (y ∷ xs) (suc i) past = mapped-end f xs i (omega arith)

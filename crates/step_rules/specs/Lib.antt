@@ -1,0 +1,5 @@
+pub mod Tokens
+pub mod Taken
+pub mod Views
+pub mod Standing
+pub mod machinery
