@@ -20,6 +20,7 @@ use derivations::Facts;
 use lemma_frames::Frames;
 use obligation_tree::Tree;
 use std::marker::Model;
+use step_rules::Lent;
 
 /// A book as it was at one moment, with the claims of then. It can be read as the book can, and
 /// doesn't change.
@@ -117,6 +118,11 @@ impl Snapshot {
         ensures count { length result.now.nodes ≤ self.now.spent + 1 }
     {
         self.book.tree()
+    }
+
+    /// What the rules of a step read.
+    pub fn lend(&self) -> Lent {
+        self.book.parts.lend()
     }
 
     /// The clauses.

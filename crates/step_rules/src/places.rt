@@ -107,7 +107,7 @@ fn in_places(alloc: Global, lit: &Lit, args: &[u32], names: &[u32]) -> Result<Op
 
 /// The area's cube over argument places, and the equations of later places; none where a number has
 /// no room, and then the cube is wide.
-pub(crate) fn projected_cube(
+pub fn projected_cube(
     alloc: Global,
     atom: &Atom,
     area: &Projected,
@@ -130,7 +130,7 @@ pub(crate) fn projected_cube(
 }
 
 /// The tuple, as an equation for each place.
-pub(crate) fn point_cube(alloc: Global, tuple: &[i64]) -> Result<Vec<Lit>, Memory>
+pub fn point_cube(alloc: Global, tuple: &[i64]) -> Result<Vec<Lit>, Memory>
     requires { length tuple.now ≤ most_arguments }
     ensures { IfOk result (λ lits. lits.items ≡ point_cube tuple.now) }
 {
@@ -165,7 +165,7 @@ fn is_wide_lit(lit: &Lit) -> bool
 }
 
 /// Whether one of the literals has such a coefficient.
-pub(crate) fn is_wide(lits: &[Lit]) -> bool
+pub fn is_wide(lits: &[Lit]) -> bool
     ensures { result ≡ is_wide lits.now }
 {
     for lit in lits {
