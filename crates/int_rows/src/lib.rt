@@ -25,6 +25,3 @@ pub use making::ready;
 pub use row::Row;
 pub use stop::{ReadyStop, RowStop, RowWide};
 pub use tableau::Tableau;
-
-#[cfg(test)]
-mod tests;

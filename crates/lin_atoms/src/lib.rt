@@ -37,8 +37,3 @@ pub use lit::Lit;
 pub use ratio::Ratio;
 pub use stop::WideStop;
 pub use truth::holds;
-
-#[cfg(test)]
-mod form_tests;
-#[cfg(test)]
-mod number_tests;

@@ -4,7 +4,7 @@ ghost use Rattle.std.specs.Prelude.{◌≡◌};
 ghost use Rattle.std.specs.List.{list_all};
 ghost use Rattle.lin_atoms.specs.Linear.{lin_is_below};
 
-use crate::{Ready, ReadyStop, RowStop, RowWide, Tableau, ready};
+use int_rows::{Ready, ReadyStop, RowStop, RowWide, Tableau, ready};
 use lin_atoms::{Divisor, Lin, Lit};
 use std::alloc::Global;
 use std::test::Fail;

@@ -1,7 +1,7 @@
 //! Values by hand, at the edges of the words.
 ghost use Rattle.std.specs.Prelude.{◌≡◌, ◌+◌, ◌^◌, ◌<◌, nat_abs};
 
-use super::*;
+use lin_atoms::{Accumulator, Ratio, floor_div, gcd, sign_of_dot};
 use std::cmp::Ordering;
 
 const TOP: i64 = i64::MAX;

@@ -1,7 +1,7 @@
 //! Forms with values that were worked out by hand.
 
-use crate::{Divisor, Form, Lin, LinStop, Lit, WideStop, denied, holds};
 use base::{Copied, Items, Same};
+use lin_atoms::{Divisor, Form, Lin, LinStop, Lit, WideStop, denied, holds};
 use std::alloc::Global;
 use std::test::Fail;
 
