@@ -7,8 +7,6 @@ mod leaves;
 mod lexer;
 mod reader;
 mod runs;
-#[cfg(test)]
-mod tests;
 mod token;
 mod tree;
 mod words;

@@ -25,8 +25,6 @@ mod seen;
 mod signature;
 mod sorted;
 mod stop;
-#[cfg(test)]
-mod tests;
 mod trees;
 mod values;
 mod words;

@@ -3,11 +3,11 @@
 
 ghost use Rattle.std.specs.Prelude.{◌<◌, ◌^◌, length};
 
-use crate::{
+use base::{Copied, Memory, Same};
+use sexp_read::{
     LeafKind, Next, Reader, TextStop, Tree, Trees, leaf_bytes, numeral_value, read_commands,
     symbol_bytes,
 };
-use base::{Copied, Memory, Same};
 use std::alloc::Global;
 use std::test::Fail;
 

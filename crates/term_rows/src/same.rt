@@ -1,10 +1,7 @@
-use crate::node::{Node, OpKind, TermId};
-use crate::same_tree::same_terms;
-use crate::sort::Sort;
-use crate::terms::Terms;
 use base::Items;
 use std::alloc::Global;
 use std::process::Abort;
+use term_tree::{Node, OpKind, Sort, TermId, Terms, same_terms};
 
 fn put(rt: &impl Abort, terms: &mut Terms, node: Node, offset: u32) -> TermId {
     assert!(rt; terms.len() < 1000);

@@ -4,11 +4,13 @@
 
 ghost use Rattle.std.specs.Prelude.{◌<◌, ◌^◌, length};
 
-use crate::{Fault, FormulaStop, Signature, TermStop, check_formula, check_term, trees_are_light};
 use base::{Items, Memory};
 use sexp_read::read_commands;
 use std::alloc::Global;
 use std::test::Fail;
+use term_check::{
+    Fault, FormulaStop, Signature, TermStop, check_formula, check_term, trees_are_light,
+};
 use term_tree::{Name, Node, Pred, Sort, TermId, Terms};
 
 fn shown_ids(alloc: Global, ids: &[TermId]) -> Result<String, Memory> {

@@ -1,11 +1,7 @@
-use crate::evaluation::{ValueStop, value};
-use crate::node::{Node, OpKind, TermId};
-use crate::scalar::Value;
-use crate::sort::Sort;
-use crate::terms::Terms;
 use base::Items;
 use std::alloc::Global;
 use std::process::Abort;
+use term_tree::{Node, OpKind, Sort, TermId, Terms, Value, ValueStop, value};
 
 fn put(rt: &impl Abort, alloc: Global, terms: &mut Terms, node: Node) -> TermId {
     assert!(rt; terms.len() < 1000);

@@ -13,16 +13,12 @@ mod operators;
 mod pairs;
 mod pending;
 mod refusal;
-#[cfg(test)]
-mod same_tests;
 mod same_tree;
 mod scalar;
 mod script;
 mod sort;
 mod subterms;
 mod terms;
-#[cfg(test)]
-mod tests;
 
 pub use definition::Definition;
 pub use evaluation::{ValueStop, value};
