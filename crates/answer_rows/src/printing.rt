@@ -4,7 +4,7 @@ ghost use Rattle.std.specs.Prelude.{◌≡◌};
 ghost use Rattle.std.specs.List.{list_all};
 ghost use Rattle.term_tree.specs.Arena.{is_below};
 
-use crate::{Answer, Line, UnknownCause, error_line, level_line, write_answer};
+use answer_text::{Answer, Line, UnknownCause, error_line, level_line, write_answer};
 use base::{Items, Memory};
 use std::alloc::Global;
 use std::process::Abort;

@@ -2,7 +2,7 @@
 
 ghost use Rattle.std.specs.Prelude.{◌<◌, ◌^◌, length, IsTrue};
 
-use crate::{AnswerStop, read_answer, write_answer};
+use answer_text::{AnswerStop, read_answer, write_answer};
 use base::{Items, Memory};
 use std::alloc::Global;
 use std::process::Abort;

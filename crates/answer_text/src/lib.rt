@@ -14,13 +14,9 @@ mod parameters;
 mod pieces;
 mod printed_model;
 mod read;
-#[cfg(test)]
-mod read_tests;
 mod steps;
 mod stop;
 mod term;
-#[cfg(test)]
-mod tests;
 mod trees;
 mod values;
 mod write;
