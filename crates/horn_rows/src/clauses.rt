@@ -1,9 +1,7 @@
 //! Scripts by hand: each node with the offset at which it would start in the text beside the test.
 
-use crate::clause::HornClause;
-use crate::reading::{clause_of, has_assertion};
-use crate::stop::HornStop;
 use base::{Items, Memory};
+use horn_shape::{HornClause, HornStop, clause_of, has_assertion};
 use std::alloc::Global;
 use std::process::Abort;
 use term_tree::{Assertion, Node, OpKind, Script, Sort, TermId, Terms};

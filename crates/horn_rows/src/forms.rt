@@ -1,7 +1,7 @@
 //! What each form of a clause gives. The offsets of guards are counted in the text beside each case.
 
-use crate::clause::{AtomUse, Part};
-use crate::test_terms::{Row, Shape, clause, term};
+use crate::terms::{Row, Shape, clause, term};
+use horn_shape::{AtomUse, Part};
 use std::alloc::Global;
 use std::process::Abort;
 use term_tree::OpKind;

@@ -1,7 +1,7 @@
 //! Where the first subterm starts that fits no form. The offsets are counted in the text beside each case.
 
-use crate::stop::HornStop;
-use crate::test_terms::{Row, Shape, clause, term};
+use crate::terms::{Row, Shape, clause, term};
+use horn_shape::HornStop;
 use std::alloc::Global;
 use std::process::Abort;
 use term_tree::OpKind;

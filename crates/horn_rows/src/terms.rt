@@ -1,9 +1,7 @@
 //! Scripts of one assertion for tests, as lists of terms.
 
-use crate::clause::HornClause;
-use crate::reading::{clause_of, has_assertion};
-use crate::stop::HornStop;
 use base::Items;
+use horn_shape::{HornClause, HornStop, clause_of, has_assertion};
 use std::alloc::Global;
 use std::process::Abort;
 use term_tree::{Assertion, Node, OpKind, Script, Sort, TermId, Terms};

@@ -5,20 +5,12 @@
 mod body;
 mod clause;
 mod disjunct;
-#[cfg(test)]
-mod form_tests;
 mod gather;
 mod laws;
-#[cfg(test)]
-mod misfit_tests;
 mod plain;
 mod reading;
 mod shape;
 mod stop;
-#[cfg(test)]
-mod test_terms;
-#[cfg(test)]
-mod tests;
 
 pub use clause::{AtomUse, HornClause, Part};
 pub use laws::{
