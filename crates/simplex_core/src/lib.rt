@@ -24,5 +24,3 @@ pub use laws::{
 
 #[cfg(test)]
 mod coordinate_tests;
-#[cfg(test)]
-mod tests;

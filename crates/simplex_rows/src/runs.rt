@@ -4,10 +4,9 @@ ghost use Rattle.std.specs.Prelude.{◌≡◌};
 ghost use Rattle.std.specs.List.{list_all};
 ghost use Rattle.lin_atoms.specs.Linear.{lin_is_below};
 
-use crate::answer::{Feasible, WideEvidence};
-use crate::following::feasible;
 use int_rows::Tableau;
 use lin_atoms::{Lin, Ratio};
+use simplex_core::{Feasible, WideEvidence, feasible};
 use std::alloc::Global;
 use std::test::Fail;
 
