@@ -34,10 +34,3 @@ pub use laws::{
 pub use refuted::Refuted;
 pub use stop::CheckStop;
 pub use tree::Refutation;
-
-#[cfg(test)]
-mod chain_tests;
-#[cfg(test)]
-mod gave_up_tests;
-#[cfg(test)]
-mod tests;

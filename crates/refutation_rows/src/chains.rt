@@ -1,7 +1,7 @@
 //! Chains of ten thousand nodes.
 
-use crate::{Refutation, check, check_owned};
 use base::{Boxed, Items};
+use farkas_proof::{Refutation, check, check_owned};
 use lin_atoms::{Form, Lin};
 use std::alloc::Global;
 use std::test::Fail;

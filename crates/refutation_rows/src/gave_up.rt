@@ -4,8 +4,8 @@ ghost use Rattle.std.specs.Prelude.{◌≡◌, ◌∷◌, [], IfOk};
 ghost use Rattle.lin_atoms.specs.declared.lit.Lit.TheVariants.{Eq};
 ghost use Rattle.farkas_proof.specs.Instances.{both, large_on_first, large_on_second};
 
-use crate::{Evidence, GaveUp};
 use base::{Items, Same};
+use farkas_proof::{Evidence, GaveUp};
 use lin_atoms::{Form, Lin, Lit};
 use std::alloc::Global;
 use std::test::Fail;

@@ -1,7 +1,7 @@
 //! Trees that were worked out by hand.
 
-use crate::{CheckStop, Refutation, check};
 use base::{Boxed, Items, Same};
+use farkas_proof::{CheckStop, Refutation, check};
 use lin_atoms::{Divisor, Form, Lin, Lit};
 use std::alloc::Global;
 use std::test::Fail;
