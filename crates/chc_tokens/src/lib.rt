@@ -33,6 +33,3 @@ pub use stop::TokenStop;
 pub use there::{are_short, has_head, has_values};
 pub use used::Used;
 pub use why::Why;
-
-#[cfg(test)]
-mod tests;

@@ -5,12 +5,12 @@ ghost use Rattle.lin_atoms.specs.declared.form.Form.TheVariants.{Lit as Literal}
 ghost use Rattle.lin_atoms.specs.declared.form.Form.TheViews.{And, Or};
 ghost use Rattle.farkas_proof.specs.Kept.{form_of};
 
-use crate::{
+use base::{Copied, Items, Same};
+use chc_tokens::{
     Goal, NoLift, Shown, TokenStop, Used, Why, are_short, base_of, checked_base_of,
     checked_forms_of, checked_query_of, forms_of, has_head, has_values, no_lift, query_of, seen,
     shown, shown_by,
 };
-use base::{Copied, Items, Same};
 use clause_form::{Atom, Clause, System};
 use cube_forms::{Cube, Lemma, negate};
 use farkas_proof::{Evidence, GaveUp, Refutation, Refuted, check};

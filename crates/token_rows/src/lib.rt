@@ -1,0 +1,5 @@
+//! Queries about clauses, and the tokens that they give. It has nothing but tests.
+#![tactic(auto)]
+
+#[cfg(test)]
+mod tokens;
