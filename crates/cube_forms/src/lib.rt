@@ -22,8 +22,3 @@ pub use placed::lit_at;
 pub use stop::CubeStop;
 pub use table::Table;
 pub use tuple::Tuple;
-
-#[cfg(test)]
-mod table_tests;
-#[cfg(test)]
-mod tests;

@@ -16,6 +16,3 @@ pub use facts::Facts;
 pub use laws::{
     a_height_is_one_more, false_is_recorded_once, steps_end_in_the_fact, steps_have_their_premises,
 };
-
-#[cfg(test)]
-mod tests;

@@ -13,6 +13,3 @@ mod rows;
 pub use framed::Framed;
 pub use frames::Frames;
 pub use laws::{frames_only_fall, one_list_is_upper, upper_lists_are_prefixes};
-
-#[cfg(test)]
-mod tests;

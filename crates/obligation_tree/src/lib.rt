@@ -18,6 +18,3 @@ pub use laws::{
 pub use node::Node;
 pub use obligation::Obligation;
 pub use tree::Tree;
-
-#[cfg(test)]
-mod tests;

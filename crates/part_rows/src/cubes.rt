@@ -1,7 +1,7 @@
 //! Cubes, lemmas and tuples with values that were worked out by hand.
 
-use crate::{Cube, CubeStop, Lemma, Tuple, negate};
 use base::{Copied, Items, Same};
+use cube_forms::{Cube, CubeStop, Lemma, Tuple, negate};
 use lin_atoms::{Divisor, Form, Lin, Lit, WideStop, holds};
 use std::alloc::Global;
 use std::test::Fail;

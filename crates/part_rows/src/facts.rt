@@ -3,9 +3,9 @@
 ghost use Rattle.std.specs.Prelude.{◌≡◌, ◌<◌, length, true};
 ghost use Rattle.std.specs.List.{All};
 
-use crate::{Fact, Facts};
 use base::Items;
 use cube_forms::Tuple;
+use derivations::{Fact, Facts};
 use std::alloc::Global;
 use std::test::Fail;
 

@@ -1,7 +1,7 @@
 //! Frames worked out by hand. Lemma n says that the one argument isn't n.
 
-use crate::Frames;
 use cube_forms::{Cube, Lemma, negate};
+use lemma_frames::Frames;
 use lin_atoms::{Lin, Lit};
 use std::alloc::Global;
 use std::test::Fail;

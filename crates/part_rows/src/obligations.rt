@@ -1,9 +1,9 @@
 //! Small trees that were closed by hand.
 
-use crate::{Cause, Obligation, Tree};
 use base::Memory;
 use cube_forms::{Cube, Lemma, Tuple, negate};
 use lin_atoms::{Lin, Lit};
+use obligation_tree::{Cause, Obligation, Tree};
 use std::alloc::Global;
 use std::test::Fail;
 

@@ -1,7 +1,7 @@
 //! Tables across the ends of their blocks, with versions that are taken in between.
 
-use crate::Table;
 use base::Memory;
+use cube_forms::Table;
 use std::alloc::Global;
 
 /// An item that can't be copied: it has a list.
