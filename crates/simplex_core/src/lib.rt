@@ -21,6 +21,3 @@ pub use laws::{
     crossed_bounds_are_a_conflict, moments_are_basic_points, moments_come_once,
     stuck_rows_are_a_conflict, vertices_meet_all_bounds,
 };
-
-#[cfg(test)]
-mod coordinate_tests;

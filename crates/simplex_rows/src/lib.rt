@@ -3,4 +3,6 @@
 #![tactic(auto)]
 
 #[cfg(test)]
+mod coordinates;
+#[cfg(test)]
 mod runs;

@@ -31,7 +31,7 @@ fn form(alloc: Global, coefficients: &[i64]) -> Result<Lin, Fail> {
 }
 
 /// The tableau of the forms with these coefficients, of four variables each.
-fn of_forms(alloc: Global, coefficients: &[[i64; 4]]) -> Result<Tableau, Fail> {
+pub(crate) fn of_forms(alloc: Global, coefficients: &[[i64; 4]]) -> Result<Tableau, Fail> {
     let mut forms = Vec::new(alloc);
     for row in coefficients {
         forms.push(form(alloc, row.as_slice())?)?;
@@ -66,7 +66,7 @@ fn at_most(t: &mut Tableau, column: usize, bound: i128) {
 }
 
 /// Gives a column two bounds.
-fn between(t: &mut Tableau, column: usize, lower: i128, upper: i128) {
+pub(crate) fn between(t: &mut Tableau, column: usize, lower: i128, upper: i128) {
     at_least(t, column, lower);
     at_most(t, column, upper);
 }
@@ -192,7 +192,7 @@ fn is_conflict(t: &Tableau, coefficients: &[[i64; 4]], multipliers: &[i64]) -> b
 
 /// What is answered, where it holds.
 #[derive(Clone, Copy, Debug, PartialEq, Eq)]
-enum Found {
+pub(crate) enum Found {
     Vertex,
     Conflict,
     WideRow(i128),
@@ -203,7 +203,7 @@ enum Found {
 
 /// What is answered for the tableau of these forms, with vertices put into the equations and bounds,
 /// and conflicts added up.
-fn solved(alloc: Global, t: &mut Tableau, coefficients: &[[i64; 4]]) -> Found {
+pub(crate) fn solved(alloc: Global, t: &mut Tableau, coefficients: &[[i64; 4]]) -> Found {
     match feasible(alloc, t) {
         Ok(Feasible::Vertex(values)) => {
             if is_vertex(t, coefficients, values.as_slice()) {
