@@ -11,6 +11,3 @@ mod system;
 pub use atom::Atom;
 pub use clause::Clause;
 pub use system::System;
-
-#[cfg(test)]
-mod system_tests;

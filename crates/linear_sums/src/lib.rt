@@ -11,6 +11,3 @@ mod sum;
 pub use judge::{is_narrow, judged};
 pub use product::product_form;
 pub use sum::{difference_form, less, sum_form};
-
-#[cfg(test)]
-mod sum_tests;

@@ -14,6 +14,3 @@ pub use laws::kept_constants_give_linear_forms;
 pub use leaves::{auxiliary_of, name_of, text_parts, variable_form};
 pub use names::Names;
 pub use stop::FormStop;
-
-#[cfg(test)]
-mod form_tests;

@@ -8,6 +8,3 @@ mod walk;
 
 pub use laws::places_follow_sorts;
 pub use walk::places;
-
-#[cfg(test)]
-mod place_tests;

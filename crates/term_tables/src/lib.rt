@@ -11,6 +11,3 @@ mod sorts;
 pub use constant_table::ConstantTable;
 pub use laws::short_constants_are_constants;
 pub use sort_table::SortTable;
-
-#[cfg(test)]
-mod table_tests;

@@ -14,6 +14,3 @@ pub use first::first_wide;
 pub use laws::{alike_names_judge_alike, kept_constants_judge};
 pub use relation::{is_relation, narrow_form, narrow_forms};
 pub use sides::has_wide_difference;
-
-#[cfg(test)]
-mod wide_tests;

@@ -1,12 +1,12 @@
 //! First terms without room, found by hand.
 
-use crate::{apart_names, first_wide};
 use base::Items;
 use std::alloc::Global;
 use std::process::Abort;
 use term_forms::nothing_read;
 use term_tables::ConstantTable;
 use term_tree::{Node, OpKind, Sort, TermId, Terms};
+use term_widths::{apart_names, first_wide};
 
 fn put(rt: &impl Abort, terms: &mut Terms, node: Node) {
     assert!(rt; terms.len() < 1000);

@@ -1,7 +1,7 @@
 //! Systems that keep what a system keeps, and some that don't.
 
-use crate::{Atom, Clause, System};
 use base::{Copied, Items, Same};
+use clause_form::{Atom, Clause, System};
 use lin_atoms::{Divisor, Form, Lin, Lit};
 use std::alloc::Global;
 use std::test::Fail;

@@ -1,8 +1,8 @@
 //! Sums by hand, some with more than 63 bits on the way.
 
-use crate::{difference_form, less, product_form, sum_form};
 use base::{Items, Same};
 use lin_atoms::{Lin, WideStop};
+use linear_sums::{difference_form, less, product_form, sum_form};
 use std::alloc::Global;
 use std::test::Fail;
 

@@ -1,11 +1,11 @@
 //! Linear forms of terms by hand.
 
-use crate::{FormStop, Names, linear_form, nothing_read};
 use base::{Items, Same};
 use lin_atoms::Lin;
 use std::alloc::Global;
 use std::collections::BTreeMap;
 use std::process::Abort;
+use term_forms::{FormStop, Names, linear_form, nothing_read};
 use term_tables::ConstantTable;
 use term_tree::{Node, OpKind, Sort, TermId, Terms};
 

@@ -1,9 +1,9 @@
 //! Sorts and constants of terms by hand.
 
-use crate::{ConstantTable, SortTable};
 use base::Items;
 use std::alloc::Global;
 use std::process::Abort;
+use term_tables::{ConstantTable, SortTable};
 use term_tree::{Node, OpKind, Pred, Sort, TermId, Terms};
 
 fn put(rt: &impl Abort, terms: &mut Terms, node: Node) {

@@ -1,9 +1,9 @@
 //! The auxiliary variables of a text, found by hand.
 
-use crate::places;
 use base::Items;
 use std::alloc::Global;
 use std::process::Abort;
+use term_places::places;
 use term_tables::SortTable;
 use term_tree::{Node, OpKind, Pred, Sort, TermId, Terms};
 
