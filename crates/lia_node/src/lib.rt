@@ -15,6 +15,3 @@ pub use examining::examine;
 pub use laws::{
     conflicts_have_no_point, conflicts_have_no_solution, fractions_split, sides_cover_and_are_known,
 };
-
-#[cfg(test)]
-mod tests;

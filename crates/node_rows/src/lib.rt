@@ -13,6 +13,3 @@ pub use asking::{are_known, have_short_constants};
 pub use laws::{points_are_whole_solutions, whole_solutions_are_points};
 pub use legal::are_legal;
 pub use tableau::node_tableau;
-
-#[cfg(test)]
-mod tests;

@@ -1,8 +1,8 @@
 //! A tableau of a node that was worked out by hand.
 
-use crate::{are_known, have_short_constants, node_tableau};
 use int_rows::Tableau;
 use lin_atoms::{Divisor, Lin, Lit};
+use node_rows::{are_known, have_short_constants, node_tableau};
 use std::alloc::Global;
 use std::test::Fail;
 

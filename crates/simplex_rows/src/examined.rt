@@ -1,7 +1,7 @@
 //! Nodes that were worked out by hand.
 
-use crate::{Examined, examine};
 use farkas_proof::Evidence;
+use lia_node::{Examined, examine};
 use lin_atoms::{Divisor, Lin, Lit};
 use node_rows::{are_known, have_short_constants};
 use std::alloc::Global;
