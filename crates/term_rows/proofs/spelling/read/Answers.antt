@@ -1,6 +1,6 @@
 use Rattle.std.proofs.Common.{sym, arith}
 use Rattle.term_check.proofs.LightLemmas.{first_light}
-use Rattle.term_check.proofs.tests.read.Goals as goal
+use Rattle.term_rows.proofs.spelling.read.Goals as goal
 
 pub check_term-requires-clause-weight : goal.check_term-requires-clause-weight
 check_term-requires-clause-weight c =

@@ -1,6 +1,6 @@
 use Rattle.std.proofs.Common.{sym, arith}
 use Rattle.term_check.proofs.LightLemmas.{first_light}
-use Rattle.term_check.proofs.tests.formula.Goals as goal
+use Rattle.term_rows.proofs.spelling.formula.Goals as goal
 
 pub check_formula-requires : goal.check_formula-requires
 check_formula-requires c =

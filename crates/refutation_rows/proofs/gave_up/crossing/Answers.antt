@@ -7,7 +7,7 @@ use Rattle.farkas_proof.specs.declared.evidence.Evidence.{Evidence}
 use Rattle.farkas_proof.specs.declared.evidence.Evidence.TheVariants.{Row}
 use Rattle.farkas_proof.proofs.PairLemmas.{same-evidence}
 use Rattle.farkas_proof.proofs.WideRowLemmas.{large-given-up, wide}
-use Rattle.farkas_proof.proofs.gave_up_tests.crossing.Goals as goal
+use Rattle.refutation_rows.proofs.gave_up.crossing.Goals as goal
 
 pub keep-requires : goal.keep-requires
 keep-requires c =
