@@ -1,7 +1,7 @@
 -- The terms of the rows: x and y are integers, b and c truth values, and u is the auxiliary variable of `(<= x y)`.
-use Rattle.std.specs.Prelude.{◌≡◌, ℕ, List, [], ◌∷◌, ◌++◌, map, Some, pos, nat_lt, if◌then◌else◌}
+use Rattle.std.specs.Prelude.{◌≡◌, ℕ, List, [], ◌∷◌, ◌++◌, map, Option, Some, ℤ, pos, nat_lt, if◌then◌else◌}
 use Rattle.std.specs.Ordering.{nat_cmp}
-use Rattle.std.specs.BTreeMap.{get}
+use Rattle.std.specs.BTreeMap.{BTreeMap, get}
 use Rattle.term_tree.specs.declared.sort.Sort.TheVariants.{Int as IntSort, Bool as BoolSort}
 use Rattle.term_tree.specs.declared.node.TermId.{TermId}
 use Rattle.term_tree.specs.declared.node.OpKind.{OpKind}
@@ -9,7 +9,6 @@ use Rattle.term_tree.specs.declared.node.OpKind.TheVariants.{Not, And, Or, Xor, 
 use Rattle.term_tree.specs.declared.node.Node.{Node}
 use Rattle.term_tree.specs.declared.node.Node.TheVariants.{Num, True, False, Var, LetVar, Op, Divisible, Let}
 use Rattle.term_tables.specs.machinery.Table.{AreConstants}
-use Rattle.formula_rows.specs.declared.samples.Given.{Given}
 
 -- a number from 1000 on is no term
 abbrev pub chosen_one : ℕ → List TermId
@@ -48,8 +47,8 @@ abbrev pub row_terms : List Node
 row_terms = variables ++ (constants ++ (named ++ map made_of operations))
 
 -- what is told of these terms, where x <= y has the auxiliary variable 4 and no other term has one
-pub record AreGiven (given : Given) : Type 0 where
-  pub terms : given.terms.nodes ≡ row_terms
-  pub constants : AreConstants row_terms given.constants
-  pub own : given.names.own.items ≡ []
-  pub auxiliary : (id v : ℕ) → get nat_cmp given.names.auxiliary id ≡ Some v → (id ≡ 8) × (v ≡ 4)
+pub record AreGiven (nodes : List Node) (kept : List (Option ℤ)) (names : List ℕ) (numbers : BTreeMap ℕ ℕ) : Type 0 where
+  pub terms : nodes ≡ row_terms
+  pub constants : AreConstants row_terms kept
+  pub own : names ≡ []
+  pub auxiliary : (id v : ℕ) → get nat_cmp numbers id ≡ Some v → (id ≡ 8) × (v ≡ 4)

@@ -1,6 +1,8 @@
 //! The terms of the rows, and what is told of them.
 
-ghost use Rattle.std.specs.Prelude.{◌≡◌, ◌++◌, [], ◌∷◌, map, IfOk, OnOk};
+ghost use Rattle.std.specs.Prelude.{◌≡◌, ◌++◌, ℕ, [], ◌∷◌, map, Some, IfOk, OnOk};
+ghost use Rattle.std.specs.Ordering.{nat_cmp};
+ghost use Rattle.std.specs.BTreeMap.{get};
 ghost use Rattle.formula_rows.specs.Samples.{AreGiven, chosen, chosen_one, constants, made_of, named, row_terms, variables};
 
 use base::{Items, Memory};
@@ -188,7 +190,10 @@ fn terms(alloc: Global) -> Result<Terms, Fail>
 }
 
 /// The auxiliary variable 4 is that of x <= y, and each variable has its own number.
-fn names(alloc: Global) -> Result<Names, Memory> {
+fn names(alloc: Global) -> Result<Names, Memory>
+    ensures own { IfOk result (λ names. names.own.items ≡ []) }
+    ensures auxiliary { IfOk result (λ names. (id v : ℕ) → get nat_cmp names.auxiliary id ≡ Some v → (id ≡ 8) × (v ≡ 4)) }
+{
     let mut auxiliary = BTreeMap::new(alloc);
     let _ = auxiliary.insert(8, 4)?;
     Ok(Names {
@@ -198,7 +203,7 @@ fn names(alloc: Global) -> Result<Names, Memory> {
 }
 
 pub fn all_given(alloc: Global) -> Result<Given, Fail>
-    ensures { IfOk result (λ given. AreGiven given) }
+    ensures { IfOk result (λ given. AreGiven given.terms.nodes given.constants given.names.own.items given.names.auxiliary) }
 {
     let terms = terms(alloc)?;
     let sorts = SortTable::of(alloc, &[], &terms)?;

@@ -25,7 +25,7 @@ fn judge(
     known: &mut BTreeMap<u32, Lin>,
     id: TermId,
 ) -> Result<(), Fail>
-    requires given { AreGiven given.now }
+    requires given { AreGiven given.now.terms.nodes given.now.constants given.now.names.own.items given.now.names.auxiliary }
     requires known { AreFound (constant_in given.now.constants) (naming_by given.now.names) given.now.terms.nodes known.old }
     ensures room { OnOk result (HasRoom (constant_in given.now.constants) (naming_by given.now.names) given.now.terms.nodes id.0) }
     ensures known { OnOk result (AreFound (constant_in given.now.constants) (naming_by given.now.names) given.now.terms.nodes known.new) }
@@ -44,7 +44,7 @@ fn judge(
 
 /// Where the term is true, or where it is false.
 pub fn written(alloc: Global, given: &Given, id: u32, sign: bool) -> Result<Form, Fail>
-    requires given { AreGiven given.now }
+    requires given { AreGiven given.now.terms.nodes given.now.constants given.now.names.own.items given.now.names.auxiliary }
 {
     let mut known = nothing_read(alloc);
     judge(alloc, given, &mut known, TermId(id))?;
@@ -64,7 +64,7 @@ pub fn written(alloc: Global, given: &Given, id: u32, sign: bool) -> Result<Form
 
 /// What determines the variable v for the term.
 pub fn determined(alloc: Global, given: &Given, v: u32, id: u32) -> Result<Form, Fail>
-    requires given { AreGiven given.now }
+    requires given { AreGiven given.now.terms.nodes given.now.constants given.now.names.own.items given.now.names.auxiliary }
 {
     if v < 4 || (v == 4 && id != 8) {
         return Err("the variable is another term's")?;
@@ -87,7 +87,7 @@ pub fn determined(alloc: Global, given: &Given, v: u32, id: u32) -> Result<Form,
 
 /// What determines the variable 4 for the term 8, and 5 for another term, behind `True`.
 pub fn all_determined(alloc: Global, given: &Given, other: u32) -> Result<Items<Form>, Fail>
-    requires given { AreGiven given.now }
+    requires given { AreGiven given.now.terms.nodes given.now.constants given.now.names.own.items given.now.names.auxiliary }
 {
     let mut known = nothing_read(alloc);
     judge(alloc, given, &mut known, TermId(8))?;
