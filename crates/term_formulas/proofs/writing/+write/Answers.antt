@@ -1,5 +1,7 @@
-use Rattle.std.proofs.Common.{◌≡◌, ◌<◌, ◌==◌, ◌-◌, List, ◌∷◌, ◌++◌, [], length, take, get_or, not, true, refl, ap, sym, ◌∙◌, subst, arith}
-use Rattle.std.specs.Prelude.{slice_get, Some, IfOk}
+use Rattle.std.proofs.Common.{rules, FitsSigned, ◌≡◌, ◌<◌, ◌==◌, ◌-◌, List, ◌∷◌, ◌++◌, [], length, take, get_or, not, true, refl, ap, sym, ◌∙◌, subst, arith}
+use Rattle.std.specs.Prelude.{slice_get, Some, IfOk, pos, ◌<ℤ◌}
+use Rattle.std.specs.Int.{w64}
+use Rattle.std.proofs.lemmas.Int.{to_z-of_z}
 use Rattle.term_tree.specs.declared.node.Node.{Node}
 use Rattle.term_tree.specs.declared.node.Node.TheVariants.{Op, Divisible, Let, LetVar}
 use Rattle.term_tree.specs.declared.node.TermId.{TermId}
@@ -42,7 +44,11 @@ of_node-operation-requires t c =
     )
 
 pub of_node-of_divisible-requires-clause-some : goal.of_node-of_divisible-requires-clause-some
-of_node-of_divisible-requires-clause-some t c = ?
+of_node-of_divisible-requires-clause-some t c =
+    let above : pos 0 <ℤ c.in-Divisible.by = divides_some (constant_in c.args.constants.now) (naming_by c.args.names.now) c.args.terms.now.nodes c.args.id.0 c.in-Divisible.by c.in-Divisible.arg c.requires.room
+    (c.requires.node ∙ ap (λ (n : Node). Some n) c.in-Divisible.is) in
+    let fits : FitsSigned w64 c.in-Divisible.by = search rules in
+    simp to_z-of_z above
 
 pub of_node-of_divisible-requires-clause-there : goal.of_node-of_divisible-requires-clause-there
 of_node-of_divisible-requires-clause-there t c =
