@@ -1,4 +1,4 @@
-use Rattle.std.proofs.Common.{◌≡◌, ◌<◌, List, length, get_or, sym, subst, arith}
+use Rattle.std.proofs.Common.{◌≡◌, List, sym, subst, arith}
 use Rattle.std.specs.Prelude.{Some, IfOk}
 use Rattle.term_tree.specs.declared.node.TermId.{TermId}
 use Rattle.term_tree.specs.declared.node.OpKind.TheVariants.{Abs}
@@ -8,7 +8,6 @@ use Rattle.linear_terms.specs.Place.{integer_place}
 use Rattle.term_forms.specs.Found.{form_by}
 use Rattle.term_tables.specs.machinery.Table.{constant_in}
 use Rattle.term_formulas.specs.Written.{naming_by, value_by}
-use Rattle.term_formulas.specs.machinery.Parts.{IsMadeOf}
 use Rattle.term_formulas.proofs.ArgumentLemmas.{among_at, one_id}
 use Rattle.term_formulas.proofs.place.of_abs.Goals as goal
 

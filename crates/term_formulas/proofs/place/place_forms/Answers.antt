@@ -1,4 +1,4 @@
-use Rattle.std.proofs.Common.{◌≡◌, ◌+◌, ◌++◌, arith}
+use Rattle.std.proofs.Common.{◌++◌, arith}
 use Rattle.term_tables.specs.machinery.Table.{constant_in, sort_in}
 use Rattle.term_formulas.specs.Written.{naming_by, place_forms_by}
 use Rattle.term_formulas.proofs.ArgumentLemmas.{places_more, places_turn}

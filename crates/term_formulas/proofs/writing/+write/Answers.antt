@@ -1,15 +1,15 @@
-use Rattle.std.proofs.Common.{rules, FitsSigned, ◌≡◌, ◌<◌, ◌==◌, ◌-◌, List, ◌∷◌, ◌++◌, [], length, take, get_or, not, true, refl, ap, sym, ◌∙◌, subst, arith}
+use Rattle.std.proofs.Common.{rules, FitsSigned, ◌≡◌, ◌<◌, ◌==◌, ◌-◌, List, ◌∷◌, ◌++◌, [], length, take, not, ap, sym, ◌∙◌, subst, arith}
 use Rattle.std.specs.Prelude.{slice_get, Some, IfOk, pos, ◌<ℤ◌}
 use Rattle.std.specs.Int.{w64}
 use Rattle.std.proofs.lemmas.Int.{to_z-of_z}
 use Rattle.term_tree.specs.declared.node.Node.{Node}
 use Rattle.term_tree.specs.declared.node.Node.TheVariants.{Op, Divisible, Let, LetVar}
 use Rattle.term_tree.specs.declared.node.TermId.{TermId}
-use Rattle.term_tree.specs.Subterms.{is_among, itself}
+use Rattle.term_tree.specs.Subterms.{is_among}
 use Rattle.term_tree.proofs.Public.{arena_below, eqb_self, part_below}
 use Rattle.lin_atoms.specs.declared.form.Form.{Form}
 use Rattle.linear_terms.specs.Linear.{bit_of, is_narrow}
-use Rattle.linear_terms.specs.Formula.{choice, implied, node_formula}
+use Rattle.linear_terms.specs.Formula.{choice}
 use Rattle.linear_terms.proofs.Public.{formula_at}
 use Rattle.term_tables.specs.machinery.Table.{constant_in, sort_in}
 use Rattle.term_formulas.specs.machinery.Parts.{each}
