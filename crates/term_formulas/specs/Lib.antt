@@ -1,0 +1,2 @@
+pub mod machinery
+pub mod Written
