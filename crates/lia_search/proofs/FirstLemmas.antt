@@ -1,6 +1,6 @@
 -- Where a search begins.
 use Rattle.std.proofs.Common.{◌≡◌, ℕ, zero, suc, ◌+◌, ◌<◌, ◌≤◌, List, [], ◌∷◌, ◌++◌, length, take, drop, refl, ap, sym, ◌∙◌, subst, arith, append_assoc, append-nil, true, Some}
-use Rattle.std.specs.Prelude.{slice_get}
+use Rattle.std.specs.Prelude.{slice_get, slice_index_or}
 use Rattle.std.specs.List.{list_all, range_with_len}
 use Rattle.std.proofs.lemmas.Bool.{and_from}
 use Rattle.std.proofs.lemmas.List.{length-append, take-append-drop}
@@ -138,3 +138,17 @@ open-is o at taken lits cases is own numbers reasons known left open_cases =
     ∙ ap (λ (d : ℕ). made (take taken lits) (range_with_len 0 n) [] d o.left_out o.cases) known
     ∙ ap (λ (e : List LeftOut). made (take taken lits) (range_with_len 0 n) [] (length lits) e o.cases) (left ∙ ap (λ (k : ℕ). left_from k (drop at lits)) (sym is.long) ∙ ap (left_from n) is.rest)
     ∙ ap (λ (f : List (List Form)). made (take taken lits) (range_with_len 0 n) [] (length lits) (left_from n (drop taken lits)) f) open_cases
+
+-- one literal more has joined
+pub take-more : (lits : List Lit) (n : ℕ) (d : Lit) → n < length lits → take (n + 1) lits ≡ take n lits ++ slice_index_or lits n d ∷ []
+take-more [] n d less = absurd (omega (arith, less))
+take-more (l ∷ lits) zero d less = refl
+take-more (l ∷ lits) (suc n) d less =
+    let next : suc n + 1 ≡ suc (n + 1) = omega arith in
+    ap (λ (k : ℕ). take k (l ∷ lits)) next ∙ ap (λ (ls : List Lit). l ∷ ls) (take-more lits n d (omega (arith, less)))
+
+pub range-more : (a n k : ℕ) → a + n ≡ k → range_with_len a (n + 1) ≡ range_with_len a n ++ k ∷ []
+range-more a zero k e = let same : a ≡ k = omega (arith, e) in ap (λ (m : ℕ). m ∷ []) same
+range-more a (suc n) k e =
+    let next : suc n + 1 ≡ suc (n + 1) = omega arith in
+    ap (range_with_len a) next ∙ ap (λ (ms : List ℕ). a ∷ ms) (range-more (a + 1) n k (omega (arith, e)))

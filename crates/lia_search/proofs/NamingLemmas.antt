@@ -1,5 +1,5 @@
 -- Literals of a node get their reasons, and their quotients names.
-use Rattle.std.proofs.Common.{◌≡◌, ℕ, zero, suc, ◌+◌, ◌-◌, ◌<◌, ◌≤◌, max, List, [], ◌∷◌, ◌++◌, length, take, refl, ap, sym, ◌∙◌, subst, arith, append-nil, true, false, Bool, cond, ◌==◌, Some}
+use Rattle.std.proofs.Common.{◌≡◌, ℕ, zero, suc, ◌+◌, ◌-◌, ◌<◌, ◌≤◌, max, List, [], ◌∷◌, ◌++◌, length, take, refl, ap, sym, ◌∙◌, subst, arith, append_assoc, append-nil, true, false, Bool, cond, ◌==◌, Some}
 use Rattle.std.specs.Prelude.{◌^◌, ℤ, pos, neg_ℤ, nat_abs, nat_lt, ◌+ℤ◌, ◌-ℤ◌, slice_get, slice_index_or, if◌then◌else◌}
 use Rattle.std.specs.List.{list_all}
 use Rattle.std.specs.Option.{option_map_or}
@@ -27,6 +27,7 @@ use Rattle.node_rows.proofs.FitLemmas.{linear-parts}
 use Rattle.lia_close.specs.Placed.{AreSoundAt, Place, with_known}
 use Rattle.lia_close.specs.Said.{AreAt, ArePlaced, AreReasons, named_by, of_division, said_by}
 use Rattle.lia_close.specs.Written.{assembled}
+use Rattle.lia_close.specs.declared.written.Step.{Step}
 use Rattle.lia_close.specs.declared.written.Step.TheVariants.{Named}
 use Rattle.lia_close.proofs.Public.{assembled-++, sound-named}
 use Rattle.lia_search.specs.declared.waiting.Open.{Open}
@@ -379,3 +380,27 @@ names-all form o place is legal few small =
     let full = times.full in
     let long = ap (λ (ls : List Lit). length ls) times.lits in
     record { behind = times.behind; is = times.is; lits = times.lits; full = omega (arith, full, long, some); sound = times.sound }
+
+-- the names so far, and those of the rest
+pub record NamesOn (was : Open) (first : List Step) (o : Open) (now : List Step) (k : ℕ) : Type 0 where
+  pub at : k ≡ length o.reasons
+  pub some : length o.reasons ≤ length o.lits
+  pub each : length o.numbers ≡ length o.lits
+  pub waiting : all_named o ≡ all_named was
+  pub steps : now ++ steps_of_names o ≡ first ++ steps_of_names was
+
+pub names-on : (was o new : Open) (first steps more : List Step) (k : ℕ) → NamesOn was first o steps k → k < length o.lits → new ≡ with_name o → more ≡ steps ++ step_of_name o → NamesOn was first new more (k + 1)
+names-on was o new first steps more k on there is written =
+    let at = on.at in
+    let each = on.each in
+    let less : length o.reasons < length o.lits = omega (arith, at, there) in
+    let reasons : length new.reasons ≡ length o.reasons + 1 = ap (λ (w : Open). length w.reasons) is ∙ name-reasons o in
+    let lits : length new.lits ≡ length o.lits = ap (λ (w : Open). length w.lits) is ∙ ap (λ (ls : List Lit). length ls) (name-lits o) in
+    let numbers : length new.numbers ≡ length o.numbers = ap (λ (w : Open). length w.numbers) is ∙ ap (λ (ns : List ℕ). length ns) (name-numbers o) in
+    record {
+      at = omega (arith, at, reasons);
+      some = omega (arith, less, reasons, lits);
+      each = omega (arith, each, numbers, lits);
+      waiting = ap all_named is ∙ sym (all-next o less) ∙ on.waiting;
+      steps = ap (λ (ss : List Step). ss ++ steps_of_names new) written ∙ ap (λ (w : Open). (steps ++ step_of_name o) ++ steps_of_names w) is ∙ append_assoc steps (step_of_name o) (steps_of_names (with_name o)) ∙ ap (λ (ss : List Step). steps ++ ss) (sym (steps-next o less)) ∙ on.steps;
+    }

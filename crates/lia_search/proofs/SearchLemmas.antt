@@ -1,9 +1,9 @@
 -- One turn of the search keeps its invariant.
-use Rattle.std.proofs.Common.{◌≡◌, ℕ, suc, ◌+◌, ◌<◌, List, [], ◌∷◌, map, refl, ap, sym, ◌∙◌, arith, true, Some, zero, false, Bool, cond}
+use Rattle.std.proofs.Common.{◌≡◌, ℕ, suc, ◌+◌, ◌<◌, ◌≤◌, List, [], ◌∷◌, ◌++◌, map, refl, ap, sym, ◌∙◌, arith, true, Some, zero, false, Bool, cond}
 use Rattle.std.specs.Prelude.{ℤ, pos, neg_ℤ, ◌+ℤ◌, length, slice_get, nat_lt}
 use Rattle.std.specs.List.{Contains, list_all, range_with_len}
 use Rattle.std.proofs.lemmas.Bool.{and_from, ltb-true}
-use Rattle.std.proofs.lemmas.List.FromFn.{get_or-map-range_with_len}
+use Rattle.std.proofs.lemmas.List.FromFn.{get_or-map-range_with_len, length-map-range_with_len, map-range_with_len_more}
 use Rattle.lin_atoms.specs.Linear.{is_short, variable_at}
 use Rattle.lin_atoms.specs.Truth.{is_below, truth}
 use Rattle.lin_atoms.specs.declared.form.Form.{Form}
@@ -79,3 +79,19 @@ cut-from point end from (suc n) short = and_from _ _ (value-short point from (na
 
 pub cut-short : (point : List ℤ) (end vars : ℕ) → list_all is_short point ≡ true → list_all is_short (cut point end vars) ≡ true
 cut-short point end vars short = cut-from point end 0 vars short
+
+-- one value more
+pub cut-more : (point : List ℤ) (end n : ℕ) (made new : List ℤ) (x : ℤ) → made ≡ cut point end n → x ≡ value_of point n end → new ≡ made ++ x ∷ [] → new ≡ cut point end (n + 1)
+cut-more point end n made new x so is e =
+    e ∙ ap (λ (xs : List ℤ). xs ++ x ∷ []) so ∙ ap (λ (y : ℤ). cut point end n ++ y ∷ []) is ∙ sym (map-range_with_len_more (λ v. value_of point v end) 0 n n (omega arith))
+
+-- what a model of all variables and quotients of a node decides
+pub decides-model : (form : Form) (point seen model : List ℤ) (end vars : ℕ) → is_below vars form ≡ true → (form_end form ≤ length point) × (list_all is_short point ≡ true) × (truth point form ≡ true) → end ≡ form_end form → seen ≡ point → model ≡ cut seen end vars
+    → (length model ≡ vars) × (list_all is_short model ≡ true) × (truth model form ≡ true)
+decides-model form point seen model end vars below ends at sees is =
+    let q = form_end form in
+    let made : model ≡ cut point q vars = is ∙ ap (λ (xs : List ℤ). cut xs end vars) sees ∙ ap (λ (e : ℕ). cut point e vars) at in (
+      ap (λ (xs : List ℤ). length xs) made ∙ length-map-range_with_len (λ v. value_of point v q) 0 vars,
+      ap (list_all is_short) made ∙ cut-short point q vars ends.1,
+      ap (λ (xs : List ℤ). truth xs form) made ∙ cut-true form point vars below ends.2,
+    )

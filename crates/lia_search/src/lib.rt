@@ -3,6 +3,7 @@
 #![tactic(auto)]
 
 mod broken;
+mod closing;
 mod decision;
 mod ends;
 mod finishing;

@@ -14,12 +14,13 @@ ghost use Rattle.lia_node.specs.Tells.{IsEvidenceAt, is_of_node};
 ghost use Rattle.lia_search.specs.machinery.Searched.{Closes, Ends, IsSearch, Named, Splits, StopsAt, Turns, Waits};
 
 use crate::broken::{first_disjunction, first_literal};
+use crate::closing::by_literal;
 use crate::names::name_all;
 use crate::parts::{push_parts, push_sides, side};
 use crate::waiting::Open;
 use base::Memory;
 use farkas_proof::{Evidence, Refutation};
-use lia_close::{Step, close, close_falsehood, numbered, tree_of};
+use lia_close::{Step, close, numbered, tree_of};
 use lia_node::{Examined, examine};
 use lin_atoms::Form;
 use node_rows::are_legal;
@@ -71,8 +72,7 @@ impl<'a> Search<'a> {
         requires is_false { option_map_or is_no_falsehood (slice_get waiting.now.lits at) true ≡ false }
         ensures { OnOk result (Closes self.old self.new) }
     {
-        let number = waiting.numbers.as_slice()[at];
-        let tree = close_falsehood(alloc, &waiting.lits.as_slice()[at], number, waiting.known)?;
+        let tree = by_literal(alloc, waiting, at)?;
         self.steps.push(Step::Closed(tree))?;
         Ok(())
     }
@@ -84,7 +84,8 @@ impl<'a> Search<'a> {
         ensures { OnOk result (Named self.old waiting.old self.new waiting.new) }
     {
         are_legal(waiting.lits.as_slice());
-        name_all(waiting, &mut self.steps)
+        name_all(waiting, &mut self.steps)?;
+        Ok(())
     }
 
     /// The node is closed by bounds that contradict.
