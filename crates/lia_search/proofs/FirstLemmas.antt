@@ -1,5 +1,5 @@
 -- Where a search begins.
-use Rattle.std.proofs.Common.{◌≡◌, ℕ, zero, suc, ◌+◌, ◌<◌, ◌≤◌, List, [], ◌∷◌, ◌++◌, length, take, drop, refl, ap, sym, ◌∙◌, subst, arith, append_assoc, append-nil, true, Some}
+use Rattle.std.proofs.Common.{◌≡◌, ℕ, zero, suc, ◌+◌, ◌<◌, ◌≤◌, List, [], ◌∷◌, ◌++◌, length, take, drop, refl, ap, sym, ◌∙◌, subst, arith, append_assoc, append-nil, get_or, true, Some}
 use Rattle.std.specs.Prelude.{slice_get, slice_index_or}
 use Rattle.std.specs.List.{list_all, range_with_len}
 use Rattle.std.proofs.lemmas.Bool.{and_from}
@@ -152,3 +152,8 @@ range-more a zero k e = let same : a ≡ k = omega (arith, e) in ap (λ (m : ℕ
 range-more a (suc n) k e =
     let next : suc n + 1 ≡ suc (n + 1) = omega arith in
     ap (range_with_len a) next ∙ ap (λ (ms : List ℕ). a ∷ ms) (range-more (a + 1) n k (omega (arith, e)))
+
+pub lits-more : (lits seen now new : List Lit) (n : ℕ) (x y : Lit) → seen ≡ lits → now ≡ take n lits → n < length lits → y ≡ get_or seen n y → x ≡ y → new ≡ now ++ x ∷ [] → new ≡ take (n + 1) lits
+lits-more lits seen now new n x y at so less is copied e =
+    let read : x ≡ slice_index_or lits n y = copied ∙ is ∙ ap (λ (ls : List Lit). get_or ls n y) at in
+    e ∙ ap (λ (ls : List Lit). ls ++ x ∷ []) so ∙ ap (λ (l : Lit). take n lits ++ l ∷ []) read ∙ sym (take-more lits n y less)

@@ -1,9 +1,10 @@
 -- What the steps of the code owe, from what is known of the node on top.
-use Rattle.std.proofs.Common.{◌≡◌, ℕ, Result, Ok, Err, zero, suc, ◌+◌, ◌-◌, ◌<◌, ◌≤◌, List, [], ◌∷◌, ◌++◌, length, map, take, reverse, refl, ap, sym, ◌∙◌, subst, arith, get_or, true, false, Option, None, Some}
+use Rattle.std.proofs.Common.{◌≡◌, ℕ, Result, Ok, Err, zero, suc, ◌+◌, ◌-◌, ◌<◌, ◌≤◌, List, [], ◌∷◌, ◌++◌, length, map, take, reverse, refl, ap, sym, ◌∙◌, subst, arith, get_or, true, false, Bool, not, Option, None, Some}
 use Rattle.std.specs.Prelude.{◌^◌, ℤ, pos, neg_ℤ, nat_abs, ◌+ℤ◌, slice_get, slice_index_or}
 use Rattle.std.proofs.lemmas.Option.{slice_get-get_or}
 use Rattle.std.specs.List.{list_all, list_any}
-use Rattle.std.specs.Option.{option_map_or}
+use Rattle.std.specs.Option.{is_some, option_map_or}
+use Rattle.std.proofs.lemmas.Bool.{false≢true}
 use Rattle.std.proofs.Math.Seq.{take-length}
 use Rattle.std.proofs.lemmas.List.Sums.{sum_by_push}
 use Rattle.base.specs.Limits.{most_rows}
@@ -29,7 +30,8 @@ use Rattle.lia_close.specs.Written.{assembled}
 use Rattle.lia_close.specs.declared.written.Step.{Step}
 use Rattle.lia_close.specs.declared.written.Step.TheVariants.{Cases, Closed, Split}
 use Rattle.lia_close.proofs.Public.{one-tree, root-tree}
-use Rattle.lia_node.specs.Tells.{IsEvidenceAt, is_of_node}
+use Rattle.lia_node.specs.Tells.{IsEvidenceAt, Tells, has_tableau, is_of_node}
+use Rattle.lia_node.specs.declared.examined.Examined.{Examined}
 use Rattle.lia_search.specs.Decides.{CountsTo, has_short_multiples}
 use Rattle.lia_search.specs.declared.waiting.Open.{Open}
 use Rattle.lia_search.specs.declared.running.End.{End}
@@ -238,6 +240,9 @@ left-first s waiting evidence t at of_node =
 pub left-again : (s : Search) (waiting : Open) → IsTop s waiting → (s.kept ≡ None → ⊥) → Goes s waiting s
 left-again s waiting t some = left s s waiting t refl some t.kept
 
+pub some-kept : (o : Option Evidence) (b : Bool) → is_some o ≡ not b → b ≡ false → o ≡ None → ⊥
+some-kept o b is no none = false≢true (ap is_some (sym none) ∙ is ∙ ap not no)
+
 -- what closing a node, and examining it, ask
 pub top-known : (s : Search) (waiting : Open) → IsTop s waiting → are_known s.end waiting.lits ≡ true
 top-known s waiting t = subst (λ (q : ℕ). are_known q waiting.lits ≡ true) (sym t.end) t.is.known
@@ -281,3 +286,22 @@ same-popped old s new same moved = subst (IsSame old) (sym moved) (record { form
 
 pub weight-popped : (stack rest : List Open) (waiting : Open) → stack ≡ rest ++ waiting ∷ [] → weight stack ≡ weight rest + weight_of waiting
 weight-popped stack rest waiting taken = ap weight taken ∙ sum_by_push weight_of rest waiting
+
+-- a node has one literal more, or is closed: the search goes on
+pub since-popped : (old s mid new : Search) (waiting : Open) → IsSame old s → s.count ≡ old.count → mid ≡ record s { is_first = mid.is_first; stack = mid.stack } → Goes mid waiting new → IsSearch new × IsSame old new × (new.count ≡ old.count)
+since-popped old s mid new waiting same count moved goes = (goes.is, same-then old mid new (same-popped old s mid same moved) goes.same, goes.count ∙ ap (λ (t : Search). t.count) moved ∙ count)
+
+-- the stack is empty
+pub none-left : (old s new : Search) → IsSearch s → IsSame old s → s.stack.items ≡ [] → new.stack.items ≡ [] → new ≡ record s { is_first = new.is_first; stack = new.stack } → IsSearch new × (new.stack.items ≡ []) × IsSame old new
+none-left old s new is same none gone moves = (subst (IsSearchOn new) (none ∙ sym gone) (moved s new s.stack.items moves is), gone, same-popped old s new same moves)
+
+-- what a node tells
+pub told : (q : ℕ) (seen lits : List Lit) (answer other : Examined) → seen ≡ lits → answer ≡ other → Tells q seen answer → Tells q lits other
+told q seen lits answer other at is tells = subst (λ (ls : List Lit). Tells q ls other) at (subst (Tells q seen) is tells)
+
+pub told-few : (q : ℕ) (seen lits : List Lit) (answer other : Examined) → seen ≡ lits → answer ≡ other → has_tableau other ≡ true → (has_tableau answer ≡ true → end_of_quotients q seen ≤ q + most_rows) → end_of_quotients q lits ≤ q + most_rows
+told-few q seen lits answer other at is tableau few = subst (λ (ls : List Lit). end_of_quotients q ls ≤ q + most_rows) at (few (ap has_tableau is ∙ tableau))
+
+-- that a node was examined changes nothing else
+pub same-first : (s new : Search) → new ≡ record s { is_first = new.is_first } → IsSame s new
+same-first s new moved = subst (IsSame s) (sym moved) (record { form = refl; end = refl; nodes = refl })

@@ -212,7 +212,8 @@ impl<'a> Search<'a> {
     {
         let is_first = self.is_first;
         self.is_first = false;
-        match examine(alloc, waiting.lits.as_slice(), self.end)? {
+        let examined = examine(alloc, waiting.lits.as_slice(), self.end)?;
+        match examined {
             Examined::False(at) => {
                 self.close_by_literal(alloc, &waiting, at)?;
                 Ok(Turn::WentOn)
@@ -237,7 +238,8 @@ impl<'a> Search<'a> {
         ensures { StopsAt self.old self.new result }
     {
         'close: while let Some(waiting) = self.stack.pop() {
-            match self.turn(alloc, waiting)? {
+            let turn = self.turn(alloc, waiting)?;
+            match turn {
                 Turn::WentOn => {}
                 Turn::Split => return Ok(Turn::Split),
                 Turn::Over(end) => return Ok(Turn::Over(end)),
@@ -271,10 +273,14 @@ impl<'a> Search<'a> {
     {
         let mut search = self;
         'splits: while search.count < search.nodes {
-            match search.until_split(alloc)? {
+            let turn = search.until_split(alloc)?;
+            match turn {
                 Turn::Split => {}
                 Turn::Over(end) => return Ok(end),
-                Turn::WentOn => return search.finished(alloc),
+                Turn::WentOn => {
+                    let end = search.finished(alloc)?;
+                    return Ok(end);
+                }
             }
         }
         Ok(End::GivenUp(Evidence::Nodes {

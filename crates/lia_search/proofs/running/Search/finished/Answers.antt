@@ -8,4 +8,4 @@ pub tree_of-requires : goal.tree_of-requires
 tree_of-requires c = tree-one c.args.self c.requires.is c.requires.none c.in-None.is
 
 pub returns-in-None : goal.returns-in-None
-returns-in-None c = ?
+returns-in-None c = tree-sound c.args.self _ c.requires.is c.requires.none c.in-None.is c.in_ok-tree.ensures
