@@ -19,6 +19,3 @@ pub use falsehood::close_falsehood;
 pub use names::named_by;
 pub use numbers::numbered;
 pub use written::{Step, tree_of};
-
-#[cfg(test)]
-mod tests;
