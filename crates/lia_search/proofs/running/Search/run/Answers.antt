@@ -38,7 +38,7 @@ pub returns-in-WentOn : goal.returns-in-WentOn
 returns-in-WentOn c =
     let s = c.splits.search in
     let stops = subst (StopsAt s c.until_split.new.self) (c.in_ok-turn.was ∙ ap Ok c.in-WentOn.is) c.until_split.ensures in
-    ends-after c.args.self c.until_split.new.self _ (same-then c.args.self s c.until_split.new.self c.splits.invariant.same stops.2) c.in_ok-end.ensures
+    ends-after c.args.self c.until_split.new.self _ (same-then c.args.self s c.until_split.new.self c.splits.invariant.same stops.2) c.in_ok-end-in-WentOn.ensures
 
 pub returns : goal.returns
 returns c =

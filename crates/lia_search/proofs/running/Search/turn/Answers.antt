@@ -23,8 +23,8 @@ close_by_literal-requires-clause-is c = moved c.args.self.now _ _ refl c.require
 pub close_by_literal-requires-clause-is_false : goal.close_by_literal-requires-clause-is_false
 close_by_literal-requires-clause-is_false c = told c.args.self.now.end _ c.args.waiting.lits _ _ c.as_slice.ensures c.in-False.is c.in_ok-examined.ensures.tells
 
-pub returns-in-False : goal.returns-in-False
-returns-in-False c = closes-goes c.args.self.now _ c.args.waiting (closes-after c.args.self.now _ _ (same-first c.args.self.now _ refl) refl refl c.in_ok-close_by_literal.ensures)
+pub returns-in_ok-close_by_literal-in-False : goal.returns-in_ok-close_by_literal-in-False
+returns-in_ok-close_by_literal-in-False c = closes-goes c.args.self.now _ c.args.waiting (closes-after c.args.self.now _ _ (same-first c.args.self.now _ refl) refl refl c.in_ok-close_by_literal-in-False.ensures)
 
 pub close_by_bounds-requires-clause-is : goal.close_by_bounds-requires-clause-is
 close_by_bounds-requires-clause-is c = moved c.args.self.now _ _ refl c.requires.is
@@ -37,8 +37,8 @@ close_by_bounds-requires-clause-conflict c =
 pub close_by_bounds-requires-clause-few : goal.close_by_bounds-requires-clause-few
 close_by_bounds-requires-clause-few c = told-few c.args.self.now.end _ c.args.waiting.lits _ _ c.as_slice.ensures c.in-Conflict.is refl c.in_ok-examined.ensures.small
 
-pub returns-in-Conflict : goal.returns-in-Conflict
-returns-in-Conflict c = closes-goes c.args.self.now _ c.args.waiting (closes-after c.args.self.now _ _ (same-first c.args.self.now _ refl) refl refl c.in_ok-close_by_bounds.ensures)
+pub returns-in_ok-close_by_bounds-in-Conflict : goal.returns-in_ok-close_by_bounds-in-Conflict
+returns-in_ok-close_by_bounds-in-Conflict c = closes-goes c.args.self.now _ c.args.waiting (closes-after c.args.self.now _ _ (same-first c.args.self.now _ refl) refl refl c.in_ok-close_by_bounds-in-Conflict.ensures)
 
 pub meet-requires-clause-is : goal.meet-requires-clause-is
 meet-requires-clause-is c = moved c.args.self.now _ _ refl c.requires.is
@@ -73,8 +73,8 @@ branch-requires-clause-vertex c = (told c.args.self.now.end _ c.args.waiting.lit
 pub branch-requires-clause-few : goal.branch-requires-clause-few
 branch-requires-clause-few c = told-few c.args.self.now.end _ c.args.waiting.lits _ _ c.as_slice.ensures c.in-Fraction.is refl c.in_ok-examined.ensures.small
 
-pub returns-in-Fraction : goal.returns-in-Fraction
-returns-in-Fraction c = splits-after c.args.self.now _ _ (same-first c.args.self.now _ refl) refl c.in_ok-branch.ensures
+pub returns-in_ok-branch-in-Fraction : goal.returns-in_ok-branch-in-Fraction
+returns-in_ok-branch-in-Fraction c = splits-after c.args.self.now _ _ (same-first c.args.self.now _ refl) refl c.in_ok-branch-in-Fraction.ensures
 
 pub give_up-requires-clause-is : goal.give_up-requires-clause-is
 give_up-requires-clause-is c = moved c.args.self.now _ _ refl c.requires.is
