@@ -1,6 +1,6 @@
 //! The first number that no variable of a formula has.
 
-ghost use Rattle.std.specs.Prelude.{◌≡◌, ◌≤◌, ◌^◌, map};
+ghost use Rattle.std.specs.Prelude.{◌≡◌, ◌<◌, ◌≤◌, ◌^◌, map};
 ghost use Rattle.lin_atoms.specs.Denial.{linear_of};
 ghost use Rattle.farkas_proof.specs.Combination.{terms_end};
 ghost use Rattle.farkas_proof.specs.Refutation.{form_end, greatest_of};
@@ -62,4 +62,12 @@ fn forms_end(parts: &[Form]) -> u64
         end = end.max(form_end(part));
     }
     end
+}
+
+/// The same, where it is known to be small.
+pub(crate) fn small_end(form: &Form) -> u32
+    requires { form_end form.now < 2 ^ 31 }
+    ensures { result ≡ form_end form.now }
+{
+    form_end(form) as u32
 }

@@ -11,7 +11,8 @@ ghost use Rattle.farkas_proof.specs.Split.{HasSolution, HasVertexBetween, is_no_
 ghost use Rattle.node_rows.specs.Nodes.{node_table};
 ghost use Rattle.simplex_core.specs.Meaning.{IsConflict};
 ghost use Rattle.lia_node.specs.Tells.{IsEvidenceAt, is_of_node};
-ghost use Rattle.lia_search.specs.machinery.Searched.{Closes, Ends, IsSearch, Named, Splits, StopsAt, Turns, Waits};
+ghost use Rattle.lia_search.specs.machinery.Opened.{left_lits};
+ghost use Rattle.lia_search.specs.machinery.Searched.{Closes, Ends, Goes, IsSearch, Named, Splits, StopsAt, Turns, Waits};
 
 use crate::broken::{first_disjunction, first_literal};
 use crate::closing::by_literal;
@@ -159,8 +160,42 @@ impl<'a> Search<'a> {
         Ok(())
     }
 
+    /// A literal of the node that was left out joins.
+    fn take_in(&mut self, waiting: Open, at: usize) -> Result<(), Memory>
+        requires is { Waits self.old waiting }
+        requires there { at < length waiting.left_out }
+        ensures { OnOk result (Goes self.old waiting self.new) }
+    {
+        let mut waiting = waiting;
+        waiting.take_in(at)?;
+        self.stack.push(waiting)?;
+        Ok(())
+    }
+
+    /// All literals are true at a point, also those that are left out. The first disjunction that is
+    /// false there is split; otherwise the form is true.
+    fn meet_cases(&mut self, alloc: Global, waiting: Open, point: Vec<i64>) -> Result<Turn, Memory>
+        requires is { Waits self.old waiting }
+        requires solution { HasSolution self.old.end waiting.lits }
+        requires each { length point.items ≡ end_of_quotients self.old.end waiting.lits }
+        requires short { list_all is_short point.items ≡ true }
+        requires holds { list_all (lit_truth point.items) waiting.lits ≡ true }
+        requires left { list_all (lit_truth point.items) (left_lits waiting.left_out) ≡ true }
+        requires few { end_of_quotients self.old.end waiting.lits ≤ self.old.end + most_rows }
+        requires room { self.old.count < self.old.nodes }
+        ensures { Turns self.old waiting self.new result }
+    {
+        match first_disjunction(waiting.cases.as_slice(), point.as_slice()) {
+            Some(which) => {
+                self.split(alloc, waiting, which)?;
+                Ok(Turn::Split)
+            }
+            None => Ok(Turn::Over(End::Model(point))),
+        }
+    }
+
     /// The literals of the node are true at a point. The first literal that is left out and false there
-    /// joins; otherwise the first disjunction that is false there is split; otherwise the form is true.
+    /// joins, if there is one.
     fn meet(&mut self, alloc: Global, waiting: Open, point: Vec<i64>) -> Result<Turn, Memory>
         requires is { Waits self.old waiting }
         requires solution { HasSolution self.old.end waiting.lits }
@@ -171,18 +206,12 @@ impl<'a> Search<'a> {
         requires room { self.old.count < self.old.nodes }
         ensures { Turns self.old waiting self.new result }
     {
-        if let Some(at) = first_literal(waiting.left_out.as_slice(), point.as_slice()) {
-            let mut waiting = waiting;
-            waiting.take_in(at)?;
-            self.stack.push(waiting)?;
-            return Ok(Turn::WentOn);
-        }
-        match first_disjunction(waiting.cases.as_slice(), point.as_slice()) {
-            Some(which) => {
-                self.split(alloc, waiting, which)?;
-                Ok(Turn::Split)
+        match first_literal(waiting.left_out.as_slice(), point.as_slice()) {
+            Some(at) => {
+                self.take_in(waiting, at)?;
+                Ok(Turn::WentOn)
             }
-            None => Ok(Turn::Over(End::Model(point))),
+            None => self.meet_cases(alloc, waiting, point),
         }
     }
 

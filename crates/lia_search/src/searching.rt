@@ -8,7 +8,7 @@ ghost use Rattle.lia_search.specs.machinery.Opened.{first_open, left_from};
 ghost use Rattle.lia_search.specs.machinery.Searched.{IsSearch};
 
 use crate::decision::Decision;
-use crate::ends::form_end;
+use crate::ends::small_end;
 use crate::finishing::decided;
 use crate::running::Search;
 use crate::waiting::{LeftOut, Open};
@@ -67,11 +67,12 @@ fn begun<'a>(alloc: Global, form: &'a Form, taken: usize, nodes: u32) -> Result<
     ensures form { IfOk result (λ search. search.form.now ≡ form.now) }
     ensures nodes { IfOk result (λ search. search.nodes ≡ nodes) }
 {
-    let end = form_end(form) as u32;
+    let end = small_end(form);
     let flat = flattened(alloc, form)?;
     let waiting = first(alloc, flat, taken)?;
     let mut stack = Vec::new(alloc);
     stack.push(waiting)?;
+    let steps = Vec::new(alloc);
     Ok(Search {
         form,
         end,
@@ -79,7 +80,7 @@ fn begun<'a>(alloc: Global, form: &'a Form, taken: usize, nodes: u32) -> Result<
         count: 0,
         is_first: true,
         stack,
-        steps: Vec::new(alloc),
+        steps,
         kept: None,
     })
 }
