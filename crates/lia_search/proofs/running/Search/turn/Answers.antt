@@ -24,7 +24,7 @@ pub close_by_literal-requires-clause-is_false : goal.close_by_literal-requires-c
 close_by_literal-requires-clause-is_false c = told c.args.self.now.end _ c.args.waiting.lits _ _ c.as_slice.ensures c.in-False.is c.in_ok-examined.ensures.tells
 
 pub returns-in_ok-close_by_literal-in-False : goal.returns-in_ok-close_by_literal-in-False
-returns-in_ok-close_by_literal-in-False c = closes-goes c.args.self.now _ c.args.waiting (closes-after c.args.self.now _ _ (same-first c.args.self.now _ refl) refl refl c.in_ok-close_by_literal-in-False.ensures)
+returns-in_ok-close_by_literal-in-False c = let mid = record c.args.self.now { is_first = false } in closes-goes c.args.self.now _ c.args.waiting (closes-after c.args.self.now mid _ (same-first c.args.self.now mid refl) refl refl c.in_ok-close_by_literal-in-False.ensures)
 
 pub close_by_bounds-requires-clause-is : goal.close_by_bounds-requires-clause-is
 close_by_bounds-requires-clause-is c = moved c.args.self.now _ _ refl c.requires.is
@@ -38,7 +38,7 @@ pub close_by_bounds-requires-clause-few : goal.close_by_bounds-requires-clause-f
 close_by_bounds-requires-clause-few c = told-few c.args.self.now.end _ c.args.waiting.lits _ _ c.as_slice.ensures c.in-Conflict.is refl c.in_ok-examined.ensures.small
 
 pub returns-in_ok-close_by_bounds-in-Conflict : goal.returns-in_ok-close_by_bounds-in-Conflict
-returns-in_ok-close_by_bounds-in-Conflict c = closes-goes c.args.self.now _ c.args.waiting (closes-after c.args.self.now _ _ (same-first c.args.self.now _ refl) refl refl c.in_ok-close_by_bounds-in-Conflict.ensures)
+returns-in_ok-close_by_bounds-in-Conflict c = let mid = record c.args.self.now { is_first = false } in closes-goes c.args.self.now _ c.args.waiting (closes-after c.args.self.now mid _ (same-first c.args.self.now mid refl) refl refl c.in_ok-close_by_bounds-in-Conflict.ensures)
 
 pub meet-requires-clause-is : goal.meet-requires-clause-is
 meet-requires-clause-is c = moved c.args.self.now _ _ refl c.requires.is
@@ -59,7 +59,7 @@ pub meet-requires-clause-few : goal.meet-requires-clause-few
 meet-requires-clause-few c = told-few c.args.self.now.end _ c.args.waiting.lits _ _ c.as_slice.ensures c.in-Model.is refl c.in_ok-examined.ensures.small
 
 pub returns-in-Model : goal.returns-in-Model
-returns-in-Model c = turns-after c.args.self.now _ _ c.args.waiting _ (same-first c.args.self.now _ refl) refl refl c.meet.ensures
+returns-in-Model c = let mid = record c.args.self.now { is_first = false } in turns-after c.args.self.now mid _ c.args.waiting _ (same-first c.args.self.now mid refl) refl refl c.meet.ensures
 
 pub branch-requires-clause-is : goal.branch-requires-clause-is
 branch-requires-clause-is c = moved c.args.self.now _ _ refl c.requires.is
@@ -74,7 +74,7 @@ pub branch-requires-clause-few : goal.branch-requires-clause-few
 branch-requires-clause-few c = told-few c.args.self.now.end _ c.args.waiting.lits _ _ c.as_slice.ensures c.in-Fraction.is refl c.in_ok-examined.ensures.small
 
 pub returns-in_ok-branch-in-Fraction : goal.returns-in_ok-branch-in-Fraction
-returns-in_ok-branch-in-Fraction c = splits-after c.args.self.now _ _ (same-first c.args.self.now _ refl) refl c.in_ok-branch-in-Fraction.ensures
+returns-in_ok-branch-in-Fraction c = let mid = record c.args.self.now { is_first = false } in splits-after c.args.self.now mid _ (same-first c.args.self.now mid refl) refl c.in_ok-branch-in-Fraction.ensures
 
 pub give_up-requires-clause-is : goal.give_up-requires-clause-is
 give_up-requires-clause-is c = moved c.args.self.now _ _ refl c.requires.is
@@ -86,4 +86,4 @@ pub give_up-requires-clause-of_node : goal.give_up-requires-clause-of_node
 give_up-requires-clause-of_node c = (told c.args.self.now.end _ c.args.waiting.lits _ _ c.as_slice.ensures c.in-Wide.is c.in_ok-examined.ensures.tells).1
 
 pub returns-in-Wide : goal.returns-in-Wide
-returns-in-Wide c = turns-after c.args.self.now _ _ c.args.waiting _ (same-first c.args.self.now _ refl) refl refl c.give_up.ensures
+returns-in-Wide c = let mid = record c.args.self.now { is_first = false } in turns-after c.args.self.now mid _ c.args.waiting _ (same-first c.args.self.now mid refl) refl refl c.give_up.ensures

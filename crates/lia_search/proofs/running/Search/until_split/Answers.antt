@@ -12,13 +12,15 @@ turn-requires-clause-room c = let i = c.close.invariant in let count = i.count i
 pub close-preserved : goal.close-preserved
 close-preserved c =
     let i = c.close.invariant in
-    let goes = subst (Turns _ c.in-Some.waiting c.turn.new.self) (c.in_ok-turn.was ∙ ap Ok c.in-WentOn.is) c.turn.ensures in
-    let since = since-popped c.args.self.now c.close.self _ c.turn.new.self c.in-Some.waiting i.same i.count refl goes in
+    let mid = record c.close.self { stack = c.pop.new.self } in
+    let goes = subst (Turns mid c.in-Some.waiting c.turn.new.self) (c.in_ok-turn.was ∙ ap Ok c.in-WentOn.is) c.turn.ensures in
+    let since = since-popped c.args.self.now c.close.self mid c.turn.new.self c.in-Some.waiting i.same i.count refl goes in
     record { is = since.0; same = since.1; count = since.2 }
 
 pub close-decreases : goal.close-decreases
 close-decreases c =
-    let goes = subst (Turns _ c.in-Some.waiting c.turn.new.self) (c.in_ok-turn.was ∙ ap Ok c.in-WentOn.is) c.turn.ensures in
+    let mid = record c.close.self { stack = c.pop.new.self } in
+    let goes = subst (Turns mid c.in-Some.waiting c.turn.new.self) (c.in_ok-turn.was ∙ ap Ok c.in-WentOn.is) c.turn.ensures in
     let less = goes.less in
     let weighed = weight-popped c.close.self.stack.items c.pop.new.self.items c.in-Some.waiting c.in-Some.ensures.items in
     omega (arith, less, weighed)
@@ -26,14 +28,16 @@ close-decreases c =
 pub returns-in-Split : goal.returns-in-Split
 returns-in-Split c =
     let i = c.close.invariant in
-    let splits = subst (Turns _ c.in-Some.waiting c.turn.new.self) (c.in_ok-turn.was ∙ ap Ok c.in-Split.is) c.turn.ensures in
-    splits-after c.args.self.now _ c.turn.new.self (same-popped c.args.self.now c.close.self _ i.same refl) i.count splits
+    let mid = record c.close.self { stack = c.pop.new.self } in
+    let splits = subst (Turns mid c.in-Some.waiting c.turn.new.self) (c.in_ok-turn.was ∙ ap Ok c.in-Split.is) c.turn.ensures in
+    splits-after c.args.self.now mid c.turn.new.self (same-popped c.args.self.now c.close.self mid i.same refl) i.count splits
 
 pub returns-in-Over : goal.returns-in-Over
 returns-in-Over c =
     let i = c.close.invariant in
-    let ends = subst (Turns _ c.in-Some.waiting c.turn.new.self) (c.in_ok-turn.was ∙ ap Ok c.in-Over.is) c.turn.ensures in
-    ends-after c.args.self.now _ _ (same-popped c.args.self.now c.close.self _ i.same refl) ends
+    let mid = record c.close.self { stack = c.pop.new.self } in
+    let ends = subst (Turns mid c.in-Some.waiting c.turn.new.self) (c.in_ok-turn.was ∙ ap Ok c.in-Over.is) c.turn.ensures in
+    ends-after c.args.self.now mid _ (same-popped c.args.self.now c.close.self mid i.same refl) ends
 
 pub returns-in-None : goal.returns-in-None
 returns-in-None c = let i = c.close.invariant in none-left c.args.self.now c.close.self _ i.is i.same ? ? refl
