@@ -241,7 +241,7 @@ pub left-again : (s : Search) (waiting : Open) → IsTop s waiting → (s.kept �
 left-again s waiting t some = left s s waiting t refl some t.kept
 
 pub some-kept : (o : Option Evidence) (b : Bool) → is_some o ≡ not b → b ≡ false → o ≡ None → ⊥
-some-kept o b is no none = false≢true (ap is_some (sym none) ∙ is ∙ ap not no)
+some-kept o b is answered none = false≢true (ap is_some (sym none) ∙ is ∙ ap not answered)
 
 -- what closing a node, and examining it, ask
 pub top-known : (s : Search) (waiting : Open) → IsTop s waiting → are_known s.end waiting.lits ≡ true

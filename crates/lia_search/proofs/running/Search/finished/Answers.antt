@@ -7,5 +7,5 @@ returns-in-Some c = c.requires.is.kept c.in-Some.evidence c.in-Some.is
 pub tree_of-requires : goal.tree_of-requires
 tree_of-requires c = tree-one c.args.self c.requires.is c.requires.none c.in-None.is
 
-pub returns-in_ok-tree-in-None : goal.returns-in_ok-tree-in-None
-returns-in_ok-tree-in-None c = tree-sound c.args.self _ c.requires.is c.requires.none c.in-None.is c.in_ok-tree-in-None.ensures
+pub returns : goal.returns
+returns c = tree-sound c.args.self _ c.requires.is c.requires.none c.in-None.is c.in_ok-tree-in-None.ensures

@@ -15,8 +15,8 @@ splits-preserved c =
     let nodes = splits.same.nodes in
     record { is = splits.is; same = same-then c.args.self s c.until_split.new.self i.same splits.same; few = omega (arith, test, count, nodes) }
 
-pub splits-decreases : goal.splits-decreases
-splits-decreases c =
+pub splits-smaller : goal.splits-smaller
+splits-smaller c =
     let splits = subst (StopsAt c.splits.search c.until_split.new.self) (c.in_ok-turn.was ∙ ap Ok c.in-Split.is) c.until_split.ensures in
     let test = c.splits-test.true in
     let count = splits.count in

@@ -1,4 +1,4 @@
-use Rattle.std.proofs.Common.{List, ap, false, ◌∙◌, refl, subst, sym}
+use Rattle.std.proofs.Common.{List, Ok, ap, false, ◌∙◌, refl, subst, sym}
 use Rattle.std.specs.Prelude.{ℤ}
 use Rattle.std.specs.List.{list_all}
 use Rattle.simplex_core.specs.Meaning.{IsConflict}
@@ -61,17 +61,17 @@ meet-requires-clause-few c = told-few c.args.self.now.end _ c.args.waiting.lits 
 pub returns-in-Model : goal.returns-in-Model
 returns-in-Model c = let mid = record c.args.self.now { is_first = false } in turns-after c.args.self.now mid _ c.args.waiting _ (same-first c.args.self.now mid refl) refl refl c.meet.ensures
 
-pub branch-requires-clause-is : goal.branch-requires-clause-is
-branch-requires-clause-is c = moved c.args.self.now _ _ refl c.requires.is
+pub branch-self-requires-clause-is : goal.branch-self-requires-clause-is
+branch-self-requires-clause-is c = moved c.args.self.now _ _ refl c.requires.is
 
-pub branch-requires-clause-solution : goal.branch-requires-clause-solution
-branch-requires-clause-solution c = (told c.args.self.now.end _ c.args.waiting.lits _ _ c.as_slice.ensures c.in-Fraction.is c.in_ok-examined.ensures.tells).0
+pub branch-self-requires-clause-solution : goal.branch-self-requires-clause-solution
+branch-self-requires-clause-solution c = (told c.args.self.now.end _ c.args.waiting.lits _ _ c.as_slice.ensures c.in-Fraction.is c.in_ok-examined.ensures.tells).0
 
-pub branch-requires-clause-vertex : goal.branch-requires-clause-vertex
-branch-requires-clause-vertex c = (told c.args.self.now.end _ c.args.waiting.lits _ _ c.as_slice.ensures c.in-Fraction.is c.in_ok-examined.ensures.tells).1
+pub branch-self-requires-clause-vertex : goal.branch-self-requires-clause-vertex
+branch-self-requires-clause-vertex c = (told c.args.self.now.end _ c.args.waiting.lits _ _ c.as_slice.ensures c.in-Fraction.is c.in_ok-examined.ensures.tells).1
 
-pub branch-requires-clause-few : goal.branch-requires-clause-few
-branch-requires-clause-few c = told-few c.args.self.now.end _ c.args.waiting.lits _ _ c.as_slice.ensures c.in-Fraction.is refl c.in_ok-examined.ensures.small
+pub branch-self-requires-clause-few : goal.branch-self-requires-clause-few
+branch-self-requires-clause-few c = told-few c.args.self.now.end _ c.args.waiting.lits _ _ c.as_slice.ensures c.in-Fraction.is refl c.in_ok-examined.ensures.small
 
 pub returns-in_ok-branch-in-Fraction : goal.returns-in_ok-branch-in-Fraction
 returns-in_ok-branch-in-Fraction c = let mid = record c.args.self.now { is_first = false } in splits-after c.args.self.now mid _ (same-first c.args.self.now mid refl) refl c.in_ok-branch-in-Fraction.ensures
@@ -86,4 +86,4 @@ pub give_up-requires-clause-of_node : goal.give_up-requires-clause-of_node
 give_up-requires-clause-of_node c = (told c.args.self.now.end _ c.args.waiting.lits _ _ c.as_slice.ensures c.in-Wide.is c.in_ok-examined.ensures.tells).1
 
 pub returns-in-Wide : goal.returns-in-Wide
-returns-in-Wide c = let mid = record c.args.self.now { is_first = false } in turns-after c.args.self.now mid _ c.args.waiting _ (same-first c.args.self.now mid refl) refl refl c.give_up.ensures
+returns-in-Wide c = let mid = record c.args.self.now { is_first = false } in turns-after c.args.self.now mid c.give_up.new.self c.args.waiting (Ok c.give_up.result) (same-first c.args.self.now mid refl) refl refl c.give_up.ensures

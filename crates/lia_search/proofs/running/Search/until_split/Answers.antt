@@ -1,4 +1,4 @@
-use Rattle.std.proofs.Common.{Ok, ap, arith, refl, subst, ◌∙◌}
+use Rattle.std.proofs.Common.{Ok, ap, arith, refl, rules, subst, ◌∙◌, ◌≡◌, []}
 use Rattle.lia_search.specs.machinery.Searched.{Turns}
 use Rattle.lia_search.proofs.StateLemmas.{ends-after, none-left, popped, same-popped, since-popped, splits-after, weight-popped}
 use Rattle.lia_search.proofs.running.Search.until_split.Goals as goal
@@ -17,8 +17,8 @@ close-preserved c =
     let since = since-popped c.args.self.now c.close.self mid c.turn.new.self c.in-Some.waiting i.same i.count refl goes in
     record { is = since.0; same = since.1; count = since.2 }
 
-pub close-decreases : goal.close-decreases
-close-decreases c =
+pub close-smaller : goal.close-smaller
+close-smaller c =
     let mid = record c.close.self { stack = c.pop.new.self } in
     let goes = subst (Turns mid c.in-Some.waiting c.turn.new.self) (c.in_ok-turn.was ∙ ap Ok c.in-WentOn.is) c.turn.ensures in
     let less = goes.less in
@@ -37,7 +37,11 @@ returns-in-Over c =
     let i = c.close.invariant in
     let mid = record c.close.self { stack = c.pop.new.self } in
     let ends = subst (Turns mid c.in-Some.waiting c.turn.new.self) (c.in_ok-turn.was ∙ ap Ok c.in-Over.is) c.turn.ensures in
-    ends-after c.args.self.now mid _ (same-popped c.args.self.now c.close.self mid i.same refl) ends
+    ends-after c.args.self.now mid c.in-Over.end (same-popped c.args.self.now c.close.self mid i.same refl) ends
 
-pub returns-in-None : goal.returns-in-None
-returns-in-None c = let i = c.close.invariant in none-left c.args.self.now c.close.self _ i.is i.same ? ? refl
+pub returns : goal.returns
+returns c =
+    let i = c.close.invariant in
+    let none : c.close.self.stack.items ≡ [] = search rules in
+    let gone : c.pop.new.self.items ≡ [] = search rules in
+    none-left c.args.self.now c.close.self (record c.close.self { stack = c.pop.new.self }) i.is i.same none gone refl
