@@ -1,5 +1,5 @@
 -- What the steps of the code owe, from what is known of the node on top.
-use Rattle.std.proofs.Common.{◌≡◌, ℕ, Result, Ok, Err, zero, suc, ◌+◌, ◌-◌, ◌<◌, ◌≤◌, List, [], ◌∷◌, ◌++◌, length, map, take, reverse, refl, ap, sym, ◌∙◌, subst, arith, get_or, true, false, Bool, not, Option, None, Some}
+use Rattle.std.proofs.Common.{◌≡◌, ℕ, Result, Ok, Err, zero, suc, ◌+◌, ◌-◌, ◌<◌, ◌≤◌, List, [], ◌∷◌, ◌++◌, length, map, take, reverse, refl, ap, sym, ◌∙◌, subst, append-nil, arith, get_or, true, false, Bool, not, Option, None, Some}
 use Rattle.std.specs.Prelude.{◌^◌, ℤ, pos, neg_ℤ, nat_abs, ◌+ℤ◌, slice_get, slice_index_or}
 use Rattle.std.proofs.lemmas.Option.{slice_get-get_or}
 use Rattle.std.specs.List.{list_all, list_any}
@@ -305,3 +305,10 @@ told-few q seen lits answer other at is tableau few = subst (λ (ls : List Lit).
 -- that a node was examined changes nothing else
 pub same-first : (s new : Search) → new ≡ record s { is_first = new.is_first } → IsSame s new
 same-first s new moved = subst (IsSame s) (sym moved) (record { form = refl; end = refl; nodes = refl })
+
+-- nothing came off the stack
+pub emptied : (old new : List Open) (n : ℕ) → new ≡ take (n - 1) old → n ≡ 0 → old ≡ new ++ [] → (old ≡ []) × (new ≡ [])
+emptied old new n rest none items =
+    let less : n - 1 ≡ 0 = omega (arith, none) in
+    let gone : new ≡ [] = rest ∙ ap (λ (k : ℕ). take k old) less in
+    (items ∙ append-nil new ∙ gone, gone)

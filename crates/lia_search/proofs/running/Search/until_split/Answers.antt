@@ -1,6 +1,6 @@
-use Rattle.std.proofs.Common.{Ok, ap, arith, refl, rules, subst, ◌∙◌, ◌≡◌, []}
+use Rattle.std.proofs.Common.{Ok, ap, arith, refl, subst, ◌∙◌}
 use Rattle.lia_search.specs.machinery.Searched.{Turns}
-use Rattle.lia_search.proofs.StateLemmas.{ends-after, none-left, popped, same-popped, since-popped, splits-after, weight-popped}
+use Rattle.lia_search.proofs.StateLemmas.{emptied, ends-after, none-left, popped, same-popped, since-popped, splits-after, weight-popped}
 use Rattle.lia_search.proofs.running.Search.until_split.Goals as goal
 
 pub turn-requires-clause-is : goal.turn-requires-clause-is
@@ -42,6 +42,5 @@ returns-in-Over c =
 pub returns : goal.returns
 returns c =
     let i = c.close.invariant in
-    let none : c.close.self.stack.items ≡ [] = search rules in
-    let gone : c.pop.new.self.items ≡ [] = search rules in
-    none-left c.args.self.now c.close.self (record c.close.self { stack = c.pop.new.self }) i.is i.same none gone refl
+    let none = emptied c.close.self.stack.items c.pop.new.self.items _ c.in_default.ensures.rest c.in_default.ensures.cases.0 c.in_default.ensures.items in
+    none-left c.args.self.now c.close.self (record c.close.self { stack = c.pop.new.self }) i.is i.same none.0 none.1 refl
