@@ -1,6 +1,8 @@
-use Rattle.std.proofs.Common.{List, Ok, ap, false, ◌∙◌, refl, subst, sym}
+use Rattle.std.proofs.Common.{FitsSigned, List, Ok, ap, ◌∙◌, refl, rules, subst, sym}
 use Rattle.std.specs.Prelude.{ℤ}
+use Rattle.std.specs.Int.{w64}
 use Rattle.std.specs.List.{list_all}
+use Rattle.std.proofs.lemmas.Int.{to_z-of_z}
 use Rattle.simplex_core.specs.Meaning.{IsConflict}
 use Rattle.node_rows.specs.Known.{are_known, has_short_constant}
 use Rattle.node_rows.specs.Nodes.{node_table}
@@ -68,7 +70,9 @@ pub branch-self-requires-clause-solution : goal.branch-self-requires-clause-solu
 branch-self-requires-clause-solution c = (told c.args.self.now.end _ c.args.waiting.lits _ _ c.as_slice.ensures c.in-Fraction.is c.in_ok-examined.ensures.tells).0
 
 pub branch-self-requires-clause-vertex : goal.branch-self-requires-clause-vertex
-branch-self-requires-clause-vertex c = (told c.args.self.now.end _ c.args.waiting.lits _ _ c.as_slice.ensures c.in-Fraction.is c.in_ok-examined.ensures.tells).1
+branch-self-requires-clause-vertex c =
+    let fits : FitsSigned w64 c.in-Fraction.floor = search rules in
+    simp to_z-of_z (told c.args.self.now.end _ c.args.waiting.lits _ _ c.as_slice.ensures c.in-Fraction.is c.in_ok-examined.ensures.tells).1
 
 pub branch-self-requires-clause-few : goal.branch-self-requires-clause-few
 branch-self-requires-clause-few c = told-few c.args.self.now.end _ c.args.waiting.lits _ _ c.as_slice.ensures c.in-Fraction.is refl c.in_ok-examined.ensures.small
