@@ -1,5 +1,5 @@
 -- What is known of literals is known of their conjunction.
-use Rattle.std.proofs.Common.{◌≡◌, ℕ, List, [], ◌∷◌, map, refl, ap, ap₂, sym, ◌∙◌, true, Bool, ◌&&◌}
+use Rattle.std.proofs.Common.{◌≡◌, ℕ, List, [], ◌∷◌, map, refl, ap₂, ◌∙◌, true, Bool, ◌&&◌}
 use Rattle.std.specs.List.{list_all}
 use denote.Hole.Carrier.{roll}
 use Rattle.lin_atoms.specs.Truth.{below_step, is_below, lit_is_below}

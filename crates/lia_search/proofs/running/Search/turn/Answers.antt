@@ -1,4 +1,4 @@
-use Rattle.std.proofs.Common.{FitsSigned, List, Ok, ap, ◌∙◌, refl, rules, subst, sym}
+use Rattle.std.proofs.Common.{FitsSigned, List, Ok, ap, false, ◌∙◌, refl, rules, subst, sym}
 use Rattle.std.specs.Prelude.{ℤ}
 use Rattle.std.specs.Int.{w64}
 use Rattle.std.specs.List.{list_all}
