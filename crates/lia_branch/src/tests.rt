@@ -1,0 +1,69 @@
+//! Conjunctions that were worked out by hand.
+
+use crate::{Decision, are_below, decide_all, have_short_constants};
+use lin_atoms::{Divisor, Lin, Lit};
+use std::alloc::Global;
+use std::test::Fail;
+
+/// A literal: `<=`, `=`, a divisibility or one denied, of `a*x + b*y + c`.
+fn lit(alloc: Global, kind: u32, n: i64, a: i64, b: i64, c: i128) -> Result<Lit, Fail> {
+    let mut terms = Vec::new(alloc);
+    if a != 0 {
+        terms.push((0, a))?;
+    }
+    if b != 0 {
+        terms.push((1, b))?;
+    }
+    let lin = Lin::new(terms, c)?;
+    let n = Divisor::new(n).ok_or("no divisor")?;
+    Ok(match kind {
+        0 => Lit::Le(lin),
+        1 => Lit::Eq(lin),
+        2 => Lit::Div(n, lin),
+        _ => Lit::NDiv(n, lin),
+    })
+}
+
+/// 1 for a point of two integers, 2 for a refutation, 3 for evidence.
+fn kind(alloc: Global, lits: &[Lit], nodes: u32) -> Result<u32, Fail> {
+    if !are_below(lits, 2) || !have_short_constants(lits) || nodes == 0 {
+        return Ok(0);
+    }
+    match decide_all(alloc, lits, 2, nodes)? {
+        Decision::Model(point) => Ok(if point.len() == 2 { 1 } else { 0 }),
+        Decision::Refuted(_) => Ok(2),
+        Decision::GaveUp(_) => Ok(3),
+    }
+}
+
+/// 3 divides x + y, 3 divides x - y - 1, and x is between 0 and 5: x is 2, and y is 1.
+#[test]
+fn residues(rt: HostRuntime) -> Result<(), Fail> {
+    let alloc = rt.alloc();
+    let mut lits = vec![in alloc;
+        lit(alloc, 2, 3, 1, 1, 0)?,
+        lit(alloc, 2, 3, 1, -1, -1)?,
+        lit(alloc, 0, 1, -1, 0, 0)?,
+        lit(alloc, 0, 1, 1, 0, -5)?,
+        lit(alloc, 0, 1, 0, -1, 0)?,
+        lit(alloc, 0, 1, 0, 1, -5)?,
+    ]?;
+    assert!(rt; kind(alloc, lits.as_slice(), 100)? == 1);
+    lits.push(lit(alloc, 3, 3, 0, 1, -1)?)?;
+    assert!(rt; kind(alloc, lits.as_slice(), 1000)? == 2);
+    Ok(())
+}
+
+/// No literal is true at once; a row without room is given up, whatever comes behind it.
+#[test]
+fn ends(rt: HostRuntime) -> Result<(), Fail> {
+    let alloc = rt.alloc();
+    assert!(rt; kind(alloc, &[], 1)? == 1);
+    let large = (1 << 62) + 1;
+    let wide = vec![in alloc;
+        lit(alloc, 1, 1, large, 1, -3)?,
+        lit(alloc, 1, 1, 1, large, -5)?,
+    ]?;
+    assert!(rt; kind(alloc, wide.as_slice(), 1)? == 3);
+    Ok(())
+}

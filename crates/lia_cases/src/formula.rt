@@ -1,0 +1,51 @@
+//! A formula with lemmas is decided.
+
+ghost use Rattle.std.specs.Prelude.{◌≡◌, ◌∷◌, ◌<◌, ◌≤◌, IfOk, true};
+ghost use Rattle.std.specs.List.{list_all};
+ghost use Rattle.lin_atoms.specs.Truth.{is_below};
+ghost use Rattle.lin_atoms.specs.declared.form.Form.TheViews.{And};
+ghost use Rattle.lia_search.specs.Decides.{Decides, has_short_multiples};
+
+use crate::counting::literals;
+use base::{Copied, Items, Memory};
+use lia_search::{Decision, search};
+use lin_atoms::Form;
+use std::alloc::Global;
+
+/// The formula and the lemmas, in order.
+fn conjunction(alloc: Global, form: &Form, lemmas: &[Form]) -> Result<Form, Memory>
+    ensures { IfOk result (λ whole. whole ≡ And (form.now ∷ lemmas.now)) }
+{
+    let mut parts = Items::new(alloc);
+    parts.push(form.copy(alloc)?)?;
+    for lemma in lemmas {
+        parts.push(lemma.copy(alloc)?)?;
+    }
+    Ok(Form::And(parts))
+}
+
+/// Decides whether an integer point makes the formula and all lemmas true: a point of `vars` integers,
+/// a refutation of the conjunction of the formula and of each lemma in order, or evidence that this
+/// conjunction was given up, with at most `nodes` inner nodes of a split tree. The formula's literals
+/// join at once; a lemma's literals join where a point breaks them, and a disjunction is split where a
+/// point breaks it. The variables are below `vars`, which is at most 2,048, `nodes` is at least 1, and
+/// the constant of each divisibility is below 2^63 in magnitude.
+pub fn decide(
+    alloc: Global,
+    form: &Form,
+    lemmas: &[Form],
+    vars: u32,
+    nodes: u32,
+) -> Result<Decision, Memory>
+    requires below { is_below vars form.now ≡ true }
+    requires lemmas_below { list_all (is_below vars) lemmas.now ≡ true }
+    requires short { has_short_multiples form.now ≡ true }
+    requires lemmas_short { list_all has_short_multiples lemmas.now ≡ true }
+    requires few { vars ≤ 2048 }
+    requires some { 0 < nodes }
+    ensures { IfOk result (λ decision. Decides (And (form.now ∷ lemmas.now)) vars nodes decision) }
+{
+    let whole = conjunction(alloc, form, lemmas)?;
+    let decision = search(alloc, whole, literals(form), vars, nodes)?;
+    Ok(decision)
+}

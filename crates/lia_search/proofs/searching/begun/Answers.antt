@@ -1,0 +1,14 @@
+use Rattle.std.proofs.Common.{List, [], ◌∷◌, ◌++◌, ap, ◌∙◌, refl}
+use Rattle.lin_atoms.specs.declared.form.Form.{Form}
+use Rattle.lin_atoms.specs.declared.lit.Lit.{Lit}
+use Rattle.farkas_proof.specs.Flatten.{literals}
+use Rattle.lia_search.specs.declared.waiting.Open.{Open}
+use Rattle.lia_search.specs.machinery.Opened.{first_open}
+use Rattle.lia_search.proofs.StateLemmas.{begins}
+use Rattle.lia_search.proofs.searching.begun.Goals as goal
+
+pub returns-clause-is : goal.returns-clause-is
+returns-clause-is c =
+    let flat = c.in_ok-flat.flat in
+    let is = c.in_ok-waiting.ensures ∙ ap (λ (lits : List Lit). first_open c.args.taken lits flat.cases) c.in_ok-flat.ensures.lits ∙ ap (λ (cases : List (List Form)). first_open c.args.taken (literals c.args.form.now) cases) c.in_ok-flat.ensures.cases in
+    begins _ c.in_ok-waiting.waiting c.args.taken c.requires.short c.small_end-end.ensures c.requires.few is (c.in_ok-push.ensures.items ∙ ap (λ (os : List Open). os ++ c.in_ok-waiting.waiting ∷ []) c.new-stack.ensures.items) c.new-steps.ensures.items refl refl

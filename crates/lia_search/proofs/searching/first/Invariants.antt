@@ -1,0 +1,15 @@
+use Rattle.std.proofs.Common.{◌≡◌, ◌≤◌, ◌-◌, take, length}
+use Rattle.std.specs.List.{range_with_len}
+use Rattle.lia_search.proofs.searching.first.Given as goal
+
+-- so many have joined
+abbrev pub invariant-taken : goal.invariant-taken
+invariant-taken l = record {
+  within : l.at ≤ length l.flat.lits;
+  few : l.at ≤ l.taken;
+  lits : l.lits ≡ take l.at l.flat.lits;
+  numbers : l.numbers ≡ range_with_len 0 l.at;
+}
+
+abbrev pub decreases-taken : goal.decreases-taken
+decreases-taken l = l.taken - l.at

@@ -1,0 +1,48 @@
+//! What a point breaks.
+
+ghost use Rattle.std.specs.Prelude.{◌≡◌, ◌<◌, length, IfSome, IsNone, true};
+ghost use Rattle.std.specs.List.{list_all, list_any};
+ghost use Rattle.lin_atoms.specs.Truth.{lit_truth, truth};
+ghost use Rattle.lia_search.specs.machinery.Opened.{left_lits};
+
+use crate::waiting::LeftOut;
+use base::Items;
+use lin_atoms::{Form, holds};
+
+/// Whether a part is true.
+fn any_holds(parts: &[Form], point: &[i64]) -> bool
+    ensures { result ≡ list_any (truth point.now) parts.now }
+{
+    for part in parts {
+        if holds(part, point) {
+            return true;
+        }
+    }
+    false
+}
+
+/// The first of the literals that is false at the point.
+pub(crate) fn first_literal(left_out: &[LeftOut], point: &[i64]) -> Option<usize>
+    ensures within { IfSome result (λ at. at < length left_out.now) }
+    ensures none { IsNone result → list_all (lit_truth point.now) (left_lits left_out.now) ≡ true }
+{
+    for (at, one) in left_out.iter().enumerate() {
+        if !one.lit.holds(point) {
+            return Some(at);
+        }
+    }
+    None
+}
+
+/// The first of the disjunctions that is false at the point.
+pub(crate) fn first_disjunction(cases: &[Items<Form>], point: &[i64]) -> Option<usize>
+    ensures within { IfSome result (λ at. at < length cases.now) }
+    ensures none { IsNone result → list_all (list_any (truth point.now)) cases.now ≡ true }
+{
+    for (at, parts) in cases.iter().enumerate() {
+        if !any_holds(parts.as_slice(), point) {
+            return Some(at);
+        }
+    }
+    None
+}

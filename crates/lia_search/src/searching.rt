@@ -1,0 +1,111 @@
+//! A search from its start to what is decided.
+
+ghost use Rattle.std.specs.Prelude.{◌≡◌, ◌<◌, ◌≤◌, ◌^◌, drop, IfOk, true};
+ghost use Rattle.lin_atoms.specs.Truth.{is_below};
+ghost use Rattle.farkas_proof.specs.Refutation.{form_end};
+ghost use Rattle.lia_search.specs.Decides.{Decides, has_short_multiples};
+ghost use Rattle.lia_search.specs.machinery.Opened.{first_open, left_from};
+ghost use Rattle.lia_search.specs.machinery.Searched.{IsSearch};
+
+use crate::decision::Decision;
+use crate::ends::small_end;
+use crate::finishing::decided;
+use crate::running::Search;
+use crate::waiting::{LeftOut, Open};
+use base::{Copied, Items, Memory};
+use farkas_proof::{Flat, flattened};
+use lia_close::numbered;
+use lin_atoms::{Form, Lit};
+use std::alloc::Global;
+
+/// The literals of the flattened form from one on, with their numbers, which are left out.
+fn left_out(alloc: Global, lits: &[Lit], from: usize) -> Result<Items<LeftOut>, Memory>
+    ensures { IfOk result (λ made. made ≡ left_from from (drop from lits.now)) }
+{
+    let mut made = Items::new(alloc);
+    let mut at = from;
+    'left: while at < lits.len() {
+        made.push(LeftOut {
+            lit: lits[at].copy(alloc)?,
+            number: numbered(at)?,
+        })?;
+        at += 1;
+    }
+    Ok(made)
+}
+
+/// The first node: the first literals of the flattened form have joined, so many of them.
+fn first(alloc: Global, flat: Flat, taken: usize) -> Result<Open, Memory>
+    ensures { IfOk result (λ waiting. waiting ≡ first_open taken flat.lits flat.cases) }
+{
+    let mut lits = Items::new(alloc);
+    let mut numbers = Items::new(alloc);
+    let mut at = 0;
+    'taken: while at < taken && at < flat.lits.len() {
+        lits.push(flat.lits.as_slice()[at].copy(alloc)?)?;
+        numbers.push(numbered(at)?)?;
+        at += 1;
+    }
+    let left_out = left_out(alloc, flat.lits.as_slice(), at)?;
+    let Flat { lits: all, cases } = flat;
+    Ok(Open {
+        lits,
+        numbers,
+        reasons: Items::new(alloc),
+        known: all.len(),
+        left_out,
+        cases,
+    })
+}
+
+/// Where a search begins.
+fn begun<'a>(alloc: Global, form: &'a Form, taken: usize, nodes: u32) -> Result<Search<'a>, Memory>
+    requires short { has_short_multiples form.now ≡ true }
+    requires few { form_end form.now < 2 ^ 31 }
+    ensures is { IfOk result (λ search. IsSearch search) }
+    ensures none { IfOk result (λ search. search.count ≡ 0) }
+    ensures form { IfOk result (λ search. search.form.now ≡ form.now) }
+    ensures nodes { IfOk result (λ search. search.nodes ≡ nodes) }
+{
+    let end = small_end(form);
+    let flat = flattened(alloc, form)?;
+    let waiting = first(alloc, flat, taken)?;
+    let mut stack = Vec::new(alloc);
+    stack.push(waiting)?;
+    let steps = Vec::new(alloc);
+    Ok(Search {
+        form,
+        end,
+        nodes,
+        count: 0,
+        is_first: true,
+        stack,
+        steps,
+        kept: None,
+    })
+}
+
+/// Decides whether an integer point makes the form true, with so many inner nodes of a split tree at
+/// the most. The first literals of the flattened form, so many of them, join at once; the others are
+/// left out until a point breaks them, and a disjunction is split where a point breaks it. Each
+/// literal is rounded by itself. Where the tableau of the literals that join at once leaves its widths,
+/// the form is given up at once; where a later one does, the search goes on, for there may be a point
+/// elsewhere.
+pub fn search(
+    alloc: Global,
+    form: Form,
+    taken: usize,
+    vars: u32,
+    nodes: u32,
+) -> Result<Decision, Memory>
+    requires below { is_below vars form ≡ true }
+    requires short { has_short_multiples form ≡ true }
+    requires few { vars ≤ 2048 }
+    requires some { 0 < nodes }
+    ensures { IfOk result (λ decision. Decides form vars nodes decision) }
+{
+    let search = begun(alloc, &form, taken, nodes)?;
+    let end = search.run(alloc)?;
+    let decision = decided(alloc, form, end, vars, nodes)?;
+    Ok(decision)
+}

@@ -1,0 +1,80 @@
+//! The nodes of a search that aren't closed yet.
+
+ghost use Rattle.std.specs.Prelude.{◌≡◌, ◌<◌, length, OnOk};
+ghost use Rattle.lia_search.specs.machinery.Opened.{with_left_out, with_lit};
+
+use base::{Copied, Items, Memory};
+use lia_close::numbered;
+use lin_atoms::{Form, Lit};
+use std::alloc::Global;
+
+/// A literal of the form that is left out, and its number in the refutation.
+#[derive(Debug, Drop)]
+pub(crate) struct LeftOut {
+    pub(crate) lit: Lit,
+    pub(crate) number: u32,
+}
+
+impl Copied for LeftOut {
+    fn copy(&self, alloc: Global) -> Result<LeftOut, Memory> {
+        Ok(LeftOut {
+            lit: self.lit.copy(alloc)?,
+            number: self.number,
+        })
+    }
+}
+
+/// A node that isn't closed, and how its literals are numbered in the refutation.
+#[derive(Drop)]
+pub(crate) struct Open {
+    /// The literals, in the order in which they joined the node or one above it.
+    pub(crate) lits: Items<Lit>,
+    /// For each literal its number.
+    pub(crate) numbers: Items<u32>,
+    /// For each of the first literals the number of the first of those that give its bounds. The
+    /// quotients of these literals have their names.
+    pub(crate) reasons: Items<u32>,
+    /// So many literals are known where the node's tree stands.
+    pub(crate) known: usize,
+    /// The literals of the form that are left out.
+    pub(crate) left_out: Items<LeftOut>,
+    /// The open disjunctions, each as its parts.
+    pub(crate) cases: Items<Items<Form>>,
+}
+
+impl Copied for Open {
+    fn copy(&self, alloc: Global) -> Result<Open, Memory> {
+        Ok(Open {
+            lits: self.lits.copy(alloc)?,
+            numbers: self.numbers.copy(alloc)?,
+            reasons: self.reasons.copy(alloc)?,
+            known: self.known,
+            left_out: self.left_out.copy(alloc)?,
+            cases: self.cases.copy(alloc)?,
+        })
+    }
+}
+
+impl Open {
+    /// A literal that becomes known joins as the last.
+    pub(crate) fn add(&mut self, lit: Lit) -> Result<(), Memory>
+        ensures { OnOk result (self.new ≡ with_lit self.old lit) }
+    {
+        let number = numbered(self.known)?;
+        self.lits.push(lit)?;
+        self.numbers.push(number)?;
+        self.known += 1;
+        Ok(())
+    }
+
+    /// A literal that was left out joins as the last.
+    pub(crate) fn take_in(&mut self, at: usize) -> Result<(), Memory>
+        requires { at < length self.old.left_out }
+        ensures { OnOk result (self.new ≡ with_left_out self.old at) }
+    {
+        let LeftOut { lit, number } = self.left_out.remove(at);
+        self.lits.push(lit)?;
+        self.numbers.push(number)?;
+        Ok(())
+    }
+}
