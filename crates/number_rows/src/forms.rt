@@ -1,7 +1,7 @@
 //! Forms with values that were worked out by hand.
 
-use base::{Copied, Items, Same};
-use lin_atoms::{Divisor, Form, Lin, LinStop, Lit, WideStop, denied, holds};
+use base::{Items, Same};
+use lin_atoms::{Divisor, Lin, LinStop, Lit, WideStop, denied};
 use std::alloc::Global;
 use std::test::Fail;
 
@@ -193,28 +193,5 @@ fn sums_stop_where_the_constant_has_no_room(rt: HostRuntime) -> Result<(), Fail>
     assert!(rt; sum_stops(rt.alloc(), WIDE - 1, 1)?);
     assert!(rt; sum_stops(rt.alloc(), 1 - WIDE, -1)?);
     assert!(rt; !sum_stops(rt.alloc(), WIDE - 1, 0)?);
-    Ok(())
-}
-
-/// x is at most y, or 3 doesn't divide y.
-fn sample(alloc: Global) -> Result<Form, Fail> {
-    let three = Divisor::new(3).ok_or("no divisor")?;
-    let mut parts = Items::new(alloc);
-    parts.push(Form::Lit(Lit::Le(lin(alloc, &[(0, 1), (1, -1)], 0)?)))?;
-    parts.push(Form::Lit(Lit::NDiv(three, lin(alloc, &[(1, 1)], 0)?)))?;
-    Ok(Form::Or(parts))
-}
-
-#[test]
-fn formulas_are_true_as_or_says(rt: HostRuntime) -> Result<(), Fail> {
-    let form = sample(rt.alloc())?;
-    let copied = form.copy(rt.alloc())?;
-    assert!(rt; copied.equals(&form));
-    assert!(rt; form.is_below(2) && !form.is_below(1));
-    for (x, y, wanted) in [(3, 3, true), (4, 3, false), (5, 4, true)] {
-        assert_eq!(rt; holds(&form, &[x, y]), wanted, "at {x}, {y}");
-    }
-    assert!(rt; holds(&Form::And(Items::new(rt.alloc())), &[]));
-    assert!(rt; !holds(&Form::Or(Items::new(rt.alloc())), &[]));
     Ok(())
 }

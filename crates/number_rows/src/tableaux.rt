@@ -4,7 +4,7 @@ ghost use Rattle.std.specs.Prelude.{◌≡◌};
 ghost use Rattle.std.specs.List.{list_all};
 ghost use Rattle.lin_atoms.specs.Linear.{lin_is_below};
 
-use int_rows::{Ready, ReadyStop, RowStop, RowWide, Tableau, ready};
+use int_rows::{Bounded, Ready, ReadyStop, RowStop, RowWide, Tableau, ready};
 use lin_atoms::{Divisor, Lin, Lit};
 use std::alloc::Global;
 use std::test::Fail;
@@ -16,33 +16,44 @@ fn are_below(forms: &[Lin], variables: usize) -> bool
     forms.iter().all(|form| form.is_below(variables))
 }
 
+/// The tableau of the forms, whose variables are below the number, of 2 at most.
+fn tableau(alloc: Global, forms: Vec<Lin>, variables: usize) -> Result<Tableau, Fail> {
+    if variables > 2 || !are_below(forms.as_slice(), variables) {
+        return Err("a variable out of range".into());
+    }
+    let made = Tableau::new(alloc, forms.as_slice(), variables)?;
+    Ok(made)
+}
+
+/// The form a*x + b*y and a constant.
+fn of_pair(alloc: Global, a: i64, b: i64, constant: i128) -> Result<Lin, Fail> {
+    let terms = Vec::from_array(alloc, [(0, a), (1, b)])?;
+    let lin = Lin::new(terms, constant)?;
+    Ok(lin)
+}
+
 /// The tableau of the forms a*x + b*y and c*x + d*y.
 fn of_two(alloc: Global, a: i64, b: i64, c: i64, d: i64) -> Result<Tableau, Fail> {
-    let first = Lin::new(vec![in alloc; (0, a), (1, b)]?, 0)?;
-    let second = Lin::new(vec![in alloc; (0, c), (1, d)]?, 7)?;
-    let forms = vec![in alloc; first, second]?;
-    if !are_below(forms.as_slice(), 2) {
-        return Ok(Tableau::new(alloc, &[], 2)?);
-    }
-    Ok(Tableau::new(alloc, forms.as_slice(), 2)?)
+    let first = of_pair(alloc, a, b, 0)?;
+    let second = of_pair(alloc, c, d, 7)?;
+    let forms = Vec::from_array(alloc, [first, second])?;
+    tableau(alloc, forms, 2)
 }
 
-/// Whether the tableau of two forms has these rows.
-fn has_rows(t: &Tableau, first: [i64; 4], second: [i64; 4]) -> bool {
-    if t.rows() != 2 || t.columns() != 2 {
+/// Whether a row of the tableau of two forms has these entries and this basic variable.
+fn has_row(t: &Tableau, row: usize, entries: [i64; 4], basic: usize) -> bool {
+    if row >= t.rows() {
         return false;
     }
-    for i in 0..4 {
-        if t.entry(0, i) != first[i] || t.entry(1, i) != second[i] {
-            return false;
-        }
-    }
-    true
+    t.basic(row) == basic && t.row(row) == entries.as_slice()
 }
 
-/// Whether these are the basic variables of a tableau of two forms.
-fn has_basis(t: &Tableau, first: usize, second: usize) -> bool {
-    t.rows() == 2 && t.basic(0) == first && t.basic(1) == second
+/// The rows and the basic variables of a tableau of two forms.
+type Stand = ([[i64; 4]; 2], [usize; 2]);
+
+fn stands(t: &Tableau, stand: Stand) -> bool {
+    let (rows, basic) = stand;
+    t.rows() == 2 && has_row(t, 0, rows[0], basic[0]) && has_row(t, 1, rows[1], basic[1])
 }
 
 /// What a pivot answers, where the entry is there and isn't 0.
@@ -56,70 +67,87 @@ fn pivot(t: &mut Tableau, row: usize, column: usize) -> Option<Result<(), RowWid
     Some(t.pivot(row, column))
 }
 
+fn is_made(t: &mut Tableau, row: usize, column: usize) -> bool {
+    matches!(pivot(t, row, column), Some(Ok(())))
+}
+
 #[test]
 fn the_first_basis_is_the_slacks(rt: HostRuntime) -> Result<(), Fail> {
     let t = of_two(rt.alloc(), 2, 3, 1, -1)?;
-    assert!(rt; has_rows(&t, [-2, -3, 1, 0], [-1, 1, 0, 1]));
-    assert!(rt; has_basis(&t, 2, 3));
+    assert!(rt; stands(&t, ([[-2, -3, 1, 0], [-1, 1, 0, 1]], [2, 3])));
     Ok(())
 }
+
+/// Pivots of 2x + 3y and x - y, and how the tableau then stands.
+const PIVOTS: [(usize, usize, Stand); 2] = [
+    (0, 0, ([[2, 3, -1, 0], [0, 5, -1, 2]], [0, 3])),
+    (1, 1, ([[5, 0, -1, -3], [0, 5, -1, 2]], [0, 1])),
+];
 
 #[test]
 fn a_pivot_by_hand(rt: HostRuntime) -> Result<(), Fail> {
     let mut t = of_two(rt.alloc(), 2, 3, 1, -1)?;
-    assert_eq!(rt; pivot(&mut t, 0, 0), Some(Ok(())));
-    assert!(rt; has_rows(&t, [2, 3, -1, 0], [0, 5, -1, 2]));
-    assert!(rt; has_basis(&t, 0, 3));
-    assert_eq!(rt; pivot(&mut t, 1, 0), None);
-    assert_eq!(rt; pivot(&mut t, 1, 1), Some(Ok(())));
-    assert!(rt; has_rows(&t, [5, 0, -1, -3], [0, 5, -1, 2]));
-    assert!(rt; has_basis(&t, 0, 1));
+    for (row, column, stand) in PIVOTS {
+        assert!(rt; is_made(&mut t, row, column) && stands(&t, stand));
+    }
     Ok(())
 }
 
 #[test]
 fn rows_are_divided_by_what_divides_them(rt: HostRuntime) -> Result<(), Fail> {
     let mut t = of_two(rt.alloc(), 2, 4, 6, 2)?;
-    assert_eq!(rt; pivot(&mut t, 0, 0), Some(Ok(())));
-    assert!(rt; has_rows(&t, [2, 4, -1, 0], [0, 10, -3, 1]));
+    let stand = ([[2, 4, -1, 0], [0, 10, -3, 1]], [0, 3]);
+    assert!(rt; is_made(&mut t, 0, 0) && stands(&t, stand));
     Ok(())
+}
+
+/// 2^62 + 1.
+const LARGE: i64 = (1 << 62) + 1;
+
+/// Whether a pivot answers that the row has an entry of -2^124 - 2^63.
+fn is_wide(t: &mut Tableau, row: usize, column: usize, wide: usize) -> bool {
+    match pivot(t, row, column) {
+        Some(Err(stop)) => stop.row == wide && stop.entry == -(1 << 124) - (1 << 63),
+        _ => false,
+    }
 }
 
 #[test]
 fn a_row_without_room_leaves_the_tableau(rt: HostRuntime) -> Result<(), Fail> {
-    let a: i64 = (1 << 62) + 1;
-    let mut t = of_two(rt.alloc(), a, 1, 1, a)?;
-    let entry: i128 = -(1 << 124) - (1 << 63);
-    let first = RowWide { row: 1, entry };
-    assert_eq!(rt; pivot(&mut t, 0, 0), Some(Err(first)));
-    assert!(rt; has_rows(&t, [-a, -1, 1, 0], [-1, -a, 0, 1]));
-    assert!(rt; has_basis(&t, 2, 3));
-    let second = RowWide { row: 0, entry };
-    assert_eq!(rt; pivot(&mut t, 1, 1), Some(Err(second)));
-    assert!(rt; has_rows(&t, [-a, -1, 1, 0], [-1, -a, 0, 1]));
+    let mut t = of_two(rt.alloc(), LARGE, 1, 1, LARGE)?;
+    let stand = ([[-LARGE, -1, 1, 0], [-1, -LARGE, 0, 1]], [2, 3]);
+    for (at, wide) in [(0, 1), (1, 0)] {
+        assert!(rt; is_wide(&mut t, at, at, wide) && stands(&t, stand));
+    }
     Ok(())
 }
 
-/// Whether so many forms are too many.
-fn are_too_many(alloc: Global, count: usize) -> Result<bool, Fail> {
+/// So many forms of no variable.
+fn constants(alloc: Global, count: usize) -> Result<Vec<Lin>, Fail> {
     let mut forms = Vec::new(alloc);
     for _ in 0..count {
         forms.push(Lin::of_constant(alloc, 0))?;
     }
+    Ok(forms)
+}
+
+/// Whether so many forms are too many; with memory.
+fn are_too_many(alloc: Global, count: usize) -> Result<bool, Fail> {
+    let forms = constants(alloc, count)?;
     if !are_below(forms.as_slice(), 0) {
         return Ok(false);
     }
-    match Tableau::new(alloc, forms.as_slice(), 0) {
-        Ok(t) => Ok(t.rows() != count),
-        Err(RowStop::TooMany) => Ok(true),
-        Err(RowStop::Memory) => Ok(false),
-    }
+    Ok(matches!(
+        Tableau::new(alloc, forms.as_slice(), 0),
+        Err(RowStop::TooMany)
+    ))
 }
 
 #[test]
 fn more_than_1024_forms_are_too_many(rt: HostRuntime) -> Result<(), Fail> {
-    assert!(rt; !are_too_many(rt.alloc(), 1024)?);
-    assert!(rt; are_too_many(rt.alloc(), 1025)?);
+    for (count, wanted) in [(1024, false), (1025, true)] {
+        assert!(rt; are_too_many(rt.alloc(), count)? == wanted);
+    }
     Ok(())
 }
 
@@ -132,49 +160,111 @@ fn form(alloc: Global, variables: u32, coefficient: i64, constant: i128) -> Resu
     Ok(Lin::new(terms, constant)?)
 }
 
-/// What is said of a form of a literal below 1,000: how many terms it has, the first coefficient, and
-/// two bounds.
-fn said(alloc: Global, lit: &Lit) -> Result<(usize, i64, Option<i128>, Option<i128>), ReadyStop> {
+/// How many terms a form has, its first coefficient, and two bounds.
+type Said = (usize, i64, Option<i128>, Option<i128>);
+
+/// What is said where no form has room.
+const WIDE: Said = (usize::MAX, 0, None, None);
+
+fn told(made: &Bounded) -> Said {
+    let terms = made.form.terms();
+    let first = terms.first().map_or(0, |(_, a)| *a);
+    (terms.len(), first, made.lower, made.upper)
+}
+
+/// What is said of a literal below 1,000.
+fn said(alloc: Global, lit: &Lit) -> Option<Said> {
     if !lit.is_below(1000) {
-        return Ok((0, 0, None, None));
+        return None;
     }
-    match ready(alloc, lit, 1000)? {
-        Ready::Truth(truth) => Ok((0, i64::from(truth), None, None)),
-        Ready::Bounds(made) => {
-            let terms = made.form.terms();
-            let first = terms.first().map_or(0, |(_, a)| *a);
-            Ok((terms.len(), first, made.lower, made.upper))
-        }
+    match ready(alloc, lit, 1000) {
+        Ok(Ready::Truth(truth)) => Some((0, i64::from(truth), None, None)),
+        Ok(Ready::Bounds(made)) => Some(told(&made)),
+        Err(ReadyStop::Wide) => Some(WIDE),
+        Err(_) => None,
     }
 }
 
-/// Whether the literal of so many variables says what it is to say.
-fn are_ready(alloc: Global, count: u32) -> Result<bool, Fail> {
-    let n = count as usize;
-    let Some(divisor) = Divisor::new(5) else {
-        return Ok(false);
-    };
-    let le = Lit::Le(form(alloc, count, 6, 7)?);
-    let eq = Lit::Eq(form(alloc, count, -6, 7)?);
-    let div = Lit::Div(divisor, form(alloc, count, 6, 7)?);
-    let rest = Lit::NDiv(divisor, form(alloc, count, 6, 7)?);
-    let wide = Lit::NDiv(divisor, form(alloc, count, 1, 1 - (1 << 64))?);
-    Ok(
-        said(alloc, &le)? == (n, 1, None, Some(-2))
-            && said(alloc, &eq)? == (n, -1, Some(-1), Some(-2))
-            && said(alloc, &div)? == (n + 1, 6, Some(-7), Some(-7))
-            && said(alloc, &rest)? == (n + 1, 6, Some(-6), Some(-3))
-            && matches!(said(alloc, &wide), Err(ReadyStop::Wide)),
-    )
+/// A kind of literal, with the divisor 5.
+#[derive(Clone, Copy)]
+enum Kind {
+    Le,
+    Eq,
+    Div,
+    NDiv,
+}
+
+fn of_kind(kind: Kind, lin: Lin) -> Option<Lit> {
+    let divisor = Divisor::new(5)?;
+    match kind {
+        Kind::Le => Some(Lit::Le(lin)),
+        Kind::Eq => Some(Lit::Eq(lin)),
+        Kind::Div => Some(Lit::Div(divisor, lin)),
+        Kind::NDiv => Some(Lit::NDiv(divisor, lin)),
+    }
+}
+
+/// What is said of a literal of so many variables, each with this coefficient.
+fn said_of(
+    alloc: Global,
+    kind: Kind,
+    count: u32,
+    coefficient: i64,
+    constant: i128,
+) -> Result<Option<Said>, Fail> {
+    let lin = form(alloc, count, coefficient, constant)?;
+    match of_kind(kind, lin) {
+        Some(lit) => Ok(said(alloc, &lit)),
+        None => Ok(None),
+    }
+}
+
+/// Coefficients and constants, with what is said of one variable.
+const READY: [(Kind, i64, i128, Said); 4] = [
+    (Kind::Le, 6, 7, (1, 1, None, Some(-2))),
+    (Kind::Eq, -6, 7, (1, -1, Some(-1), Some(-2))),
+    (Kind::Div, 6, 7, (2, 6, Some(-7), Some(-7))),
+    (Kind::NDiv, 6, 7, (2, 6, Some(-6), Some(-3))),
+];
+
+/// Whether what is said has the same numbers, and so many more terms.
+fn says(found: Option<Said>, said: Said, more: usize) -> bool {
+    match found {
+        Some((count, first, lower, upper)) => {
+            count == said.0.wrapping_add(more)
+                && first == said.1
+                && lower == said.2
+                && upper == said.3
+        }
+        None => false,
+    }
+}
+
+/// Whether all literals of one variable and so many more say what they are to say.
+fn are_ready(alloc: Global, more: u32) -> Result<bool, Fail> {
+    let mut all = true;
+    for (kind, coefficient, constant, said) in READY {
+        let count = more.wrapping_add(1);
+        let found = said_of(alloc, kind, count, coefficient, constant)?;
+        all = all && says(found, said, more as usize);
+    }
+    Ok(all)
 }
 
 #[test]
 fn literals_are_made_ready_at_small_and_large_sizes(rt: HostRuntime) -> Result<(), Fail> {
-    let truth = Lit::Le(Lin::of_constant(rt.alloc(), 1));
-    assert!(rt; said(rt.alloc(), &truth)? == (0, 0, None, None));
-    for count in [1, 2, 300] {
-        assert!(rt; are_ready(rt.alloc(), count)?, "{count}");
+    for more in [0, 1, 299] {
+        assert!(rt; are_ready(rt.alloc(), more)?);
     }
+    Ok(())
+}
+
+#[test]
+fn constants_have_a_truth_and_wide_bounds_none(rt: HostRuntime) -> Result<(), Fail> {
+    let truth = said_of(rt.alloc(), Kind::Le, 0, 1, 1)?;
+    assert!(rt; says(truth, (0, 0, None, None), 0));
+    let wide = said_of(rt.alloc(), Kind::NDiv, 1, 1, 1 - (1 << 64))?;
+    assert!(rt; says(wide, WIDE, 0));
     Ok(())
 }
 
@@ -201,17 +291,13 @@ fn loosen(t: &mut Tableau, variable: usize) {
     }
 }
 
-/// The tableau of one form of one variable, and of so many more.
-fn of_many(alloc: Global, more: usize) -> Result<Tableau, Fail> {
+/// The tableau of so many forms of one variable.
+fn of_many(alloc: Global, count: usize) -> Result<Tableau, Fail> {
     let mut forms = Vec::new(alloc);
-    forms.push(form(alloc, 1, 3, 0)?)?;
-    for _ in 0..more {
+    for _ in 0..count {
         forms.push(form(alloc, 1, 3, 0)?)?;
     }
-    if !are_below(forms.as_slice(), 1) {
-        return Ok(Tableau::new(alloc, &[], 1)?);
-    }
-    Ok(Tableau::new(alloc, forms.as_slice(), 1)?)
+    tableau(alloc, forms, 1)
 }
 
 /// Whether a row that is there is the same in both, and its basic variable the first.
@@ -222,38 +308,30 @@ fn have_row(copied: &Tableau, t: &Tableau, row: usize) -> bool {
     copied.basic(row) == 0 && copied.row(row) == t.row(row)
 }
 
-/// Whether a copy of a tableau, pivoted in its last row, is equal to it.
-fn is_copied(alloc: Global, t: &mut Tableau, last: usize) -> Result<Option<Tableau>, Fail> {
-    if pivot(t, last, 0) != Some(Ok(())) {
-        return Ok(None);
-    }
-    let copied = t.copy(alloc)?;
-    if copied.rows() != t.rows() || copied.columns() != t.columns() {
-        return Ok(None);
-    }
-    if !have_row(&copied, t, last) {
-        return Ok(None);
-    }
-    Ok(Some(copied))
+/// Whether both have the same sizes, row and bounds, and the copy then keeps bounds of its own.
+fn are_apart(copied: &mut Tableau, t: &Tableau, row: usize) -> bool {
+    let sizes = copied.rows() == t.rows() && copied.columns() == t.columns();
+    let same = have_row(copied, t, row) && has_bounds(copied, 1, Some(-5), Some(7));
+    loosen(copied, 1);
+    sizes && same && has_bounds(copied, 1, None, Some(8)) && has_bounds(t, 1, Some(-5), Some(7))
 }
 
-/// Whether the copy of a tableau of so many forms and one more keeps bounds of its own on a slack.
+/// Whether the copy of a tableau of so many forms and one more, pivoted in its last row, is equal to
+/// it and keeps bounds of its own on a slack.
 fn copies_are_equal(alloc: Global, last: usize) -> Result<bool, Fail> {
-    let mut t = of_many(alloc, last)?;
+    let mut t = of_many(alloc, last.wrapping_add(1))?;
     fasten(&mut t, 1);
-    let Some(mut copied) = is_copied(alloc, &mut t, last)? else {
+    if !is_made(&mut t, last, 0) {
         return Ok(false);
-    };
-    let same = has_bounds(&copied, 1, Some(-5), Some(7));
-    loosen(&mut copied, 1);
-    let apart = has_bounds(&copied, 1, None, Some(8));
-    let kept = has_bounds(&t, 1, Some(-5), Some(7));
-    Ok(same && apart && kept)
+    }
+    let mut copied = t.copy(alloc)?;
+    Ok(are_apart(&mut copied, &t, last))
 }
 
 #[test]
 fn copies_are_equal_at_small_and_large_sizes(rt: HostRuntime) -> Result<(), Fail> {
-    assert!(rt; copies_are_equal(rt.alloc(), 0)?);
-    assert!(rt; copies_are_equal(rt.alloc(), 199)?);
+    for last in [0, 199] {
+        assert!(rt; copies_are_equal(rt.alloc(), last)?);
+    }
     Ok(())
 }

@@ -1,4 +1,5 @@
-//! Trees that were worked out by hand.
+//! Trees that were worked out by hand, as tables: a conjunction of literals, a chain of nodes over a
+//! leaf, and what the checker answers.
 
 use base::{Boxed, Items, Same};
 use farkas_proof::{CheckStop, Refutation, check};
@@ -9,7 +10,7 @@ use std::test::Fail;
 const MOST: i64 = i64::MAX;
 
 /// What the checker answers.
-#[derive(Clone, Copy, Debug, PartialEq, Eq)]
+#[derive(Clone, Copy, PartialEq, Eq)]
 enum Answer {
     Refuted,
     NoProof(u32),
@@ -17,46 +18,85 @@ enum Answer {
     Memory,
 }
 
-fn answer_to(alloc: Global, form: &Form, proof: &Refutation) -> Answer {
-    match check(alloc, form, proof) {
-        Ok(refuted) => {
-            if refuted.form().equals(form) && refuted.proof().equals(proof) {
-                Answer::Refuted
-            } else {
-                Answer::Memory
-            }
-        }
-        Err(CheckStop::NoProof { node }) => Answer::NoProof(node),
-        Err(CheckStop::SumWide { node }) => Answer::SumWide(node),
-        Err(CheckStop::Memory) => Answer::Memory,
+/// Terms of a form, or literals by number with their multipliers.
+pub(crate) type Terms = &'static [(u32, i64)];
+
+/// What a literal says of its form.
+#[derive(Clone, Copy)]
+pub(crate) enum Kind {
+    AtMostZero,
+    Zero,
+    /// 3 divides it.
+    Divided,
+    /// 3 doesn't divide it.
+    Undivided,
+}
+
+pub(crate) type Literal = (Kind, Terms, i128);
+
+/// A node over a chain.
+#[derive(Clone, Copy)]
+enum Node {
+    Round(Terms, i64),
+    Quotient(u32),
+    /// A split at the first variable and a constant, with a leaf for what is below.
+    Split(i128, Terms),
+    /// The cases of a disjunction, with a leaf for the first.
+    Cases(u32, Terms),
+}
+
+/// The literals, the nodes from the leaf up, the leaf's multipliers, and the answer.
+type Case = (&'static [Literal], &'static [Node], Terms, Answer);
+
+fn lin(alloc: Global, terms: &[(u32, i64)], constant: i128) -> Result<Lin, Fail> {
+    let list = Vec::from_slice(alloc, terms)?;
+    let lin = Lin::new(list, constant)?;
+    Ok(lin)
+}
+
+fn says(kind: Kind, lin: Lin) -> Option<Lit> {
+    let three = Divisor::new(3)?;
+    match kind {
+        Kind::AtMostZero => Some(Lit::Le(lin)),
+        Kind::Zero => Some(Lit::Eq(lin)),
+        Kind::Divided => Some(Lit::Div(three, lin)),
+        Kind::Undivided => Some(Lit::NDiv(three, lin)),
     }
 }
 
-fn lin(alloc: Global, terms: &[(u32, i64)], constant: i128) -> Result<Lin, Fail> {
-    let mut list = Vec::new(alloc);
-    list.extend_from_slice(terms)?;
-    Ok(Lin::new(list, constant)?)
+fn literal(alloc: Global, literal: Literal) -> Result<Form, Fail> {
+    let (kind, terms, constant) = literal;
+    let lin = lin(alloc, terms, constant)?;
+    match says(kind, lin) {
+        Some(lit) => Ok(Form::Lit(lit)),
+        None => Err("no divisor".into()),
+    }
 }
 
-fn at_most(alloc: Global, terms: &[(u32, i64)], constant: i128) -> Result<Form, Fail> {
-    Ok(Form::Lit(Lit::Le(lin(alloc, terms, constant)?)))
-}
-
-fn equal(alloc: Global, terms: &[(u32, i64)], constant: i128) -> Result<Form, Fail> {
-    Ok(Form::Lit(Lit::Eq(lin(alloc, terms, constant)?)))
-}
-
-fn two(alloc: Global, first: Form, second: Form) -> Result<Items<Form>, Fail> {
+pub(crate) fn literals(alloc: Global, literals: &[Literal]) -> Result<Items<Form>, Fail> {
     let mut parts = Items::new(alloc);
-    parts.push(first)?;
-    parts.push(second)?;
+    for one in literals {
+        parts.push(literal(alloc, *one)?)?;
+    }
     Ok(parts)
 }
 
+/// The conjunction of the literals, which is a literal where there is one, and false where there is
+/// none.
+fn conjunction(alloc: Global, lits: &[Literal]) -> Result<Form, Fail> {
+    if lits.is_empty() {
+        return Ok(Form::False);
+    }
+    if lits.len() == 1 {
+        return literal(alloc, lits[0]);
+    }
+    let parts = literals(alloc, lits)?;
+    Ok(Form::And(parts))
+}
+
 fn leaf(alloc: Global, multipliers: &[(u32, i64)]) -> Result<Refutation, Fail> {
-    Ok(Refutation::Leaf {
-        multipliers: Items::from_slice(alloc, multipliers)?,
-    })
+    let multipliers = Items::from_slice(alloc, multipliers)?;
+    Ok(Refutation::Leaf { multipliers })
 }
 
 fn round(
@@ -65,239 +105,384 @@ fn round(
     divisor: i64,
     sub: Refutation,
 ) -> Result<Refutation, Fail> {
+    let sub = Boxed::new(alloc, sub)?;
+    let multipliers = Items::from_slice(alloc, multipliers)?;
     Ok(Refutation::Round {
-        multipliers: Items::from_slice(alloc, multipliers)?,
+        multipliers,
         divisor,
-        sub: Boxed::new(alloc, sub)?,
+        sub,
     })
-}
-
-/// -3x + 3y + 1 is at most 0, and so is 3x - 3y - 2.
-fn strip(alloc: Global) -> Result<Form, Fail> {
-    let low = at_most(alloc, &[(0, -3), (1, 3)], 1)?;
-    let high = at_most(alloc, &[(0, 3), (1, -3)], -2)?;
-    Ok(Form::And(two(alloc, low, high)?))
-}
-
-fn of_strip(alloc: Global, divisor: i64, multiplier: i64) -> Result<Answer, Fail> {
-    let last = leaf(alloc, &[(2, 1), (3, multiplier)])?;
-    let second = round(alloc, &[(1, 1)], 3, last)?;
-    let first = round(alloc, &[(0, 1)], divisor, second)?;
-    Ok(answer_to(alloc, &strip(alloc)?, &first))
-}
-
-#[test]
-fn strip_between_two_lines_has_no_integer_point(rt: HostRuntime) -> Result<(), Fail> {
-    for (divisor, multiplier, wanted) in [
-        (3, 1, Answer::Refuted),
-        (2, 1, Answer::NoProof(0)),
-        (0, 1, Answer::NoProof(0)),
-        (1, 1, Answer::NoProof(2)),
-        (3, 2, Answer::NoProof(2)),
-        (3, -1, Answer::NoProof(2)),
-    ] {
-        let answer = of_strip(rt.alloc(), divisor, multiplier)?;
-        assert!(rt; answer == wanted, "{divisor} and {multiplier}");
-    }
-    Ok(())
-}
-
-/// Twice x is at most 0, and with a Round by 1 another form is too.
-fn doubled(alloc: Global, multipliers: &[(u32, i64)]) -> Result<Answer, Fail> {
-    let form = at_most(alloc, &[(0, 2)], 0)?;
-    let second = round(alloc, multipliers, 1, leaf(alloc, &[])?)?;
-    let first = round(alloc, &[(0, 1)], 2, second)?;
-    Ok(answer_to(alloc, &form, &first))
-}
-
-fn doubled_at_once(alloc: Global) -> Result<Answer, Fail> {
-    let form = at_most(alloc, &[(0, 2)], 0)?;
-    let first = round(alloc, &[(0, 1 << 62)], 1, leaf(alloc, &[])?)?;
-    Ok(answer_to(alloc, &form, &first))
-}
-
-/// 1 is at most 0, taken so many times.
-fn constants(alloc: Global, last: i64) -> Result<Answer, Fail> {
-    let ones = round(
-        alloc,
-        &[(0, MOST), (0, MOST), (0, last)],
-        1,
-        leaf(alloc, &[(1, 1)])?,
-    )?;
-    Ok(answer_to(alloc, &Form::False, &ones))
-}
-
-#[test]
-fn literals_have_room_up_to_their_bounds(rt: HostRuntime) -> Result<(), Fail> {
-    let alloc = rt.alloc();
-    assert!(rt; doubled_at_once(alloc)? == Answer::SumWide(0));
-    assert!(rt; doubled(alloc, &[(1, MOST)])? == Answer::NoProof(2));
-    assert!(rt; doubled(alloc, &[(1, MOST), (1, 1)])? == Answer::SumWide(1));
-    assert!(rt; doubled(alloc, &[(1, -1)])? == Answer::NoProof(1));
-    assert!(rt; doubled(alloc, &[(2, 1)])? == Answer::NoProof(1));
-    assert!(rt; constants(alloc, 1)? == Answer::Refuted);
-    assert!(rt; constants(alloc, 2)? == Answer::SumWide(0));
-    Ok(())
-}
-
-/// A combination of equations, rounded by n, and its negative, and the sum of both.
-fn rounded_both_ways(
-    alloc: Global,
-    n: i64,
-    combination: &[(u32, i64)],
-    known: u32,
-) -> Result<Refutation, Fail> {
-    let mut negative = Vec::new(alloc);
-    for (which, k) in combination {
-        negative.push((*which, k.wrapping_neg()))?;
-    }
-    let (third, fourth) = (known, known.wrapping_add(1));
-    let last = leaf(alloc, &[(third, 1), (fourth, 1)])?;
-    let second = round(alloc, negative.as_slice(), n, last)?;
-    round(alloc, combination, n, second)
-}
-
-/// Twice x is 1.
-fn odd_half(alloc: Global) -> Result<Answer, Fail> {
-    let form = equal(alloc, &[(0, 2)], -1)?;
-    let tree = rounded_both_ways(alloc, 2, &[(0, 1)], 1)?;
-    Ok(answer_to(alloc, &form, &tree))
-}
-
-/// v is the sum of x and y and one more than an even number, and both x and y are even.
-fn odd_sum(alloc: Global) -> Result<Answer, Fail> {
-    let sum = equal(alloc, &[(0, 1), (1, -1), (2, -1)], 0)?;
-    let odd = equal(alloc, &[(0, 1), (3, -2)], -1)?;
-    let first = equal(alloc, &[(1, 1), (4, -2)], -2)?;
-    let second = equal(alloc, &[(2, 1), (5, -2)], -2)?;
-    let sums = Form::And(two(alloc, sum, odd)?);
-    let parts = Form::And(two(alloc, first, second)?);
-    let form = Form::And(two(alloc, sums, parts)?);
-    let tree = rounded_both_ways(alloc, 2, &[(1, 1), (0, -1), (2, -1), (3, -1)], 4)?;
-    Ok(answer_to(alloc, &form, &tree))
-}
-
-#[test]
-fn equations_are_taken_with_either_sign(rt: HostRuntime) -> Result<(), Fail> {
-    assert!(rt; odd_half(rt.alloc())? == Answer::Refuted);
-    assert!(rt; odd_sum(rt.alloc())? == Answer::Refuted);
-    Ok(())
 }
 
 fn quotient(alloc: Global, lit: u32, sub: Refutation) -> Result<Refutation, Fail> {
-    Ok(Refutation::Quotient {
-        lit,
-        sub: Boxed::new(alloc, sub)?,
-    })
+    let sub = Boxed::new(alloc, sub)?;
+    Ok(Refutation::Quotient { lit, sub })
 }
 
-/// 3 divides x, and x is 3y less the constant.
-fn divided(alloc: Global, constant: i128, lit: u32) -> Result<Answer, Fail> {
-    let three = Divisor::new(3).ok_or("no divisor")?;
-    let division = Form::Lit(Lit::Div(three, lin(alloc, &[(0, 1)], 0)?));
-    let equation = equal(alloc, &[(0, 1), (1, -3)], constant)?;
-    let form = Form::And(two(alloc, division, equation)?);
-    let sub = rounded_both_ways(alloc, 3, &[(1, 1), (2, -1)], 3)?;
-    Ok(answer_to(alloc, &form, &quotient(alloc, lit, sub)?))
+fn split(
+    alloc: Global,
+    lin: Lin,
+    below: Refutation,
+    above: Refutation,
+) -> Result<Refutation, Fail> {
+    let below = Boxed::new(alloc, below)?;
+    let above = Boxed::new(alloc, above)?;
+    Ok(Refutation::Split { lin, below, above })
 }
 
-/// 3 doesn't divide x, and x is 3y less the constant.
-fn not_divided(alloc: Global, constant: i128) -> Result<Answer, Fail> {
-    let three = Divisor::new(3).ok_or("no divisor")?;
-    let division = Form::Lit(Lit::NDiv(three, lin(alloc, &[(0, 1)], 0)?));
-    let equation = equal(alloc, &[(0, 1), (1, -3)], constant)?;
-    let form = Form::And(two(alloc, division, equation)?);
-    let last = leaf(alloc, &[(4, 1), (5, 1)])?;
-    let below = round(alloc, &[(3, 1), (1, -1)], 3, last)?;
-    let above = round(alloc, &[(2, 1), (1, 1)], 3, below)?;
-    Ok(answer_to(alloc, &form, &quotient(alloc, 0, above)?))
-}
-
-#[test]
-fn quotients_have_a_variable_of_their_own(rt: HostRuntime) -> Result<(), Fail> {
-    let alloc = rt.alloc();
-    assert!(rt; divided(alloc, -1, 0)? == Answer::Refuted);
-    assert!(rt; divided(alloc, -3, 0)? == Answer::NoProof(3));
-    assert!(rt; divided(alloc, -1, 1)? == Answer::NoProof(0));
-    assert!(rt; not_divided(alloc, 0)? == Answer::Refuted);
-    assert!(rt; not_divided(alloc, -1)? == Answer::NoProof(3));
-    Ok(())
-}
-
-/// A part and its tree for each sub.
 fn cases(
     alloc: Global,
     which: u32,
     first: Refutation,
-    second: Refutation,
+    last: Refutation,
 ) -> Result<Refutation, Fail> {
-    let mut subs = Items::new(alloc);
-    subs.push(first)?;
-    subs.push(second)?;
+    let subs = Vec::from_array(alloc, [first, last])?;
+    let subs = Items::from_vec(subs);
     Ok(Refutation::Cases { which, subs })
 }
 
-/// x is 0; it is below 0, or above 0 or above 1; and it is at most 5.
-fn nested(alloc: Global) -> Result<Form, Fail> {
-    let above_0 = at_most(alloc, &[(0, -1)], 1)?;
-    let above_1 = at_most(alloc, &[(0, -1)], 2)?;
-    let inner = Form::Or(two(alloc, above_0, above_1)?);
-    let outer = Form::Or(two(alloc, at_most(alloc, &[(0, 1)], 1)?, inner)?);
-    let mut single = Items::new(alloc);
-    single.push(at_most(alloc, &[(0, 1)], -5)?)?;
-    let both = Form::And(two(alloc, outer, Form::Or(single))?);
-    Ok(Form::And(two(alloc, equal(alloc, &[(0, 1)], 0)?, both)?))
+fn on(alloc: Global, node: Node, tree: Refutation) -> Result<Refutation, Fail> {
+    match node {
+        Node::Round(multipliers, divisor) => round(alloc, multipliers, divisor, tree),
+        Node::Quotient(lit) => quotient(alloc, lit, tree),
+        Node::Split(constant, below) => {
+            let lin = lin(alloc, &[(0, 1)], constant)?;
+            let below = leaf(alloc, below)?;
+            split(alloc, lin, below, tree)
+        }
+        Node::Cases(which, first) => {
+            let first = leaf(alloc, first)?;
+            cases(alloc, which, first, tree)
+        }
+    }
 }
 
-fn of_nested(alloc: Global, outer: u32, inner: u32, last: u32) -> Result<Answer, Fail> {
-    let below = leaf(alloc, &[(0, -1), (1, 1)])?;
-    let low = leaf(alloc, &[(0, 1), (1, 1)])?;
-    let high = leaf(alloc, &[(0, 1), (last, 1)])?;
-    let above = cases(alloc, inner, low, high)?;
-    let tree = cases(alloc, outer, below, above)?;
-    Ok(answer_to(alloc, &nested(alloc)?, &tree))
+fn tree(alloc: Global, nodes: &[Node], last: Terms) -> Result<Refutation, Fail> {
+    let mut tree = leaf(alloc, last)?;
+    for node in nodes {
+        tree = on(alloc, *node, tree)?;
+    }
+    Ok(tree)
 }
+
+fn answer_to(alloc: Global, form: &Form, proof: &Refutation) -> Answer {
+    match check(alloc, form, proof) {
+        Ok(refuted) => {
+            if refuted.form().equals(form) && refuted.proof().equals(proof) {
+                return Answer::Refuted;
+            }
+            Answer::Memory
+        }
+        Err(CheckStop::NoProof { node }) => Answer::NoProof(node),
+        Err(CheckStop::SumWide { node }) => Answer::SumWide(node),
+        Err(CheckStop::Memory) => Answer::Memory,
+    }
+}
+
+fn is_answered(
+    alloc: Global,
+    form: &Form,
+    nodes: &[Node],
+    last: Terms,
+    answer: Answer,
+) -> Result<bool, Fail> {
+    let tree = tree(alloc, nodes, last)?;
+    Ok(answer_to(alloc, form, &tree) == answer)
+}
+
+fn is_right(alloc: Global, case: Case) -> Result<bool, Fail> {
+    let (lits, nodes, last, answer) = case;
+    let form = conjunction(alloc, lits)?;
+    is_answered(alloc, &form, nodes, last, answer)
+}
+
+/// -3x + 3y + 1 is at most 0, and so is 3x - 3y - 2.
+const STRIP: &'static [Literal] = &[
+    (Kind::AtMostZero, &[(0, -3), (1, 3)], 1),
+    (Kind::AtMostZero, &[(0, 3), (1, -3)], -2),
+];
+
+/// The second literal rounded by 3, and the first by this number.
+const BY_3: &'static [Node] = &[Node::Round(&[(1, 1)], 3), Node::Round(&[(0, 1)], 3)];
+
+const BY_2: &'static [Node] = &[Node::Round(&[(1, 1)], 3), Node::Round(&[(0, 1)], 2)];
+
+const BY_0: &'static [Node] = &[Node::Round(&[(1, 1)], 3), Node::Round(&[(0, 1)], 0)];
+
+const BY_1: &'static [Node] = &[Node::Round(&[(1, 1)], 3), Node::Round(&[(0, 1)], 1)];
+
+const STRIPS: [Case; 6] = [
+    (STRIP, BY_3, &[(2, 1), (3, 1)], Answer::Refuted),
+    (STRIP, BY_2, &[(2, 1), (3, 1)], Answer::NoProof(0)),
+    (STRIP, BY_0, &[(2, 1), (3, 1)], Answer::NoProof(0)),
+    (STRIP, BY_1, &[(2, 1), (3, 1)], Answer::NoProof(2)),
+    (STRIP, BY_3, &[(2, 1), (3, 2)], Answer::NoProof(2)),
+    (STRIP, BY_3, &[(2, 1), (3, -1)], Answer::NoProof(2)),
+];
 
 #[test]
-fn parts_of_a_part_stand_in_its_place(rt: HostRuntime) -> Result<(), Fail> {
-    for (outer, inner, last, wanted) in [
-        (0, 0, 1, Answer::Refuted),
-        (1, 0, 1, Answer::NoProof(0)),
-        (2, 0, 1, Answer::NoProof(0)),
-        (0, 1, 1, Answer::NoProof(2)),
-        (0, 0, 2, Answer::NoProof(4)),
-    ] {
-        let answer = of_nested(rt.alloc(), outer, inner, last)?;
-        assert!(rt; answer == wanted, "{outer}, {inner}, {last}");
+fn strip_between_two_lines_has_no_integer_point(rt: HostRuntime) -> Result<(), Fail> {
+    for case in STRIPS {
+        assert!(rt; is_right(rt.alloc(), case)?);
     }
     Ok(())
 }
 
-/// x lies between 0 and 1, but 2x is 1: split at 0.
-fn split(alloc: Global, constant: i128) -> Result<Answer, Fail> {
-    let form = equal(alloc, &[(0, 2)], -1)?;
-    let below = leaf(alloc, &[(0, -1), (1, 2)])?;
-    let above = leaf(alloc, &[(0, 1), (1, 2)])?;
-    let tree = Refutation::Split {
-        lin: lin(alloc, &[(0, 1)], constant)?,
-        below: Boxed::new(alloc, below)?,
-        above: Boxed::new(alloc, above)?,
-    };
-    Ok(answer_to(alloc, &form, &tree))
+/// Twice x is at most 0.
+const DOUBLE: &'static [Literal] = &[(Kind::AtMostZero, &[(0, 2)], 0)];
+
+const ROOM: [Case; 7] = [
+    (
+        DOUBLE,
+        &[Node::Round(&[(0, 1 << 62)], 1)],
+        &[],
+        Answer::SumWide(0),
+    ),
+    (
+        DOUBLE,
+        &[Node::Round(&[(1, MOST)], 1), Node::Round(&[(0, 1)], 2)],
+        &[],
+        Answer::NoProof(2),
+    ),
+    (
+        DOUBLE,
+        &[
+            Node::Round(&[(1, MOST), (1, 1)], 1),
+            Node::Round(&[(0, 1)], 2),
+        ],
+        &[],
+        Answer::SumWide(1),
+    ),
+    (
+        DOUBLE,
+        &[Node::Round(&[(1, -1)], 1), Node::Round(&[(0, 1)], 2)],
+        &[],
+        Answer::NoProof(1),
+    ),
+    (
+        DOUBLE,
+        &[Node::Round(&[(2, 1)], 1), Node::Round(&[(0, 1)], 2)],
+        &[],
+        Answer::NoProof(1),
+    ),
+    // 1 is at most 0, taken 2^64 - 1 times, and once more
+    (
+        &[],
+        &[Node::Round(&[(0, MOST), (0, MOST), (0, 1)], 1)],
+        &[(1, 1)],
+        Answer::Refuted,
+    ),
+    (
+        &[],
+        &[Node::Round(&[(0, MOST), (0, MOST), (0, 2)], 1)],
+        &[(1, 1)],
+        Answer::SumWide(0),
+    ),
+];
+
+#[test]
+fn literals_have_room_up_to_their_bounds(rt: HostRuntime) -> Result<(), Fail> {
+    for case in ROOM {
+        assert!(rt; is_right(rt.alloc(), case)?);
+    }
+    Ok(())
+}
+
+const EQUATIONS: [Case; 2] = [
+    // twice x is 1
+    (
+        &[(Kind::Zero, &[(0, 2)], -1)],
+        &[Node::Round(&[(0, -1)], 2), Node::Round(&[(0, 1)], 2)],
+        &[(1, 1), (2, 1)],
+        Answer::Refuted,
+    ),
+    // v is the sum of x and y and one more than an even number, and both x and y are even
+    (
+        &[
+            (Kind::Zero, &[(0, 1), (1, -1), (2, -1)], 0),
+            (Kind::Zero, &[(0, 1), (3, -2)], -1),
+            (Kind::Zero, &[(1, 1), (4, -2)], -2),
+            (Kind::Zero, &[(2, 1), (5, -2)], -2),
+        ],
+        &[
+            Node::Round(&[(1, -1), (0, 1), (2, 1), (3, 1)], 2),
+            Node::Round(&[(1, 1), (0, -1), (2, -1), (3, -1)], 2),
+        ],
+        &[(4, 1), (5, 1)],
+        Answer::Refuted,
+    ),
+];
+
+#[test]
+fn equations_are_taken_with_either_sign(rt: HostRuntime) -> Result<(), Fail> {
+    for case in EQUATIONS {
+        assert!(rt; is_right(rt.alloc(), case)?);
+    }
+    Ok(())
+}
+
+/// 3 divides x, and x is one more than 3y.
+const OFF_BY_1: &'static [Literal] = &[
+    (Kind::Divided, &[(0, 1)], 0),
+    (Kind::Zero, &[(0, 1), (1, -3)], -1),
+];
+
+const ROUND: Node = Node::Round(&[(1, 1), (2, -1)], 3);
+
+const BACK: Node = Node::Round(&[(1, -1), (2, 1)], 3);
+
+const ABOVE: Node = Node::Round(&[(2, 1), (1, 1)], 3);
+
+const BELOW: Node = Node::Round(&[(3, 1), (1, -1)], 3);
+
+const QUOTIENTS: [Case; 5] = [
+    (
+        OFF_BY_1,
+        &[BACK, ROUND, Node::Quotient(0)],
+        &[(3, 1), (4, 1)],
+        Answer::Refuted,
+    ),
+    // x is three more than 3y
+    (
+        &[
+            (Kind::Divided, &[(0, 1)], 0),
+            (Kind::Zero, &[(0, 1), (1, -3)], -3),
+        ],
+        &[BACK, ROUND, Node::Quotient(0)],
+        &[(3, 1), (4, 1)],
+        Answer::NoProof(3),
+    ),
+    (
+        OFF_BY_1,
+        &[BACK, ROUND, Node::Quotient(1)],
+        &[(3, 1), (4, 1)],
+        Answer::NoProof(0),
+    ),
+    // 3 doesn't divide x, and x is 3y
+    (
+        &[
+            (Kind::Undivided, &[(0, 1)], 0),
+            (Kind::Zero, &[(0, 1), (1, -3)], 0),
+        ],
+        &[BELOW, ABOVE, Node::Quotient(0)],
+        &[(4, 1), (5, 1)],
+        Answer::Refuted,
+    ),
+    (
+        &[
+            (Kind::Undivided, &[(0, 1)], 0),
+            (Kind::Zero, &[(0, 1), (1, -3)], -1),
+        ],
+        &[BELOW, ABOVE, Node::Quotient(0)],
+        &[(4, 1), (5, 1)],
+        Answer::NoProof(3),
+    ),
+];
+
+#[test]
+fn quotients_have_a_variable_of_their_own(rt: HostRuntime) -> Result<(), Fail> {
+    for case in QUOTIENTS {
+        assert!(rt; is_right(rt.alloc(), case)?);
+    }
+    Ok(())
+}
+
+/// x is above 0 or above 1.
+fn inner(alloc: Global) -> Result<Form, Fail> {
+    let parts = literals(
+        alloc,
+        &[
+            (Kind::AtMostZero, &[(0, -1)], 1),
+            (Kind::AtMostZero, &[(0, -1)], 2),
+        ],
+    )?;
+    Ok(Form::Or(parts))
+}
+
+/// x is below 0, or above 0 or above 1.
+fn outer(alloc: Global) -> Result<Form, Fail> {
+    let inner = inner(alloc)?;
+    let mut parts = literals(alloc, &[(Kind::AtMostZero, &[(0, 1)], 1)])?;
+    parts.push(inner)?;
+    Ok(Form::Or(parts))
+}
+
+/// That, and x is at most 5.
+fn both(alloc: Global) -> Result<Form, Fail> {
+    let outer = outer(alloc)?;
+    let single = literals(alloc, &[(Kind::AtMostZero, &[(0, 1)], -5)])?;
+    let parts = Vec::from_array(alloc, [outer, Form::Or(single)])?;
+    Ok(Form::And(Items::from_vec(parts)))
+}
+
+/// That, and x is 0.
+fn nested(alloc: Global) -> Result<Form, Fail> {
+    let both = both(alloc)?;
+    let mut parts = literals(alloc, &[(Kind::Zero, &[(0, 1)], 0)])?;
+    parts.push(both)?;
+    Ok(Form::And(parts))
+}
+
+const INNER_0: Node = Node::Cases(0, &[(0, 1), (1, 1)]);
+
+const INNER_1: Node = Node::Cases(1, &[(0, 1), (1, 1)]);
+
+const NESTED: [(&'static [Node], Terms, Answer); 5] = [
+    (
+        &[INNER_0, Node::Cases(0, &[(0, -1), (1, 1)])],
+        &[(0, 1), (1, 1)],
+        Answer::Refuted,
+    ),
+    (
+        &[INNER_0, Node::Cases(1, &[(0, -1), (1, 1)])],
+        &[(0, 1), (1, 1)],
+        Answer::NoProof(0),
+    ),
+    (
+        &[INNER_0, Node::Cases(2, &[(0, -1), (1, 1)])],
+        &[(0, 1), (1, 1)],
+        Answer::NoProof(0),
+    ),
+    (
+        &[INNER_1, Node::Cases(0, &[(0, -1), (1, 1)])],
+        &[(0, 1), (1, 1)],
+        Answer::NoProof(2),
+    ),
+    (
+        &[INNER_0, Node::Cases(0, &[(0, -1), (1, 1)])],
+        &[(0, 1), (2, 1)],
+        Answer::NoProof(4),
+    ),
+];
+
+#[test]
+fn parts_of_a_part_stand_in_its_place(rt: HostRuntime) -> Result<(), Fail> {
+    let form = nested(rt.alloc())?;
+    for (nodes, last, answer) in NESTED {
+        assert!(rt; is_answered(rt.alloc(), &form, nodes, last, answer)?);
+    }
+    Ok(())
+}
+
+/// Twice x is 1, split at these constants.
+const SPLITS: [(i128, Answer); 5] = [
+    (0, Answer::Refuted),
+    (1, Answer::NoProof(2)),
+    (-1, Answer::NoProof(1)),
+    (1 - (1 << 64), Answer::SumWide(0)),
+    (2 - (1 << 64), Answer::NoProof(1)),
+];
+
+fn is_split(alloc: Global, form: &Form, constant: i128, answer: Answer) -> Result<bool, Fail> {
+    let node = Node::Split(constant, &[(0, -1), (1, 2)]);
+    is_answered(alloc, form, &[node], &[(0, 1), (1, 2)], answer)
 }
 
 #[test]
 fn splits_leave_out_no_integer(rt: HostRuntime) -> Result<(), Fail> {
-    let most = (1 << 64) - 1;
-    for (constant, wanted) in [
-        (0, Answer::Refuted),
-        (1, Answer::NoProof(2)),
-        (-1, Answer::NoProof(1)),
-        (-most, Answer::SumWide(0)),
-        (1 - most, Answer::NoProof(1)),
-    ] {
-        let answer = split(rt.alloc(), constant)?;
-        assert!(rt; answer == wanted, "split at {constant}");
+    let form = conjunction(rt.alloc(), &[(Kind::Zero, &[(0, 2)], -1)])?;
+    for (constant, answer) in SPLITS {
+        assert!(rt; is_split(rt.alloc(), &form, constant, answer)?);
     }
     Ok(())
 }
