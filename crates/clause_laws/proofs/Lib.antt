@@ -1,0 +1,11 @@
+pub mod BreakingLemmas
+pub mod CoordinateLemmas
+pub mod DefinitionLemmas
+pub mod EnteredLemmas
+pub mod ListLemmas
+pub mod PlainLemmas
+pub mod PointLemmas
+pub mod SortedLemmas
+pub mod SpotLemmas
+pub mod StageLemmas
+pub mod WrittenLemmas

@@ -1,0 +1,16 @@
+pub mod AgreeLemmas
+pub mod FoundLemmas
+pub mod GivenLemmas
+pub mod KeptLemmas
+pub mod LoopLemmas
+pub mod LowLemmas
+pub mod Lower
+pub mod MadeLemmas
+pub mod NamingLemmas
+pub mod OccurLemmas
+pub mod PassLemmas
+pub mod PlaceLemmas
+pub mod ReadLemmas
+pub mod ReadingLemmas
+pub mod SystemLemmas
+pub mod TextLemmas

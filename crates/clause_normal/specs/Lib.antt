@@ -1,0 +1,4 @@
+pub mod machinery
+pub mod Normal
+pub mod Reading
+pub mod Stopping

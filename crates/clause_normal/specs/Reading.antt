@@ -1,0 +1,56 @@
+-- The clauses of a script in the order of its assertions, or the first refusal.
+use Rattle.std.specs.Prelude.{ℕ, ◌+◌, List, [], ◌∷◌, map, slice_index_or, Option, Some, None, Result, Ok, Err, if◌then◌else◌}
+use Rattle.term_tree.specs.declared.refusal.Kind.{Kind}
+use Rattle.term_tree.specs.declared.refusal.Kind.TheVariants.{TooWide, NotHorn, Count}
+use Rattle.term_tree.specs.declared.refusal.Refusal.{Refusal}
+use Rattle.term_tree.specs.declared.refusal.Checked.{Checked}
+use Rattle.term_tree.specs.declared.script.Assertion.{Assertion}
+use Rattle.term_tree.specs.declared.script.Script.{Script}
+use Rattle.horn_shape.specs.declared.clause.HornClause.{HornClause}
+use Rattle.horn_shape.specs.Clause.{assertion_reading}
+use Rattle.horn_shape.specs.Shape.{Content, Reading}
+use Rattle.clause_form.specs.declared.clause.Clause.{Clause}
+use Rattle.clause_normal.specs.Normal.{first_without_room, is_too_large, normal_clause}
+use Rattle.clause_form.specs.System.{Clauses}
+
+abbrev pub refusal_at : Kind → ℕ → Assertion → Refusal
+refusal_at kind offset a = record { kind = kind; offset = offset; command = a.command }
+
+-- where a term of the script starts
+abbrev pub start_of : Script → ℕ → ℕ
+start_of script id = slice_index_or script.terms.offsets id 0
+
+-- numbers without room come before numbers past a limit
+abbrev pub by_room : Script → Assertion → HornClause → Option ℕ → Result Clause Refusal
+by_room script a clause (Some id) = Err (refusal_at TooWide (start_of script id) a)
+by_room script a clause None = if is_too_large script clause then Err (refusal_at Count a.offset a) else Ok (normal_clause script clause)
+
+abbrev pub clause_with : ℕ → Content → HornClause
+clause_with index content =
+    record { assertion = index; vars = content.vars; atoms = content.atoms; guards = content.guards; head = content.head }
+
+abbrev pub by_shape : Script → ℕ → Assertion → Reading → Result Clause Refusal
+by_shape script index a (Err misfit) = Err (refusal_at NotHorn (start_of script misfit.0) a)
+by_shape script index a (Ok content) = by_room script a (clause_with index content) (first_without_room script (clause_with index content))
+
+-- the normal clause of the assertion of that number, or why it has none
+abbrev pub clause_reading : Script → ℕ → Assertion → Result Clause Refusal
+clause_reading script index a = by_shape script index a (assertion_reading script a)
+
+abbrev pub one_more : Result Clause Refusal → Result (List Clause) Refusal → Result (List Clause) Refusal
+one_more (Err refusal) others = Err refusal
+one_more (Ok clause) (Err refusal) = Err refusal
+one_more (Ok clause) (Ok clauses) = Ok (clause ∷ clauses)
+
+abbrev pub all_clauses : Script → ℕ → List Assertion → Result (List Clause) Refusal
+all_clauses script index [] = Ok []
+all_clauses script index (a ∷ asserts) = one_more (clause_reading script index a) (all_clauses script (index + 1) asserts)
+
+-- the refusal of an assertion comes before the stop that the script has
+abbrev pub unless_stopped : Option Refusal → Script → Result (List Clause) Refusal → Result Clauses Refusal
+unless_stopped stop script (Err refusal) = Err refusal
+unless_stopped (Some refusal) script (Ok clauses) = Err refusal
+unless_stopped None script (Ok clauses) = Ok (record { clauses = clauses; preds = map (λ p. p.args) script.preds })
+
+abbrev pub system_reading : Checked → Result Clauses Refusal
+system_reading checked = unless_stopped checked.stop checked.script (all_clauses checked.script 0 checked.script.asserts)
