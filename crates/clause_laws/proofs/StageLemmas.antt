@@ -30,7 +30,7 @@ use Rattle.linear_terms.specs.declared.standing.Spot.{Spot}
 use Rattle.linear_terms.specs.declared.standing.Standing.{Standing}
 use Rattle.linear_terms.specs.declared.standing.Standing.TheVariants.{Plain, Bit, Argument}
 use Rattle.linear_terms.specs.Text.{Sorting, are_truths, chosen, inner, is_unit, needs_one, operands, spot_as}
-use Rattle.entered_scratch.proofs.EnteredLemmas.{IsEntered, IsIn, at_part, at_top, body_scope, in_both, part_scope, top_spot}
+use Rattle.clause_laws.proofs.EnteredLemmas.{IsEntered, IsIn, at_part, at_top, body_scope, in_both, part_scope, top_spot}
 
 abbrev pub term_id : ℕ → TermId
 term_id k = record { 0 = k }

@@ -34,11 +34,11 @@ use Rattle.linear_terms.specs.Place.{place_form}
 use Rattle.linear_terms.specs.Formula.{formula}
 use Rattle.linear_terms.proofs.Public.{formula_is, place_value, sorted_there}
 use Rattle.linear_terms.proofs.RelationLemmas.{own_integer, same_integer}
-use Rattle.entered_scratch.proofs.PlacedLemmas.{inner_below, spots_at}
-use Rattle.entered_scratch.proofs.PositionLemmas.{position_is}
-use Rattle.entered_scratch.proofs.SortedLemmas.{subterm_sorted}
-use Rattle.entered_scratch.proofs.EnteredLemmas.{IsEntered, IsIn, at_part, at_top, bits_named, entered_scoped, got_position, in_flat, part_scope, part_there, subterm_entered, top_spot, units_named}
-use Rattle.entered_scratch.proofs.StageLemmas.{IsRead, entered_read, part_of_inner, place_plain}
+use Rattle.clause_laws.proofs.SpotLemmas.{inner_below, spots_at}
+use Rattle.term_widths.proofs.PositionLemmas.{position_is}
+use Rattle.clause_laws.proofs.SortedLemmas.{subterm_sorted}
+use Rattle.clause_laws.proofs.EnteredLemmas.{IsEntered, IsIn, at_part, at_top, bits_named, entered_scoped, got_position, in_flat, part_scope, part_there, subterm_entered, top_spot, units_named}
+use Rattle.clause_laws.proofs.StageLemmas.{IsRead, entered_read, part_of_inner, place_plain}
 
 -- a subterm of a subterm is one
 through : (nodes : List Node) (top mid id : ℕ) → IsSubterm nodes top mid → IsSubterm nodes mid id → IsSubterm nodes top id

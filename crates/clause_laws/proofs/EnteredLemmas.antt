@@ -26,9 +26,9 @@ use Rattle.linear_terms.specs.Text.{Sorting, are_truths, chosen, has_auxiliary, 
 use Rattle.linear_terms.specs.Linear.{naming_of}
 use Rattle.linear_terms.specs.Meeting.{NamesBits, NamesUnits, asks, is_first}
 use Rattle.linear_terms.proofs.Public.{sorted_there}
-use Rattle.entered_scratch.proofs.PlacedLemmas.{are_below, inner_below, spots_at}
-use Rattle.entered_scratch.proofs.PositionLemmas.{position_is, position_there}
-use Rattle.entered_scratch.proofs.SortedLemmas.{distinct_alike, equal_alike, first_truth, subterm_sorted}
+use Rattle.clause_laws.proofs.SpotLemmas.{are_below, inner_below, spots_at}
+use Rattle.term_widths.proofs.PositionLemmas.{position_is, position_there}
+use Rattle.clause_laws.proofs.SortedLemmas.{distinct_alike, equal_alike, first_truth, subterm_sorted}
 
 -- the spot stands among these
 abbrev pub IsIn : Spot → List Spot → Type 0
