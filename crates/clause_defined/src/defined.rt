@@ -9,7 +9,7 @@ ghost use Rattle.linear_terms.specs.Linear.{naming_of};
 ghost use Rattle.linear_terms.specs.Width.{first_wide};
 ghost use Rattle.term_tables.specs.machinery.Table.{constant_in, sort_in};
 ghost use Rattle.clause_normal.specs.Normal.{first_without_room, normal_atom, normal_clause};
-ghost use Rattle.clause_defined.specs.Defined.{HasTooManyAt, breaking_form, breaking_variables, breaking_wide, count_of, defined_forms, definition_at, definition_forms, definition_places, naming_at};
+ghost use Rattle.clause_laws.specs.Defined.{HasTooManyAt, breaking_form, breaking_variables, breaking_wide, count_of, defined_forms, definition_at, definition_forms, definition_places, naming_at};
 ghost use Rattle.clause_form.specs.System.{most_variables};
 ghost use Rattle.clause_normal.specs.machinery.Making.{HasFirst, HasRoomFor, clause_by};
 ghost use Rattle.term_widths.specs.machinery.Apart.{placed_naming};

@@ -1,5 +1,8 @@
+pub mod BreakingLemmas
 mod CoordinateLemmas
+mod DefinitionLemmas
 mod EnteredLemmas
+mod ListLemmas
 mod PlainLemmas
 pub mod PointLemmas
 mod SortedLemmas

@@ -1,4 +1,4 @@
--- The variables and places of an assertion with a clause, and its points.
+-- The variables and places of an assertion with a clause, or of a definition, and its points.
 use Rattle.std.proofs.Common.{◌≡◌, ℕ, zero, suc, ◌+◌, ◌<◌, ◌≤◌, ◌==◌, List, [], ◌∷◌, ◌++◌, length, map, take, Bool, true, false, inl, inr, refl, ap, sym, ◌∙◌, subst, arith}
 use Rattle.std.specs.Prelude.{slice_get, slice_index_or, filter, position, Option, Some, None, option_map, nat_lt, ℤ, pos, if◌then◌else◌}
 use Rattle.std.specs.List.{flat_map, list_all}
@@ -92,13 +92,17 @@ place_listed sorts nodes (s ∷ all) i id h = by_test (has_auxiliary sorts nodes
     by_test true needs later (suc k) e = later k e
     by_test false none later k e = later k e
 
-got_within : {X : Type 0} (xs : List X) (k : ℕ) (x : X) → slice_get xs k ≡ Some x → k < length xs
-got_within [] k x h = absurd (cc)
-got_within (y ∷ xs) zero x h = omega arith
-got_within (y ∷ xs) (suc k) x h = let rest = got_within xs k x h in omega (arith, rest)
+-- where a point begins with the numbers of values, its coordinates have the values of variables of these sorts
+pub front_stands : (sorts : List Sort) (values : List Value) (point : List ℤ) → HaveSorts sorts values → take (length sorts) point ≡ map number values → (k : ℕ) (s : Sort) → slice_get sorts k ≡ Some s
+    → variable_at point k ≡ number (environment_of values k)
+front_stands [] values point have front k s is = absurd (cc)
+front_stands (t ∷ sorts) [] point have front k s is = absurd have
+front_stands (t ∷ sorts) (v ∷ values) [] have front k s is = absurd (cc)
+front_stands (t ∷ sorts) (v ∷ values) (x ∷ point) have front zero s is = cc
+front_stands (t ∷ sorts) (v ∷ values) (x ∷ point) have front (suc k) s is = let rest : take (length sorts) point ≡ map number values = cc in front_stands sorts values point have.1 rest k s is
 
-module _ (preds : List Declared) (nodes : List Node) (top : ℕ) (vars : List Sort) (arena : IsArena nodes) (legal : IsLegal preds nodes [] BoolSort top)
-    (start : IsRead nodes vars (top_spot top) (parameters [])) where
+module _ (preds : List Declared) (nodes : List Node) (top : ℕ) (variables vars : List Sort) (own : ℕ → ℕ) (first : ℕ) (arena : IsArena nodes) (legal : IsLegal preds nodes variables BoolSort top)
+    (start : IsRead nodes vars (top_spot top) (parameters variables)) where
   abbrev pub sorts_here : Sorting
   sorts_here = sort_of preds nodes
 
@@ -106,7 +110,7 @@ module _ (preds : List Declared) (nodes : List Node) (top : ℕ) (vars : List So
   placed = places (sort_of preds nodes) nodes top
 
   abbrev pub names : Naming
-  names = naming_of (length vars) (places (sort_of preds nodes) nodes top)
+  names = record { own = own; auxiliary = λ id. option_map (λ i. first + i) (position (λ p. p == id) (places (sort_of preds nodes) nodes top)) }
 
   top_there : top < length nodes
   top_there = sorted_there preds nodes top BoolSort legal.sorted
@@ -114,24 +118,21 @@ module _ (preds : List Declared) (nodes : List Node) (top : ℕ) (vars : List So
   -- a variable has the sort that the clause gives it
   pub variable_known : (id binder : ℕ) (sort : Sort) → IsSubterm nodes top id → slice_get nodes id ≡ Some (Var binder sort) → slice_get vars binder ≡ Some sort
   variable_known id binder sort sub is =
-      let was = subterm_entered (sort_of preds nodes) nodes top [] arena legal.scoped id sub in
-      let read = entered_read nodes arena vars (sort_of preds nodes) top [] was.spot was.scope start was.entered in
+      let was = subterm_entered (sort_of preds nodes) nodes top variables arena legal.scoped id sub in
+      let read = entered_read nodes arena vars (sort_of preds nodes) top variables was.spot was.scope start was.entered in
       let at : slice_get nodes was.spot.id ≡ Some (Var binder sort) = ap (slice_get nodes) was.same ∙ is in
       let scoped : has_sort sort (was.scope.variables binder) ≡ true =
       sym (scoped_at nodes was.spot.id (Var binder sort) was.scope at (arena_below nodes was.spot.id (Var binder sort) arena at))
-      ∙ entered_scoped (sort_of preds nodes) nodes top [] was.spot was.scope arena legal.scoped was.entered in
+      ∙ entered_scoped (sort_of preds nodes) nodes top variables was.spot was.scope arena legal.scoped was.entered in
       read.known binder sort (sort_is sort (was.scope.variables binder) scoped)
-
-  pub variable_below : (id binder : ℕ) (sort : Sort) → IsSubterm nodes top id → slice_get nodes id ≡ Some (Var binder sort) → binder < length vars
-  variable_below id binder sort sub is = got_within vars binder sort (variable_known id binder sort sub is)
 
   -- a place is a subterm without predicates and quantifiers
   pub placed_plain : (i id : ℕ) → slice_get (places (sort_of preds nodes) nodes top) i ≡ Some id → (is_plain_term nodes id ≡ true) × IsSubterm nodes top id
   placed_plain i id listed =
       let place = place_listed (sort_of preds nodes) nodes (spots (sort_of preds nodes) nodes top (top_spot top)) i id listed in
-      let entered = text_entered (sort_of preds nodes) nodes top [] arena (top + 1) (top_spot top) (parameters []) (omega arith) top_there at_top place.spot place.in_text in
-      let sub : IsSubterm nodes top place.spot.id = entered_subterm (sort_of preds nodes) nodes top [] place.spot entered.0 entered.1 in
-      let read = entered_read nodes arena vars (sort_of preds nodes) top [] place.spot entered.0 start entered.1 in
+      let entered = text_entered (sort_of preds nodes) nodes top variables arena (top + 1) (top_spot top) (parameters variables) (omega arith) top_there at_top place.spot place.in_text in
+      let sub : IsSubterm nodes top place.spot.id = entered_subterm (sort_of preds nodes) nodes top variables place.spot entered.0 entered.1 in
+      let read = entered_read nodes arena vars (sort_of preds nodes) top variables place.spot entered.0 start entered.1 in
       let sorted = subterm_sorted preds nodes top place.spot.id BoolSort arena legal.sorted sub in
       let found = there_is nodes place.spot.id (sorted_there preds nodes place.spot.id sorted.0 sorted.1) in
       let needs : needs_one place.spot.standing (sort_of preds nodes place.spot.id) (Some found.0) ≡ true =
@@ -140,9 +141,9 @@ module _ (preds : List Declared) (nodes : List Node) (top : ℕ) (vars : List So
       (ap (is_plain_term nodes) (sym place.same) ∙ plain, subst (λ (k : ℕ). IsSubterm nodes top k) place.same sub)
 
   -- an auxiliary variable is that of a place
-  named_place : (id v : ℕ) → names.auxiliary id ≡ Some v → (i : ℕ) × (slice_get placed i ≡ Some id) × (length vars + i ≡ v)
+  pub named_place : (id v : ℕ) → names.auxiliary id ≡ Some v → (i : ℕ) × (slice_get placed i ≡ Some id) × (first + i ≡ v)
   named_place id v named =
-      let p = got_position (length vars) (position (λ n. n == id) placed) v named in
+      let p = got_position first (position (λ n. n == id) placed) v named in
       let at = position_is (λ n. n == id) placed p.0 p.1 in
       (p.0, at.there ∙ ap (λ (k : ℕ). Some k) (eqb-true at.element id at.passes), p.2)
 
@@ -154,30 +155,19 @@ module _ (preds : List Declared) (nodes : List Node) (top : ℕ) (vars : List So
       plain = plain_is nodes arena id plain;
       linear = λ k n below is. legal.linear k n (through nodes top id k sub below) is;
       typed = λ k binder sort below is. get_sorted preds nodes vars values binder sort (Truth false) have (variable_known k binder sort (through nodes top id k sub below) is);
-      units = λ k node below is unit. units_named preds nodes top (length vars) [] BoolSort arena legal k node (through nodes top id k sub below) is unit;
+      units = λ k node below is unit. units_named preds nodes top first variables BoolSort arena legal k node (through nodes top id k sub below) is unit;
       bits = λ k part node partner below is there asked at open_bit.
-          bits_named preds nodes top (length vars) [] BoolSort arena legal k part node partner (through nodes top id k sub below) is there asked at open_bit;
+          bits_named preds nodes top first variables BoolSort arena legal k part node partner (through nodes top id k sub below) is there asked at open_bit;
       sorted = λ k v below named. subterm_sorted preds nodes top k BoolSort arena legal.sorted (through nodes top id k sub below);
     }
 
-    module _ (point : List ℤ) (own : take (length vars) point ≡ map number values) where
+    module _ (point : List ℤ) (stands : (k : ℕ) (s : Sort) → slice_get vars k ≡ Some s → variable_at point (own k) ≡ number (environment_of values k)) where
       -- the point has the values of the variables
       pub met : (id : ℕ) → IsSubterm nodes top id → MeetsVariables nodes id (environment_of values) names point
-      met id sub k binder sort below is =
-          let within = variable_below k binder sort (through nodes top id k sub below) is in
-          taken_at point vars values binder within own have
-        where
-          taken_at : (xs : List ℤ) (sorts : List Sort) (vs : List Value) (k : ℕ) → k < length sorts → take (length sorts) xs ≡ map number vs → HaveSorts sorts vs
-              → slice_index_or xs k (pos 0) ≡ number (slice_index_or vs k (Truth false))
-          taken_at xs [] vs k less e h = absurd (omega (arith, less))
-          taken_at [] (s ∷ sorts) [] k less e h = absurd h
-          taken_at [] (s ∷ sorts) (v ∷ vs) k less e h = absurd (cc)
-          taken_at (x ∷ xs) (s ∷ sorts) [] k less e h = absurd h
-          taken_at (x ∷ xs) (s ∷ sorts) (v ∷ vs) zero less e h = cc
-          taken_at (x ∷ xs) (s ∷ sorts) (v ∷ vs) (suc k) less e h = let rest : take (length sorts) xs ≡ map number vs = cc in taken_at xs sorts vs k (omega (arith, less)) rest h.1
+      met id sub k binder sort below is = stands binder sort (variable_known k binder sort (through nodes top id k sub below) is)
 
       abbrev HasValueAt : ℕ → ℕ → Type 0
-      HasValueAt i id = variable_at point (length vars + i) ≡ number (value_of nodes id (environment_of values))
+      HasValueAt i id = variable_at point (first + i) ≡ number (value_of nodes id (environment_of values))
 
       meets_from : (n id : ℕ) → IsSubterm nodes top id → ((i k : ℕ) → k < n → slice_get placed i ≡ Some k → HasValueAt i k) → MeetsBelow nodes id n (environment_of values) names point
       meets_from n id sub earlier k v below less named =
@@ -189,26 +179,26 @@ module _ (preds : List Declared) (nodes : List Node) (top : ℕ) (vars : List So
 
       -- what the form of a place says
       pub place_says : (i id : ℕ) → slice_get placed i ≡ Some id → ((j k : ℕ) → k < id → slice_get placed j ≡ Some k → HasValueAt j k)
-          → truth point (place_form (sort_of preds nodes) names nodes (length vars + i) id) ≡ int_eq (variable_at point (length vars + i)) (number (value_of nodes id (environment_of values)))
+          → truth point (place_form (sort_of preds nodes) names nodes (first + i) id) ≡ int_eq (variable_at point (first + i)) (number (value_of nodes id (environment_of values)))
       place_says i id listed earlier =
           let good = placed_plain i id listed in
           let sorted = subterm_sorted preds nodes top id BoolSort arena legal.sorted good.1 in
-          place_value preds nodes id (environment_of values) names (written id good.1 good.0) point (met id good.1) id (length vars + i) sorted.0 (meets_from id id good.1 earlier) itself sorted.1
+          place_value preds nodes id (environment_of values) names (written id good.1 good.0) point (met id good.1) id (first + i) sorted.0 (meets_from id id good.1 earlier) itself sorted.1
 
       -- where all forms hold, each place has its term's value: terms of smaller number first
-      pub places_have : ((i id : ℕ) → slice_get placed i ≡ Some id → truth point (place_form (sort_of preds nodes) names nodes (length vars + i) id) ≡ true)
+      pub places_have : ((i id : ℕ) → slice_get placed i ≡ Some id → truth point (place_form (sort_of preds nodes) names nodes (first + i) id) ≡ true)
           → (n i id : ℕ) → id < n → slice_get placed i ≡ Some id → HasValueAt i id
       places_have holds zero i id less listed = absurd (omega (arith, less))
       places_have holds (suc n) i id less listed =
-          same_integer (variable_at point (length vars + i)) (number (value_of nodes id (environment_of values)))
+          same_integer (variable_at point (first + i)) (number (value_of nodes id (environment_of values)))
           (sym (place_says i id listed (λ j k lower at. places_have holds n j k (omega (arith, lower, less)) at)) ∙ holds i id listed)
 
       -- and where each place has its term's value, all forms hold
       pub values_hold : ((i id : ℕ) → slice_get placed i ≡ Some id → HasValueAt i id) → (i id : ℕ) → slice_get placed i ≡ Some id
-          → truth point (place_form (sort_of preds nodes) names nodes (length vars + i) id) ≡ true
+          → truth point (place_form (sort_of preds nodes) names nodes (first + i) id) ≡ true
       values_hold each i id listed =
           place_says i id listed (λ j k lower at. each j k at)
-          ∙ subst (λ (z : ℤ). int_eq (variable_at point (length vars + i)) z ≡ true) (each i id listed) (own_integer (variable_at point (length vars + i)))
+          ∙ subst (λ (z : ℤ). int_eq (variable_at point (first + i)) z ≡ true) (each i id listed) (own_integer (variable_at point (first + i)))
 
       -- so a guard is as true as its formula
       pub guard_says : (id : ℕ) (sign : Bool) → IsSubterm nodes top id → is_plain_term nodes id ≡ true → sort_of preds nodes id ≡ Some BoolSort → ((i k : ℕ) → slice_get placed i ≡ Some k → HasValueAt i k)

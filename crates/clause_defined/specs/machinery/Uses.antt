@@ -14,7 +14,7 @@ use Rattle.clause_form.specs.declared.clause.Clause.{Clause}
 use Rattle.clause_normal.specs.declared.stop.NormalStop.{NormalStop}
 use Rattle.clause_normal.specs.declared.stop.NormalStop.TheVariants.{Memory, TooWide, Count}
 use Rattle.clause_normal.specs.Normal.{normal_atom}
-use Rattle.clause_defined.specs.Defined.{breaking_variables, breaking_wide, count_of, definition_at, definition_wide, first_wide_use, head_use, uses_of, variables_after}
+use Rattle.clause_laws.specs.Defined.{breaking_variables, breaking_wide, count_of, definition_at, definition_wide, first_wide_use, head_use, uses_of, variables_after}
 use Rattle.clause_form.specs.System.{most_variables}
 use Rattle.clause_normal.specs.machinery.Making.{IsThere}
 

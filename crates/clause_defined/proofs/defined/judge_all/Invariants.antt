@@ -1,7 +1,7 @@
 use Rattle.std.proofs.Common.{◌≡◌, ◌+◌, length, drop}
 use Rattle.std.specs.List.{AllByRecursion}
 use Rattle.horn_shape.specs.declared.clause.AtomUse.{AtomUse}
-use Rattle.clause_defined.specs.Defined.{first_wide_use}
+use Rattle.clause_laws.specs.Defined.{first_wide_use}
 use Rattle.clause_defined.specs.machinery.Numbers.{ArePositions}
 use Rattle.clause_defined.specs.machinery.Uses.{CanBeJudged, capped, next_after, uses_from, uses_in}
 use Rattle.clause_defined.proofs.defined.judge_all.Given as goal

@@ -2,7 +2,7 @@ use Rattle.std.proofs.Common.{◌≡◌, ◌≤◌, ◌<◌, ◌∷◌, ◌++◌
 use Rattle.std.specs.Prelude.{None}
 use Rattle.std.specs.List.{AllByRecursion}
 use Rattle.clause_form.specs.declared.atom.Atom.{Atom}
-use Rattle.clause_defined.specs.Defined.{definition_at, first_wide_use, head_use, use_forms, uses_of, variables_after}
+use Rattle.clause_laws.specs.Defined.{definition_at, first_wide_use, head_use, use_forms, uses_of, variables_after}
 use Rattle.clause_defined.specs.machinery.Uses.{IsDefinedFor}
 use Rattle.clause_defined.proofs.defined.put_all.Given as goal
 
