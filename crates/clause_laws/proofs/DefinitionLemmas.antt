@@ -6,6 +6,7 @@ use Rattle.std.specs.List.{list_all}
 use Rattle.std.proofs.lemmas.List.Folds.{list_all-append}
 use Rattle.term_tree.specs.declared.sort.Sort.{Sort}
 use Rattle.term_tree.specs.declared.sort.Sort.TheVariants.{Bool as BoolSort}
+use Rattle.term_tree.specs.declared.node.Node.TheVariants.{Var}
 use Rattle.term_tree.specs.declared.definition.Definition.{Definition}
 use Rattle.term_tree.specs.declared.scalar.Value.{Value}
 use Rattle.term_tree.specs.declared.scalar.Value.TheVariants.{Bool as Truth}
@@ -13,7 +14,7 @@ use Rattle.term_tree.specs.Legal.{parameters}
 use Rattle.term_tree.specs.Operators.{truth as truth_of}
 use Rattle.term_tree.specs.Solution.{IsFormula}
 use Rattle.term_tree.specs.Sorts.{sort_of}
-use Rattle.term_tree.specs.Subterms.{itself}
+use Rattle.term_tree.specs.Subterms.{IsSubterm, itself}
 use Rattle.term_tree.specs.Truth.{HaveSorts}
 use Rattle.term_tree.specs.Value.{environment_of, value_of}
 use Rattle.term_tree.proofs.Public.{both_true}
@@ -31,7 +32,7 @@ use Rattle.clause_laws.specs.Defined.{definition_forms, definition_places, defin
 use Rattle.clause_laws.proofs.EnteredLemmas.{top_spot}
 use Rattle.clause_laws.proofs.ListLemmas.{places_all, places_each}
 use Rattle.clause_laws.proofs.StageLemmas.{IsRead}
-use Rattle.clause_laws.proofs.WrittenLemmas.{guard_says, places_have, values_hold}
+use Rattle.clause_laws.proofs.WrittenLemmas.{guard_says, places_have, values_hold, variable_known}
 
 -- an argument has the value that it stands for
 argument_stands : (args : List ℕ) (values : List Value) (sorts : List Sort) (point : List ℤ) → HaveSorts sorts values → map (variable_at point) args ≡ map number values
@@ -43,13 +44,17 @@ argument_stands (a ∷ args) (v ∷ values) (t ∷ sorts) point have same zero d
 argument_stands (a ∷ args) (v ∷ values) (t ∷ sorts) point have same (suc k) d s is =
     let rest : map (variable_at point) args ≡ map number values = cc in argument_stands args values sorts point have.1 rest k d s is
 
+-- it is read without predicates and quantifiers
+definition_start : (d : Definition) (sorts : List Sort) → IsFormula sorts d.terms.nodes d.body.0 → IsRead d.terms.nodes sorts (top_spot d.body.0) (parameters sorts)
+definition_start d sorts is = record {
+  known = λ k s h. h;
+  stage = inl (passes d.terms.nodes is.arena d.body.0 (sorted_there [] d.terms.nodes d.body.0 BoolSort is.legal.sorted) is.plain);
+}
+
 module _ (d : Definition) (sorts : List Sort) (is : IsFormula sorts d.terms.nodes d.body.0) (values : List Value) (have : HaveSorts sorts values) (args : List ℕ) (first : ℕ)
     (point : List ℤ) (same : map (variable_at point) args ≡ map number values) where
   start : IsRead d.terms.nodes sorts (top_spot d.body.0) (parameters sorts)
-  start = record {
-    known = λ k s h. h;
-    stage = inl (passes d.terms.nodes is.arena d.body.0 (sorted_there [] d.terms.nodes d.body.0 BoolSort is.legal.sorted) is.plain);
-  }
+  start = definition_start d sorts is
 
   stands : (k : ℕ) (s : Sort) → slice_get sorts k ≡ Some s → variable_at point (name_in args k) ≡ number (environment_of values k)
   stands k s at = argument_stands args values sorts point have same k k s at
@@ -93,3 +98,13 @@ module _ (d : Definition) (sorts : List Sort) (is : IsFormula sorts d.terms.node
       places_have [] d.terms.nodes d.body.0 sorts sorts (name_in args) first is.arena is.legal start values have point stands
       (places_each point (definition_sorting d) (naming_at d args first) d.terms.nodes first (definition_places d) outer.0) (id + 1) i id (omega arith) at in
       record { each = each; says = sym (body_says each sign) ∙ (both_true B true outer.1).0 }
+
+-- the definition's term is there
+pub body_there : (d : Definition) (sorts : List Sort) → IsFormula sorts d.terms.nodes d.body.0 → d.body.0 < length d.terms.nodes
+body_there d sorts is = sorted_there [] d.terms.nodes d.body.0 BoolSort is.legal.sorted
+
+-- its variables are parameters
+pub parameter_there : (d : Definition) (sorts : List Sort) (is : IsFormula sorts d.terms.nodes d.body.0) (id binder : ℕ) (sort : Sort) → IsSubterm d.terms.nodes d.body.0 id
+    → slice_get d.terms.nodes id ≡ Some (Var binder sort) → slice_get sorts binder ≡ Some sort
+parameter_there d sorts is id binder sort sub at =
+    variable_known [] d.terms.nodes d.body.0 sorts sorts (λ v. v) 0 is.arena is.legal (definition_start d sorts is) id binder sort sub at

@@ -59,7 +59,7 @@ use Rattle.clause_laws.proofs.ListLemmas.{have_length, places_all, places_each, 
 use Rattle.clause_laws.proofs.PlainLemmas.{HasPlainArguments, IsPlainTruth, clause_plain_parts}
 use Rattle.clause_laws.proofs.SortedLemmas.{subterm_sorted}
 use Rattle.clause_laws.proofs.StageLemmas.{IsRead, term_id}
-use Rattle.clause_laws.proofs.WrittenLemmas.{front_stands, guard_says, met, named_place, places_have, values_hold, written}
+use Rattle.clause_laws.proofs.WrittenLemmas.{front_stands, guard_says, met, named_place, places_have, values_hold, variable_known, written}
 
 met_sign : (negated b : Bool) → signed (not negated) b ≡ (if negated then not b else b)
 met_sign true b = refl
@@ -163,6 +163,11 @@ module _ (script : Script) (index : ℕ) (clause : HornClause) (arena : IsArena 
       conjunction_truth point ((bits ++ forms) ++ guards)
       ∙ list_all-append (truth point) (bits ++ forms) guards
       ∙ ap (λ (b : Bool). b && list_all (truth point) guards) (list_all-append (truth point) bits forms)
+
+  -- a variable in the assertion is one of the clause's
+  pub own_variable : (id binder : ℕ) (sort : Sort) → IsSubterm script.terms.nodes (top_of script clause) id → slice_get script.terms.nodes id ≡ Some (Var binder sort) → slice_get clause.vars binder ≡ Some sort
+  own_variable id binder sort sub at =
+      variable_known script.preds script.terms.nodes (top_of script clause) [] clause.vars (λ v. v) (length clause.vars) arena legal_here start id binder sort sub at
 
   -- values of arguments have the sorts of their predicate
   pub tuple_sorted : (values : List Value) → HaveSorts clause.vars values → (kinds : List Sort) (args : List Part) → AllByRecursion (λ (part : Part). IsArgument part.term.0) args
