@@ -18,8 +18,8 @@ from_same f g h [] i all = refl
 from_same f g h (x ∷ xs) i all =
     ap (λ (b : Bool). cond b (Some i) (position_from f (i + 1) xs)) all.0 ∙ ap (cond (g (h x)) (Some i)) (from_same f g h xs (i + 1) all.1)
 
-position_same : {X : Type 0} (f : X → Bool) (g : ℕ → Bool) (h : X → ℕ) (xs : List X) → AllByRecursion (λ x. f x ≡ g (h x)) xs → position f xs ≡ position g (map h xs)
-position_same f g h xs all = position_from-zero f xs ∙ from_same f g h xs 0 all ∙ sym (position_from-zero g (map h xs))
+position_same : {X : Type 0} (f : X → Bool) (g : ℕ → Bool) (h : X → ℕ) (xs : List X) → AllByRecursion (λ x. f x ≡ g (h x)) xs → position_from f 0 xs ≡ position g (map h xs)
+position_same f g h xs all = from_same f g h xs 0 all ∙ sym (position_from-zero g (map h xs))
 
 module _ (nodes : List Node) (naming : Naming) (args : List Part) where
   classes_of_some : (parts : List Part) → AllByRecursion (λ b. AllByRecursion (λ a. is_same_argument nodes a b ≡ (variable_of naming nodes a == variable_of naming nodes b)) args) parts

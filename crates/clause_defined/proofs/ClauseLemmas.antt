@@ -34,7 +34,7 @@ use Rattle.clause_laws.specs.Defined.{definition_at, head_use, uses_of}
 use Rattle.clause_laws.proofs.BreakingLemmas.{IsDefined, defined_at}
 use Rattle.clause_laws.proofs.EnteredLemmas.{named_once}
 use Rattle.clause_laws.proofs.PointLemmas.{IsApplied, IsArgument, count_is, own_variable, parts}
-use Rattle.clause_defined.specs.machinery.Classes.{binder_of, is_same_argument, is_same_term}
+use Rattle.clause_defined.specs.machinery.Classes.{is_same_argument, is_same_name, variable_in}
 use Rattle.clause_defined.specs.machinery.Uses.{AreAtVariables, CanAllBeJudged, CanBeJudged, IsAtVariables, IsDefinedFor, IsFormulaFor, OnHead, use_list, variable_of}
 
 -- the uses of the normal clause
@@ -52,28 +52,9 @@ other_variable : (auxiliary : ℕ → Option ℕ) (id : ℕ) (node : Node) → i
 other_variable auxiliary id (Var binder sort) other = absurd (cc)
 other_variable auxiliary id _ other = refl
 
-first_variable : (binder : ℕ) (sort : Sort) (node : Node) (v t : Bool) → is_variable node ≡ false → is_same_term (Some (Var binder sort)) (Some node) v t ≡ false
-first_variable binder sort (Var a s) v t other = absurd (cc)
-first_variable binder sort _ v t other = refl
-
-second_variable : (binder : ℕ) (sort : Sort) (node : Node) (v t : Bool) → is_variable node ≡ false → is_same_term (Some node) (Some (Var binder sort)) v t ≡ false
-second_variable binder sort (Var a s) v t other = absurd (cc)
-second_variable binder sort _ v t other = refl
-
-no_variable : (one node : Node) (v t : Bool) → is_variable one ≡ false → is_variable node ≡ false → is_same_term (Some one) (Some node) v t ≡ t
-no_variable (Var a s) node v t first other = absurd (cc)
-no_variable (Num n) node v t first other = by_second node other
-  where
-    by_second : (x : Node) → is_variable x ≡ false → is_same_term (Some (Num n)) (Some x) v t ≡ t
-    by_second (Var a s) o = absurd (cc)
-    by_second _ o = refl
-no_variable one (Var a s) v t first other = absurd (cc)
-no_variable one node v t first other = by_both one node first other
-  where
-    by_both : (x y : Node) → is_variable x ≡ false → is_variable y ≡ false → is_same_term (Some x) (Some y) v t ≡ t
-    by_both (Var a s) y f o = absurd (cc)
-    by_both x (Var a s) f o = absurd (cc)
-    by_both _ _ f o = refl
+no_number : (node : Node) → is_variable node ≡ false → variable_in (Some node) ≡ None
+no_number (Var binder sort) other = absurd (cc)
+no_number _ other = refl
 
 unequal : (a b : ℕ) → (a ≡ b → ⊥) → (a == b) ≡ false
 unequal a b h = grind (arith, nat_tests)
@@ -152,6 +133,12 @@ module _ (script : Script) (clause : HornClause) (arena : IsArena script.terms.n
       ap (argument_variable (names_of script clause).auxiliary part.term.0) k.there ∙ other_variable (names_of script clause).auxiliary part.term.0 k.node k.other
       ∙ ap (λ (o : Option ℕ). unwrap_or o 0) k.named
 
+  own_name : (part : Part) (k : IsOwn part.term.0) → variable_in (slice_get script.terms.nodes part.term.0) ≡ Some k.binder
+  own_name part k = ap variable_in k.node
+
+  other_name : (part : Part) (k : IsOther part.term.0) → variable_in (slice_get script.terms.nodes part.term.0) ≡ None
+  other_name part k = ap variable_in k.there ∙ no_number k.node k.other
+
   argument_low : (part : Part) → Argument part → variable_of (names_of script clause) script.terms.nodes part < length (sorts_of script clause)
   argument_low part argument =
       let count = count_is script clause.assertion clause arena legal is in
@@ -165,30 +152,29 @@ module _ (script : Script) (clause : HornClause) (arena : IsArena script.terms.n
       → is_same_argument script.terms.nodes a b ≡ (variable_of (names_of script clause) script.terms.nodes a == variable_of (names_of script clause) script.terms.nodes b)
   same_variables a b first second = by_kinds (kind a first) (kind b second)
     where
+      names : (m n : Option ℕ) → variable_in (slice_get script.terms.nodes a.term.0) ≡ m → variable_in (slice_get script.terms.nodes b.term.0) ≡ n
+          → is_same_argument script.terms.nodes a b ≡ is_same_name m n (a.term.0 == b.term.0)
+      names m n one other =
+          ap (λ (o : Option ℕ). is_same_name o (variable_in (slice_get script.terms.nodes b.term.0)) (a.term.0 == b.term.0)) one
+          ∙ ap (λ (o : Option ℕ). is_same_name m o (a.term.0 == b.term.0)) other
+
       by_kinds : IsOwn a.term.0 ⊎ IsOther a.term.0 → IsOwn b.term.0 ⊎ IsOther b.term.0
           → is_same_argument script.terms.nodes a b ≡ (variable_of (names_of script clause) script.terms.nodes a == variable_of (names_of script clause) script.terms.nodes b)
       by_kinds (inl x) (inl y) =
-          ap (λ (o : Option Node). is_same_term o (slice_get script.terms.nodes b.term.0) (binder_of o == binder_of (slice_get script.terms.nodes b.term.0)) (a.term.0 == b.term.0)) x.node
-          ∙ ap (λ (o : Option Node). is_same_term (Some (Var x.binder x.sort)) o (x.binder == binder_of o) (a.term.0 == b.term.0)) y.node
+          names (Some x.binder) (Some y.binder) (own_name a x) (own_name b y)
           ∙ ap (λ (k : ℕ). k == y.binder) (sym (own_is a x)) ∙ ap (λ (k : ℕ). variable_of (names_of script clause) script.terms.nodes a == k) (sym (own_is b y))
       by_kinds (inl x) (inr y) =
           let low = x.low in
-          ap (λ (o : Option Node). is_same_term o (slice_get script.terms.nodes b.term.0) (binder_of (slice_get script.terms.nodes a.term.0) == binder_of (slice_get script.terms.nodes b.term.0)) (a.term.0 == b.term.0)) x.node
-          ∙ ap (λ (o : Option Node). is_same_term (Some (Var x.binder x.sort)) o (binder_of (slice_get script.terms.nodes a.term.0) == binder_of (slice_get script.terms.nodes b.term.0)) (a.term.0 == b.term.0)) y.there
-          ∙ first_variable x.binder x.sort y.node (binder_of (slice_get script.terms.nodes a.term.0) == binder_of (slice_get script.terms.nodes b.term.0)) (a.term.0 == b.term.0) y.other
+          names (Some x.binder) None (own_name a x) (other_name b y)
           ∙ sym (ap (λ (k : ℕ). k == variable_of (names_of script clause) script.terms.nodes b) (own_is a x) ∙ ap (λ (k : ℕ). x.binder == k) (other_is b y)
           ∙ unequal x.binder (length clause.vars + y.place) (λ e. absurd (omega (arith, e, low))))
       by_kinds (inr x) (inl y) =
           let low = y.low in
-          ap (λ (o : Option Node). is_same_term o (slice_get script.terms.nodes b.term.0) (binder_of (slice_get script.terms.nodes a.term.0) == binder_of (slice_get script.terms.nodes b.term.0)) (a.term.0 == b.term.0)) x.there
-          ∙ ap (λ (o : Option Node). is_same_term (Some x.node) o (binder_of (slice_get script.terms.nodes a.term.0) == binder_of (slice_get script.terms.nodes b.term.0)) (a.term.0 == b.term.0)) y.node
-          ∙ second_variable y.binder y.sort x.node (binder_of (slice_get script.terms.nodes a.term.0) == binder_of (slice_get script.terms.nodes b.term.0)) (a.term.0 == b.term.0) x.other
+          names None (Some y.binder) (other_name a x) (own_name b y)
           ∙ sym (ap (λ (k : ℕ). k == variable_of (names_of script clause) script.terms.nodes b) (other_is a x) ∙ ap (λ (k : ℕ). (length clause.vars + x.place) == k) (own_is b y)
           ∙ unequal (length clause.vars + x.place) y.binder (λ e. absurd (omega (arith, e, low))))
       by_kinds (inr x) (inr y) =
-          ap (λ (o : Option Node). is_same_term o (slice_get script.terms.nodes b.term.0) (binder_of (slice_get script.terms.nodes a.term.0) == binder_of (slice_get script.terms.nodes b.term.0)) (a.term.0 == b.term.0)) x.there
-          ∙ ap (λ (o : Option Node). is_same_term (Some x.node) o (binder_of (slice_get script.terms.nodes a.term.0) == binder_of (slice_get script.terms.nodes b.term.0)) (a.term.0 == b.term.0)) y.there
-          ∙ no_variable x.node y.node (binder_of (slice_get script.terms.nodes a.term.0) == binder_of (slice_get script.terms.nodes b.term.0)) (a.term.0 == b.term.0) x.other y.other
+          names None None (other_name a x) (other_name b y)
           ∙ bool_same (a.term.0 == b.term.0) ((length clause.vars + x.place) == (length clause.vars + y.place))
           (λ e. same_place (eqb-true a.term.0 b.term.0 e))
           (λ e. let v : length clause.vars + x.place ≡ length clause.vars + y.place = eqb-true (length clause.vars + x.place) (length clause.vars + y.place) e in

@@ -1,14 +1,24 @@
 //! Which arguments of a predicate are the same variable.
 
-ghost use Rattle.std.specs.Prelude.{◌≡◌, ◌<◌, ◌≤◌, length, map, IfOk};
+ghost use Rattle.std.specs.Prelude.{◌≡◌, ◌<◌, ◌≤◌, Some, length, map, IfOk};
 ghost use Rattle.std.specs.List.{AllByRecursion};
 ghost use Rattle.base.specs.Limits.{most_arguments};
-ghost use Rattle.clause_defined.specs.machinery.Classes.{class_in, is_same_argument};
+ghost use Rattle.clause_defined.specs.machinery.Classes.{class_in, is_same_argument, variable_in};
 
 use base::Memory;
 use horn_shape::Part;
 use std::alloc::Global;
 use term_tree::{Node, Terms};
+
+/// The number of a variable.
+fn variable_in(node: &Node) -> Option<u32>
+    ensures { result ≡ variable_in (Some node.now) }
+{
+    match node {
+        Node::Var { binder, .. } => Some(*binder),
+        _ => None,
+    }
+}
 
 /// Whether two arguments are one variable, or have one auxiliary variable, since they are one term.
 fn is_same_argument(terms: &Terms, a: &Part, b: &Part) -> bool
@@ -16,11 +26,12 @@ fn is_same_argument(terms: &Terms, a: &Part, b: &Part) -> bool
     requires second { b.now.term.0 < length terms.now.nodes }
     ensures { result ≡ is_same_argument terms.now.nodes a.now b.now }
 {
-    match (terms.node(a.term), terms.node(b.term)) {
-        (Node::Var { binder, .. }, Node::Var { binder: other, .. }) => *binder == *other,
-        (Node::Var { .. }, _) => false,
-        (_, Node::Var { .. }) => false,
-        _ => a.term.0 == b.term.0,
+    let first = variable_in(terms.node(a.term));
+    let second = variable_in(terms.node(b.term));
+    match (first, second) {
+        (Some(x), Some(y)) => x == y,
+        (None, None) => a.term.0 == b.term.0,
+        _ => false,
     }
 }
 

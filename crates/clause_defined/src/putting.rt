@@ -1,11 +1,11 @@
 //! The formulas of definitions at the arguments of predicates.
 
-ghost use Rattle.std.specs.Prelude.{◌≡◌, ◌<◌, ◌≤◌, ◌+◌, ◌++◌, ◌∷◌, [], None, length, IfOk, OnOk};
+ghost use Rattle.std.specs.Prelude.{◌≡◌, ◌<◌, ◌≤◌, ◌+◌, ◌++◌, ◌∷◌, [], ℕ, None, length, IfOk, OnOk};
 ghost use Rattle.std.specs.List.{AllByRecursion};
 ghost use Rattle.linear_terms.specs.Width.{first_wide};
 ghost use Rattle.clause_form.specs.System.{most_variables};
-ghost use Rattle.clause_laws.specs.Defined.{breaking_form, breaking_variables, count_of, defined_forms, definition_at, definition_forms, definition_places, naming_at};
-ghost use Rattle.clause_defined.specs.machinery.Uses.{CanAllBePut, CanBePut, IsFormulaFor};
+ghost use Rattle.clause_laws.specs.Defined.{breaking_form, breaking_variables, count_of, defined_forms, definition_at, definition_forms, definition_places, head_use, naming_at, use_forms, variables_after};
+ghost use Rattle.clause_defined.specs.machinery.Uses.{CanAllBePut, CanBePut, CanRestBePut, IsFormulaFor};
 
 use base::{Items, Memory};
 use clause_form::{Atom, Clause};
@@ -95,6 +95,24 @@ fn put_use(
     }
 }
 
+/// That the head's definition is false, where there is a head.
+fn put_head(
+    alloc: Global,
+    defs: &[Definition],
+    head: &Option<Atom>,
+    next: u32,
+    out: &mut Items<Form>,
+) -> Result<u32, Memory>
+    requires { (first : ℕ) × CanRestBePut defs.now (head_use head.now) first next }
+    ensures forms { OnOk result (out.new ≡ out.old ++ use_forms defs.now (head_use head.now) next) }
+    ensures next { IfOk result (λ after. after ≡ variables_after defs.now (head_use head.now) next) }
+{
+    match head {
+        None => Ok(next),
+        Some(head) => put_use(alloc, defs, head, false, next, out),
+    }
+}
+
 /// The guard, and then the definitions at the atoms and at the head, with the number of variables.
 pub(crate) fn put_all(
     alloc: Global,
@@ -111,8 +129,6 @@ pub(crate) fn put_all(
     for atom in clause.atoms.as_slice() {
         next = put_use(alloc, defs, atom, true, next, &mut parts)?;
     }
-    if let Some(head) = &clause.head {
-        next = put_use(alloc, defs, head, false, next, &mut parts)?;
-    }
-    Ok((conjunction(parts), next))
+    let after = put_head(alloc, defs, &clause.head, next, &mut parts)?;
+    Ok((conjunction(parts), after))
 }

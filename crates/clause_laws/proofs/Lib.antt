@@ -1,11 +1,11 @@
 pub mod BreakingLemmas
-mod CoordinateLemmas
-mod DefinitionLemmas
-mod EnteredLemmas
-mod ListLemmas
-mod PlainLemmas
+pub mod CoordinateLemmas
+pub mod DefinitionLemmas
+pub mod EnteredLemmas
+pub mod ListLemmas
+pub mod PlainLemmas
 pub mod PointLemmas
-mod SortedLemmas
-mod SpotLemmas
-mod StageLemmas
-mod WrittenLemmas
+pub mod SortedLemmas
+pub mod SpotLemmas
+pub mod StageLemmas
+pub mod WrittenLemmas

@@ -1,0 +1,5 @@
+mod AlikeLemmas
+mod ClassLemmas
+mod ClauseLemmas
+mod RoomLemmas
+mod UseLemmas
