@@ -1,5 +1,5 @@
 -- Under classes of the arguments the same term of a definition is the first without room.
-use Rattle.std.proofs.Common.{◌≡◌, ℕ, zero, suc, ◌+◌, ◌-◌, ◌<◌, ◌≤◌, ◌==◌, ◌^◌, List, [], ◌∷◌, length, map, Bool, true, false, refl, ap, sym, ◌∙◌, subst, arith}
+use Rattle.std.proofs.Common.{◌≡◌, ℕ, zero, suc, ◌+◌, ◌-◌, ◌<◌, ◌==◌, List, [], ◌∷◌, length, map, Bool, true, false, refl, ap, sym, ◌∙◌, subst, arith}
 use Rattle.std.proofs.lemmas.Bool.Decides.{nat_tests}
 use Rattle.std.proofs.lemmas.List.{length-map}
 use Rattle.std.proofs.lemmas.Option.{slice_get_within}
@@ -8,15 +8,14 @@ use Rattle.std.specs.List.{AllByRecursion}
 use Rattle.term_tree.specs.declared.sort.Sort.{Sort}
 use Rattle.term_tree.specs.declared.definition.Definition.{Definition}
 use Rattle.term_tree.specs.Solution.{IsFormula}
-use Rattle.linear_terms.specs.Linear.{Naming}
 use Rattle.linear_terms.specs.Width.{first_wide}
-use Rattle.term_widths.specs.machinery.Apart.{AreAlike, AreOwnBelow, IsRenaming, Occurs, placed_naming}
+use Rattle.term_widths.specs.machinery.Apart.{AreOwnBelow, IsRenaming, Occurs, placed_naming}
 use Rattle.term_widths.proofs.RenamingLemmas.{alike_judge}
 use Rattle.lin_atoms.specs.Algebra.{name_in}
 use Rattle.clause_laws.specs.Defined.{definition_places, naming_at}
 use Rattle.clause_laws.proofs.DefinitionLemmas.{body_there, parameter_there}
 use Rattle.clause_defined.specs.machinery.Classes.{HaveClasses, first_same}
-use Rattle.clause_defined.proofs.ClassLemmas.{IsFirst, first_is}
+use Rattle.clause_defined.proofs.ClassLemmas.{first_is}
 
 pub there_is_one : (xs : List ℕ) (i d : ℕ) → i < length xs → slice_get xs i ≡ Some (slice_index_or xs i d)
 there_is_one [] i d less = absurd (omega (arith, less))

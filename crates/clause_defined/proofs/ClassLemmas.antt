@@ -1,13 +1,13 @@
 -- Classes of arguments: first places of the same.
-use Rattle.std.proofs.Common.{◌≡◌, ℕ, zero, suc, ◌+◌, ◌<◌, ◌==◌, List, [], ◌∷◌, length, map, cond, Bool, true, false, refl, ap, sym, ◌∙◌, subst, arith}
-use Rattle.std.specs.Prelude.{slice_get, slice_index_or, position, Option, Some, None, unwrap_or}
+use Rattle.std.proofs.Common.{◌≡◌, ℕ, zero, suc, ◌+◌, ◌<◌, ◌==◌, List, [], ◌∷◌, length, map, cond, Bool, refl, ap, sym, ◌∙◌, subst}
+use Rattle.std.specs.Prelude.{slice_get, slice_index_or, position, Option, Some, unwrap_or}
 use Rattle.std.specs.List.{AllByRecursion, position_from}
 use Rattle.std.proofs.lemmas.Bool.{eqb-true}
 use Rattle.std.proofs.lemmas.Iterator.Adapters.{position_from-zero}
 use Rattle.term_tree.specs.declared.node.Node.{Node}
 use Rattle.term_tree.proofs.Public.{eqb_self}
 use Rattle.horn_shape.specs.declared.clause.Part.{Part}
-use Rattle.term_widths.proofs.PositionLemmas.{IsAt, position_is, position_there}
+use Rattle.term_widths.proofs.PositionLemmas.{position_is, position_there}
 use Rattle.linear_terms.specs.Linear.{Naming}
 use Rattle.clause_defined.specs.machinery.Classes.{class_in, first_same, is_same_argument}
 use Rattle.clause_defined.specs.machinery.Uses.{variable_of}

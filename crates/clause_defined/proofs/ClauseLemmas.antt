@@ -1,21 +1,20 @@
 -- The predicates of a clause: their arguments stand for variables of the normal clause, and they have definitions.
-use Rattle.std.proofs.Common.{◌≡◌, ℕ, zero, suc, ◌+◌, ◌<◌, ◌≤◌, ◌==◌, List, [], ◌∷◌, ◌++◌, length, map, Bool, true, false, ◌&&◌, inl, inr, refl, ap, sym, ◌∙◌, subst, arith}
+use Rattle.std.proofs.Common.{◌≡◌, ℕ, suc, ◌+◌, ◌<◌, ◌≤◌, ◌==◌, List, [], ◌∷◌, ◌++◌, length, map, Bool, true, false, inl, inr, refl, ap, sym, ◌∙◌, subst, arith}
 use Rattle.std.proofs.lemmas.Bool.{eqb-true}
 use Rattle.std.proofs.lemmas.Bool.Decides.{nat_tests}
 use Rattle.std.proofs.lemmas.List.{length-map}
 use Rattle.std.proofs.lemmas.Option.{slice_get_within}
-use Rattle.std.specs.Prelude.{slice_get, position, Option, Some, None, option_map, unwrap_or, ◌⊎◌}
+use Rattle.std.specs.Prelude.{slice_get, Option, Some, None, option_map, unwrap_or, ◌⊎◌}
 use Rattle.std.specs.List.{AllByRecursion}
 use Rattle.base.specs.Limits.{most_arguments}
 use Rattle.term_tree.specs.declared.sort.Sort.{Sort}
-use Rattle.term_tree.specs.declared.sort.Sort.TheVariants.{Bool as BoolSort}
 use Rattle.term_tree.specs.declared.definition.Definition.{Definition}
 use Rattle.term_tree.specs.declared.script.Pred.{Pred as Declared}
 use Rattle.term_tree.specs.declared.script.Script.{Script}
 use Rattle.term_tree.specs.declared.node.Node.{Node}
 use Rattle.term_tree.specs.declared.node.Node.TheVariants.{Num, True, False, Var, LetVar, Pred, Op, Divisible, Let, Forall, Exists}
 use Rattle.term_tree.specs.Arena.{IsArena}
-use Rattle.term_tree.specs.Solution.{AreFormulas, DefinesEach, IsFormula}
+use Rattle.term_tree.specs.Solution.{AreFormulas, DefinesEach}
 use Rattle.term_tree.specs.Sorts.{has_sort, have_sorts, sort_of}
 use Rattle.term_tree.proofs.Public.{both_true, eqb_self, there_is}
 use Rattle.horn_shape.specs.declared.clause.AtomUse.{AtomUse}
@@ -26,16 +25,16 @@ use Rattle.linear_terms.specs.Text.{is_variable}
 use Rattle.linear_terms.proofs.RelationLemmas.{bool_same}
 use Rattle.term_widths.proofs.PositionLemmas.{position_is}
 use Rattle.clause_form.specs.declared.atom.Atom.{Atom}
-use Rattle.clause_normal.specs.Normal.{argument_variable, auxiliaries, names_of, normal_atom, normal_clause, sorting, sorts_of, top_of}
+use Rattle.clause_normal.specs.Normal.{argument_variable, auxiliaries, names_of, normal_atom, normal_clause, sorts_of, top_of}
 use Rattle.clause_normal.proofs.MadeLemmas.{all_got, all_map, subterm_most, top_within}
 use Rattle.clause_normal.proofs.ReadLemmas.{HeadHas}
 use Rattle.clause_normal.proofs.TextLemmas.{placed_position}
 use Rattle.clause_laws.specs.Defined.{definition_at, head_use, uses_of}
-use Rattle.clause_laws.proofs.BreakingLemmas.{IsDefined, defined_at}
+use Rattle.clause_laws.proofs.BreakingLemmas.{defined_at}
 use Rattle.clause_laws.proofs.EnteredLemmas.{named_once}
 use Rattle.clause_laws.proofs.PointLemmas.{IsApplied, IsArgument, count_is, own_variable, parts}
 use Rattle.clause_defined.specs.machinery.Classes.{is_same_argument, is_same_name, variable_in}
-use Rattle.clause_defined.specs.machinery.Uses.{AreAtVariables, CanAllBeJudged, CanBeJudged, IsAtVariables, IsDefinedFor, IsFormulaFor, OnHead, use_list, variable_of}
+use Rattle.clause_defined.specs.machinery.Uses.{AreAtVariables, CanAllBeJudged, CanBeJudged, IsAtVariables, IsDefinedFor, OnHead, use_list, variable_of}
 
 -- the uses of the normal clause
 pub uses_listed : (script : Script) (clause : HornClause) → uses_of (normal_clause script clause) ≡ use_list (names_of script clause) script.terms.nodes clause.atoms clause.head
@@ -111,7 +110,9 @@ module _ (script : Script) (clause : HornClause) (arena : IsArena script.terms.n
 
       by_node : (node : Node) → slice_get script.terms.nodes part.term.0 ≡ Some node → IsOwn part.term.0 ⊎ IsOther part.term.0
       by_node (Var binder sort) at = inl (record {
-        binder = binder; sort = sort; node = at;
+        binder = binder;
+        sort = sort;
+        node = at;
         low = slice_get_within clause.vars binder sort (own_variable script clause.assertion clause arena legal is part.term.0 binder sort argument.0 at);
       })
       by_node (Num n) at = inr (placed_at (Num n) at refl)

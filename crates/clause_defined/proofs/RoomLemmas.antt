@@ -1,25 +1,24 @@
 -- Where a definition has room at its arguments, so has each term in it, and the formulas that the code makes are the rule's.
-use Rattle.std.proofs.Common.{◌≡◌, ℕ, zero, suc, ◌+◌, ◌<◌, ◌≤◌, ◌==◌, ◌^◌, List, [], ◌∷◌, ◌++◌, length, map, Bool, true, false, not, ◌&&◌, refl, ap, sym, ◌∙◌, subst, arith, append_assoc}
+use Rattle.std.proofs.Common.{◌≡◌, ℕ, ◌+◌, ◌<◌, ◌==◌, ◌^◌, List, [], ◌∷◌, ◌++◌, length, Bool, true, not, ◌&&◌, refl, ap, sym, ◌∙◌, subst, arith, append_assoc}
 use Rattle.std.proofs.lemmas.Bool.{eqb-true}
 use Rattle.std.proofs.lemmas.List.{length-append}
 use Rattle.std.proofs.lemmas.Option.{slice_get_within}
-use Rattle.std.specs.Prelude.{slice_get, slice_index_or, position, Option, Some, None, option_map, IsTrue, ℤ}
+use Rattle.std.specs.Prelude.{slice_get, position, Option, Some, None, ℤ}
 use Rattle.std.specs.List.{AllByRecursion, list_all}
 use Rattle.term_tree.specs.declared.sort.Sort.{Sort}
-use Rattle.term_tree.specs.declared.sort.Sort.TheVariants.{Bool as BoolSort}
 use Rattle.term_tree.specs.declared.definition.Definition.{Definition}
 use Rattle.term_tree.specs.declared.node.OpKind.TheVariants.{Ite, Abs, Div as Quotient, Mod as Remainder}
 use Rattle.term_tree.specs.declared.node.Node.{Node}
 use Rattle.term_tree.specs.declared.node.Node.TheVariants.{Op}
 use Rattle.term_tree.specs.Constants.{constant_of}
 use Rattle.term_tree.specs.Solution.{IsFormula}
-use Rattle.term_tree.specs.Sorts.{is_sorted, sort_of}
-use Rattle.term_tree.specs.Subterms.{IsSubterm, inside, is_part, itself}
+use Rattle.term_tree.specs.Sorts.{is_sorted}
+use Rattle.term_tree.specs.Subterms.{IsSubterm, inside, itself}
 use Rattle.term_tree.proofs.Public.{arena_below, sort_at}
 use Rattle.lin_atoms.specs.Algebra.{name_in}
 use Rattle.lin_atoms.specs.declared.form.Form.{Form}
 use Rattle.linear_terms.specs.declared.standing.Standing.TheVariants.{Plain}
-use Rattle.linear_terms.specs.Text.{is_variable, places}
+use Rattle.linear_terms.specs.Text.{places}
 use Rattle.linear_terms.specs.Linear.{Naming}
 use Rattle.linear_terms.specs.Place.{place_form}
 use Rattle.linear_terms.specs.Width.{first_wide}
@@ -27,19 +26,21 @@ use Rattle.term_tables.specs.machinery.Table.{AreConstants, AreSorts, constant_i
 use Rattle.term_tables.proofs.ConstantLemmas.{constants_are}
 use Rattle.term_places.proofs.SortingLemmas.{placed_same}
 use Rattle.term_widths.specs.Wide.{first_wide_by}
-use Rattle.term_widths.specs.machinery.Apart.{AreNoVariables, is_variable_there}
+use Rattle.term_widths.specs.machinery.Apart.{AreAlike, AreNoVariables, is_variable_there, placed_naming}
 use Rattle.term_widths.proofs.ConstantLemmas.{judged_same}
 use Rattle.term_widths.proofs.PositionLemmas.{position_is}
+use Rattle.term_widths.proofs.RenamingLemmas.{alike_judge}
 use Rattle.term_formulas.specs.Written.{HasRoom, IsFresh, formula_by, place_forms_by}
 use Rattle.term_formulas.specs.machinery.Parts.{ArePlaces, is_shaped}
 use Rattle.term_formulas.proofs.RoomLemmas.{room_part}
 use Rattle.clause_normal.specs.Normal.{place_forms}
 use Rattle.clause_normal.proofs.AgreeLemmas.{formulas_same, place_same}
-use Rattle.clause_normal.proofs.MadeLemmas.{all_map, from_moved, subterm_most}
+use Rattle.clause_normal.proofs.MadeLemmas.{from_moved, subterm_most}
 use Rattle.clause_normal.proofs.PlaceLemmas.{IsPlaced, places_are, shaped_abs, shaped_div, shaped_ite, shaped_mod, some_sort, sorted_sub}
 use Rattle.clause_laws.specs.Defined.{definition_forms, definition_places, definition_sorting, naming_at}
 use Rattle.clause_laws.proofs.DefinitionLemmas.{body_there, parameter_there}
-use Rattle.clause_defined.proofs.AlikeLemmas.{all_one, there_is_one}
+use Rattle.clause_defined.proofs.AlikeLemmas.{all_one, classes_judge, there_is_one}
+use Rattle.clause_defined.specs.machinery.Classes.{HaveClasses}
 
 some_number : (a b : ℕ) → Some a ≡ Some b → a ≡ b
 some_number a b e = cc
@@ -85,6 +86,15 @@ module _ (d : Definition) (sorts : List Sort) (is : IsFormula sorts d.terms.node
 
     pub judged_kept : (naming : Naming) → first_wide_by (constant_in known) naming d.terms.nodes d.body.0 ≡ first_wide naming d.terms.nodes d.body.0
     judged_kept naming = judged_same (constant_in known) naming d.terms.nodes d.body.0 is.arena constants_kept (body_there d sorts is)
+
+    -- what is found under names that keep apart what the classes do
+    pub judged_at : (args : List ℕ) (first : ℕ) (classes : List ℕ) → HaveClasses args first classes → length sorts ≡ length classes → (placed : List ℕ) → placed ≡ definition_places d → (naming : Naming)
+        → AreAlike d.terms.nodes d.body.0 (placed_naming classes (length args) placed) naming → first_wide_by (constant_in known) naming d.terms.nodes d.body.0 ≡ first_wide (naming_at d args first) d.terms.nodes d.body.0
+    judged_at args first classes have count placed are_placed naming alike =
+        judged_kept naming
+        ∙ sym (alike_judge d.terms.nodes d.body.0 (placed_naming classes (length args) (definition_places d)) naming is.arena
+        (subst (λ (ids : List ℕ). AreAlike d.terms.nodes d.body.0 (placed_naming classes (length args) ids) naming) are_placed alike) (body_there d sorts is))
+        ∙ sym (classes_judge d sorts is args first classes have count)
 
     -- at arguments at which it has room
     module _ (args : List ℕ) (first : ℕ) (count : length sorts ≡ length args) (below : AllByRecursion (λ v. v < first) args)
@@ -169,3 +179,24 @@ module _ (d : Definition) (sorts : List Sort) (is : IsFormula sorts d.terms.node
           ap (λ (fs : List Form). fs ++ formula_by (constant_in known) (sort_in kinds) (naming_at d args first) d.terms.nodes d.body.0 sign ∷ []) (places_forms (definition_places d) first placed_all)
           ∙ ap (λ (f : Form). place_forms (definition_sorting d) (naming_at d args first) d.terms.nodes first (definition_places d) ++ f ∷ [])
           (formulas_same (constant_in known) (sort_in kinds) (definition_sorting d) (naming_at d args first) d.terms.nodes d.body.0 is.arena constants_kept sorts_kept d.body.0 sign (body_there d sorts is) itself)
+
+      -- with the names and the places that the code has
+      module _ (naming : Naming) (named : naming ≡ naming_at d args first) (placed : List ℕ) (are_placed : placed ≡ definition_places d) where
+        pub room_named : HasRoom (constant_in known) naming d.terms.nodes d.body.0
+        room_named = subst (λ (n : Naming). HasRoom (constant_in known) n d.terms.nodes d.body.0) (sym named) room_body
+
+        pub places_named : ArePlaces (constant_in known) naming d.terms.nodes first placed
+        places_named =
+            subst (λ (n : Naming). ArePlaces (constant_in known) n d.terms.nodes first placed) (sym named)
+            (subst (λ (ids : List ℕ). ArePlaces (constant_in known) (naming_at d args first) d.terms.nodes first ids) (sym are_placed) room_places)
+
+        pub forms_put : (sign : Bool) (old mid new : List Form) (form : Form) → mid ≡ old ++ place_forms_by (constant_in known) (sort_in kinds) naming d.terms.nodes first placed
+            → form ≡ formula_by (constant_in known) (sort_in kinds) naming d.terms.nodes d.body.0 sign → new ≡ mid ++ form ∷ [] → new ≡ old ++ definition_forms sign d args first
+        forms_put sign old mid new form places_made made pushed =
+            pushed ∙ ap (λ (fs : List Form). fs ++ form ∷ []) places_made
+            ∙ append_assoc old (place_forms_by (constant_in known) (sort_in kinds) naming d.terms.nodes first placed) (form ∷ [])
+            ∙ ap (λ (f : Form). old ++ (place_forms_by (constant_in known) (sort_in kinds) naming d.terms.nodes first placed ++ f ∷ [])) made
+            ∙ ap (λ (n : Naming). old ++ (place_forms_by (constant_in known) (sort_in kinds) n d.terms.nodes first placed ++ formula_by (constant_in known) (sort_in kinds) n d.terms.nodes d.body.0 sign ∷ [])) named
+            ∙ ap (λ (ids : List ℕ). old ++ (place_forms_by (constant_in known) (sort_in kinds) (naming_at d args first) d.terms.nodes first ids
+            ++ formula_by (constant_in known) (sort_in kinds) (naming_at d args first) d.terms.nodes d.body.0 sign ∷ [])) are_placed
+            ∙ ap (λ (fs : List Form). old ++ fs) (forms_kept sign)

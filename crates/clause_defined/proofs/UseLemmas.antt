@@ -1,7 +1,7 @@
 -- One more predicate with its definition.
-use Rattle.std.proofs.Common.{◌≡◌, ℕ, ◌+◌, ◌<◌, ◌≤◌, List, [], ◌∷◌, ◌++◌, length, map, Bool, true, false, inl, inr, refl, ap, sym, ◌∙◌, subst, arith, append_assoc}
+use Rattle.std.proofs.Common.{◌≡◌, ℕ, ◌+◌, ◌<◌, ◌≤◌, List, [], ◌∷◌, ◌++◌, Bool, refl, ap, sym, ◌∙◌, subst, arith, append_assoc}
 use Rattle.std.proofs.lemmas.Bool.Decides.{nat_tests}
-use Rattle.std.specs.Prelude.{Option, Some, None, option_map, nat_le, ◌⊎◌, if◌then◌else◌}
+use Rattle.std.specs.Prelude.{Option, Some, None}
 use Rattle.std.specs.List.{AllByRecursion}
 use Rattle.lin_atoms.specs.declared.form.Form.{Form}
 use Rattle.horn_shape.specs.declared.clause.AtomUse.{AtomUse}
@@ -12,8 +12,8 @@ use Rattle.term_tree.specs.declared.node.Node.{Node}
 use Rattle.clause_form.specs.System.{most_variables}
 use Rattle.clause_form.specs.declared.atom.Atom.{Atom}
 use Rattle.clause_normal.specs.Normal.{normal_atom}
-use Rattle.clause_laws.specs.Defined.{count_of, defined_forms, definition_at, definition_wide, first_wide_use, head_use, use_forms, variables_after}
-use Rattle.clause_defined.specs.machinery.Uses.{CanBePut, CanRestBePut, IsJudged, capped, use_list}
+use Rattle.clause_laws.specs.Defined.{count_of, defined_forms, definition_at, definition_wide, first_wide_use, use_forms, variables_after}
+use Rattle.clause_defined.specs.machinery.Uses.{CanBePut, CanRestBePut, IsAtVariables, IsJudged, capped}
 
 -- counts up to a limit add up
 pub capped_more : (n m : ℕ) → capped (capped 0 n) m ≡ capped 0 (n + m)
@@ -108,3 +108,21 @@ put_more defs atom sign rest next after parts new whole is counts made =
     ap (λ (fs : List Form). fs ++ use_forms defs rest after) made
     ∙ append_assoc parts (defined_forms (definition_at defs atom) atom sign next) (use_forms defs rest after)
     ∙ ap (λ (n : ℕ). parts ++ (defined_forms (definition_at defs atom) atom sign next ++ use_forms defs rest n)) counts ∙ is
+
+-- variables below a number are below a later one
+pub stand_more : (nodes : List Node) (naming : Naming) (first next : ℕ) (atom : AtomUse) → first ≤ next → IsAtVariables nodes naming first atom → IsAtVariables nodes naming next atom
+stand_more nodes naming first next atom le stand = record { below = below_more first next le (normal_atom naming nodes atom).args stand.below; apart = stand.apart }
+
+-- one more predicate, as the code judges it
+pub next_judged : (defs : List Definition) (nodes : List Node) (naming : Naming) (atom : AtomUse) (sign : Bool) (rest whole : List (Atom × Bool)) (first count more new : ℕ)
+    → ((next : ℕ) → IsAtVariables nodes naming next atom → definition_wide (definition_at defs (normal_atom naming nodes atom)) (normal_atom naming nodes atom) next ≡ None)
+    → more ≡ count_of (definition_at defs (normal_atom naming nodes atom)) → new ≡ capped count more → IsAtVariables nodes naming first atom
+    → IsJudged defs ((normal_atom naming nodes atom, sign) ∷ rest) whole first count → IsJudged defs rest whole first new
+next_judged defs nodes naming atom sign rest whole first count more new narrow counts is stand state =
+    judged_more defs (normal_atom naming nodes atom) sign rest whole first count more new state (narrow state.next (stand_more nodes naming first state.next atom state.from stand)) counts is
+
+pub next_wide : (defs : List Definition) (nodes : List Node) (naming : Naming) (atom : AtomUse) (sign : Bool) (rest whole : List (Atom × Bool)) (first count offset : ℕ)
+    → ((next : ℕ) → IsAtVariables nodes naming next atom → definition_wide (definition_at defs (normal_atom naming nodes atom)) (normal_atom naming nodes atom) next ≡ Some offset)
+    → IsAtVariables nodes naming first atom → IsJudged defs ((normal_atom naming nodes atom, sign) ∷ rest) whole first count → first_wide_use defs whole first ≡ Some offset
+next_wide defs nodes naming atom sign rest whole first count offset wide stand state =
+    judged_wide defs (normal_atom naming nodes atom) sign rest whole first count offset state (wide state.next (stand_more nodes naming first state.next atom state.from stand))

@@ -14,7 +14,6 @@ use Rattle.term_tree.specs.declared.definition.Definition.{Definition}
 use Rattle.term_tree.specs.declared.script.Pred.{Pred as Declared}
 use Rattle.term_tree.specs.declared.script.Script.{Script}
 use Rattle.term_tree.specs.declared.scalar.Value.{Value}
-use Rattle.term_tree.specs.declared.scalar.Value.TheVariants.{Bool as Truth}
 use Rattle.term_tree.specs.Arena.{IsArena}
 use Rattle.term_tree.specs.Operators.{truth as truth_of}
 use Rattle.term_tree.specs.Solution.{AreFormulas, DefinesEach, IsFormula, defined_value, interpretation_of}
@@ -23,10 +22,9 @@ use Rattle.term_tree.specs.Value.{environment_of, value_of}
 use Rattle.term_tree.proofs.Public.{both_true}
 use Rattle.horn_shape.specs.declared.clause.AtomUse.{AtomUse}
 use Rattle.horn_shape.specs.declared.clause.HornClause.{HornClause}
-use Rattle.horn_shape.specs.declared.clause.Part.{Part}
 use Rattle.horn_shape.specs.Breaking.{Breaks, IsTrueAtom, IsTrueHead}
 use Rattle.horn_shape.specs.Clause.{IsClauseOf, IsLegalScript}
-use Rattle.horn_shape.specs.Instance.{IsInstance, conclusion_of, ground, premises_of, tuple_of}
+use Rattle.horn_shape.specs.Instance.{ground, tuple_of}
 use Rattle.horn_shape.proofs.DisjunctLemmas.{truth_is_true}
 use Rattle.lin_atoms.specs.Linear.{variable_at}
 use Rattle.lin_atoms.specs.Truth.{truth}
@@ -201,9 +199,9 @@ module _ (script : Script) (index : ℕ) (clause : HornClause) (arena : IsArena 
           (sym (ap (λ (o : Option Definition). list_all (truth point) (defined_forms o (normal_atom (names_of script clause) script.terms.nodes u) sign next)) d.there) ∙ holds) in
           let long = use_count (Some d.definition) vs in (
             subst (λ (o : Option Definition). Stand point next (use_worths o vs)) (sym d.there)
-            (stand_by point next (use_worths (Some d.definition) vs)
-            (λ i less. let place = there_at (definition_places d.definition) i (omega (arith, less, long)) in
-            given.each i place.0 place.1 ∙ sym (mapped_at (λ k. number (value_of d.definition.terms.nodes k (environment_of vs))) (definition_places d.definition) i place.0 place.1))),
+                (stand_by point next (use_worths (Some d.definition) vs)
+                (λ i less. let place = there_at (definition_places d.definition) i (omega (arith, less, long)) in
+                given.each i place.0 place.1 ∙ sym (mapped_at (λ k. number (value_of d.definition.terms.nodes k (environment_of vs))) (definition_places d.definition) i place.0 place.1))),
             subst (λ (o : Option Definition). signed sign (truth_of (defined_value o vs)) ≡ true) (sym d.there) given.says,
           )
 

@@ -1,6 +1,6 @@
 -- Coordinates of points: those that begin with given numbers, and the bits of Bool variables.
-use Rattle.std.proofs.Common.{◌≡◌, ℕ, zero, suc, ◌+◌, ◌<◌, List, [], ◌∷◌, ◌++◌, length, map, take, Bool, true, false, ◌&&◌, refl, ap, sym, ◌∙◌, subst, arith}
-use Rattle.std.specs.Prelude.{slice_get, slice_index_or, Option, Some, ℤ, pos, negsuc, ◌+ℤ◌, neg_ℤ, int_le}
+use Rattle.std.proofs.Common.{◌≡◌, ℕ, zero, suc, ◌+◌, ◌<◌, List, [], ◌∷◌, ◌++◌, length, map, take, Bool, true, false, ◌&&◌, refl, ap, sym, ◌∙◌, arith}
+use Rattle.std.specs.Prelude.{slice_get, Some, ℤ, pos, negsuc, ◌+ℤ◌, neg_ℤ, int_le}
 use Rattle.std.specs.List.{list_all}
 use Rattle.std.specs.Ordering.{int_eq}
 use Rattle.std.proofs.lemmas.Int.{ints}
@@ -8,7 +8,7 @@ use Rattle.term_tree.specs.declared.sort.Sort.{Sort}
 use Rattle.term_tree.specs.declared.sort.Sort.TheVariants.{Int as IntSort, Bool as BoolSort}
 use Rattle.term_tree.specs.declared.scalar.Value.{Value}
 use Rattle.term_tree.specs.declared.scalar.Value.TheVariants.{Int, Bool as Truth}
-use Rattle.term_tree.specs.Truth.{HasSort, HaveSorts}
+use Rattle.term_tree.specs.Truth.{HaveSorts}
 use Rattle.term_tree.proofs.Public.{both_true}
 use Rattle.lin_atoms.specs.Algebra.{negated, plus}
 use Rattle.lin_atoms.specs.Linear.{value_at as worth_at, variable_at}

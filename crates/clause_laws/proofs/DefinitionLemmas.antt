@@ -1,6 +1,6 @@
 -- What the formulas of a definition at arguments say: its auxiliary variables have the values of their terms, and the definition is
 -- true or false at the values of the arguments.
-use Rattle.std.proofs.Common.{◌≡◌, ℕ, zero, suc, ◌+◌, ◌<◌, List, [], ◌∷◌, ◌++◌, length, map, Bool, true, false, ◌&&◌, inl, refl, ap, sym, ◌∙◌, arith}
+use Rattle.std.proofs.Common.{◌≡◌, ℕ, zero, suc, ◌+◌, ◌<◌, List, [], ◌∷◌, length, map, Bool, true, ◌&&◌, inl, ap, sym, ◌∙◌, arith}
 use Rattle.std.specs.Prelude.{slice_get, slice_index_or, Some, ℤ}
 use Rattle.std.specs.List.{list_all}
 use Rattle.std.proofs.lemmas.List.Folds.{list_all-append}
@@ -9,21 +9,17 @@ use Rattle.term_tree.specs.declared.sort.Sort.TheVariants.{Bool as BoolSort}
 use Rattle.term_tree.specs.declared.node.Node.TheVariants.{Var}
 use Rattle.term_tree.specs.declared.definition.Definition.{Definition}
 use Rattle.term_tree.specs.declared.scalar.Value.{Value}
-use Rattle.term_tree.specs.declared.scalar.Value.TheVariants.{Bool as Truth}
 use Rattle.term_tree.specs.Legal.{parameters}
 use Rattle.term_tree.specs.Operators.{truth as truth_of}
 use Rattle.term_tree.specs.Solution.{IsFormula}
-use Rattle.term_tree.specs.Sorts.{sort_of}
 use Rattle.term_tree.specs.Subterms.{IsSubterm, itself}
 use Rattle.term_tree.specs.Truth.{HaveSorts}
 use Rattle.term_tree.specs.Value.{environment_of, value_of}
 use Rattle.term_tree.proofs.Public.{both_true}
-use Rattle.horn_shape.specs.Plain.{is_plain_term}
 use Rattle.horn_shape.proofs.BreakingLemmas.{passes}
 use Rattle.lin_atoms.specs.Algebra.{name_in}
 use Rattle.lin_atoms.specs.Linear.{variable_at}
 use Rattle.lin_atoms.specs.Truth.{truth}
-use Rattle.lin_atoms.specs.declared.form.Form.{Form}
 use Rattle.linear_terms.specs.Formula.{formula}
 use Rattle.linear_terms.specs.Meeting.{number, signed}
 use Rattle.linear_terms.proofs.Public.{sorted_there}

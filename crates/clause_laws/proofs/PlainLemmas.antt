@@ -1,6 +1,6 @@
 -- What is read of a Bool term: its guards and the arguments of its applications have neither predicates nor quantifiers, and the
 -- guards are Bool terms.
-use Rattle.std.proofs.Common.{◌≡◌, ℕ, zero, suc, ◌+◌, ◌<◌, List, [], ◌∷◌, ◌++◌, Bool, true, false, ◌&&◌, ◌||◌, map, length, refl, ap, sym, ◌∙◌, subst, arith}
+use Rattle.std.proofs.Common.{◌≡◌, ℕ, zero, suc, ◌<◌, List, [], ◌∷◌, ◌++◌, Bool, true, false, ◌&&◌, ◌||◌, map, length, refl, sym, ◌∙◌, subst, arith}
 use Rattle.std.specs.Prelude.{slice_get, Option, Some, None, Ok, Err, nat_le, nat_lt, if◌then◌else◌}
 use Rattle.std.specs.List.{AllByRecursion, list_all}
 use Rattle.term_tree.specs.declared.sort.Sort.{Sort}
@@ -17,10 +17,10 @@ use Rattle.term_tree.proofs.Public.{arena_below, below_from, both_true, sort_at,
 use Rattle.horn_shape.specs.declared.clause.AtomUse.{AtomUse}
 use Rattle.horn_shape.specs.declared.clause.Part.{Part}
 use Rattle.horn_shape.specs.Plain.{is_plain_term}
-use Rattle.horn_shape.specs.Shape.{Content, Reading, arguments, at, atom_of, beside, body_form, body_reading, both, clause_form, clause_reading, denial, disjunct_form, disjunct_reading, disjuncts, each, either_head, guard_of, head_of, implication, is_application, nothing, quantified}
+use Rattle.horn_shape.specs.Shape.{Content, arguments, at, atom_of, beside, body_form, body_reading, both, clause_form, clause_reading, denial, disjunct_form, disjunct_reading, disjuncts, each, either_head, guard_of, head_of, implication, is_application, nothing}
 use Rattle.horn_shape.specs.machinery.Gathering.{place_of}
 use Rattle.horn_shape.proofs.BodyLemmas.{body_there, both_ok, bound_ok, chosen_ok, misread, never_read, same_read}
-use Rattle.horn_shape.proofs.DisjunctLemmas.{clause_there, read_chosen}
+use Rattle.horn_shape.proofs.DisjunctLemmas.{read_chosen}
 use Rattle.horn_shape.proofs.ShapeLemmas.{body_mixed, body_plain, clause_mixed, clause_plain, disjunct_mixed, disjunct_plain}
 use Rattle.linear_terms.proofs.SortLemmas.{has_sort_is, let_sort, sort_if_is}
 use Rattle.clause_normal.proofs.ReadLemmas.{HeadHas, Holds, all_append, clause_within, quantified_is}

@@ -3,8 +3,8 @@
 -- From an instance to a point: each own variable has its value's number, and each auxiliary one that of its term. Back: the bits say
 -- which numbers are values, the forms of places that the auxiliary variables have the values of their terms, and then guards are
 -- as true as their formulas.
-use Rattle.std.proofs.Common.{◌≡◌, ℕ, zero, suc, ◌+◌, ◌-◌, ◌<◌, ◌≤◌, ◌==◌, List, [], ◌∷◌, ◌++◌, length, map, take, Bool, true, false, ◌&&◌, inl, inr, refl, ap, sym, ◌∙◌, subst, arith}
-use Rattle.std.specs.Prelude.{slice_get, slice_index_or, position, Option, Some, None, Ok, option_map, unwrap_or, not, ℤ, ◌⊎◌, if◌then◌else◌}
+use Rattle.std.proofs.Common.{◌≡◌, ℕ, ◌+◌, ◌-◌, ◌<◌, ◌≤◌, List, [], ◌∷◌, ◌++◌, length, map, take, Bool, true, false, ◌&&◌, inl, inr, refl, ap, sym, ◌∙◌, subst, arith}
+use Rattle.std.specs.Prelude.{slice_get, Option, Some, None, Ok, option_map, unwrap_or, not, ℤ, ◌⊎◌, if◌then◌else◌}
 use Rattle.std.specs.List.{AllByRecursion, list_all}
 use Rattle.std.proofs.lemmas.Bool.{cases_lt}
 use Rattle.std.proofs.lemmas.List.{length-append, length-map, length-take-le}
@@ -17,13 +17,13 @@ use Rattle.term_tree.specs.declared.script.Script.{Script}
 use Rattle.term_tree.specs.declared.node.TermId.{TermId}
 use Rattle.term_tree.specs.declared.node.Node.{Node}
 use Rattle.term_tree.specs.declared.node.Node.TheVariants.{Num, True, False, Var, LetVar, Pred, Op, Divisible, Let, Forall, Exists}
-use Rattle.term_tree.specs.Arena.{IsArena, has_parts_below}
+use Rattle.term_tree.specs.Arena.{IsArena}
 use Rattle.term_tree.specs.Legal.{IsLegal, next_variable, parameters}
 use Rattle.term_tree.specs.Operators.{truth as truth_of}
 use Rattle.term_tree.specs.Sorts.{has_sort, have_sorts, sort_of}
 use Rattle.term_tree.specs.Subterms.{IsSubterm, inside, is_among, itself}
 use Rattle.term_tree.specs.Truth.{HaveSorts}
-use Rattle.term_tree.specs.Value.{Environment, environment_of, value_of}
+use Rattle.term_tree.specs.Value.{environment_of, value_of}
 use Rattle.term_tree.proofs.Public.{arena_below, both_true, sort_at, there_is, value_at}
 use Rattle.horn_shape.specs.declared.clause.AtomUse.{AtomUse}
 use Rattle.horn_shape.specs.declared.clause.HornClause.{HornClause}
@@ -37,15 +37,12 @@ use Rattle.horn_shape.proofs.InstanceLemmas.{there_number}
 use Rattle.lin_atoms.specs.Linear.{variable_at}
 use Rattle.lin_atoms.specs.Truth.{truth}
 use Rattle.lin_atoms.specs.declared.form.Form.{Form}
-use Rattle.linear_terms.specs.Text.{Sorting, is_variable}
+use Rattle.linear_terms.specs.Text.{is_variable}
 use Rattle.linear_terms.specs.declared.standing.Standing.TheVariants.{Plain}
-use Rattle.linear_terms.specs.Linear.{Naming}
 use Rattle.linear_terms.specs.Meeting.{number, signed}
-use Rattle.linear_terms.specs.Place.{place_form}
 use Rattle.linear_terms.proofs.PartLemmas.{first_among, later_among}
 use Rattle.linear_terms.proofs.Public.{sorted_there, value_sort}
 use Rattle.linear_terms.proofs.SortLemmas.{has_sort_is}
-use Rattle.clause_form.specs.declared.atom.Atom.{Atom}
 use Rattle.clause_normal.specs.Normal.{argument_variable, auxiliaries, bits_from, guard_form, guard_of, names_of, normal_atom, normal_clause, place_forms, sorting, sorts_of, top_of}
 use Rattle.clause_normal.proofs.MadeLemmas.{legal_top, top_is}
 use Rattle.clause_normal.proofs.PlaceLemmas.{predicate_is}
@@ -53,7 +50,7 @@ use Rattle.clause_normal.proofs.ReadLemmas.{HeadHas, Holds, clause_holds}
 use Rattle.clause_normal.proofs.ReadingLemmas.{own_number}
 use Rattle.clause_normal.proofs.TextLemmas.{Among, InText, argument_placed, placed_position, text_part}
 use Rattle.clause_laws.specs.Point.{IsInstanceAt, IsPointOver, NumberAtom, at_point, numbers, of_ground}
-use Rattle.clause_laws.proofs.CoordinateLemmas.{Stand, behind_at, bits_are_values, conjunction_truth, front_at, mapped_at, same_points, stand_taken, take_front, taken, valued, values_are_bits}
+use Rattle.clause_laws.proofs.CoordinateLemmas.{behind_at, bits_are_values, conjunction_truth, mapped_at, same_points, stand_taken, take_front, taken, valued, values_are_bits}
 use Rattle.clause_laws.proofs.EnteredLemmas.{top_spot}
 use Rattle.clause_laws.proofs.ListLemmas.{have_length, places_all, places_each, there_at}
 use Rattle.clause_laws.proofs.PlainLemmas.{HasPlainArguments, IsPlainTruth, clause_plain_parts}
@@ -83,11 +80,19 @@ module _ (script : Script) (index : ℕ) (clause : HornClause) (arena : IsArena 
       let counted = there_number (next_variable script.terms.nodes (top_of script clause) 0) legal_here.numbered in
       record {
         known = λ k s h. absurd (none k s h);
-        stage = inr (refl, inr (inr (inl (record {
-          lets = []; content = content_of clause; from = 0; to = counted.0; reads = reads; numbers = counted.1;
-          low = λ k s h. absurd (none k s h);
-          ahead = record { front = []; are = refl; long = refl };
-        }))));
+        stage = inr (
+          refl,
+          inr (inr (inl (record {
+            lets = [];
+            content = content_of clause;
+            from = 0;
+            to = counted.0;
+            reads = reads;
+            numbers = counted.1;
+            low = λ k s h. absurd (none k s h);
+            ahead = record { front = []; are = refl; long = refl };
+          }))),
+        );
       }
     where
       none : (k : ℕ) (s : Sort) → (parameters []).variables k ≡ Some s → ⊥
@@ -181,7 +186,7 @@ module _ (script : Script) (index : ℕ) (clause : HornClause) (arena : IsArena 
       let sorted = has_sort_is kind (sort_of script.preds script.terms.nodes part.term.0) both.0 in
       let laws = written script.preds script.terms.nodes (top_of script clause) [] clause.vars (λ v. v) (length clause.vars) arena legal_here start values have part.term.0 are.0.0 plain.0 in (
         value_sort script.preds script.terms.nodes arena part.term.0 laws.plain (environment_of values) laws.typed part.term.0
-        (sorted_there script.preds script.terms.nodes part.term.0 kind sorted) itself kind sorted,
+            (sorted_there script.preds script.terms.nodes part.term.0 kind sorted) itself kind sorted,
         tuple_sorted values have kinds args are.1 plain.1 both.1,
       )
 

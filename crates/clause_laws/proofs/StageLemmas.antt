@@ -4,7 +4,7 @@
 -- Quantifiers stand on the way of clauses alone, so the variables in scope are those of the clause that were met so far.
 use Rattle.std.proofs.Common.{◌≡◌, ℕ, zero, suc, ◌+◌, ◌-◌, ◌<◌, ◌≤◌, ◌==◌, List, [], ◌∷◌, ◌++◌, length, map, Bool, true, false, ◌||◌, ◌&&◌, inl, inr, refl, ap, sym, ◌∙◌, subst, arith, append_assoc, length-append}
 use Rattle.std.proofs.lemmas.Bool.Decides.{nat_tests}
-use Rattle.std.specs.Prelude.{slice_get, Option, Some, None, Result, Ok, Err, nat_lt, ◌⊎◌, if◌then◌else◌}
+use Rattle.std.specs.Prelude.{slice_get, Option, Some, None, Ok, Err, nat_lt, ◌⊎◌, if◌then◌else◌}
 use Rattle.std.specs.List.{list_all}
 use Rattle.std.proofs.lemmas.Bool.{eqb-true}
 use Rattle.term_tree.specs.declared.sort.Sort.{Sort}
@@ -19,7 +19,7 @@ use Rattle.term_tree.specs.Legal.{Scope, next_variable, node_numbers, numbers_th
 use Rattle.term_tree.specs.Subterms.{is_among, is_part}
 use Rattle.term_tree.proofs.Public.{arena_below, both_true, eqb_self, numbered_at}
 use Rattle.horn_shape.specs.Plain.{is_plain_term, node_is_plain}
-use Rattle.horn_shape.specs.Shape.{Content, Place, Reading, application, arguments, at, atom_of, body_form, body_reading, both, bound_over, clause_form, clause_reading, denial, disjunct_form, disjunct_reading, disjuncts, each, head_of, implication, is_application, quantified}
+use Rattle.horn_shape.specs.Shape.{Content, Reading, arguments, at, atom_of, body_form, body_reading, both, clause_form, clause_reading, denial, disjunct_form, disjunct_reading, disjuncts, each, head_of, implication, is_application, quantified}
 use Rattle.horn_shape.specs.machinery.Gathering.{place_of}
 use Rattle.horn_shape.proofs.FlagLemmas.{plain_at}
 use Rattle.horn_shape.proofs.BodyLemmas.{body_is, both_ok, bound_ok, chosen_ok, never_read, same_read}
@@ -307,10 +307,14 @@ module _ (nodes : List Node) (arena : IsArena nodes) (whole : List Sort) where
     implied_read k n m lets (id ∷ []) c part h numbers low ahead (inl same) =
         let number : id.0 ≡ part.id = sym (id_same part (spot_as Plain id) same) in
         inr (inr (inl (record {
-          lets = lets; content = c; from = n; to = m;
+          lets = lets;
+          content = c;
+          from = n;
+          to = m;
           reads = subst (λ (q : ℕ). clause_reading nodes q (place_of (term_id q) lets) ≡ Ok c) number h;
           numbers = subst (λ (q : ℕ). next_variable nodes q n ≡ Some m) number (one_through (next_variable nodes) id n m numbers);
-          low = low; ahead = ahead;
+          low = low;
+          ahead = ahead;
         })))
     implied_read k n m lets (id ∷ []) c part h numbers low ahead (inr none) = absurd none
     implied_read k n m lets (id ∷ next ∷ ids) c part h numbers low ahead listed =
@@ -333,7 +337,13 @@ module _ (nodes : List Node) (arena : IsArena nodes) (whole : List Sort) where
     denial_read body lets c n m part (Some (Exists first kinds inside_body)) is h numbers low ahead same =
         let read = quantified_ok kinds (at (body_reading nodes) lets inside_body) c h in
         inr (inr (inr (record {
-          lets = lets; content = read.0; from = n; to = m; first = first; sorts = kinds; body = inside_body;
+          lets = lets;
+          content = read.0;
+          from = n;
+          to = m;
+          first = first;
+          sorts = kinds;
+          body = inside_body;
           is = ap (slice_get nodes) same ∙ is;
           reads = read.1;
           numbers = ap (λ (q : ℕ). next_variable nodes q n) same ∙ numbers;
@@ -355,22 +365,32 @@ module _ (nodes : List Node) (arena : IsArena nodes) (whole : List Sort) where
         let next : AreNext whole n (kinds ++ read.0.vars) = record { front = ahead.front; are = ahead.are ∙ ap (λ (xs : List Sort). ahead.front ++ xs) read.2; long = ahead.long } in
         subst (λ (f : ℕ). IsRead nodes whole part (with_variables f kinds scope)) (sym at_first.0) (record {
           known = knows_more whole n kinds read.0.vars scope next known;
-          stage = inr (ap (λ (s : Spot). s.standing) same, inr (inr (inl (record {
-            lets = lets; content = read.0; from = n + length kinds; to = m;
-            reads = subst (λ (q : ℕ). clause_reading nodes q (place_of (term_id q) lets) ≡ Ok read.0) number read.1;
-            numbers = subst (λ (q : ℕ). next_variable nodes q (n + length kinds) ≡ Some m) number at_first.1;
-            low = low_more whole n kinds read.0.vars scope next low;
-            ahead = next_more whole n kinds read.0.vars scope next;
-          }))));
+          stage = inr (
+            ap (λ (s : Spot). s.standing) same,
+            inr (inr (inl (record {
+              lets = lets;
+              content = read.0;
+              from = n + length kinds;
+              to = m;
+              reads = subst (λ (q : ℕ). clause_reading nodes q (place_of (term_id q) lets) ≡ Ok read.0) number read.1;
+              numbers = subst (λ (q : ℕ). next_variable nodes q (n + length kinds) ≡ Some m) number at_first.1;
+              low = low_more whole n kinds read.0.vars scope next low;
+              ahead = next_more whole n kinds read.0.vars scope next;
+            }))),
+          );
         })
     clause_parts k n m lets c (Let bound body) part h numbers low ahead listed =
         let read = bound_ok (is_plain_term nodes) bound (at (clause_reading nodes) (lets ++ term_id k ∷ []) body) c h in
         let on = one_through (next_variable nodes) body n m (keep_then (next_variable nodes) bound (body ∷ []) n m (keep_args nodes arena bound read.0) numbers) in
         let_read bound body part read.0 (λ p same. inr (inr (inl (record {
-          lets = lets ++ term_id k ∷ []; content = c; from = n; to = m;
+          lets = lets ++ term_id k ∷ [];
+          content = c;
+          from = n;
+          to = m;
           reads = subst (λ (q : ℕ). clause_reading nodes q (place_of (term_id q) (lets ++ term_id k ∷ [])) ≡ Ok c) (sym (id_same p (spot_as Plain body) same)) read.1;
           numbers = subst (λ (q : ℕ). next_variable nodes q n ≡ Some m) (sym (id_same p (spot_as Plain body) same)) on;
-          low = low; ahead = ahead;
+          low = low;
+          ahead = ahead;
         })))) listed
     clause_parts k n m lets c (Op Implies args) part h numbers low ahead listed =
         record { known = known; stage = inr (mapped_standing Plain args part listed, implied_read k n m lets args c part h numbers low ahead listed) }
@@ -380,8 +400,10 @@ module _ (nodes : List Node) (arena : IsArena nodes) (whole : List Sort) where
         let same = one_spot body part listed in
         record {
           known = known;
-          stage = inr (ap (λ (s : Spot). s.standing) same,
-              denial_read body lets c n m part (slice_get nodes body.0) refl h (one_through (next_variable nodes) body n m numbers) low ahead (id_same part (spot_as Plain body) same));
+          stage = inr (
+            ap (λ (s : Spot). s.standing) same,
+            denial_read body lets c n m part (slice_get nodes body.0) refl h (one_through (next_variable nodes) body n m numbers) low ahead (id_same part (spot_as Plain body) same),
+          );
         }
     clause_parts k n m lets c _ part h numbers low ahead listed = never_read (term_id k) c h
 

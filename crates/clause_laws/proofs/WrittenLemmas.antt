@@ -1,9 +1,9 @@
 -- The variables and places of an assertion with a clause, or of a definition, and its points.
-use Rattle.std.proofs.Common.{◌≡◌, ℕ, zero, suc, ◌+◌, ◌<◌, ◌≤◌, ◌==◌, List, [], ◌∷◌, ◌++◌, length, map, take, Bool, true, false, inl, inr, refl, ap, sym, ◌∙◌, subst, arith}
-use Rattle.std.specs.Prelude.{slice_get, slice_index_or, filter, position, Option, Some, None, option_map, nat_lt, ℤ, pos, if◌then◌else◌}
-use Rattle.std.specs.List.{flat_map, list_all}
+use Rattle.std.proofs.Common.{◌≡◌, ℕ, zero, suc, ◌+◌, ◌<◌, ◌==◌, List, [], ◌∷◌, length, map, take, Bool, true, false, inl, inr, refl, ap, sym, ◌∙◌, subst, arith}
+use Rattle.std.specs.Prelude.{slice_get, filter, position, Some, option_map, nat_lt, ℤ, if◌then◌else◌}
+use Rattle.std.specs.List.{flat_map}
 use Rattle.std.specs.Ordering.{int_eq}
-use Rattle.std.proofs.lemmas.Bool.{cases_lt, eqb-true}
+use Rattle.std.proofs.lemmas.Bool.{eqb-true}
 use Rattle.std.proofs.lemmas.Bool.Decides.{nat_tests}
 use Rattle.term_tree.specs.declared.sort.Sort.{Sort}
 use Rattle.term_tree.specs.declared.sort.Sort.TheVariants.{Bool as BoolSort}
@@ -13,22 +13,21 @@ use Rattle.term_tree.specs.declared.node.Node.TheVariants.{Var}
 use Rattle.term_tree.specs.declared.scalar.Value.{Value}
 use Rattle.term_tree.specs.declared.scalar.Value.TheVariants.{Bool as Truth}
 use Rattle.term_tree.specs.Arena.{IsArena, has_parts_below}
-use Rattle.term_tree.specs.Legal.{IsLegal, Scope, is_scoped, parameters}
+use Rattle.term_tree.specs.Legal.{IsLegal, Scope, parameters}
 use Rattle.term_tree.specs.Operators.{truth as truth_of}
 use Rattle.term_tree.specs.Sorts.{has_sort, sort_of}
 use Rattle.term_tree.specs.Subterms.{IsSubterm, inside, itself}
-use Rattle.term_tree.specs.Truth.{HasSort, HaveSorts}
+use Rattle.term_tree.specs.Truth.{HaveSorts}
 use Rattle.term_tree.specs.Value.{environment_of, value_of}
-use Rattle.term_tree.proofs.Public.{arena_below, eqb_self, scoped_at, there_is}
+use Rattle.term_tree.proofs.Public.{arena_below, scoped_at, there_is}
 use Rattle.horn_shape.specs.Plain.{is_plain_term}
 use Rattle.horn_shape.proofs.Public.{plain_is}
 use Rattle.horn_shape.proofs.ScopeLemmas.{get_sorted, sort_is}
 use Rattle.lin_atoms.specs.Linear.{variable_at}
 use Rattle.lin_atoms.specs.Truth.{truth}
 use Rattle.linear_terms.specs.declared.standing.Spot.{Spot}
-use Rattle.linear_terms.specs.declared.standing.Standing.TheVariants.{Plain}
-use Rattle.linear_terms.specs.Text.{Sorting, has_auxiliary, inner, needs_one, node_spots, places, spots}
-use Rattle.linear_terms.specs.Linear.{Naming, naming_of}
+use Rattle.linear_terms.specs.Text.{Sorting, has_auxiliary, inner, needs_one, places, spots}
+use Rattle.linear_terms.specs.Linear.{Naming}
 use Rattle.linear_terms.specs.Meeting.{IsWritten, MeetsBelow, MeetsVariables, number, signed}
 use Rattle.linear_terms.specs.Place.{place_form}
 use Rattle.linear_terms.specs.Formula.{formula}

@@ -15,7 +15,7 @@ use Rattle.clause_form.specs.declared.atom.Atom.{Atom}
 use Rattle.clause_form.specs.declared.clause.Clause.{Clause}
 use Rattle.clause_normal.specs.Normal.{argument_variable, normal_atom}
 use Rattle.clause_normal.specs.machinery.Making.{IsThere}
-use Rattle.clause_laws.specs.Defined.{breaking_variables, breaking_wide, count_of, definition_at, definition_wide, first_wide_use, head_use, uses_of, variables_after}
+use Rattle.clause_laws.specs.Defined.{breaking_variables, breaking_wide, count_of, definition_at, definition_wide, first_wide_use, uses_of, variables_after}
 use Rattle.clause_defined.specs.machinery.Classes.{is_same_argument}
 
 -- the sum, or 2,049 where it is more

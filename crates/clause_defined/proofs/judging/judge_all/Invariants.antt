@@ -1,6 +1,5 @@
 use Rattle.std.proofs.Common.{◌≤◌, ◌+◌, length, drop}
 use Rattle.std.specs.List.{AllByRecursion}
-use Rattle.horn_shape.specs.declared.clause.AtomUse.{AtomUse}
 use Rattle.linear_terms.specs.Linear.{Naming}
 use Rattle.clause_defined.specs.machinery.Uses.{AreAtVariables, CanBeJudged, IsAtVariables, IsJudged, use_list}
 use Rattle.clause_defined.proofs.judging.judge_all.Given as goal

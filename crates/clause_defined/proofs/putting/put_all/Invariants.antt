@@ -1,4 +1,4 @@
-use Rattle.std.proofs.Common.{◌≡◌, ◌∷◌, ◌++◌, length, map, drop, Bool, true}
+use Rattle.std.proofs.Common.{◌≡◌, ◌∷◌, ◌++◌, length, map, drop, true}
 use Rattle.clause_form.specs.declared.atom.Atom.{Atom}
 use Rattle.clause_laws.specs.Defined.{head_use, use_forms, uses_of, variables_after}
 use Rattle.clause_defined.specs.machinery.Uses.{CanRestBePut}
