@@ -69,6 +69,12 @@ module _ (d : Definition) (sorts : List Sort) (is : IsFormula sorts d.terms.node
   sub_within : (id : ℕ) → IsSubterm d.terms.nodes d.body.0 id → id < length d.terms.nodes
   sub_within id sub = let most = subterm_most d.terms.nodes is.arena d.body.0 id sub in let there = body_there d sorts is in omega (arith, most, there)
 
+  -- the places by kept sorts
+  pub places_found : d.body.0 < 2 ^ 32 → (kinds : List (Option Sort)) → AreSorts [] d.terms.nodes kinds → places (sort_in kinds) d.terms.nodes d.body.0 ≡ definition_places d
+  places_found small kinds are =
+      placed_same (sort_in kinds) (definition_sorting d) d.terms.nodes is.arena (d.body.0 + 1) (λ id less. are id (omega (arith, less, small))) (d.body.0 + 1)
+      (record { id = d.body.0; standing = Plain }) (omega arith) (omega arith) (body_there d sorts is)
+
   -- what is kept of the terms is told of those of the definition
   module _ (small : d.body.0 < 2 ^ 32) (kinds : List (Option Sort)) (known : List (Option ℤ)) (are : AreSorts [] d.terms.nodes kinds) (kept : AreConstants d.terms.nodes known) where
     constants_kept : (q : ℕ) → IsSubterm d.terms.nodes d.body.0 q → q < length d.terms.nodes → constant_in known q ≡ constant_of d.terms.nodes q
@@ -78,11 +84,6 @@ module _ (d : Definition) (sorts : List Sort) (is : IsFormula sorts d.terms.node
 
     sorts_kept : (q : ℕ) → IsSubterm d.terms.nodes d.body.0 q → q < length d.terms.nodes → sort_in kinds q ≡ definition_sorting d q
     sorts_kept q sub within = let most = subterm_most d.terms.nodes is.arena d.body.0 q sub in are q (omega (arith, most, small))
-
-    pub places_kept : places (sort_in kinds) d.terms.nodes d.body.0 ≡ definition_places d
-    places_kept =
-        placed_same (sort_in kinds) (definition_sorting d) d.terms.nodes is.arena (d.body.0 + 1) (λ id less. are id (omega (arith, less, small))) (d.body.0 + 1)
-        (record { id = d.body.0; standing = Plain }) (omega arith) (omega arith) (body_there d sorts is)
 
     pub judged_kept : (naming : Naming) → first_wide_by (constant_in known) naming d.terms.nodes d.body.0 ≡ first_wide naming d.terms.nodes d.body.0
     judged_kept naming = judged_same (constant_in known) naming d.terms.nodes d.body.0 is.arena constants_kept (body_there d sorts is)
@@ -190,12 +191,12 @@ module _ (d : Definition) (sorts : List Sort) (is : IsFormula sorts d.terms.node
             subst (λ (n : Naming). ArePlaces (constant_in known) n d.terms.nodes first placed) (sym named)
             (subst (λ (ids : List ℕ). ArePlaces (constant_in known) (naming_at d args first) d.terms.nodes first ids) (sym are_placed) room_places)
 
-        pub forms_put : (sign : Bool) (old mid new : List Form) (form : Form) → mid ≡ old ++ place_forms_by (constant_in known) (sort_in kinds) naming d.terms.nodes first placed
-            → form ≡ formula_by (constant_in known) (sort_in kinds) naming d.terms.nodes d.body.0 sign → new ≡ mid ++ form ∷ [] → new ≡ old ++ definition_forms sign d args first
-        forms_put sign old mid new form places_made made pushed =
-            pushed ∙ ap (λ (fs : List Form). fs ++ form ∷ []) places_made
-            ∙ append_assoc old (place_forms_by (constant_in known) (sort_in kinds) naming d.terms.nodes first placed) (form ∷ [])
-            ∙ ap (λ (f : Form). old ++ (place_forms_by (constant_in known) (sort_in kinds) naming d.terms.nodes first placed ++ f ∷ [])) made
+        pub forms_put : (sign : Bool) (old new : List Form)
+            → new ≡ (old ++ place_forms_by (constant_in known) (sort_in kinds) naming d.terms.nodes first placed) ++ formula_by (constant_in known) (sort_in kinds) naming d.terms.nodes d.body.0 sign ∷ []
+            → new ≡ old ++ definition_forms sign d args first
+        forms_put sign old new made =
+            made
+            ∙ append_assoc old (place_forms_by (constant_in known) (sort_in kinds) naming d.terms.nodes first placed) (formula_by (constant_in known) (sort_in kinds) naming d.terms.nodes d.body.0 sign ∷ [])
             ∙ ap (λ (n : Naming). old ++ (place_forms_by (constant_in known) (sort_in kinds) n d.terms.nodes first placed ++ formula_by (constant_in known) (sort_in kinds) n d.terms.nodes d.body.0 sign ∷ [])) named
             ∙ ap (λ (ids : List ℕ). old ++ (place_forms_by (constant_in known) (sort_in kinds) (naming_at d args first) d.terms.nodes first ids
             ++ formula_by (constant_in known) (sort_in kinds) (naming_at d args first) d.terms.nodes d.body.0 sign ∷ [])) are_placed

@@ -1,8 +1,9 @@
 //! Whether every number in the definitions has room, and how many variables they have.
 
-ghost use Rattle.std.specs.Prelude.{◌≡◌, ◌<◌, ◌≤◌, ◌+◌, ◌∷◌, ℕ, List, Bool, None, Some, length, IfOk, OnOk, IsErrOf};
+ghost use Rattle.std.specs.Prelude.{◌≡◌, ◌≤◌, ◌+◌, [], ◌∷◌, ℕ, List, Bool, None, Some, length, IfOk, OnOk, IsErrOf};
 ghost use Rattle.linear_terms.specs.Linear.{Naming};
 ghost use Rattle.linear_terms.specs.Width.{first_wide};
+ghost use Rattle.term_tables.specs.machinery.Table.{AreConstants, AreSorts};
 ghost use Rattle.clause_form.specs.declared.atom.Atom.{Atom};
 ghost use Rattle.clause_normal.specs.Normal.{normal_atom};
 ghost use Rattle.clause_normal.specs.machinery.Making.{HasFirst};
@@ -11,11 +12,11 @@ ghost use Rattle.clause_defined.specs.machinery.Classes.{HaveClasses};
 ghost use Rattle.clause_defined.specs.machinery.Uses.{AreAtVariables, CanAllBeJudged, CanBeJudged, IsAtVariables, IsFormulaFor, IsJudged, capped, use_list};
 
 use crate::classes::classes_of;
-use clause_normal::{NormalStop, has_number, judged, tables_of};
+use crate::putting::definition_places;
+use clause_normal::{NormalStop, Tables, has_number, judged, tables_of};
 use horn_shape::{AtomUse, HornClause};
 use std::alloc::Global;
 use term_forms::nothing_read;
-use term_places::places;
 use term_tree::{Definition, Terms};
 use term_widths::apart_names;
 
@@ -35,11 +36,19 @@ fn capped(count: usize, more: usize) -> usize
     }
 }
 
-/// How many auxiliary variables the definition has, where every number in it has room at arguments of
-/// which those are the same that have the same class; or where the first term without room starts.
-fn judge_at(alloc: Global, definition: &Definition, classes: &[u32]) -> Result<usize, NormalStop>
-    requires { IsFormulaFor definition.now (length classes.now) }
-    ensures count { IfOk result (λ count. count ≡ length (definition_places definition.now)) }
+/// That every number in the definition has room at arguments of which those are the same that have the
+/// same class, or where the first term without room starts.
+fn judge_with(
+    alloc: Global,
+    definition: &Definition,
+    classes: &[u32],
+    tables: &Tables,
+    placed: &[u32],
+) -> Result<(), NormalStop>
+    requires formula { IsFormulaFor definition.now (length classes.now) }
+    requires sorts { AreSorts [] definition.now.terms.nodes tables.now.sorts }
+    requires constants { AreConstants definition.now.terms.nodes tables.now.constants }
+    requires placed { placed.now ≡ definition_places definition.now }
     ensures narrow { (args : List ℕ) (first : ℕ) → HaveClasses args first classes.now →
         OnOk result (first_wide (naming_at definition.now args first) definition.now.terms.nodes definition.now.body.0 ≡ None) }
     ensures wide { (args : List ℕ) (first offset : ℕ) → HaveClasses args first classes.now → IsErrOf result (NormalStop.TooWide offset) →
@@ -49,13 +58,28 @@ fn judge_at(alloc: Global, definition: &Definition, classes: &[u32]) -> Result<u
     let terms = &definition.terms;
     let body = definition.body;
     has_number(body);
-    terms.is_arena();
-    let tables = tables_of(alloc, &[], terms)?;
-    let placed = places(alloc, terms, &tables.sorts, body)?;
-    let names = apart_names(alloc, terms, classes, placed.as_slice())?;
+    let names = apart_names(alloc, terms, classes, placed)?;
     let mut known = nothing_read(alloc);
-    judged(alloc, terms, &tables, &names, &mut known, body)?;
-    Ok(placed.len())
+    judged(alloc, terms, tables, &names, &mut known, body)
+}
+
+/// The same, with how many auxiliary variables the definition has.
+fn judge_at(alloc: Global, definition: &Definition, classes: &[u32]) -> Result<usize, NormalStop>
+    requires { IsFormulaFor definition.now (length classes.now) }
+    ensures count { IfOk result (λ count. count ≡ length (definition_places definition.now)) }
+    ensures narrow { (args : List ℕ) (first : ℕ) → HaveClasses args first classes.now →
+        OnOk result (first_wide (naming_at definition.now args first) definition.now.terms.nodes definition.now.body.0 ≡ None) }
+    ensures wide { (args : List ℕ) (first offset : ℕ) → HaveClasses args first classes.now → IsErrOf result (NormalStop.TooWide offset) →
+        HasFirst (first_wide (naming_at definition.now args first) definition.now.terms.nodes definition.now.body.0) definition.now.terms.offsets offset }
+    ensures no_count { (offset : ℕ) → IsErrOf result (NormalStop.Count offset) → ⊥ }
+{
+    let tables = tables_of(alloc, &[], &definition.terms)?;
+    let placed = definition_places(alloc, definition, &tables)?;
+    let placed = placed.as_slice();
+    match judge_with(alloc, definition, classes, &tables, placed) {
+        Ok(()) => Ok(placed.len()),
+        Err(stop) => Err(stop),
+    }
 }
 
 /// The same of a predicate at its arguments.

@@ -1,7 +1,12 @@
 //! The formulas of definitions at the arguments of predicates.
 
-ghost use Rattle.std.specs.Prelude.{◌≡◌, ◌<◌, ◌≤◌, ◌+◌, ◌++◌, ◌∷◌, [], ℕ, None, length, IfOk, OnOk};
+ghost use Rattle.std.specs.Prelude.{◌≡◌, ◌<◌, ◌≤◌, ◌+◌, ◌^◌, ◌++◌, ◌∷◌, [], ℕ, List, None, length, IfOk, OnOk};
 ghost use Rattle.std.specs.List.{AllByRecursion};
+ghost use Rattle.term_tree.specs.declared.sort.Sort.{Sort};
+ghost use Rattle.term_tree.specs.Solution.{IsFormula};
+ghost use Rattle.term_tables.specs.machinery.Table.{AreSorts, constant_in, sort_in};
+ghost use Rattle.term_formulas.specs.Written.{HasRoom, formula_by, naming_by, place_forms_by};
+ghost use Rattle.term_formulas.specs.machinery.Parts.{ArePlaces};
 ghost use Rattle.linear_terms.specs.Width.{first_wide};
 ghost use Rattle.clause_form.specs.System.{most_variables};
 ghost use Rattle.clause_laws.specs.Defined.{breaking_form, breaking_variables, count_of, defined_forms, definition_at, definition_forms, definition_places, head_use, naming_at, use_forms, variables_after};
@@ -9,13 +14,73 @@ ghost use Rattle.clause_defined.specs.machinery.Uses.{CanAllBePut, CanBePut, Can
 
 use base::{Items, Memory};
 use clause_form::{Atom, Clause};
-use clause_normal::{conjunction, has_number, names_over, tables_of};
+use clause_normal::{Tables, conjunction, has_number, names_over, tables_of};
 use lin_atoms::Form;
 use std::alloc::Global;
-use term_forms::nothing_read;
+use term_forms::{Names, nothing_read};
 use term_formulas::{formula, place_forms};
 use term_places::places;
 use term_tree::Definition;
+
+/// The terms of the definition that have auxiliary variables.
+pub(crate) fn definition_places(
+    alloc: Global,
+    definition: &Definition,
+    tables: &Tables,
+) -> Result<Vec<u32>, Memory>
+    requires formula { (sorts : List Sort) × IsFormula sorts definition.now.terms.nodes definition.now.body.0 }
+    requires sorts { AreSorts [] definition.now.terms.nodes tables.now.sorts }
+    ensures { IfOk result (λ ids. ids.items ≡ definition_places definition.now) }
+{
+    has_number(definition.body);
+    let ids = places(alloc, &definition.terms, &tables.sorts, definition.body)?;
+    Ok(ids)
+}
+
+/// Puts the formulas of the definition's auxiliary variables, which are named, and that it is true, or
+/// false, behind other formulas.
+fn put_forms(
+    alloc: Global,
+    definition: &Definition,
+    tables: &Tables,
+    names: &Names,
+    placed: &[u32],
+    sign: bool,
+    next: u32,
+    out: &mut Items<Form>,
+) -> Result<(), Memory>
+    requires room { HasRoom (constant_in tables.now.constants) (naming_by names.now) definition.now.terms.nodes definition.now.body.0 }
+    requires places { ArePlaces (constant_in tables.now.constants) (naming_by names.now) definition.now.terms.nodes next placed.now }
+    requires end { next + length placed.now < 2 ^ 32 }
+    ensures { OnOk result (out.new ≡ (out.old ++ place_forms_by (constant_in tables.now.constants) (sort_in tables.now.sorts) (naming_by names.now) definition.now.terms.nodes next placed.now)
+        ++ formula_by (constant_in tables.now.constants) (sort_in tables.now.sorts) (naming_by names.now) definition.now.terms.nodes definition.now.body.0 sign ∷ []) }
+{
+    let terms = &definition.terms;
+    let mut known = nothing_read(alloc);
+    place_forms(
+        alloc,
+        terms,
+        &tables.sorts,
+        &tables.constants,
+        names,
+        &mut known,
+        next,
+        placed,
+        out,
+    )?;
+    let form = formula(
+        alloc,
+        terms,
+        &tables.sorts,
+        &tables.constants,
+        names,
+        &mut known,
+        definition.body,
+        sign,
+    )?;
+    out.push(form)?;
+    Ok(())
+}
 
 /// Puts that the definition is true at these arguments, or false, behind other formulas, with auxiliary
 /// variables from `next` on, and answers the number behind them.
@@ -34,38 +99,13 @@ fn put_definition(
     ensures forms { OnOk result (out.new ≡ out.old ++ definition_forms sign definition.now args.now next) }
     ensures next { IfOk result (λ after. after ≡ next + length (definition_places definition.now)) }
 {
-    let terms = &definition.terms;
-    let body = definition.body;
-    has_number(body);
-    terms.is_arena();
-    let tables = tables_of(alloc, &[], terms)?;
-    let placed = places(alloc, terms, &tables.sorts, body)?;
+    has_number(definition.body);
+    let tables = tables_of(alloc, &[], &definition.terms)?;
+    let placed = definition_places(alloc, definition, &tables)?;
     let placed = placed.as_slice();
     let own = Vec::from_slice(alloc, args)?;
     let names = names_over(alloc, own, next, placed)?;
-    let mut known = nothing_read(alloc);
-    place_forms(
-        alloc,
-        terms,
-        &tables.sorts,
-        &tables.constants,
-        &names,
-        &mut known,
-        next,
-        placed,
-        out,
-    )?;
-    let form = formula(
-        alloc,
-        terms,
-        &tables.sorts,
-        &tables.constants,
-        &names,
-        &mut known,
-        body,
-        sign,
-    )?;
-    out.push(form)?;
+    put_forms(alloc, definition, &tables, &names, placed, sign, next, out)?;
     Ok(next + placed.len() as u32)
 }
 
