@@ -3,3 +3,4 @@ mod ClassLemmas
 mod ClauseLemmas
 mod RoomLemmas
 mod UseLemmas
+mod WholeLemmas

@@ -74,7 +74,7 @@ rest_none : (a b : Option ℕ) → first_of_two a b ≡ None → b ≡ None
 rest_none None b h = h
 rest_none (Some k) b h = absurd (cc)
 
-at_least : (defs : List Definition) (uses : List (Atom × Bool)) (next : ℕ) → next ≤ variables_after defs uses next
+pub at_least : (defs : List Definition) (uses : List (Atom × Bool)) (next : ℕ) → next ≤ variables_after defs uses next
 at_least defs [] next = omega arith
 at_least defs (q ∷ uses) next = let rest = at_least defs uses (next + count_of (definition_at defs q.0)) in omega (arith, rest)
 

@@ -73,7 +73,8 @@ pub fn with_definitions(
     let top = assertion.term;
     let placed = auxiliaries(alloc, script, &tables, clause, top)?;
     let placed = placed.as_slice();
-    if judge_all(alloc, &script.terms, clause, placed.len(), defs)? > MOST_VARIABLES {
+    let count = judge_all(alloc, &script.terms, clause, placed.len(), defs)?;
+    if count > MOST_VARIABLES {
         return Err(NormalStop::Count {
             offset: assertion.offset,
         });
