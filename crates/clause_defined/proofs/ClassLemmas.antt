@@ -41,7 +41,7 @@ pub record IsFirst (numbers : List ℕ) (v : ℕ) : Type 0 where
   pub within : first_same numbers v < length numbers
   pub stands : (d : ℕ) → slice_index_or numbers (first_same numbers v) d ≡ v
 
-index_is : (xs : List ℕ) (i x d : ℕ) → slice_get xs i ≡ Some x → slice_index_or xs i d ≡ x
+pub index_is : (xs : List ℕ) (i x d : ℕ) → slice_get xs i ≡ Some x → slice_index_or xs i d ≡ x
 index_is [] i x d is = absurd (cc)
 index_is (y ∷ xs) zero x d is = cc
 index_is (y ∷ xs) (suc i) x d is = index_is xs i x d is
