@@ -22,7 +22,7 @@ use Rattle.sort_check.specs.Checked.{IsChecked}
 use Rattle.sort_check.specs.Properties.{IsLegalAssertion}
 use Rattle.sort_check.specs.Scripts.{AreAsserted}
 use Rattle.sort_check.proofs.GrowthLemmas.{legal_grows}
-use Rattle.sort_check.proofs.HeadLemmas.{term_within}
+use Rattle.sort_check.proofs.NodeLemmas.{term_within}
 use Rattle.sort_check.proofs.LegalLemmas.{IsSpelt, AreNext, script_next}
 use Rattle.sort_check.proofs.StateLemmas.{append_nothing}
 
