@@ -1,6 +1,15 @@
-//! Normal clauses by hand: a guard with bits, an argument with a variable of its own, and refusals
-//! in their order. They stand apart so that what they test is proved once.
+//! Normal clauses of whole scripts: shapes and limits with the places of refusals, guards by hand, and
+//! small clauses against the values of their terms. It has nothing but tests, and stands apart so that
+//! what it tests is proved once.
 #![tactic(auto)]
 
 #[cfg(test)]
-mod normal_tests;
+mod guards;
+#[cfg(test)]
+mod limits;
+#[cfg(test)]
+mod shapes;
+#[cfg(test)]
+mod texts;
+#[cfg(test)]
+mod values;
