@@ -1,5 +1,5 @@
 -- What is answered to the trees of a text.
-use Rattle.std.proofs.Common.{◌≡◌, ℕ, ◌≤◌, ◌^◌, List, length, ap, ◌∙◌}
+use Rattle.std.proofs.Common.{◌≡◌, ℕ, ◌<◌, ◌≤◌, ◌^◌, List, length, true, ap, sym, subst, ◌∙◌, arith}
 use Rattle.std.specs.Prelude.{Option, Some, None, Ok, Err}
 use Rattle.sexp_read.specs.declared.tree.Tree.{Tree}
 use Rattle.sexp_read.specs.declared.tree.TextStop.{TextStop}
@@ -19,7 +19,9 @@ use Rattle.chc_cli.specs.Clauses.{IsInputRefused, headed_system}
 use Rattle.chc_cli.specs.Clauses.IsInputRefused.{illegal}
 use Rattle.answer_text.specs.declared.answer.Answer.TheVariants.{Sat}
 use Rattle.answer_text.specs.Printable.{IsPrintable, IsAnswerText}
+use Rattle.chc_cli.specs.declared.headed.Headed.TheVariants.{All}
 use Rattle.chc_cli.specs.Headline.{IsSatAnswer}
+use Rattle.chc_cli.specs.machinery.Headed.{IsHeaded}
 use Rattle.chc_cli.specs.machinery.Model.{true_definitions}
 use Rattle.chc_cli.proofs.ModelLemmas.{printable, solves}
 
@@ -60,3 +62,22 @@ answered text commands script system printed arena is_script spelled legal kept 
   solution = solves script system arena legal kept read;
   answer = prints (printable script.preds);
 }
+
+-- what is read of a text without a refusal is read of its script
+whole_reading : (checked : Checked) (script : Script) (system : Clauses) → script ≡ checked.script → checked.stop ≡ None → headed_system checked ≡ Ok system
+    → headed_system (record { script = script; stop = None }) ≡ Ok system
+whole_reading checked script system same none read =
+    ap (λ (s : Script). headed_system (record { script = s; stop = None })) same ∙ sym (ap (λ (o : Option Refusal). headed_system (record { script = checked.script; stop = o })) none) ∙ read
+
+-- the answer to a text all of whose clauses have heads
+pub answered_all : (text : List ℕ) (trees : List Tree) (stop : Option TextStop) (checked : Checked) (script : Script) (printed : List ℕ) → length text ≤ 2 ^ 24 → IsReading text trees stop → IsChecked text trees stop checked
+    → IsArena checked.script.terms.nodes → IsLegalScript checked.script → IsHeaded checked (All script)
+    → (IsPrintable script.preds (Sat (true_definitions 0 script.preds)) → IsAnswerText script.preds (Sat (true_definitions 0 script.preds)) printed)
+    → IsSatAnswer text printed
+answered_all text trees stop checked script printed short reading h arena legal headed prints =
+    let same = headed.0 in
+    answered text h.commands script headed.2 printed (subst (λ (s : Script). IsArena s.terms.nodes) (sym same) arena) (finished text trees stop checked short reading headed.1 h)
+    (subst (IsScriptOf h.commands) (sym same) h.script) (subst IsLegalScript (sym same) legal) headed.3 (whole_reading checked script headed.2 same headed.1 headed.4) prints
+
+pub few_predicates : (checked : Checked) (script : Script) → IsHeaded checked (All script) → IsLegalScript checked.script → length script.preds < 2 ^ 32
+few_predicates checked script headed legal = let few = legal.few_preds in omega (arith, few, ap (λ (s : Script). length s.preds) headed.0)

@@ -1,5 +1,6 @@
 -- What is read of a text that is cut behind its first query is what is read of the whole text.
-use Rattle.std.proofs.Common.{◌≡◌, ℕ, zero, suc, ◌+◌, ◌<◌, ◌≤◌, List, [], ◌∷◌, length, Bool, true, false, refl, ap, sym, subst, ◌∙◌, arith}
+use Rattle.std.proofs.Common.{◌≡◌, ℕ, zero, suc, ◌+◌, ◌<◌, ◌≤◌, List, [], ◌∷◌, length, drop, get_or, Bool, true, false, refl, ap, sym, subst, ◌∙◌, arith}
+use Rattle.std.proofs.lemmas.List.{drop_all, drop_more}
 use Rattle.std.specs.Prelude.{slice_get, take, Option, Some, None, option_map, Result, Ok, Err, if◌then◌else◌}
 use Rattle.std.specs.Option.{is_some}
 use Rattle.std.specs.List.{AllByRecursion}
@@ -9,14 +10,16 @@ use Rattle.term_tree.specs.declared.refusal.Kind.TheVariants.{Count}
 use Rattle.term_tree.specs.declared.script.Assertion.{Assertion}
 use Rattle.term_tree.specs.declared.script.Script.{Script}
 use Rattle.horn_shape.specs.declared.clause.AtomUse.{AtomUse}
-use Rattle.horn_shape.specs.Clause.{IsLegalScript, assertion_reading}
+use Rattle.horn_shape.specs.declared.clause.HornClause.{HornClause}
+use Rattle.horn_shape.specs.Clause.{IsClauseOf, IsLegalScript, IsNotHornAt, assertion_reading}
 use Rattle.horn_shape.specs.Shape.{Content, Reading}
 use Rattle.clause_form.specs.declared.clause.Clause.{Clause}
-use Rattle.clause_form.specs.System.{Clauses}
+use Rattle.clause_form.specs.System.{Clauses, is_system}
 use Rattle.clause_normal.specs.Normal.{first_without_room, is_too_large, names_of, normal_atom, normal_clause}
 use Rattle.clause_normal.specs.Reading.{all_clauses, by_room, by_shape, clause_reading, clause_with, one_more, refusal_at, system_reading, unless_stopped}
+use Rattle.chc_cli.specs.declared.headed.Headed.TheVariants.{All}
 use Rattle.chc_cli.specs.Clauses.{headed_clauses, headed_system, unless_query}
-use Rattle.chc_cli.specs.machinery.Headed.{cut_at, has_head, queried, query_from, query_refusal, told_head, until, until_query}
+use Rattle.chc_cli.specs.machinery.Headed.{IsHeaded, cut_at, has_head, queried, query_from, query_refusal, told_head, until, until_query}
 use Rattle.chc_cli.proofs.SameLemmas.{get_take, same_reading}
 
 differ : {A : Type 0} {X : Type 0} (x : X) → None ≡ Some x → A
@@ -238,3 +241,56 @@ module _ (checked : Checked) where
 
   pub until_legal : IsLegalScript checked.script → IsLegalScript (until_query checked).script
   until_legal legal = legal_until (query_from checked.script 0 checked.script.asserts) legal
+
+-- what is found of one assertion
+module _ (script : Script) (index : ℕ) (a : Assertion) (there : slice_get script.asserts index ≡ Some a) where
+  pub clause_head : (clause : HornClause) → IsClauseOf script index clause → Some (is_some clause.head) ≡ has_head script a
+  clause_head clause is =
+      let own : a ≡ is.assertion = same_some a is.assertion (sym there ∙ is.there) in
+      sym (ap told_head (ap (assertion_reading script) own ∙ is.reading))
+
+  pub misfit_head : (offset : ℕ) → IsNotHornAt script index offset → None ≡ has_head script a
+  misfit_head offset is =
+      let own : a ≡ is.assertion = same_some a is.assertion (sym there ∙ is.there) in
+      sym (ap told_head (ap (assertion_reading script) own ∙ is.reading))
+
+-- the search for the query, one assertion further
+module _ (script : Script) (index : ℕ) (d : Assertion) (whole : Option ℕ) (less : index < length script.asserts) (so_far : query_from script index (drop index script.asserts) ≡ whole) where
+  here_is : queried (has_head script (get_or script.asserts index d)) index (query_from script (index + 1) (drop (index + 1) script.asserts)) ≡ whole
+  here_is = sym (ap (query_from script index) (drop_more script.asserts index d less)) ∙ so_far
+
+  by_head : (o : Option Bool) → has_head script (get_or script.asserts index d) ≡ o → queried o index (query_from script (index + 1) (drop (index + 1) script.asserts)) ≡ whole
+  by_head o is = sym (ap (λ (x : Option Bool). queried x index (query_from script (index + 1) (drop (index + 1) script.asserts))) is) ∙ here_is
+
+  pub query_on : has_head script (get_or script.asserts index d) ≡ Some true → query_from script (index + 1) (drop (index + 1) script.asserts) ≡ whole
+  query_on is = by_head (Some true) is
+
+  pub query_here : has_head script (get_or script.asserts index d) ≡ Some false → Some index ≡ whole
+  query_here is = by_head (Some false) is
+
+  pub query_lost : has_head script (get_or script.asserts index d) ≡ None → None ≡ whole
+  query_lost is = by_head None is
+
+pub query_over : (script : Script) (index : ℕ) (whole : Option ℕ) → length script.asserts ≤ index → query_from script index (drop index script.asserts) ≡ whole → None ≡ whole
+query_over script index whole past so_far = sym (ap (query_from script index) (drop_all script.asserts index past)) ∙ so_far
+
+-- the text that was cut, or wasn't
+pub cut_is : (checked : Checked) (found : Option ℕ) → found ≡ query_from checked.script 0 checked.script.asserts → until checked found ≡ until_query checked
+cut_is checked found is = ap (until checked) is
+
+pub cut_less : (checked : Checked) (index : ℕ) → Some index ≡ query_from checked.script 0 checked.script.asserts → index < length checked.script.asserts
+cut_less checked index is = (query_within checked.script 0 checked.script.asserts index (sym is)).1
+
+stop_is : (stop : Option Refusal) (script : Script) (r : Result (List Clause) Refusal) (system : Clauses) → unless_stopped stop script r ≡ Ok system → stop ≡ None
+stop_is stop script (Err refusal) system h = absurd (cc)
+stop_is None script (Ok clauses) system h = refl
+stop_is (Some refusal) script (Ok clauses) system h = absurd (cc)
+
+pub headed_all : (checked cut : Checked) (system : Clauses) → cut ≡ until_query checked → system_reading cut ≡ Ok system → is_system system ≡ true → IsHeaded checked (All cut.script)
+headed_all checked cut system is read kept =
+    let whole : system_reading (until_query checked) ≡ Ok system = ap system_reading (sym is) ∙ read in
+    let all : headed_system checked ≡ Ok system = until_reading checked ∙ whole in
+    (ap (λ (c : Checked). c.script) (is ∙ until_whole checked system whole), stop_is checked.stop checked.script (headed_clauses checked.script 0 checked.script.asserts) system all, system, kept, all)
+
+pub headed_refused : (checked cut : Checked) (refusal : Refusal) → cut ≡ until_query checked → system_reading cut ≡ Err refusal → headed_system checked ≡ Err refusal
+headed_refused checked cut refusal is read = until_reading checked ∙ ap system_reading (sym is) ∙ read
