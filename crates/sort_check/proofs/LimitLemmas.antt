@@ -1,5 +1,5 @@
 -- What legal commands declare and assert is within the limits.
-use Rattle.std.proofs.Common.{◌≡◌, ℕ, ◌+◌, ◌<◌, ◌≤◌, List, [], ◌∷◌, ◌++◌, length, ap, sym, subst, ◌∙◌, arith, length-append}
+use Rattle.std.proofs.Common.{◌≡◌, ℕ, suc, ◌+◌, ◌<◌, ◌≤◌, List, [], ◌∷◌, ◌++◌, length, ap, sym, subst, ◌∙◌, arith, length-append}
 use Rattle.std.proofs.lemmas.Grind.{flat_map-append}
 use Rattle.std.specs.Prelude.{Option, None}
 use Rattle.std.specs.List.{AllByRecursion, flat_map}
@@ -80,7 +80,7 @@ counted terms number assertions (Declare pred ∷ cs) h = counted terms (number 
 counted terms number assertions (CheckSat ∷ cs) h = counted terms (number + 1) assertions cs h
 counted terms number assertions (GetModel ∷ cs) h = counted terms (number + 1) assertions cs h
 counted terms number assertions (Exit ∷ cs) h = counted terms (number + 1) assertions cs h
-counted terms number assertions (Assert at term ∷ cs) h = ap length h.2 ∙ ap (λ (n : ℕ). n + 1) (counted terms (number + 1) h.1 cs h.6)
+counted terms number assertions (Assert at term ∷ cs) h = ap length h.2 ∙ ap (λ (n : ℕ). suc n) (counted terms (number + 1) h.1 cs h.6)
 
 -- a script declares no more than may be
 pub few_law : (text : List ℕ) (commands : List Command) → IsScript text commands → length (declared commands) ≤ most_predicates
