@@ -2,7 +2,7 @@
 use Rattle.std.proofs.Common.{◌≡◌, ℕ, zero, suc, ◌+◌, ◌<◌, List, [], ◌∷◌, length, map, Bool, true, false, refl, ap, sym, subst, ◌∙◌, arith}
 use Rattle.std.proofs.lemmas.List.{length-map}
 use Rattle.std.proofs.lemmas.Option.{slice_get_within}
-use Rattle.std.specs.Prelude.{slice_get, Option, Some, None, option_map, Result, Ok, Err, nat_le, if◌then◌else◌}
+use Rattle.std.specs.Prelude.{slice_get, Option, Some, None, option_map, Result, Ok, Err, if◌then◌else◌}
 use Rattle.std.specs.List.{list_all}
 use Rattle.std.specs.Option.{is_some}
 use Rattle.term_tree.specs.Arena.{IsArena}
@@ -25,9 +25,8 @@ use Rattle.horn_shape.specs.Instance.{GroundAtom, ground}
 use Rattle.horn_shape.specs.Shape.{Content, Reading}
 use Rattle.horn_shape.proofs.Public.{unbroken_solution}
 use Rattle.clause_form.specs.declared.clause.Clause.{Clause}
-use Rattle.clause_form.specs.System.{Clauses, are_clauses, has_arguments, is_atom, is_clause, is_head, is_system, most_variables}
+use Rattle.clause_form.specs.System.{Clauses, are_clauses, has_arguments, has_short_multiples, is_clause, is_head}
 use Rattle.lin_atoms.specs.Truth.{is_below}
-use Rattle.clause_form.specs.System.{has_short_multiples}
 use Rattle.clause_normal.specs.Normal.{first_without_room, is_too_large, names_of, normal_atom, normal_clause}
 use Rattle.clause_normal.specs.Reading.{by_room, by_shape, clause_reading, clause_with, one_more, refusal_at, unless_stopped}
 use Rattle.chc_cli.specs.Clauses.{headed_clauses, headed_system, unless_query}
@@ -46,7 +45,8 @@ module _ (script : Script) (index : ℕ) (a : Assertion) (clause : Clause) where
   asked (Err refusal) h = absurd (cc)
   asked (Ok c) h = by_head (is_some c.head) refl h
     where
-      by_head : (b : Bool) → is_some c.head ≡ b → (if b then Ok c else Err (refusal_at Unbuilt a.offset a)) ≡ Ok clause → (Ok c ≡ Ok clause) × (is_some clause.head ≡ true)
+      by_head : (b : Bool) → is_some c.head ≡ b → (if b then Ok c else Err (refusal_at Unbuilt a.offset a)) ≡ Ok clause
+          → ((let r : Result Clause Refusal = Ok c in r) ≡ Ok clause) × (is_some clause.head ≡ true)
       by_head true is e = let same : c ≡ clause = cc in (e, ap (λ (x : Clause). is_some x.head) (sym same) ∙ is)
       by_head false is e = absurd (cc)
 
@@ -81,11 +81,13 @@ each script index [] clauses h k a there = absurd (cc)
 each script index (b ∷ asserts) clauses h zero a there =
     let one = first_made (unless_query b (clause_reading script index b)) (headed_clauses script (index + 1) asserts) clauses h in
     let same : b ≡ a = cc in
-    (one.0, ap (λ (cs : List Clause). slice_get cs 0) one.4, subst (λ (n : ℕ). IsRead script n a one.0) (omega arith) (subst (λ (x : Assertion). IsRead script index x one.0) same (read script index b one.0 one.2)))
+    let number : index ≡ index + 0 = omega arith in
+    (one.0, ap (λ (cs : List Clause). slice_get cs 0) one.4, subst (λ (n : ℕ). IsRead script n a one.0) number (subst (λ (x : Assertion). IsRead script index x one.0) same (read script index b one.0 one.2)))
 each script index (b ∷ asserts) clauses h (suc k) a there =
     let one = first_made (unless_query b (clause_reading script index b)) (headed_clauses script (index + 1) asserts) clauses h in
     let rest = each script (index + 1) asserts one.1 one.3 k a there in
-    (rest.0, ap (λ (cs : List Clause). slice_get cs (suc k)) one.4 ∙ rest.1, subst (λ (n : ℕ). IsRead script n a rest.0) (omega arith) rest.2)
+    let number : index + 1 + k ≡ index + suc k = omega arith in
+    (rest.0, ap (λ (cs : List Clause). slice_get cs (suc k)) one.4 ∙ rest.1, subst (λ (n : ℕ). IsRead script n a rest.0) number rest.2)
 
 -- all of a list, at one place
 all_there : {X : Type 0} (test : X → Bool) (xs : List X) (k : ℕ) (x : X) → list_all test xs ≡ true → slice_get xs k ≡ Some x → test x ≡ true
@@ -101,11 +103,10 @@ arguments_there (Some sorts) args h = (sorts, refl)
 head_there : (preds : List (List Sort)) (clause : Clause) (pred : ℕ) (args : List ℕ) → is_clause preds clause ≡ true → clause.head ≡ Some (record { pred = pred; args = args }) → pred < length preds
 head_there preds clause pred args h is =
     let n : ℕ = length clause.sorts in
-    let a = both_true (nat_le clause.user n) _ h in
-    let b = both_true (nat_le n most_variables) _ a.1 in
-    let c = both_true (list_all (is_atom preds n) clause.atoms) _ b.1 in
-    let d = both_true (is_head preds n clause.head) _ c.1 in
-    let e = both_true (has_arguments (slice_get preds pred) args) _ (sym (ap (is_head preds n) is) ∙ d.0) in
+    let a = both_true _ (has_short_multiples clause.guard) h in
+    let b = both_true _ (is_below n clause.guard) a.0 in
+    let d = both_true _ (is_head preds n clause.head) b.0 in
+    let e = both_true (has_arguments (slice_get preds pred) args) _ (sym (ap (is_head preds n) is) ∙ d.1) in
     let there = arguments_there (slice_get preds pred) args e.0 in
     slice_get_within preds pred there.0 there.1
 
@@ -114,13 +115,14 @@ module _ (script : Script) (system : Clauses) (definitions : List Definition) (a
     (true_below : (pred : ℕ) (values : List Value) → pred < length script.preds → interpretation_of definitions pred values ≡ Truth true) where
   -- the clause of an assertion, and what is read of it
   at : (index : ℕ) (a : Assertion) → slice_get script.asserts index ≡ Some a → (clause : Clause) × (slice_get system.clauses index ≡ Some clause) × IsRead script index a clause
-  at index a there = let h = each script 0 script.asserts system.clauses made index a there in (h.0, h.1, subst (λ (n : ℕ). IsRead script n a h.0) (omega arith) h.2)
+  at index a there = let h = each script 0 script.asserts system.clauses made index a there in
+      let number : 0 + index ≡ index = omega arith in (h.0, h.1, subst (λ (n : ℕ). IsRead script n a h.0) number h.2)
 
   clause_there : (index : ℕ) (a : Assertion) → slice_get script.asserts index ≡ Some a → (clause : HornClause) × IsClauseOf script index clause
   clause_there index a there =
       let h = (at index a there).2 in (clause_with index h.content, record { assertion = a; there = there; reading = h.shape; number = refl })
 
-  same_content : (x y : Content) → Ok x ≡ Ok y → x ≡ y
+  same_content : (x y : Content) → (let r : Reading = Ok x in r) ≡ Ok y → x ≡ y
   same_content x y e = cc
 
   same_assertion : (x y : Assertion) → Some x ≡ Some y → x ≡ y
@@ -156,4 +158,7 @@ system_is script system h = by_clauses (headed_clauses script 0 script.asserts) 
   where
     by_clauses : (r : Result (List Clause) Refusal) → unless_stopped None script r ≡ Ok system → (r ≡ Ok system.clauses) × (system.preds ≡ map (λ (p : Pred). p.args) script.preds)
     by_clauses (Err refusal) e = absurd (cc)
-    by_clauses (Ok clauses) e = let same : record { clauses = clauses; preds = map (λ (p : Pred). p.args) script.preds } ≡ system = cc in (ap (λ (s : Clauses). Ok s.clauses) same, sym (ap (λ (s : Clauses). s.preds) same))
+    by_clauses (Ok clauses) e =
+        let all : Clauses = record { clauses = clauses; preds = map (λ (p : Pred). p.args) script.preds } in
+        let same : all ≡ system = cc in
+        (ap (λ (s : Clauses). Ok s.clauses) same, sym (ap (λ (s : Clauses). s.preds) same))

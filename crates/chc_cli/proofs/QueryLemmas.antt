@@ -191,8 +191,9 @@ module _ (checked : Checked) where
       let script = checked.script in
       let q = query_at script.asserts k (query_within script 0 script.asserts k found).1 in
       let cut : Script = record script { asserts = take (k + 1) script.asserts } in
-      stopped_by checked.stop (query_refusal q.0) script cut _ _
-      (subst (λ (n : ℕ). Ends (query_refusal q.0) (headed_clauses script 0 script.asserts) (all_clauses cut 0 (take n script.asserts))) (omega arith) (ends script k 0 k script.asserts q.0 found (omega arith) q.1))
+      let count : suc k ≡ k + 1 = omega arith in
+      stopped_by checked.stop (query_refusal q.0) script cut (headed_clauses script 0 script.asserts) (all_clauses cut 0 (take (k + 1) script.asserts))
+      (subst (λ (n : ℕ). Ends (query_refusal q.0) (headed_clauses script 0 script.asserts) (all_clauses cut 0 (take n script.asserts))) count (ends script k 0 k script.asserts q.0 found (omega arith) q.1))
       ∙ ap (λ (o : Option Refusal). unless_stopped o cut (all_clauses cut 0 cut.asserts)) (sym (ap (option_map query_refusal) q.1))
 
   by_found : (o : Option ℕ) → query_from checked.script 0 checked.script.asserts ≡ o → headed_system checked ≡ system_reading (until checked o)
@@ -272,7 +273,7 @@ module _ (script : Script) (index : ℕ) (d : Assertion) (whole : Option ℕ) (l
   query_lost is = by_head None is
 
 pub query_over : (script : Script) (index : ℕ) (whole : Option ℕ) → length script.asserts ≤ index → query_from script index (drop index script.asserts) ≡ whole → None ≡ whole
-query_over script index whole past so_far = sym (ap (query_from script index) (drop_all script.asserts index past)) ∙ so_far
+query_over script index whole past so_far = sym (ap (query_from script index) (drop_all index script.asserts past)) ∙ so_far
 
 -- the text that was cut, or wasn't
 pub cut_is : (checked : Checked) (found : Option ℕ) → found ≡ query_from checked.script 0 checked.script.asserts → until checked found ≡ until_query checked
