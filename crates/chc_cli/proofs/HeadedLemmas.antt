@@ -41,14 +41,14 @@ record IsRead (script : Script) (index : ℕ) (a : Assertion) (clause : Clause) 
   headed : is_some clause.head ≡ true
 
 module _ (script : Script) (index : ℕ) (a : Assertion) (clause : Clause) where
+  asked_head : (c : Clause) (b : Bool) → is_some c.head ≡ b → (let r : Result Clause Refusal = if b then Ok c else Err (refusal_at Unbuilt a.offset a) in r) ≡ Ok clause
+      → ((let r : Result Clause Refusal = Ok c in r) ≡ Ok clause) × (is_some clause.head ≡ true)
+  asked_head c true is e = let same : c ≡ clause = cc in (e, ap (λ (x : Clause). is_some x.head) (sym same) ∙ is)
+  asked_head c false is e = absurd (cc)
+
   asked : (r : Result Clause Refusal) → unless_query a r ≡ Ok clause → (r ≡ Ok clause) × (is_some clause.head ≡ true)
   asked (Err refusal) h = absurd (cc)
-  asked (Ok c) h = by_head (is_some c.head) refl h
-    where
-      by_head : (b : Bool) → is_some c.head ≡ b → (if b then Ok c else Err (refusal_at Unbuilt a.offset a)) ≡ Ok clause
-          → ((let r : Result Clause Refusal = Ok c in r) ≡ Ok clause) × (is_some clause.head ≡ true)
-      by_head true is e = let same : c ≡ clause = cc in (e, ap (λ (x : Clause). is_some x.head) (sym same) ∙ is)
-      by_head false is e = absurd (cc)
+  asked (Ok c) h = asked_head c (is_some c.head) refl h
 
   by_size : (content : Content) (b : Bool) (refusal : Refusal) → (if b then Err refusal else Ok (normal_clause script (clause_with index content))) ≡ Ok clause → normal_clause script (clause_with index content) ≡ clause
   by_size content true refusal h = absurd (cc)

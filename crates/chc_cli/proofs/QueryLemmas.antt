@@ -19,7 +19,7 @@ use Rattle.clause_normal.specs.Normal.{first_without_room, is_too_large, names_o
 use Rattle.clause_normal.specs.Reading.{all_clauses, by_room, by_shape, clause_reading, clause_with, one_more, refusal_at, system_reading, unless_stopped}
 use Rattle.chc_cli.specs.declared.headed.Headed.TheVariants.{All}
 use Rattle.chc_cli.specs.Clauses.{headed_clauses, headed_system, unless_query}
-use Rattle.chc_cli.specs.machinery.Headed.{IsHeaded, cut_at, has_head, queried, query_from, query_refusal, told_head, until, until_query}
+use Rattle.chc_cli.specs.machinery.Headed.{IsHeaded, cut_at, has_head, or_later, queried, query_from, query_refusal, told_head, until, until_query}
 use Rattle.chc_cli.proofs.SameLemmas.{get_take, same_reading}
 
 differ : {A : Type 0} {X : Type 0} (x : X) → None ≡ Some x → A
@@ -255,22 +255,21 @@ module _ (script : Script) (index : ℕ) (a : Assertion) (there : slice_get scri
       let own : a ≡ is.assertion = same_some a is.assertion (sym there ∙ is.there) in
       sym (ap told_head (ap (assertion_reading script) own ∙ is.reading))
 
--- the search for the query, one assertion further
-module _ (script : Script) (index : ℕ) (d : Assertion) (whole : Option ℕ) (less : index < length script.asserts) (so_far : query_from script index (drop index script.asserts) ≡ whole) where
-  here_is : queried (has_head script (get_or script.asserts index d)) index (query_from script (index + 1) (drop (index + 1) script.asserts)) ≡ whole
-  here_is = sym (ap (query_from script index) (drop_more script.asserts index d less)) ∙ so_far
+-- the search for the query, one assertion further: head is what was found of it, and step what that says
+module _ (script : Script) (index : ℕ) (d : Assertion) (whole : Option ℕ) (head : Option Bool) (step : Option (Option ℕ)) (less : index < length script.asserts)
+    (so_far : query_from script index (drop index script.asserts) ≡ whole) (is : head ≡ has_head script (get_or script.asserts index d))
+    (told_step : (later : Option ℕ) → or_later step later ≡ queried head index later) where
+  rest : Option ℕ
+  rest = query_from script (index + 1) (drop (index + 1) script.asserts)
 
-  by_head : (o : Option Bool) → has_head script (get_or script.asserts index d) ≡ o → queried o index (query_from script (index + 1) (drop (index + 1) script.asserts)) ≡ whole
-  by_head o is = sym (ap (λ (x : Option Bool). queried x index (query_from script (index + 1) (drop (index + 1) script.asserts))) is) ∙ here_is
+  here_is : or_later step rest ≡ whole
+  here_is = told_step rest ∙ ap (λ (o : Option Bool). queried o index rest) is ∙ sym (ap (query_from script index) (drop_more script.asserts index d less)) ∙ so_far
 
-  pub query_on : has_head script (get_or script.asserts index d) ≡ Some true → query_from script (index + 1) (drop (index + 1) script.asserts) ≡ whole
-  query_on is = by_head (Some true) is
+  pub query_on : step ≡ None → query_from script (index + 1) (drop (index + 1) script.asserts) ≡ whole
+  query_on none = sym (ap (λ (o : Option (Option ℕ)). or_later o rest) none) ∙ here_is
 
-  pub query_here : has_head script (get_or script.asserts index d) ≡ Some false → Some index ≡ whole
-  query_here is = by_head (Some false) is
-
-  pub query_lost : has_head script (get_or script.asserts index d) ≡ None → None ≡ whole
-  query_lost is = by_head None is
+  pub query_found : (found : Option ℕ) → step ≡ Some found → found ≡ whole
+  query_found found some = sym (ap (λ (o : Option (Option ℕ)). or_later o rest) some) ∙ here_is
 
 pub query_over : (script : Script) (index : ℕ) (whole : Option ℕ) → length script.asserts ≤ index → query_from script index (drop index script.asserts) ≡ whole → None ≡ whole
 query_over script index whole past so_far = sym (ap (query_from script index) (drop_all index script.asserts past)) ∙ so_far

@@ -28,7 +28,8 @@ pub fn answer_to(alloc: Global, read: &[u8]) -> Result<Answer, Memory>
     checked.script.terms.is_arena();
     scripts_are_within_limits();
     assertions_are_legal();
-    match read_headed(alloc, checked)? {
+    let headed = read_headed(alloc, checked)?;
+    match headed {
         Headed::Refused(refusal) => {
             let text = refusal_line(alloc, &refusal)?;
             Ok(Answer {

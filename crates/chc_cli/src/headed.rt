@@ -1,10 +1,10 @@
 //! The clauses of a checked text.
 
-ghost use Rattle.std.specs.Prelude.{◌≡◌, ◌<◌, length, slice_get, Some, IfOk};
+ghost use Rattle.std.specs.Prelude.{◌≡◌, ◌<◌, ℕ, Option, length, slice_get, Some, IfOk};
 ghost use Rattle.term_tree.specs.declared.script.Assertion.{Assertion as Asserted};
 ghost use Rattle.horn_shape.specs.Clause.{IsLegalScript};
 ghost use Rattle.horn_shape.specs.machinery.Flags.{ArePlainFlags};
-ghost use Rattle.chc_cli.specs.machinery.Headed.{IsHeaded, cut_at, has_head, query_from, query_refusal, until_query};
+ghost use Rattle.chc_cli.specs.machinery.Headed.{IsHeaded, cut_at, has_head, or_later, queried, query_from, query_refusal, until_query};
 
 use base::{Items, Memory};
 use clause_normal::{ClauseStop, read_clauses};
@@ -38,6 +38,17 @@ fn has_head(
     }
 }
 
+/// What is found at an assertion: itself, that there is none to look for behind it, or nothing yet.
+fn found_at(head: Option<bool>, index: usize) -> Option<Option<usize>>
+    ensures { (later : Option ℕ) → or_later result later ≡ queried head index later }
+{
+    match head {
+        None => Some(None),
+        Some(true) => None,
+        Some(false) => Some(Some(index)),
+    }
+}
+
 /// The first assertion whose clause has no head, where all before it have a clause.
 fn first_query(alloc: Global, script: &Script) -> Result<Option<usize>, Memory>
     requires { IsLegalScript script.now }
@@ -45,10 +56,9 @@ fn first_query(alloc: Global, script: &Script) -> Result<Option<usize>, Memory>
 {
     let plain = PlainTerms::of(alloc, &script.terms)?;
     for index in 0..script.asserts.len() {
-        match has_head(alloc, script, &plain, index)? {
-            None => return Ok(None),
-            Some(false) => return Ok(Some(index)),
-            Some(true) => (),
+        let head = has_head(alloc, script, &plain, index)?;
+        if let Some(found) = found_at(head, index) {
+            return Ok(found);
         }
     }
     Ok(None)
@@ -87,7 +97,8 @@ fn until_query(alloc: Global, checked: Checked) -> Result<Checked, Memory>
     requires { IsLegalScript checked.script }
     ensures { IfOk result (λ cut. cut ≡ until_query checked) }
 {
-    match first_query(alloc, &checked.script)? {
+    let found = first_query(alloc, &checked.script)?;
+    match found {
         None => Ok(checked),
         Some(index) => cut(alloc, checked, index),
     }
@@ -99,11 +110,11 @@ pub fn read_headed(alloc: Global, checked: Checked) -> Result<Headed, Memory>
     requires { IsLegalScript checked.script }
     ensures { IfOk result (IsHeaded checked) }
 {
-    let checked = until_query(alloc, checked)?;
-    match read_clauses(alloc, &checked) {
+    let cut = until_query(alloc, checked)?;
+    match read_clauses(alloc, &cut) {
         Ok(system) => {
             let _clauses = system.clauses();
-            Ok(Headed::All(checked.script))
+            Ok(Headed::All(cut.script))
         }
         Err(ClauseStop::Refused(refusal)) => Ok(Headed::Refused(refusal)),
         Err(ClauseStop::Memory) => Err(Memory),

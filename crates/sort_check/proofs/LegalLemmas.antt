@@ -1,5 +1,5 @@
 -- What is known of the commands of a script, each after those before it.
-use Rattle.std.proofs.Common.{◌≡◌, ℕ, ◌+◌, ◌<◌, ◌≤◌, List, [], ◌∷◌, ◌++◌, length, Bool, true, false, not, ◌&&◌, refl, sym, ap, subst, ◌∙◌, arith, length-append}
+use Rattle.std.proofs.Common.{◌≡◌, ℕ, ◌<◌, ◌≤◌, List, [], ◌∷◌, ◌++◌, length, Bool, true, false, not, ◌&&◌, refl, sym, ap, subst, ◌∙◌, arith}
 use Rattle.std.proofs.lemmas.List.{length-map}
 use Rattle.std.specs.Prelude.{Option, None, Some, Result, Ok, Err, codes, if◌then◌else◌}
 use Rattle.std.specs.List.{list_any, list_all}
@@ -16,9 +16,9 @@ use Rattle.term_check.specs.Rules.{fault, unless, same_sort}
 use Rattle.term_check.specs.Spelling.{Spelled, spelled, is_word, ◌>>=◌, scope_of, sort_named, sort_or_bool}
 use Rattle.term_check.specs.Term.{Term}
 use Rattle.term_check.proofs.Public.{bind_ok, unless_ok}
-use Rattle.sort_check.specs.Commands.{Command, command, listed, worded, plain, set_logic_fault, inform_fault, alone_fault, declaration, declaration_fault, declare_listed, declare_function, declare_constant, predicate_named, assertion, assert_fault, assert_term, asserted, bool_fault, declared, most_arguments, most_assertions, most_predicates, sorts_named, is_check_sat, is_exit, is_inform, is_set_logic}
+use Rattle.sort_check.specs.Commands.{Command, command, listed, worded, plain, set_logic_fault, inform_fault, alone_fault, declaration, declaration_fault, declare_listed, declare_function, declare_constant, predicate_named, assertion, assert_fault, assert_term, asserted, bool_fault, declared, most_arguments, most_assertions, most_predicates, is_check_sat, is_exit, is_inform, is_set_logic}
 use Rattle.sort_check.specs.Commands.Command.{SetLogic, Inform, Declare, Assert, CheckSat, GetModel, Exit}
-use Rattle.sort_check.specs.Scripts.{IsScript, Outcome, outcome, stops, after, end_fault}
+use Rattle.sort_check.specs.Scripts.{Outcome, outcome, stops, after, end_fault}
 use Rattle.sort_check.proofs.RuleLemmas.{asserted_facts, declared_facts}
 
 -- a tree spells the term over the predicates that are declared, and the term is Bool

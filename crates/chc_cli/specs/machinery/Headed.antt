@@ -27,6 +27,11 @@ queried None index later = None
 queried (Some true) index later = later
 queried (Some false) index later = Some index
 
+-- what is found here, or later
+abbrev pub or_later : Option (Option ℕ) → Option ℕ → Option ℕ
+or_later None later = later
+or_later (Some found) later = found
+
 -- the first of these assertions whose clause has no head, if all before it have a clause
 abbrev pub query_from : Script → ℕ → List Assertion → Option ℕ
 query_from script index [] = None
