@@ -108,6 +108,9 @@ query_within script index (a ∷ asserts) k is = by_has (has_head script a) (que
     by_has (Some true) later e = let rest = later e in (omega (arith, rest.0), omega (arith, rest.1))
     by_has (Some false) later e = let same : index ≡ k = same_some index k e in (omega (arith, same), omega (arith, same))
 
+query_among : (script : Script) (k : ℕ) → query_from script 0 script.asserts ≡ Some k → k < length script.asserts
+query_among script k is = let less = (query_within script 0 script.asserts k is).1 in omega (arith, less)
+
 -- how the reading with heads ends, and that of the assertions up to the query
 data Ends (query : Refusal) (whole up_to : Result (List Clause) Refusal) : Type 0 where
   early : (refusal : Refusal) → whole ≡ Err refusal → up_to ≡ Err refusal → Ends query whole up_to
@@ -189,7 +192,7 @@ module _ (checked : Checked) where
   cut_reading : (k : ℕ) → query_from checked.script 0 checked.script.asserts ≡ Some k → headed_system checked ≡ system_reading (cut_at checked k)
   cut_reading k found =
       let script = checked.script in
-      let q = query_at script.asserts k (query_within script 0 script.asserts k found).1 in
+      let q = query_at script.asserts k (query_among script k found) in
       let cut : Script = record script { asserts = take (k + 1) script.asserts } in
       let count : suc k ≡ k + 1 = omega arith in
       stopped_by checked.stop (query_refusal q.0) script cut (headed_clauses script 0 script.asserts) (all_clauses cut 0 (take (k + 1) script.asserts))
@@ -212,7 +215,7 @@ module _ (checked : Checked) where
   by_whole : (system : Clauses) (o : Option ℕ) → query_from checked.script 0 checked.script.asserts ≡ o → system_reading (until checked o) ≡ Ok system → until checked o ≡ checked
   by_whole system None none h = refl
   by_whole system (Some k) found h =
-      let q = query_at checked.script.asserts k (query_within checked.script 0 checked.script.asserts k found).1 in
+      let q = query_at checked.script.asserts k (query_among checked.script k found) in
       absurd (some_stop (slice_get checked.script.asserts k) (cut_at checked k).script _ system q.0 q.1 h)
 
   -- where a system is read, there is no query
@@ -259,7 +262,7 @@ module _ (script : Script) (index : ℕ) (a : Assertion) (there : slice_get scri
 module _ (script : Script) (index : ℕ) (d : Assertion) (whole : Option ℕ) (head : Option Bool) (step : Option (Option ℕ)) (less : index < length script.asserts)
     (so_far : query_from script index (drop index script.asserts) ≡ whole) (is : head ≡ has_head script (get_or script.asserts index d))
     (told_step : (later : Option ℕ) → or_later step later ≡ queried head index later) where
-  rest : Option ℕ
+  abbrev rest : Option ℕ
   rest = query_from script (index + 1) (drop (index + 1) script.asserts)
 
   here_is : or_later step rest ≡ whole
@@ -279,7 +282,7 @@ pub cut_is : (checked : Checked) (found : Option ℕ) → found ≡ query_from c
 cut_is checked found is = ap (until checked) is
 
 pub cut_less : (checked : Checked) (index : ℕ) → Some index ≡ query_from checked.script 0 checked.script.asserts → index < length checked.script.asserts
-cut_less checked index is = (query_within checked.script 0 checked.script.asserts index (sym is)).1
+cut_less checked index is = query_among checked.script index (sym is)
 
 stop_is : (stop : Option Refusal) (script : Script) (r : Result (List Clause) Refusal) (system : Clauses) → unless_stopped stop script r ≡ Ok system → stop ≡ None
 stop_is stop script (Err refusal) system h = absurd (cc)

@@ -10,7 +10,7 @@ pub read_clauses-requires : goal.read_clauses-requires
 read_clauses-requires c = subst (λ (x : Checked). IsLegalScript x.script) (sym c.in_ok-cut.ensures) (until_legal c.args.checked c.requires)
 
 pub returns-in-Ok : goal.returns-in-Ok
-returns-in-Ok c = headed_all c.args.checked c.in_ok-cut.cut c.in-Ok.system c.in_ok-cut.ensures c.in-Ok.ensures.made c.clauses.ensures.legal
+returns-in-Ok c = headed_all c.args.checked c.in_ok-cut.cut c.in-Ok.system c.in_ok-cut.ensures c.in-Ok.ensures.made c.clauses-clauses.ensures.legal
 
 pub returns-in-Err-Refused : goal.returns-in-Err-Refused
 returns-in-Err-Refused c =
