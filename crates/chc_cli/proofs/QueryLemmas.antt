@@ -166,7 +166,7 @@ module _ (script : Script) (k : ℕ) where
 
     by_has : (n : ℕ) (o : Option Bool) → has_head script a ≡ o → queried o index (query_from script (index + 1) asserts) ≡ Some k → k ≡ index + n → slice_get (a ∷ asserts) n ≡ Some query
         → ((m : ℕ) → query_from script (index + 1) asserts ≡ Some k → k ≡ index + 1 + m → slice_get asserts m ≡ Some query
-          → Ends (query_refusal query) (headed_clauses script (index + 1) asserts) (all_clauses shorter (index + 1) (take (suc m) asserts)))
+        → Ends (query_refusal query) (headed_clauses script (index + 1) asserts) (all_clauses shorter (index + 1) (take (suc m) asserts)))
         → Ends (query_refusal query) (headed_clauses script index (a ∷ asserts)) (all_clauses shorter index (take (suc n) (a ∷ asserts)))
     by_has n None is found at there rest = differ k found
     by_has n (Some true) is found at there rest = later n is (query_within script (index + 1) asserts k found).0 at there (λ m. rest m found)

@@ -67,10 +67,7 @@ fn clauses_with_heads_are_answered(rt: HostRuntime) -> Result<(), Fail> {
 
 /// What stands in front of so many variables and behind them.
 fn quantified(alloc: Global, variables: usize, body: &str) -> Result<String, Fail> {
-    let mut text = String::from_str(
-        alloc,
-        "P§(assert (forall (",
-    )?;
+    let mut text = String::from_str(alloc, "P§(assert (forall (")?;
     for i in 0..variables {
         let one = format!(in alloc; "(x{i} Int)")?;
         text.push_str(one.as_str())?;
@@ -117,7 +114,14 @@ fn a_clause_has_at_most_1024_variables_of_its_own(rt: HostRuntime) -> Result<(),
     let over = quantified(a, 1025, "(p 0)")?;
     check_one(&rt, a, "1,025 variables", over.as_str(), 1, COUNT)?;
     let query = quantified(a, 1025, "(not (p 0))")?;
-    check_one(&rt, a, "a query of 1,025 variables", query.as_str(), 1, COUNT)
+    check_one(
+        &rt,
+        a,
+        "a query of 1,025 variables",
+        query.as_str(),
+        1,
+        COUNT,
+    )
 }
 
 #[test]
@@ -133,7 +137,21 @@ fn a_clause_has_at_most_64_body_atoms(rt: HostRuntime) -> Result<(), Fail> {
 fn a_clause_has_at_most_2048_variables_in_all(rt: HostRuntime) -> Result<(), Fail> {
     let a = rt.alloc();
     let most = implied(a, 2047, " (< (abs x) 9)")?;
-    check_one(&rt, a, "2,048 variables with auxiliary ones", most.as_str(), 0, TRUE)?;
+    check_one(
+        &rt,
+        a,
+        "2,048 variables with auxiliary ones",
+        most.as_str(),
+        0,
+        TRUE,
+    )?;
     let over = implied(a, 2048, " (< (abs x) 9)")?;
-    check_one(&rt, a, "2,049 variables with auxiliary ones", over.as_str(), 1, COUNT)
+    check_one(
+        &rt,
+        a,
+        "2,049 variables with auxiliary ones",
+        over.as_str(),
+        1,
+        COUNT,
+    )
 }

@@ -46,7 +46,11 @@ fn told(alloc: Global, text: &[u8]) -> Result<String, Memory>
 /// ends in.
 fn clause_told(alloc: Global, clause: &Clause) -> Result<String, Memory> {
     let (user, all, atoms) = (clause.user, clause.sorts.len(), clause.atoms.len());
-    let ends = if clause.head.is_some() { "head" } else { "false" };
+    let ends = if clause.head.is_some() {
+        "head"
+    } else {
+        "false"
+    };
     Ok(format!(in alloc; "{user} {all} {atoms} {ends};")?)
 }
 

@@ -10,7 +10,7 @@ ghost use Rattle.sort_check.specs.Scripts.{IsScriptOf, end_fault, refusal_at};
 ghost use Rattle.sort_check.specs.machinery.State.{IsState, Took};
 
 use crate::declaration::{declaration_fault, predicate_named};
-use crate::rules::{alone_fault, assert_fault, inform_fault, set_logic_fault, bool_fault};
+use crate::rules::{alone_fault, assert_fault, bool_fault, inform_fault, set_logic_fault};
 use base::{Items, Memory};
 use sexp_read::Tree;
 use std::alloc::Global;

@@ -26,7 +26,7 @@ returns-in_ok-text-in-All c =
     let checked = c.in_ok-checked.checked in
     let script = c.in-All.script in
     let legal = legal_script checked (c.assertions_are_legal.ensures c.args.read.now found.0 found.1 checked c.is_arena.ensures.arena found.3)
-        (c.scripts_are_within_limits.ensures c.args.read.now found.0 found.1 checked found.3) in
+    (c.scripts_are_within_limits.ensures c.args.read.now found.0 found.1 checked found.3) in
     answered_all c.args.read.now found.0 found.1 checked script c.in_ok-text-in-All.text.items c.requires found.2 found.3 c.is_arena.ensures.arena legal
     (subst (IsHeaded checked) c.in-All.is c.in_ok-headed.ensures)
     (subst (λ (d : List Definition). IsPrintable script.preds (Sat d) → IsAnswerText script.preds (Sat d) c.in_ok-text-in-All.text.items) (c.in_ok-definitions-in-All.ensures ∙ ap (true_definitions 0) c.as_slice.ensures) c.in_ok-text-in-All.ensures.spelling)
@@ -36,6 +36,6 @@ all_true-requires c =
     let found = c.in_ok-checked.ensures in
     let checked = c.in_ok-checked.checked in
     let legal = legal_script checked (c.assertions_are_legal.ensures c.args.read.now found.0 found.1 checked c.is_arena.ensures.arena found.3)
-        (c.scripts_are_within_limits.ensures c.args.read.now found.0 found.1 checked found.3) in
+    (c.scripts_are_within_limits.ensures c.args.read.now found.0 found.1 checked found.3) in
     let few = few_predicates checked c.in-All.script (subst (IsHeaded checked) c.in-All.is c.in_ok-headed.ensures) legal in
     omega (arith, few, ap length c.as_slice.ensures)
