@@ -147,23 +147,23 @@ module _ (C : ℕ → Option ℤ) (naming : Naming) (nodes : List Node) (id : �
       ∙ sym (linear_at C (without naming id) nodes k k node is below)
 
   own_free : (node : Node) → slice_get nodes id ≡ Some node → is_unit_node (Some node) ≡ false → form_by C naming nodes id ≡ form_by C (without naming id) nodes id
-  own_free node is no =
+  own_free node is plain =
       let below : has_parts_below id node ≡ true = arena_below nodes id node arena is in
       linear_at C naming nodes id id node is below
-      ∙ node_free C naming (told_linear C naming nodes) (told_linear C (without naming id) nodes) node id no
+      ∙ node_free C naming (told_linear C naming nodes) (told_linear C (without naming id) nodes) node id plain
       (λ part has. let smaller : part < id = part_below part id node below has in earlier_same id part smaller smaller)
       ∙ sym (linear_at C (without naming id) nodes id id node is below)
 
 pub own_apart : (constant : ℕ → Option ℤ) (naming : Naming) (nodes : List Node) (v id : ℕ) → IsArena nodes → HasRoom constant naming nodes id → IsFresh nodes naming v id
     → is_unit_node (slice_get nodes id) ≡ false → IsApart v (form_by constant naming nodes id)
-own_apart constant naming nodes v id arena room fresh no =
+own_apart constant naming nodes v id arena room fresh plain =
     let found = there_is nodes id room.there in
     let node : Node = found.0 in
     let is : slice_get nodes id ≡ Some node = found.1 in
     let same : form_by constant naming nodes id ≡ linear_of naming nodes id =
     forms_same constant (constant_of nodes) naming nodes id arena (λ q sub within. room.constants q sub within) (id + 1) id (omega arith) room.there itself in
     let free : linear_of naming nodes id ≡ linear_of (without naming id) nodes id =
-    own_free (constant_of nodes) naming nodes id arena room.there node is (sym (ap is_unit_node is) ∙ no) in
+    own_free (constant_of nodes) naming nodes id arena room.there node is (sym (ap is_unit_node is) ∙ plain) in
     let names : lin_all (λ u. not (u == v)) (linear_of (without naming id) nodes id) ≡ true =
     only_names nodes id (without naming id) (λ u. not (u == v)) arena (λ u no_more. record {
       own = λ binder occurs named. fresh.apart binder occurs (named ∙ is_same u v no_more);

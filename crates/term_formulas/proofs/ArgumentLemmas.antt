@@ -1,7 +1,6 @@
 -- The arguments of an operation, one after the other.
-use Rattle.std.proofs.Common.{◌≡◌, ℕ, zero, suc, ◌+◌, ◌-◌, ◌<◌, ◌≤◌, List, [], ◌∷◌, ◌++◌, length, map, take, drop, get_or, Bool, true, false, not, ◌&&◌, ◌||◌, ◌==◌, refl, ap, sym, ◌∙◌, subst, append_assoc, arith}
-use Rattle.std.specs.Prelude.{ℤ, Option, Some, IsTrue, slice_get, if◌then◌else◌}
-use Rattle.std.specs.List.{list_any}
+use Rattle.std.proofs.Common.{◌≡◌, ℕ, zero, suc, ◌+◌, ◌-◌, ◌<◌, ◌≤◌, List, [], ◌∷◌, ◌++◌, length, map, take, drop, get_or, Bool, true, false, not, ◌||◌, ◌==◌, refl, ap, sym, ◌∙◌, subst, append_assoc, arith}
+use Rattle.std.specs.Prelude.{ℤ, Option, Some, IsTrue, slice_get}
 use Rattle.std.proofs.lemmas.List.{drop_more, map-append, take_all, take_more}
 use Rattle.term_tree.specs.declared.node.TermId.{TermId}
 use Rattle.term_tree.specs.declared.node.OpKind.{OpKind}
@@ -13,7 +12,7 @@ use Rattle.term_tree.proofs.Public.{eqb_self}
 use Rattle.lin_atoms.specs.Linear.{Linear}
 use Rattle.lin_atoms.specs.declared.form.Form.{Form}
 use Rattle.lin_atoms.specs.declared.form.Form.TheVariants.{False}
-use Rattle.linear_terms.specs.Linear.{Naming, less, variable_form}
+use Rattle.linear_terms.specs.Linear.{Naming, less}
 use Rattle.linear_terms.specs.Text.{Sorting, are_truths}
 use Rattle.linear_terms.specs.Formula.{Reading, comparison, denied, eq, implied, is_distinct, neighbours, operation, related, sides}
 use Rattle.linear_terms.specs.Place.{integer_place}

@@ -1,11 +1,10 @@
 -- Which forms have room.
 use Rattle.std.proofs.Common.{◌≡◌, ℕ, ◌+◌, ◌*◌, ◌<◌, ◌≤◌, ◌^◌, List, [], ◌∷◌, ◌++◌, length, Bool, true, false, ◌&&◌, inl, inr, refl, ap, sym, ◌∙◌, subst, arith}
-use Rattle.std.specs.Prelude.{ℤ, pos, negsuc, neg_ℤ, nat_abs, nat_le, nat_lt, not, ◌+ℤ◌, ◌*ℤ◌, ◌==◌, if◌then◌else◌}
-use Rattle.std.specs.List.{list_all}
+use Rattle.std.specs.Prelude.{ℤ, pos, negsuc, neg_ℤ, nat_abs, nat_le, ◌+ℤ◌, ◌*ℤ◌, ◌==◌, if◌then◌else◌}
 use Rattle.std.proofs.lemmas.Int.{ints}
 use Rattle.std.proofs.lemmas.Bool.{cases_eq, leb-true, ltb-true, lt-ltb}
 use Rattle.lin_atoms.specs.Linear.{Linear, are_ordered, are_short, fits, is_long, is_short, sum_at, variable_at}
-use Rattle.lin_atoms.specs.Algebra.{added, are_within, collected, negated, negated_terms, plus, scaled, term_on}
+use Rattle.lin_atoms.specs.Algebra.{added, are_within, collected, negated_terms, plus, scaled, term_on}
 use Rattle.base.proofs.Public.{neg_ℤ-*ℤ}
 use Rattle.lin_atoms.proofs.Public.{both_true, value_at-negated, within-collected}
 use Rattle.lin_atoms.proofs.TermLemmas.{sum_at-term_on}

@@ -1,12 +1,12 @@
 -- What has room, part by part.
-use Rattle.std.proofs.Common.{◌≡◌, ℕ, zero, suc, ◌<◌, ◌==◌, ◌+◌, List, [], ◌∷◌, ◌++◌, length, map, Bool, true, false, ◌||◌, ◌&&◌, refl, ap, sym, ◌∙◌, arith}
+use Rattle.std.proofs.Common.{◌≡◌, ℕ, zero, suc, ◌<◌, ◌==◌, List, [], ◌∷◌, ◌++◌, length, map, Bool, true, false, ◌||◌, ◌&&◌, refl, ap, sym, ◌∙◌, arith}
 use Rattle.std.specs.Prelude.{slice_get, Option, Some, None, nat_lt, ℤ, pos, negsuc, nat_abs, unwrap_or, ◌*ℤ◌, ◌<ℤ◌, int_lt, if◌then◌else◌}
 use Rattle.std.proofs.lemmas.Int.{ints}
 use Rattle.std.specs.List.{list_all}
 use Rattle.std.proofs.lemmas.Bool.{eqb-true, lt-ltb}
 use Rattle.term_tree.specs.declared.node.TermId.{TermId}
 use Rattle.term_tree.specs.declared.node.OpKind.{OpKind}
-use Rattle.term_tree.specs.declared.node.OpKind.TheVariants.{Mul, Div as Quotient, Mod as Remainder}
+use Rattle.term_tree.specs.declared.node.OpKind.TheVariants.{Mul, Mod as Remainder}
 use Rattle.term_tree.specs.declared.node.Node.{Node}
 use Rattle.term_tree.specs.declared.node.Node.TheVariants.{Num, True, False, Var, LetVar, Pred, Op, Divisible, Let, Forall, Exists}
 use Rattle.term_tree.specs.Arena.{IsArena, has_parts_below, is_below}
@@ -51,11 +51,13 @@ part_text part (Exists first sorts body) h = or_none (body.0 == part) h
 
 none_among : (p : ℕ → Option ℕ) (ids : List TermId) (part : ℕ) → first_among p ids ≡ None → is_among part ids ≡ true → p part ≡ None
 none_among p [] part none has = absurd (cc)
-none_among p (id ∷ ids) part none has = by_test (id.0 == part) refl has
+none_among p (id ∷ ids) part none has =
+    by_first (id.0 == part) (is_among part ids) has (λ same. ap p (sym (eqb-true id.0 part same)) ∙ none_first (p id.0) (first_among p ids) none)
+    (λ later. none_among p ids part (none_second (p id.0) (first_among p ids) none) later)
   where
-    by_test : (b : Bool) → (id.0 == part) ≡ b → (b || is_among part ids) ≡ true → p part ≡ None
-    by_test true same h = ap p (sym (eqb-true id.0 part same)) ∙ none_first (p id.0) (first_among p ids) none
-    by_test false differ h = none_among p ids part (none_second (p id.0) (first_among p ids) none) h
+    by_first : (x y : Bool) → (x || y) ≡ true → (x ≡ true → p part ≡ None) → (y ≡ true → p part ≡ None) → p part ≡ None
+    by_first true y h here later = here refl
+    by_first false y h here later = later h
 
 -- no linear form in the text of a term that has room is wide
 pub narrow_here : (constant : ℕ → Option ℤ) (naming : Naming) (nodes : List Node) (id : ℕ) → HasRoom constant naming nodes id → first_where (is_wide constant naming nodes) nodes id ≡ None

@@ -1,6 +1,6 @@
 //! Where a Bool term is true, or where it is false.
 
-ghost use Rattle.std.specs.Prelude.{◌≡◌, ◌<ℤ◌, Some, [], ◌∷◌, map, pos, nat_abs, slice_get, IfOk, OnOk, IsTrue, if◌then◌else◌};
+ghost use Rattle.std.specs.Prelude.{◌≡◌, ◌<◌, ◌<ℤ◌, Some, [], ◌∷◌, length, map, pos, nat_abs, slice_get, IfOk, OnOk, IsTrue, if◌then◌else◌};
 ghost use Rattle.lin_atoms.specs.declared.lit.Lit.TheVariants.{Div, NDiv};
 ghost use Rattle.lin_atoms.specs.declared.form.Form.TheVariants.{Lit as Literal};
 ghost use Rattle.lin_atoms.specs.declared.form.Form.TheViews.{And, Or};

@@ -1,4 +1,4 @@
-use Rattle.std.proofs.Common.{◌≡◌, ◌<◌, ◌≤◌, length}
+use Rattle.std.proofs.Common.{◌≡◌, ◌<◌, length}
 use Rattle.linear_terms.specs.Linear.{bit_of}
 use Rattle.term_formulas.specs.Written.{naming_by}
 use Rattle.term_formulas.proofs.bits.found_bit.Given as goal

@@ -1,4 +1,4 @@
-use Rattle.std.proofs.Common.{◌≡◌, true, ap, sym, ◌∙◌}
+use Rattle.std.proofs.Common.{ap, ◌∙◌}
 use Rattle.lin_atoms.specs.Linear.{Linear, are_ordered, fits}
 use Rattle.lin_atoms.proofs.Public.{both_true}
 use Rattle.linear_terms.specs.Linear.{is_narrow, less}

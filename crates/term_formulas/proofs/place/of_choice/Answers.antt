@@ -1,4 +1,4 @@
-use Rattle.std.proofs.Common.{◌≡◌, ◌<◌, List, length, get_or, sym, subst, arith}
+use Rattle.std.proofs.Common.{◌≡◌, List, get_or, sym, subst, arith}
 use Rattle.std.specs.Prelude.{Some, IfOk}
 use Rattle.term_tree.specs.declared.node.TermId.{TermId}
 use Rattle.term_tree.specs.declared.node.OpKind.TheVariants.{Ite}
@@ -8,7 +8,6 @@ use Rattle.linear_terms.specs.Place.{integer_place}
 use Rattle.term_forms.specs.Found.{form_by}
 use Rattle.term_tables.specs.machinery.Table.{constant_in}
 use Rattle.term_formulas.specs.Written.{naming_by, value_by}
-use Rattle.term_formulas.specs.machinery.Parts.{IsMadeOf}
 use Rattle.term_formulas.proofs.ArgumentLemmas.{among_at, three_ids}
 use Rattle.term_formulas.proofs.RoomLemmas.{made_room}
 use Rattle.term_formulas.proofs.place.of_choice.Goals as goal
@@ -22,7 +21,7 @@ choice_of-requires-clause-chosen c = (Op Ite c.args.args.now, c.requires.node, a
 pub choice_of-requires-clause-other : goal.choice_of-requires-clause-other
 choice_of-requires-clause-other c = (Op Ite c.args.args.now, c.requires.node, among_at c.args.args.now 2 (record { 0 = 0 }) (let three = c.in-len3.len_at_least in omega (arith, three)))
 
-pub returns-in-len3-clause-is : goal.returns-in-len3-clause-is
-returns-in-len3-clause-is c =
+pub returns-clause-is : goal.returns-clause-is
+returns-clause-is c =
     subst (λ (ids : List TermId). IfOk c.choice_of.result (λ form. form ≡ integer_place (bit_of (naming_by c.args.names.now) c.args.terms.now.nodes) (form_by (constant_in c.args.constants.now) (naming_by c.args.names.now) c.args.terms.now.nodes) (value_by (constant_in c.args.constants.now)) (variable_form c.args.v) c.args.id.0 (Some (Op Ite ids))))
     (sym (three_ids c.args.args.now (record { 0 = 0 }) c.in-len3.len_at_least c.in-len3.len_below)) c.choice_of.ensures.is

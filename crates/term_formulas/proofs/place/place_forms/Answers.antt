@@ -1,4 +1,4 @@
-use Rattle.std.proofs.Common.{◌≡◌, ◌+◌, ◌++◌, arith}
+use Rattle.std.proofs.Common.{◌++◌, arith}
 use Rattle.term_tables.specs.machinery.Table.{constant_in, sort_in}
 use Rattle.term_formulas.specs.Written.{naming_by, place_forms_by}
 use Rattle.term_formulas.proofs.ArgumentLemmas.{places_more, places_turn}
@@ -17,7 +17,7 @@ pub loop-id-preserved : goal.loop-id-preserved
 loop-id-preserved c = record {
   number = let same = c.loop-id.invariant.number in omega (arith, same);
   made = places_turn (constant_in c.args.constants.now) (sort_in c.args.sorts.now) (naming_by c.args.names.now) c.args.terms.now.nodes c.loop-id.v c.args.placed.now c.loop-id.id-index c.loop-id.out c.push.new.self
-      (c.args.out.now ++ place_forms_by (constant_in c.args.constants.now) (sort_in c.args.sorts.now) (naming_by c.args.names.now) c.args.terms.now.nodes c.args.first c.args.placed.now) c.in_ok-form.field-0 c.loop-id-test.true c.loop-id.invariant.made c.in_ok-form.ensures.is c.in_ok-push.ensures.ok;
+      (c.args.out.now ++ place_forms_by (constant_in c.args.constants.now) (sort_in c.args.sorts.now) (naming_by c.args.names.now) c.args.terms.now.nodes c.args.first c.args.placed.now) c.in_ok-form.form c.loop-id-test.true c.loop-id.invariant.made c.in_ok-form.ensures.is c.in_ok-push.ensures.ok;
   places = (places_more (constant_in c.args.constants.now) (naming_by c.args.names.now) c.args.terms.now.nodes c.loop-id.v c.args.placed.now c.loop-id.id-index c.loop-id-test.true c.loop-id.invariant.places).3;
   known = c.in_ok-form.ensures.known;
 }

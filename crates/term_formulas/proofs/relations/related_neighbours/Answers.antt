@@ -1,4 +1,4 @@
-use Rattle.std.proofs.Common.{◌≡◌, ◌-◌, map, arith}
+use Rattle.std.proofs.Common.{map, arith}
 use Rattle.lin_atoms.specs.Linear.{Linear}
 use Rattle.linear_terms.specs.Linear.{less}
 use Rattle.linear_terms.specs.Formula.{neighbours, related}

@@ -1,4 +1,4 @@
-use Rattle.std.proofs.Common.{◌≡◌, List, map, arith}
+use Rattle.std.proofs.Common.{map, arith}
 use Rattle.lin_atoms.specs.Linear.{Linear}
 use Rattle.linear_terms.specs.Formula.{neighbours, same_bits}
 use Rattle.term_formulas.proofs.PairLemmas.{bits_turn, neighbours_end, neighbours_turn}

@@ -1,13 +1,15 @@
-use Rattle.std.proofs.Common.{◌≡◌, ◌<◌, ◌==◌, ◌-◌, List, ◌∷◌, ◌++◌, [], length, take, get_or, not, true, refl, ap, sym, ◌∙◌, subst, arith}
-use Rattle.std.specs.Prelude.{slice_get, Some, IfOk}
+use Rattle.std.proofs.Common.{rules, FitsSigned, ◌≡◌, ◌<◌, ◌==◌, ◌-◌, List, ◌∷◌, ◌++◌, [], length, take, not, ap, sym, ◌∙◌, subst, arith}
+use Rattle.std.specs.Prelude.{slice_get, Some, IfOk, pos, ◌<ℤ◌}
+use Rattle.std.specs.Int.{w64}
+use Rattle.std.proofs.lemmas.Int.{to_z-of_z}
 use Rattle.term_tree.specs.declared.node.Node.{Node}
 use Rattle.term_tree.specs.declared.node.Node.TheVariants.{Op, Divisible, Let, LetVar}
 use Rattle.term_tree.specs.declared.node.TermId.{TermId}
-use Rattle.term_tree.specs.Subterms.{is_among, itself}
+use Rattle.term_tree.specs.Subterms.{is_among}
 use Rattle.term_tree.proofs.Public.{arena_below, eqb_self, part_below}
 use Rattle.lin_atoms.specs.declared.form.Form.{Form}
 use Rattle.linear_terms.specs.Linear.{bit_of, is_narrow}
-use Rattle.linear_terms.specs.Formula.{choice, implied, node_formula}
+use Rattle.linear_terms.specs.Formula.{choice}
 use Rattle.linear_terms.proofs.Public.{formula_at}
 use Rattle.term_tables.specs.machinery.Table.{constant_in, sort_in}
 use Rattle.term_formulas.specs.machinery.Parts.{each}
@@ -43,8 +45,10 @@ of_node-operation-requires t c =
 
 pub of_node-of_divisible-requires-clause-some : goal.of_node-of_divisible-requires-clause-some
 of_node-of_divisible-requires-clause-some t c =
-    divides_some (constant_in c.args.constants.now) (naming_by c.args.names.now) c.args.terms.now.nodes c.args.id.0 c.in-Divisible.by c.in-Divisible.arg c.requires.room
-    (c.requires.node ∙ ap (λ (n : Node). Some n) c.in-Divisible.is)
+    let above : pos 0 <ℤ c.in-Divisible.by = divides_some (constant_in c.args.constants.now) (naming_by c.args.names.now) c.args.terms.now.nodes c.args.id.0 c.in-Divisible.by c.in-Divisible.arg c.requires.room
+    (c.requires.node ∙ ap (λ (n : Node). Some n) c.in-Divisible.is) in
+    let fits : FitsSigned w64 c.in-Divisible.by = search rules in
+    simp to_z-of_z above
 
 pub of_node-of_divisible-requires-clause-there : goal.of_node-of_divisible-requires-clause-there
 of_node-of_divisible-requires-clause-there t c =
@@ -92,7 +96,7 @@ each-formula-requires t c =
 pub each-loop-id-preserved : goal.each-loop-id-preserved
 each-loop-id-preserved t c = record {
   made = each_more (formula_by (constant_in c.args.constants.now) (sort_in c.args.sorts.now) (naming_by c.args.names.now) c.args.terms.now.nodes) c.args.sign c.args.ids.now c.loop-id.id-index
-      (record { 0 = 0 }) c.loop-id.forms c.push.new.self c.in_ok-form.field-0 c.loop-id-test.true c.loop-id.invariant.made c.in_ok-form.ensures.is c.in_ok-push.ensures.ok;
+      (record { 0 = 0 }) c.loop-id.forms c.push.new.self c.in_ok-form.form c.loop-id-test.true c.loop-id.invariant.made c.in_ok-form.ensures.is c.in_ok-push.ensures.ok;
   room = (room_more (constant_in c.args.constants.now) (naming_by c.args.names.now) c.args.terms.now.nodes c.args.above.0 c.args.ids.now c.loop-id.id-index (record { 0 = 0 }) c.loop-id-test.true
       c.loop-id.invariant.room).2;
   known = c.in_ok-form.ensures.known;
@@ -120,13 +124,13 @@ implied-formula-requires t c =
     let some = c.in-len1-up.len_at_least in
     let last = room_at (constant_in c.args.constants.now) (naming_by c.args.names.now) c.args.terms.now.nodes c.args.above.0 c.args.ids.now (length c.args.ids.now - 1) (record { 0 = 0 }) (omega (arith, some))
     c.requires.room in
-    let less = last.0 in (let d = c.decreases in omega (arith, d, less), (last.1, c.in_ok-forms.ensures.known))
+    let less = last.0 in (let d = c.decreases in omega (arith, d, less), (last.1, c.in_ok-forms-in-len1-up.ensures.known))
 
 pub implied-returns-in_ok-push-in-len1-up-clause-is : goal.implied-returns-in_ok-push-in-len1-up-clause-is
 implied-returns-in_ok-push-in-len1-up-clause-is t c =
     let part = formula_by (constant_in c.args.constants.now) (sort_in c.args.sorts.now) (naming_by c.args.names.now) c.args.terms.now.nodes in
-    c.in_ok-push.ensures.ok ∙ ap (λ (forms : List Form). forms ++ c.in_ok-form.field-0 ∷ []) c.in_ok-forms.ensures.is
-    ∙ ap (λ (f : Form). each part (not c.args.sign) (take (length c.args.ids.now - 1) c.args.ids.now) ++ f ∷ []) c.in_ok-form.ensures.is
+    c.in_ok-push-in-len1-up.ensures.ok ∙ ap (λ (forms : List Form). forms ++ c.in_ok-form-in-len1-up.form ∷ []) c.in_ok-forms-in-len1-up.ensures.is
+    ∙ ap (λ (f : Form). each part (not c.args.sign) (take (length c.args.ids.now - 1) c.args.ids.now) ++ f ∷ []) c.in_ok-form-in-len1-up.ensures.is
     ∙ sym (implied_last part c.args.sign c.args.ids.now (record { 0 = 0 }) c.in-len1-up.len_at_least)
 
 pub choice-branches-requires : goal.choice-branches-requires
@@ -150,3 +154,9 @@ choice-returns-in-len3-clause-is t c =
 
 pub branches-of_choice-requires : goal.branches-of_choice-requires
 branches-of_choice-requires t c = ap is_narrow c.in_ok-bit.ensures.is ∙ c.in_ok-bit.ensures.narrow
+
+pub branches-formula-requires : goal.branches-formula-requires
+branches-formula-requires t c = let less = c.requires.smaller in (let d = c.decreases in omega (arith, d, less), (c.requires.chosen, c.requires.known))
+
+pub branches-formula-requires-2 : goal.branches-formula-requires-2
+branches-formula-requires-2 t c = let less = c.requires.less in (let d = c.decreases in omega (arith, d, less), (c.requires.other, c.in_ok-chosen.ensures.known))

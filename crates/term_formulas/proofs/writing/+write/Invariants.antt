@@ -7,28 +7,28 @@ use Rattle.term_formulas.proofs.writing.+write.Given as goal
 
 -- a term's formula, then that of its node and operation, and then those of its parts, which are below it
 abbrev pub decreases-formula : goal.decreases-formula
-decreases-formula l = 4 * l.id.0 + 4
+decreases-formula l = 5 * l.id.0 + 4
 
 abbrev pub decreases-of_node : goal.decreases-of_node
-decreases-of_node l = 4 * l.id.0 + 3
+decreases-of_node l = 5 * l.id.0 + 3
 
 abbrev pub decreases-operation : goal.decreases-operation
-decreases-operation l = 4 * l.id.0 + 2
+decreases-operation l = 5 * l.id.0 + 2
 
 abbrev pub decreases-denied : goal.decreases-denied
-decreases-denied l = 4 * l.above.0
+decreases-denied l = 5 * l.above.0
 
 abbrev pub decreases-each : goal.decreases-each
-decreases-each l = 4 * l.above.0
+decreases-each l = 5 * l.above.0
 
 abbrev pub decreases-implied : goal.decreases-implied
-decreases-implied l = 4 * l.above.0 + 1
+decreases-implied l = 5 * l.above.0 + 1
 
 abbrev pub decreases-choice : goal.decreases-choice
-decreases-choice l = 4 * l.above.0 + 1
+decreases-choice l = 5 * l.above.0 + 1
 
 abbrev pub decreases-branches : goal.decreases-branches
-decreases-branches l = 4 * l.above.0
+decreases-branches l = 5 * l.above.0
 
 -- the formulas so far
 abbrev pub invariant-each-loop-id : goal.invariant-each-loop-id

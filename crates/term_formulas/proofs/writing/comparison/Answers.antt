@@ -1,0 +1,38 @@
+use Rattle.std.proofs.Common.{◌≡◌, List, map, not, true, false, ap, sym, ◌∙◌, subst}
+use Rattle.std.specs.Prelude.{Bool, IfOk, if◌then◌else◌}
+use Rattle.term_tree.specs.declared.node.TermId.{TermId}
+use Rattle.lin_atoms.specs.Linear.{Linear}
+use Rattle.lin_atoms.specs.declared.form.Form.{Form}
+use Rattle.linear_terms.specs.Linear.{bit_of, less}
+use Rattle.linear_terms.specs.Text.{are_truths}
+use Rattle.linear_terms.specs.Formula.{comparison, is_distinct, joined, related, same_bits, sides}
+use Rattle.term_tables.specs.machinery.Table.{constant_in, sort_in}
+use Rattle.term_forms.specs.Found.{form_by}
+use Rattle.term_formulas.specs.Written.{naming_by}
+use Rattle.term_formulas.proofs.writing.comparison.Goals as goal
+
+pub returns-in_ok-bits-clause-is : goal.returns-in_ok-bits-clause-is
+returns-in_ok-bits-clause-is c =
+    let op = c.args.op in
+    let sign = c.args.sign in
+    let bits : List Linear = map (λ (arg : TermId). bit_of (naming_by c.args.names.now) c.args.terms.now.nodes arg.0) c.args.args.now in
+    let forms : List Linear = map (λ (arg : TermId). form_by (constant_in c.args.constants.now) (naming_by c.args.names.now) c.args.terms.now.nodes arg.0) c.args.args.now in
+    let same : c.as_slice.result.now ≡ bits = c.as_slice.ensures.value ∙ c.in_ok-bits.ensures.are in
+    let truths : are_truths (sort_in c.args.sorts.now) c.args.args.now ≡ true = sym c.are_truths.ensures ∙ c.if-are_truths.true in
+    subst (λ (f : Form). IfOk c.compared_bits.result (λ form. form ≡ f))
+    (ap (λ (bs : List Linear). joined sign (map (λ (p : Linear × Linear). same_bits (if is_distinct op then not sign else sign) p.0 p.1) (sides op bs))) same
+    ∙ sym (ap (λ (b : Bool). comparison op b sign bits forms) truths))
+    c.compared_bits.ensures
+
+pub returns-in_ok-forms-clause-is : goal.returns-in_ok-forms-clause-is
+returns-in_ok-forms-clause-is c =
+    let op = c.args.op in
+    let sign = c.args.sign in
+    let bits : List Linear = map (λ (arg : TermId). bit_of (naming_by c.args.names.now) c.args.terms.now.nodes arg.0) c.args.args.now in
+    let forms : List Linear = map (λ (arg : TermId). form_by (constant_in c.args.constants.now) (naming_by c.args.names.now) c.args.terms.now.nodes arg.0) c.args.args.now in
+    let same : c.as_slice-else-are_truths.result.now ≡ forms = c.as_slice-else-are_truths.ensures.value ∙ c.in_ok-forms.ensures.are in
+    let numbers : are_truths (sort_in c.args.sorts.now) c.args.args.now ≡ false = sym c.are_truths.ensures ∙ c.if-are_truths.false in
+    subst (λ (f : Form). IfOk c.compared_numbers.result (λ form. form ≡ f))
+    (ap (λ (fs : List Linear). joined sign (map (λ (p : Linear × Linear). related op sign (less p.0 p.1)) (sides op fs))) same
+    ∙ sym (ap (λ (b : Bool). comparison op b sign bits forms) numbers))
+    c.compared_numbers.ensures
