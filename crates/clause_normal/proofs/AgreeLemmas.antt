@@ -1,7 +1,6 @@
 -- Sorts and constants that agree on the subterms of a term give the same formulas and forms of places.
-use Rattle.std.proofs.Common.{◌≡◌, ℕ, zero, suc, ◌+◌, ◌<◌, ◌≤◌, ◌==◌, List, [], ◌∷◌, length, map, Bool, true, false, not, refl, ap, sym, ◌∙◌, subst, arith}
-use Rattle.std.specs.Prelude.{slice_get, Option, Some, None, unwrap_or, ℤ, pos, nat_abs, if◌then◌else◌}
-use Rattle.term_tree.specs.declared.sort.Sort.{Sort}
+use Rattle.std.proofs.Common.{◌≡◌, ℕ, zero, suc, ◌+◌, ◌<◌, List, [], ◌∷◌, length, map, Bool, true, false, not, refl, ap, sym, ◌∙◌, arith}
+use Rattle.std.specs.Prelude.{slice_get, Option, Some, unwrap_or, ℤ, pos, nat_abs, if◌then◌else◌}
 use Rattle.term_tree.specs.declared.sort.Sort.TheVariants.{Bool as Truth}
 use Rattle.term_tree.specs.declared.node.TermId.{TermId}
 use Rattle.term_tree.specs.declared.node.OpKind.{OpKind}
@@ -11,16 +10,16 @@ use Rattle.term_tree.specs.declared.node.Node.TheVariants.{Num, True, False, Var
 use Rattle.term_tree.specs.Arena.{IsArena, has_parts_below}
 use Rattle.term_tree.specs.Constants.{constant_of}
 use Rattle.term_tree.specs.Sorts.{has_sort}
-use Rattle.term_tree.specs.Subterms.{IsSubterm, inside, is_among, is_part, itself}
+use Rattle.term_tree.specs.Subterms.{IsSubterm, inside, is_among, is_part}
 use Rattle.term_tree.proofs.Public.{arena_below, eqb_self, part_below, there_is}
 use Rattle.lin_atoms.specs.Linear.{Linear}
 use Rattle.lin_atoms.specs.declared.lit.Lit.TheVariants.{Div, NDiv}
 use Rattle.lin_atoms.specs.declared.form.Form.{Form}
-use Rattle.lin_atoms.specs.declared.form.Form.TheVariants.{Lit, False as Wrong}
+use Rattle.lin_atoms.specs.declared.form.Form.TheVariants.{Lit}
 use Rattle.lin_atoms.specs.declared.form.Form.TheViews.{And, Or}
 use Rattle.linear_terms.specs.Text.{Sorting, are_truths, is_truth}
 use Rattle.linear_terms.specs.Linear.{Naming, bit_of, less, linear_of, variable_form}
-use Rattle.linear_terms.specs.Formula.{Reading, choice, comparison, denied, eq, formula, implied, joined, le, node_formula, one_minus, operation, told_formula}
+use Rattle.linear_terms.specs.Formula.{choice, comparison, denied, eq, formula, implied, joined, le, node_formula, one_minus, operation}
 use Rattle.linear_terms.specs.Place.{abs_place, choice_place, constant_value, integer_place, place_form, quotient_place, remainder_place, truth_place}
 use Rattle.linear_terms.proofs.PartLemmas.{body_among, first_among, later_among}
 use Rattle.linear_terms.proofs.Public.{formula_at}

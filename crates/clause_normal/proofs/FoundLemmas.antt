@@ -1,5 +1,5 @@
 -- A term that is found in the text of another one is no greater.
-use Rattle.std.proofs.Common.{◌≡◌, ℕ, zero, suc, ◌+◌, ◌<◌, ◌≤◌, List, [], ◌∷◌, length, Bool, true, false, inl, inr, refl, ap, sym, ◌∙◌, arith}
+use Rattle.std.proofs.Common.{◌≡◌, ℕ, zero, suc, ◌<◌, ◌≤◌, List, [], ◌∷◌, length, Bool, true, false, inl, inr, sym, ◌∙◌, arith}
 use Rattle.std.specs.Prelude.{slice_get, Option, Some, None, ℤ, nat_lt, ◌⊎◌, if◌then◌else◌}
 use Rattle.std.specs.List.{list_all}
 use Rattle.term_tree.specs.declared.node.TermId.{TermId}

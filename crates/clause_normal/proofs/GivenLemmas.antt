@@ -1,14 +1,13 @@
 -- What the code has of an assertion, with the names that it made, against the rule.
 use Rattle.std.proofs.Common.{◌≡◌, ℕ, ◌+◌, ◌<◌, ◌≤◌, ◌^◌, List, [], length, Bool, true, false, ◌||◌, arith, refl, ap, sym, ◌∙◌, subst}
 use Rattle.std.proofs.lemmas.Bool.{lt-ltb}
-use Rattle.std.specs.Prelude.{slice_get, Option, Some, None, nat_lt}
+use Rattle.std.specs.Prelude.{Option, None, nat_lt}
 use Rattle.term_tree.specs.declared.script.Script.{Script}
 use Rattle.term_tree.specs.Arena.{IsArena}
 use Rattle.horn_shape.specs.declared.clause.HornClause.{HornClause}
 use Rattle.linear_terms.specs.Linear.{Naming}
 use Rattle.linear_terms.specs.declared.standing.Standing.TheVariants.{Plain}
 use Rattle.linear_terms.specs.Text.{places}
-use Rattle.linear_terms.specs.Width.{first_wide}
 use Rattle.term_places.proofs.SortingLemmas.{placed_same}
 use Rattle.term_tables.specs.machinery.Table.{constant_in, sort_in}
 use Rattle.term_widths.specs.Wide.{first_wide_by}

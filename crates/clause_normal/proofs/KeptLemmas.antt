@@ -1,5 +1,5 @@
 -- The normal clause of an assertion is as a system needs it.
-use Rattle.std.proofs.Common.{◌≡◌, ℕ, zero, suc, ◌+◌, ◌<◌, ◌≤◌, ◌==◌, ◌^◌, List, [], ◌∷◌, ◌++◌, length, map, Bool, true, false, not, ◌&&◌, ◌||◌, refl, ap, sym, ◌∙◌, subst, arith}
+use Rattle.std.proofs.Common.{◌≡◌, ℕ, suc, ◌+◌, ◌<◌, ◌≤◌, ◌==◌, ◌^◌, List, [], ◌∷◌, ◌++◌, length, map, Bool, true, false, not, ◌&&◌, ◌||◌, refl, ap, sym, ◌∙◌, subst, arith}
 use Rattle.std.proofs.lemmas.Bool.{lt-ltb}
 use Rattle.std.proofs.lemmas.Bool.Decides.{nat_tests}
 use Rattle.std.proofs.lemmas.List.{length-append}
@@ -16,21 +16,20 @@ use Rattle.term_tree.specs.declared.node.OpKind.{OpKind}
 use Rattle.term_tree.specs.declared.node.OpKind.TheVariants.{Xor}
 use Rattle.term_tree.specs.declared.node.Node.{Node}
 use Rattle.term_tree.specs.declared.node.Node.TheVariants.{Num, True, False, Var, LetVar, Pred, Op, Divisible, Let, Forall, Exists}
-use Rattle.term_tree.specs.Arena.{IsArena, has_parts_below, is_below}
+use Rattle.term_tree.specs.Arena.{IsArena, has_parts_below}
 use Rattle.term_tree.specs.Constants.{constant_of}
-use Rattle.term_tree.specs.Sorts.{have_sorts, has_sort, is_sorted, predicate_sort, sort_of}
-use Rattle.term_tree.specs.Subterms.{IsSubterm, inside, is_among, is_part, itself}
-use Rattle.term_tree.proofs.Public.{arena_below, below_from, both_true, part_below, sort_at, there_is}
+use Rattle.term_tree.specs.Sorts.{have_sorts, has_sort, is_sorted, sort_of}
+use Rattle.term_tree.specs.Subterms.{IsSubterm, inside, is_among, itself}
+use Rattle.term_tree.proofs.Public.{arena_below, both_true, part_below, sort_at, there_is}
 use Rattle.horn_shape.specs.declared.clause.AtomUse.{AtomUse}
 use Rattle.horn_shape.specs.declared.clause.HornClause.{HornClause}
 use Rattle.horn_shape.specs.declared.clause.Part.{Part}
 use Rattle.horn_shape.specs.Clause.{IsClauseOf, IsLegalScript, content_of}
 use Rattle.horn_shape.specs.Shape.{arguments}
 use Rattle.lin_atoms.specs.Linear.{Linear, is_short, lin_all}
-use Rattle.lin_atoms.specs.Algebra.{added, negated, plus, scaled}
+use Rattle.lin_atoms.specs.Algebra.{negated, plus}
 use Rattle.lin_atoms.specs.Truth.{is_below as names_below, lit_is_below}
 use Rattle.lin_atoms.specs.declared.lit.Lit.{Lit as Literal}
-use Rattle.lin_atoms.specs.declared.lit.Lit.TheVariants.{Le, Eq, Div, NDiv}
 use Rattle.lin_atoms.specs.declared.form.Form.{Form}
 use Rattle.linear_terms.specs.Linear.{Naming, all_constants, bit_of, is_narrow, less, linear_of, sum_form, variable_form}
 use Rattle.linear_terms.specs.Formula.{formula, le}
@@ -44,16 +43,15 @@ use Rattle.term_forms.proofs.FoundLemmas.{first_at}
 use Rattle.term_widths.specs.Wide.{has_wide_sides}
 use Rattle.term_widths.specs.machinery.Apart.{Occurs}
 use Rattle.term_formulas.specs.Written.{HasRoom}
-use Rattle.clause_form.specs.declared.atom.Atom.{Atom}
 use Rattle.clause_form.specs.System.{has_arguments, has_short_constant, has_short_multiples, is_atom, is_clause, is_head, most_variables}
 use Rattle.clause_normal.specs.Normal.{argument_variable, auxiliaries, bits_from, conjunction, first_without_room, guard_form, guard_of, guard_parts, is_too_large, most_atoms, most_own, names_of, normal_atom, normal_clause, place_forms, sorting, sorts_of, top_of}
 use Rattle.clause_normal.proofs.Lower.{position_is}
 use Rattle.clause_normal.proofs.LowLemmas.{added_all, among_low, bit_low, collected_all, formula_passes, length_is, less_variable, linear_low, narrow_constant, negated_all, place_passes, scaled_all, sum_small, sums_low}
-use Rattle.clause_normal.proofs.MadeLemmas.{all_got, all_map, from_moved, legal_top, low_top, placed_top, room_sub, subterm_most, top_is, top_within}
+use Rattle.clause_normal.proofs.MadeLemmas.{all_got, all_map, from_moved, legal_top, low_top, placed_top, room_sub, top_is}
 use Rattle.clause_normal.proofs.PassLemmas.{below_passes, joined_pass, le_passes, passes, passes-True, short_passes}
 use Rattle.clause_normal.proofs.PlaceLemmas.{IsPlaced, predicate_is, some_sort, sorted_sub}
 use Rattle.clause_normal.proofs.ReadLemmas.{HeadHas, Holds, clause_holds}
-use Rattle.clause_normal.proofs.TextLemmas.{Among, InText, argument_placed, placed_position, text_part}
+use Rattle.clause_normal.proofs.TextLemmas.{InText, argument_placed, placed_position, text_part}
 
 both_hold : (a b : Bool) → a ≡ true → b ≡ true → (a && b) ≡ true
 both_hold true b x y = y

@@ -1,33 +1,28 @@
 -- The formulas of a text: their variables pass a test that all names pass, and constants of divisibilities are short.
-use Rattle.std.proofs.Common.{◌≡◌, ℕ, zero, suc, ◌+◌, ◌<◌, ◌≤◌, ◌^◌, List, [], ◌∷◌, ◌++◌, length, map, Bool, true, false, not, ◌&&◌, refl, ap, sym, ◌∙◌, subst, arith}
-use Rattle.std.proofs.lemmas.Bool.Decides.{nat_tests}
+use Rattle.std.proofs.Common.{◌≡◌, ℕ, zero, suc, ◌+◌, ◌<◌, ◌≤◌, List, [], ◌∷◌, ◌++◌, length, map, Bool, true, false, ◌&&◌, refl, ap, sym, ◌∙◌, subst, arith}
 use Rattle.std.proofs.lemmas.Int.{ints}
 use Rattle.std.specs.Prelude.{slice_get, Option, Some, None, ◌==◌, ℤ, pos, ◌+ℤ◌, ◌*ℤ◌, nat_abs, nat_lt, if◌then◌else◌}
 use Rattle.std.specs.List.{AllByRecursion, list_all}
-use Rattle.term_tree.specs.declared.sort.Sort.{Sort}
-use Rattle.term_tree.specs.declared.sort.Sort.TheVariants.{Bool as Truth}
 use Rattle.term_tree.specs.declared.node.TermId.{TermId}
 use Rattle.term_tree.specs.declared.node.OpKind.{OpKind}
 use Rattle.term_tree.specs.declared.node.OpKind.TheVariants.{Xor}
 use Rattle.term_tree.specs.declared.node.Node.{Node}
-use Rattle.term_tree.specs.declared.node.Node.TheVariants.{Num, True, False, Var, LetVar, Pred, Op, Divisible, Let, Forall, Exists}
+use Rattle.term_tree.specs.declared.node.Node.TheVariants.{True, Var, LetVar, Op, Divisible}
 use Rattle.term_tree.specs.Arena.{IsArena, has_parts_below}
 use Rattle.term_tree.specs.Subterms.{IsSubterm, inside, is_among, is_part}
 use Rattle.term_tree.proofs.Public.{arena_below, both_true, eqb_self, part_below, there_is}
-use Rattle.lin_atoms.specs.Linear.{Linear, is_short, lin_all, of_constant}
+use Rattle.lin_atoms.specs.Linear.{Linear, is_short, lin_all}
 use Rattle.lin_atoms.specs.Algebra.{added, collected, negated, negated_terms, plus, scaled, scaled_terms, term_on, with_term}
 use Rattle.lin_atoms.specs.declared.lit.Lit.{Lit as Literal}
 use Rattle.lin_atoms.specs.declared.lit.Lit.TheVariants.{Le, Eq, Div, NDiv}
-use Rattle.lin_atoms.specs.declared.form.Form.{Form}
 use Rattle.linear_terms.specs.Text.{Sorting, is_truth}
-use Rattle.linear_terms.specs.Linear.{Naming, all_constants, all_terms, bare_bit, bit_form, bit_of, is_narrow, less, linear_of, node_bit, sum_form, told_bit, variable_form, zero_form}
-use Rattle.linear_terms.specs.Formula.{Reading, formula, reading_of}
+use Rattle.linear_terms.specs.Linear.{Naming, all_constants, all_terms, bare_bit, bit_form, bit_of, is_narrow, less, linear_of, sum_form, told_bit, variable_form}
+use Rattle.linear_terms.specs.Formula.{formula, reading_of}
 use Rattle.linear_terms.specs.Place.{constant_value, integer_place, place_form, truth_place}
 use Rattle.linear_terms.proofs.PartLemmas.{first_among, later_among}
 use Rattle.linear_terms.proofs.Public.{bit_at, by_parts, formula_at}
 use Rattle.term_widths.specs.machinery.Apart.{Occurs}
-use Rattle.clause_form.specs.System.{has_short_constant}
-use Rattle.clause_normal.proofs.Lower.{IsNoName, only_names}
+use Rattle.clause_normal.proofs.Lower.{only_names}
 use Rattle.clause_normal.proofs.PassLemmas.{NodeDivides, integer_passes, node_passes, passes, truth_place_passes}
 
 -- all variables of sums and multiples pass a test that those of the parts pass

@@ -1,35 +1,33 @@
 -- How the code's normal clause is that of the rule.
-use Rattle.std.proofs.Common.{◌≡◌, ℕ, zero, suc, ◌+◌, ◌<◌, ◌≤◌, ◌==◌, ◌^◌, List, [], ◌∷◌, ◌++◌, length, map, Bool, true, false, not, ◌&&◌, refl, ap, sym, ◌∙◌, subst, arith, append_assoc}
+use Rattle.std.proofs.Common.{◌≡◌, ℕ, zero, suc, ◌+◌, ◌<◌, ◌≤◌, ◌==◌, ◌^◌, List, [], ◌∷◌, ◌++◌, length, map, Bool, true, not, ◌&&◌, refl, ap, sym, ◌∙◌, subst, arith, append_assoc}
 use Rattle.std.proofs.lemmas.Bool.{eqb-true}
 use Rattle.std.proofs.lemmas.List.{length-append}
 use Rattle.std.proofs.lemmas.Option.{slice_get_within}
-use Rattle.std.specs.Prelude.{slice_get, position, Option, Some, None, option_map, unwrap_or, IsTrue, ℤ, nat_lt}
+use Rattle.std.specs.Prelude.{slice_get, position, Option, Some, None, option_map, unwrap_or, ℤ, nat_lt}
 use Rattle.std.specs.List.{AllByRecursion, list_all}
 use Rattle.term_tree.specs.declared.sort.Sort.{Sort}
 use Rattle.term_tree.specs.declared.sort.Sort.TheVariants.{Int, Bool as BoolSort}
 use Rattle.term_tree.specs.declared.node.TermId.{TermId}
 use Rattle.term_tree.specs.declared.node.OpKind.TheVariants.{Ite, Abs, Div as Quotient, Mod as Remainder}
 use Rattle.term_tree.specs.declared.node.Node.{Node}
-use Rattle.term_tree.specs.declared.node.Node.TheVariants.{Var, Op, Pred}
+use Rattle.term_tree.specs.declared.node.Node.TheVariants.{Op, Pred}
 use Rattle.term_tree.specs.declared.script.Assertion.{Assertion}
 use Rattle.term_tree.specs.declared.script.Script.{Script}
-use Rattle.term_tree.specs.Arena.{IsArena, has_parts_below, is_below}
+use Rattle.term_tree.specs.Arena.{IsArena, is_below}
 use Rattle.term_tree.specs.Constants.{constant_of}
 use Rattle.term_tree.specs.Legal.{IsLegal, is_there, next_variable}
-use Rattle.term_tree.specs.Sorts.{is_sorted, operation_sort, sort_of}
-use Rattle.term_tree.specs.Subterms.{IsSubterm, inside, is_part, itself}
+use Rattle.term_tree.specs.Sorts.{is_sorted, sort_of}
+use Rattle.term_tree.specs.Subterms.{IsSubterm, inside, itself}
 use Rattle.term_tree.proofs.Public.{arena_below, below_from, both_true, part_below, sort_at}
 use Rattle.horn_shape.specs.declared.clause.AtomUse.{AtomUse}
 use Rattle.horn_shape.specs.declared.clause.HornClause.{HornClause}
 use Rattle.horn_shape.specs.declared.clause.Part.{Part}
 use Rattle.horn_shape.specs.Clause.{IsClauseOf, IsLegalScript, content_of}
-use Rattle.horn_shape.specs.Shape.{Content, arguments}
+use Rattle.horn_shape.specs.Shape.{arguments}
 use Rattle.horn_shape.proofs.ClauseLemmas.{sorted_there}
 use Rattle.lin_atoms.specs.declared.form.Form.{Form}
-use Rattle.linear_terms.specs.Text.{Sorting, is_variable, places}
-use Rattle.linear_terms.specs.Linear.{Naming, naming_of}
+use Rattle.linear_terms.specs.Linear.{naming_of}
 use Rattle.linear_terms.specs.Place.{place_form}
-use Rattle.linear_terms.specs.Width.{first_wide}
 use Rattle.term_tables.specs.machinery.Table.{AreConstants, AreSorts, constant_in, sort_in}
 use Rattle.term_tables.proofs.ConstantLemmas.{constants_are}
 use Rattle.term_widths.specs.Wide.{first_wide_by}
@@ -38,10 +36,10 @@ use Rattle.term_formulas.specs.Written.{HasRoom, IsFresh, place_forms_by}
 use Rattle.term_formulas.specs.machinery.Parts.{ArePlaces, is_shaped}
 use Rattle.clause_form.specs.declared.clause.Clause.{Clause}
 use Rattle.clause_form.specs.System.{most_variables}
-use Rattle.clause_normal.specs.Normal.{auxiliaries, bits_from, conjunction, first_without_room, guard_form, guard_of, guard_parts, is_too_large, names_of, normal_atom, normal_clause, place_forms, sorting, sorts_of, term_number, top_of}
-use Rattle.clause_normal.specs.machinery.Making.{GuardsHaveRoom, HasRoomFor, IsHeadThere, IsThere, clause_by, guard_by, parts_by}
+use Rattle.clause_normal.specs.Normal.{auxiliaries, bits_from, conjunction, first_without_room, guard_form, names_of, normal_atom, normal_clause, place_forms, sorting, sorts_of, term_number, top_of}
+use Rattle.clause_normal.specs.machinery.Making.{HasRoomFor, IsHeadThere, IsThere, clause_by, guard_by, parts_by}
 use Rattle.clause_normal.proofs.AgreeLemmas.{formulas_same, place_same}
-use Rattle.clause_normal.proofs.Lower.{alike_judge, judged_same, position_is, room_part}
+use Rattle.clause_normal.proofs.Lower.{judged_same, position_is, room_part}
 use Rattle.clause_normal.proofs.OccurLemmas.{IsLow, closed_low}
 use Rattle.clause_normal.proofs.PlaceLemmas.{IsPlaced, places_are, shaped_abs, shaped_div, shaped_ite, shaped_mod, some_sort, sorted_sub}
 use Rattle.clause_normal.proofs.ReadLemmas.{HeadHas, Holds, clause_counts, clause_holds}

@@ -1,7 +1,7 @@
 -- Formulas all of whose literals pass a test.
-use Rattle.std.proofs.Common.{◌≡◌, ℕ, zero, suc, ◌+◌, ◌<◌, List, [], ◌∷◌, ◌++◌, length, map, Bool, true, false, not, ◌&&◌, refl, ap, sym, ◌∙◌, arith}
+use Rattle.std.proofs.Common.{◌≡◌, ℕ, List, [], ◌∷◌, ◌++◌, map, Bool, true, false, not, ◌&&◌, refl, ap, sym, ◌∙◌}
 use Rattle.std.proofs.Math.Path.{fun_ext}
-use Rattle.std.specs.Prelude.{slice_get, Option, Some, None, ℤ, pos, negsuc, nat_abs, ◌-ℤ◌, nat_lt, if◌then◌else◌}
+use Rattle.std.specs.Prelude.{Some, ℤ, pos, negsuc, nat_abs, ◌-ℤ◌, nat_lt, if◌then◌else◌}
 use Rattle.std.specs.List.{AllByRecursion, list_all}
 use denote.Hole.Carrier.{roll}
 use Rattle.term_tree.specs.declared.node.TermId.{TermId}
@@ -24,7 +24,7 @@ use Rattle.lin_atoms.specs.declared.form.Form.TheViews.{And, Or, roll-Form}
 use Rattle.lin_atoms.specs.declared.form.Form.TheFolds.{fold-Form, fold-roll-Form}
 use Rattle.linear_terms.specs.Text.{are_truths}
 use Rattle.linear_terms.specs.Linear.{Naming, less, sum_form, variable_form}
-use Rattle.linear_terms.specs.Formula.{Reading, all_of, any_of, choice, comparison, denied, eq, equal, implied, is_distinct, is_one, joined, le, neighbours, node_formula, odd, one_minus, one_more, operation, pairs, related, same_bits, sides}
+use Rattle.linear_terms.specs.Formula.{Reading, choice, comparison, denied, eq, equal, implied, is_distinct, is_one, joined, le, neighbours, node_formula, odd, one_minus, one_more, operation, pairs, related, same_bits, sides}
 use Rattle.linear_terms.specs.Place.{abs_place, choice_place, integer_place, quotient_place, remainder_place, truth_place}
 use Rattle.linear_terms.proofs.PartLemmas.{body_among, first_among, later_among}
 use Rattle.clause_form.specs.System.{has_short_constant, has_short_multiples, short_step}

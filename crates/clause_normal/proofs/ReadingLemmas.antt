@@ -1,19 +1,17 @@
 -- What is read of an assertion, from its Horn clause or its misfit.
-use Rattle.std.proofs.Common.{◌≡◌, ℕ, ◌+◌, ◌<◌, List, [], ◌∷◌, ◌++◌, length, drop, get_or, Bool, true, false, ◌&&◌, refl, ap, sym, ◌∙◌, append_assoc}
+use Rattle.std.proofs.Common.{◌≡◌, ℕ, ◌+◌, ◌<◌, List, [], ◌∷◌, ◌++◌, length, drop, get_or, Bool, false, refl, ap, sym, ◌∙◌, append_assoc}
 use Rattle.std.proofs.lemmas.List.{drop_more}
 use Rattle.std.proofs.lemmas.Option.{get_or_from_slice_get}
-use Rattle.std.specs.Prelude.{slice_get, slice_index_or, Option, Some, None, Result, Ok, Err, if◌then◌else◌}
-use Rattle.std.specs.List.{list_all}
+use Rattle.std.specs.Prelude.{slice_get, slice_index_or, Some, None, Result, Ok, Err, if◌then◌else◌}
 use Rattle.term_tree.specs.declared.refusal.Kind.TheVariants.{TooWide, NotHorn, Count}
 use Rattle.term_tree.specs.declared.refusal.Refusal.{Refusal}
 use Rattle.term_tree.specs.declared.script.Assertion.{Assertion}
 use Rattle.term_tree.specs.declared.script.Script.{Script}
 use Rattle.horn_shape.specs.declared.clause.HornClause.{HornClause}
 use Rattle.horn_shape.specs.Clause.{IsClauseOf, IsNotHornAt, assertion_reading, content_of}
-use Rattle.horn_shape.specs.Shape.{Reading}
 use Rattle.clause_form.specs.declared.clause.Clause.{Clause}
 use Rattle.clause_normal.specs.Normal.{first_without_room, is_too_large, normal_clause}
-use Rattle.clause_normal.specs.Reading.{all_clauses, by_room, by_shape, clause_reading, clause_with, one_more, refusal_at, start_of}
+use Rattle.clause_normal.specs.Reading.{all_clauses, by_room, by_shape, clause_reading, clause_with, one_more, refusal_at}
 use Rattle.clause_normal.specs.Stopping.{IsTooLargeAt, IsWideAt}
 use Rattle.horn_shape.specs.declared.stop.HornStop.{HornStop}
 use Rattle.horn_shape.specs.declared.stop.HornStop.TheVariants.{Memory as OutOfShapeMemory, NotHorn as NotHornAt}

@@ -1,14 +1,14 @@
 -- Arguments stand in the text of the assertion, so those that are no variables have auxiliary ones.
-use Rattle.std.proofs.Common.{◌≡◌, ℕ, zero, suc, ◌+◌, ◌<◌, ◌==◌, List, [], ◌∷◌, ◌++◌, length, map, cond, Bool, true, false, ◌||◌, inl, inr, refl, ap, sym, ◌∙◌, subst, arith}
+use Rattle.std.proofs.Common.{◌≡◌, ℕ, suc, ◌==◌, List, [], ◌∷◌, ◌++◌, map, cond, Bool, true, false, ◌||◌, inl, inr, refl, ap, sym, ◌∙◌, subst}
 use Rattle.std.proofs.lemmas.Bool.{eqb-true}
-use Rattle.std.specs.Prelude.{slice_get, position, Option, Some, None, option_map, ◌⊎◌, if◌then◌else◌}
+use Rattle.std.specs.Prelude.{slice_get, position, Option, Some, option_map, ◌⊎◌, if◌then◌else◌}
 use Rattle.term_tree.specs.declared.sort.Sort.{Sort}
 use Rattle.term_tree.specs.declared.node.TermId.{TermId}
 use Rattle.term_tree.specs.declared.node.OpKind.{OpKind}
 use Rattle.term_tree.specs.declared.node.OpKind.TheVariants.{Xor, Eq, Distinct, Ite}
 use Rattle.term_tree.specs.declared.node.Node.{Node}
 use Rattle.term_tree.specs.declared.node.Node.TheVariants.{Num, True, False, Var, LetVar, Pred, Op, Divisible, Let, Forall, Exists}
-use Rattle.term_tree.specs.Arena.{IsArena, has_parts_below}
+use Rattle.term_tree.specs.Arena.{IsArena}
 use Rattle.term_tree.specs.Subterms.{is_among, is_part}
 use Rattle.term_tree.proofs.Public.{arena_below, eqb_self}
 use Rattle.linear_terms.specs.declared.standing.Spot.{Spot}

@@ -1,5 +1,4 @@
-use Rattle.std.proofs.Common.{ap, sym, ◌∙◌}
-use Rattle.linear_terms.specs.Text.{places}
+use Rattle.std.proofs.Common.{◌∙◌}
 use Rattle.clause_normal.proofs.GivenLemmas.{places_here, within_here}
 use Rattle.clause_normal.proofs.making.auxiliaries.Goals as goal
 

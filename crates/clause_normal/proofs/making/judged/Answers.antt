@@ -1,5 +1,4 @@
-use Rattle.std.proofs.Common.{◌≡◌, ap, sym, ◌∙◌}
-use Rattle.std.specs.Prelude.{Some}
+use Rattle.std.proofs.Common.{ap, sym, ◌∙◌}
 use Rattle.term_tables.specs.machinery.Table.{constant_in}
 use Rattle.term_formulas.specs.Written.{naming_by}
 use Rattle.term_widths.specs.Wide.{numbered}

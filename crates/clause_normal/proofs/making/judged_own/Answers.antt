@@ -1,4 +1,4 @@
-use Rattle.std.proofs.Common.{◌≡◌, ap, sym, ◌∙◌}
+use Rattle.std.proofs.Common.{◌≡◌, sym, ◌∙◌}
 use Rattle.std.specs.Prelude.{None}
 use Rattle.term_tables.specs.machinery.Table.{constant_in}
 use Rattle.term_forms.proofs.FoundLemmas.{on_ok}

@@ -1,4 +1,4 @@
-use Rattle.std.proofs.Common.{◌≡◌, ap, sym, ◌∙◌}
+use Rattle.std.proofs.Common.{◌∙◌}
 use Rattle.term_formulas.specs.Written.{naming_by}
 use Rattle.clause_normal.proofs.GivenLemmas.{clause_here, room_here}
 use Rattle.clause_normal.proofs.making.made_own.Goals as goal
