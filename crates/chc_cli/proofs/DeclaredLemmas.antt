@@ -11,7 +11,7 @@ use Rattle.term_check.specs.declared.part.Fault.{Fault}
 use Rattle.term_check.specs.Rules.{unless}
 use Rattle.term_check.specs.Spelling.{◌>>=◌, is_word, spelled, scope_of}
 use Rattle.term_check.proofs.Public.{bind_ok, unless_ok}
-use Rattle.sort_check.specs.Commands.{Command, alone_fault, assert_fault, assert_term, asserted, assertion, clause_fault, command, declaration, declaration_fault, declare_constant, declare_function, declare_listed, declared, declares, is_headed, inform_fault, is_check_sat, is_exit, is_inform, is_set_logic, listed, plain, predicate_named, set_logic_fault, worded}
+use Rattle.sort_check.specs.Commands.{Command, alone_fault, assert_fault, assert_term, asserted, assertion, bool_fault, command, declaration, declaration_fault, declare_constant, declare_function, declare_listed, declared, declares, inform_fault, is_check_sat, is_exit, is_inform, is_set_logic, listed, plain, predicate_named, set_logic_fault, worded}
 use Rattle.sort_check.specs.Commands.Command.{SetLogic, Inform, Declare, Assert, CheckSat, GetModel, Exit}
 use Rattle.sort_check.specs.Scripts.{IsScript, IsScriptOf, Outcome, after, end_fault, outcome, stops}
 use Rattle.answer_text.specs.machinery.ReadBack.{AreNames}
@@ -74,7 +74,7 @@ module _ (text : List ℕ) (before : List Command) (names : AreDeclared (declare
       let both = unless_ok (assert_fault (not (list_any is_check_sat before)) (length (asserted before)) start) (spelled text (scope_of (declared before) [] true) 0 tree >>= assertion start) d h in
       let found = bind_ok (spelled text (scope_of (declared before) [] true) 0 tree) (assertion start) d both.1 in
       let s = found.0 in
-      passes (clause_fault start s.part (is_headed s.term)) (Assert start s.term) d refl found.2
+      passes (bool_fault s.part) (Assert start s.term) d refl found.2
   term_stays start (tree ∷ more ∷ parts) d h = absurd (cc)
 
   plain_stays : (start : ℕ) (word : Tree) (parts : List Tree) (d : Command) → plain text before start word parts ≡ Ok d → Stays d

@@ -2,7 +2,7 @@
 use Rattle.std.proofs.Common.{◌≡◌, ℕ, zero, suc, ◌+◌, ◌<◌, List, [], ◌∷◌, ◌++◌, length, true, Bool, map, refl, ap, sym, subst, ◌∙◌, arith, inl}
 use Rattle.std.proofs.lemmas.List.{length-map, append_assoc, at_drop_more}
 use Rattle.std.proofs.lemmas.List.FromFn.{length-enumerate_from}
-use Rattle.std.specs.Prelude.{slice_get, Option, Some, drop, IsTrue}
+use Rattle.std.specs.Prelude.{slice_get, Option, Some, None, Ok, drop, IsTrue}
 use Rattle.std.specs.List.{enumerate_from, AllByRecursion}
 use Rattle.term_tree.specs.declared.sort.Sort.{Sort}
 use Rattle.term_tree.specs.declared.sort.Sort.TheVariants.{Int}
@@ -11,20 +11,17 @@ use Rattle.term_tree.specs.declared.scalar.Value.TheVariants.{Bool as Truth}
 use Rattle.term_tree.specs.declared.script.Name.{Name}
 use Rattle.term_tree.specs.declared.script.Pred.{Pred}
 use Rattle.term_tree.specs.declared.script.Script.{Script}
-use Rattle.term_tree.specs.declared.script.Assertion.{Assertion}
 use Rattle.term_tree.specs.Arena.{IsArena}
-use Rattle.term_tree.specs.machinery.Agreement.{IsTrueBelow}
-use Rattle.term_tree.specs.Value.{Environment}
-use Rattle.term_tree.specs.Truth.{Interpretation, HasValue}
 use Rattle.term_tree.specs.declared.node.Node.TheVariants.{True}
 use Rattle.term_tree.specs.declared.sort.Sort.TheVariants.{Bool as BoolSort}
 use Rattle.term_tree.specs.Subterms.{IsSubterm, is_part, EverySubterm}
 use Rattle.term_tree.specs.Subterms.IsSubterm.{itself, inside}
 use Rattle.term_tree.specs.Solution.{interpretation_of, DefinesEach, AreFormulas, IsFormula, IsSolution}
-use Rattle.term_tree.proofs.Public.{headed}
-use Rattle.term_tree.specs.Head.{has_head}
 use Rattle.term_tree.specs.declared.node.Node.{Node}
-use Rattle.sort_check.specs.Properties.{HasHead}
+use Rattle.horn_shape.specs.Clause.{IsLegalScript}
+use Rattle.clause_form.specs.System.{Clauses, are_clauses, is_system}
+use Rattle.chc_cli.specs.Clauses.{headed_system}
+use Rattle.chc_cli.proofs.HeadedLemmas.{solution, system_is}
 use Rattle.answer_text.specs.declared.answer.Answer.TheVariants.{Sat}
 use Rattle.answer_text.specs.Terms.{parameter_name}
 use Rattle.term_check.specs.Spelling.{sorts_in}
@@ -71,11 +68,6 @@ gives_true number [] pred values within = absurd (omega arith)
 gives_true number (p ∷ preds) zero values within = refl
 gives_true number (p ∷ preds) (suc pred) values within = gives_true (number + 1) preds pred values (omega arith)
 
-module _ (I : Interpretation) (n : ℕ) (all : IsTrueBelow n I) (nodes : List Node) (arena : IsArena nodes) where
-  hold : (asserts : List Assertion) → AllByRecursion (λ a. IsTrue (has_head n nodes a.term.0)) asserts → AllByRecursion (λ a. (env : Environment) → HasValue I nodes a.term.0 env (Truth true)) asserts
-  hold [] h = tt
-  hold (a ∷ asserts) h = (λ env. headed I n nodes arena all a.term.0 env h.0, hold asserts h.1)
-
 -- The term `true` alone.
 
 abbrev truth : List Node
@@ -104,10 +96,10 @@ formulas : (number : ℕ) (preds : List Pred) → AreFormulas preds (true_defini
 formulas number [] = tt
 formulas number (p ∷ preds) = (formula p.args, formulas (number + 1) preds)
 
--- the definitions are a solution of a script whose assertions all end in a predicate
-pub solves : (script : Script) → IsArena script.terms.nodes → AllByRecursion (HasHead script) script.asserts → IsSolution script (true_definitions 0 script.preds)
-solves script arena h = record {
-  defined = defines 0 script.preds;
-  formed = formulas 0 script.preds;
-  satisfied = hold (interpretation_of (true_definitions 0 script.preds)) (length script.preds) (λ pred values within. gives_true 0 script.preds pred values within) script.terms.nodes arena script.asserts h;
-}
+-- the definitions are a solution of a script whose clauses all have heads
+pub solves : (script : Script) (system : Clauses) → IsArena script.terms.nodes → IsLegalScript script → is_system system ≡ true → headed_system (record { script = script; stop = None }) ≡ Ok system
+    → IsSolution script (true_definitions 0 script.preds)
+solves script system arena legal kept read =
+    let is = system_is script system read in
+    solution script system (true_definitions 0 script.preds) arena legal is.0 (ap (λ (preds : List (List Sort)). are_clauses preds system.clauses) (sym is.1) ∙ kept)
+    (λ pred values within. gives_true 0 script.preds pred values within) (defines 0 script.preds) (formulas 0 script.preds)

@@ -11,35 +11,42 @@ use Rattle.term_tree.specs.declared.script.Script.{Script}
 use Rattle.term_tree.specs.declared.definition.Definition.{Definition}
 use Rattle.term_tree.specs.declared.refusal.Refusal.{Refusal}
 use Rattle.term_tree.specs.declared.refusal.Kind.TheVariants.{TooLong}
+use Rattle.term_tree.specs.Arena.{IsArena}
 use Rattle.term_tree.specs.Solution.{IsSolution}
 use Rattle.sort_check.specs.Commands.{Command}
-use Rattle.sort_check.specs.Scripts.{IsScript, IsScriptOf, IsRefused}
+use Rattle.sort_check.specs.Scripts.{IsScript, IsScriptOf}
+use Rattle.clause_form.specs.System.{Clauses}
 use Rattle.answer_text.specs.declared.answer.Answer.TheVariants.{Sat}
 use Rattle.answer_text.specs.Lines.{error_text, usage_text, memory_text}
 use Rattle.answer_text.specs.Printable.{IsAnswerText}
+use Rattle.chc_cli.specs.Clauses.{IsInputRefused, headed_system}
 
 -- the words after the program's name are `solve` alone
 abbrev pub is_solve : List (List ℕ) → Bool
 is_solve (word ∷ []) = bytes_eq word (codes "solve")
 is_solve _ = false
 
--- the bytes are a script, and the text is the printed form of definitions under which every assertion is true
+-- the bytes are a script, its assertions are clauses with heads, and the text is the printed form of definitions under which
+-- every assertion is true
 pub record IsSatAnswer (bytes : List ℕ) (text : List ℕ) : Type 0 where
   pub commands : List Command
   pub script : Script
+  pub system : Clauses
   pub definitions : List Definition
   pub is_script : IsScript bytes commands
   pub spelled : IsScriptOf commands script
+  pub arena : IsArena script.terms.nodes
+  pub clauses : headed_system (record { script = script; stop = None }) ≡ Ok system
   pub solution : IsSolution script definitions
   pub answer : IsAnswerText script.preds (Sat definitions) text
 
 -- The refusal is that of the bytes left in the source: of those that were read, where the source's count of ends rose, and
 -- that they are too many, where it didn't.
 pub record RefusesInput (left : Option (List ℕ)) (old new : ℕ) (read : List ℕ) (refusal : Refusal) : Type 0 where
-  pub input : IfSome left (λ bytes. IsRefused bytes refusal)
-  pub ended : new ≢ old → IsRefused read refusal
+  pub input : IfSome left (λ bytes. IsInputRefused bytes refusal)
+  pub ended : new ≢ old → IsInputRefused read refusal
   pub long : new ≢ counted old → refusal ≡ record { kind = TooLong; offset = most_bytes; command = 0 }
-  pub bytes : refusal.kind ≢ TooLong → IsRefused read refusal
+  pub bytes : refusal.kind ≢ TooLong → IsInputRefused read refusal
 
 -- where the refusal isn't that the bytes are too many, all of them were read
 abbrev pub ReadsInput : Option (List ℕ) → List ℕ → Refusal → Type 0

@@ -2,6 +2,7 @@
 #![tactic(auto)]
 
 mod answer;
+mod headed;
 mod laws;
 mod lines;
 mod model;

@@ -1,11 +1,11 @@
-ghost use Rattle.std.specs.Prelude.{◌≡◌, ◌≢◌, ◌≤◌, ◌↔◌, List, ℕ, [], map, true, false, IfSome, IsSome};
+ghost use Rattle.std.specs.Prelude.{◌≡◌, ◌≢◌, ◌≤◌, ◌↔◌, [], map, true, false, IfSome, IsSome};
 ghost use Rattle.std.specs.String.{string_bytes};
 ghost use Rattle.outside_io.specs.Bytes.{Appends};
 ghost use Rattle.outside_io.specs.Counts.{counted};
 ghost use Rattle.outside_io.specs.declared.turn.Turn.TheVariants.{Fault};
 ghost use Rattle.term_tree.specs.declared.refusal.Refusal.{Refusal};
-ghost use Rattle.sort_check.specs.Commands.{Command};
-ghost use Rattle.sort_check.specs.Scripts.{IsScript, IsRefused};
+ghost use Rattle.sort_check.specs.Scripts.{IsRefused};
+ghost use Rattle.chc_cli.specs.Clauses.{HasNoSystem, IsUnrefused};
 ghost use Rattle.chc_cli.specs.Headline.{is_solve, Answers, Refuses, ReadsInput, WritesPart, EndsOnce};
 ghost use Rattle.answer_text.specs.Lines.{usage_text, memory_text};
 
@@ -48,7 +48,7 @@ pub fn chc_run<S: Source, K: Sink>(
 ) -> Report
     ensures statuses { result.status ≤ 5 }
 
-    // 0: the text that the sink holds now is a sat answer: definitions under which every assertion of the script that the bytes read spell is true.
+    // 0: the text that the sink holds now is a sat answer: definitions under which every assertion of the script that the bytes read spell is true. All of its assertions are clauses with heads.
     ensures answered { result.status ≡ 0 → Answers result.read.items (K.held sink.old) (K.held sink.new) }
     ensures answers_all { result.status ≡ 0 → IfSome (S.left source.old) (λ bytes. result.read.items ≡ bytes) }
 
@@ -57,9 +57,10 @@ pub fn chc_run<S: Source, K: Sink>(
     ensures refuses_all { IfSome result.refusal (ReadsInput (S.left source.old) result.read.items) }
     ensures refusal { IsSome result.refusal ↔ (result.status ≡ 1) }
 
-    // Both exactly: of bytes that are a script no refusal is told, and bytes that are refused are not answered.
-    ensures answers_scripts { IfSome (S.left source.old) (λ bytes. (commands : List Command) → IsScript bytes commands → result.status ≢ 1) }
+    // Both exactly: of bytes that have no refusal none is told, and bytes that are no script, or have no system of clauses with heads, are not answered.
+    ensures answers_scripts { IfSome (S.left source.old) (λ bytes. IsUnrefused bytes → result.status ≢ 1) }
     ensures refuses_others { IfSome (S.left source.old) (λ bytes. (refusal : Refusal) → IsRefused bytes refusal → result.status ≢ 0) }
+    ensures refuses_queries { IfSome (S.left source.old) (λ bytes. HasNoSystem bytes → result.status ≢ 0) }
 
     // 2: other words than `solve` are answered so, and nothing is read for them.
     ensures usage { result.status ≡ 2 → Appends usage_text (K.held sink.old) (K.held sink.new) }

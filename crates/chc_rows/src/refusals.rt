@@ -50,7 +50,7 @@ const FORM: &str = "\
     a model before the question§(set-logic HORN)(get-model)(check-sat)§kind 6 Order at byte 16 after 1 commands¶\
     order before names§(set-logic HORN)(check-sat)(declare-fun and () Real)§kind 6 Order at byte 27 after 2 commands";
 
-/// Declarations and terms with wrong names, numbers of arguments, sorts or numbers, and clauses that are not answered yet.
+/// Declarations and terms with wrong names, numbers of arguments, sorts or numbers, and assertions without a head.
 const NAMES: &str = "\
     another logic§(set-logic QF_LIA)(check-sat)§kind 7 Logic at byte 11 after 0 commands¶\
     an unknown sort of an argument§(set-logic HORN)(declare-fun p (Int Real) Bool)(check-sat)§kind 8 UnknownSort at byte 36 after 1 commands¶\
@@ -85,9 +85,7 @@ const NAMES: &str = "\
     a clause without a head§(set-logic HORN)(assert false)(check-sat)§kind 19 Unbuilt at byte 16 after 1 commands¶\
     an implication without a head§(set-logic HORN)(declare-fun p (Int) Bool)(assert (forall ((x Int)) (=> (p x) (< x 0))))(check-sat)§kind 19 Unbuilt at byte 42 after 2 commands¶\
     a negated predicate§(set-logic HORN)(declare-fun p (Int) Bool)(assert (not (p 3)))(check-sat)§kind 19 Unbuilt at byte 42 after 2 commands¶\
-    a head inside an implication inside an implication§(set-logic HORN)(declare-fun q () Bool)(assert (=> q (=> q q)))(check-sat)§kind 19 Unbuilt at byte 39 after 2 commands¶\
-    an existential assertion§(set-logic HORN)(declare-fun p (Int) Bool)(assert (exists ((x Int)) (p x)))(check-sat)§kind 19 Unbuilt at byte 42 after 2 commands¶\
-    a let around a head§(set-logic HORN)(declare-fun p (Int) Bool)(assert (let ((x 1)) (p x)))(check-sat)§kind 19 Unbuilt at byte 42 after 2 commands";
+    an existential assertion§(set-logic HORN)(declare-fun p (Int) Bool)(assert (exists ((x Int)) (p x)))(check-sat)§kind 16 NotHorn at byte 50 after 2 commands";
 
 /// Runs a text, and asserts that it is refused so.
 fn check_refusal(
@@ -135,7 +133,7 @@ fn wrong_forms_and_orders_are_refused_at_their_place(rt: HostRuntime) -> Result<
 
 #[test]
 fn wrong_names_and_sorts_are_refused_at_their_place(rt: HostRuntime) -> Result<(), Fail> {
-    assert_eq!(rt; check_refusals(&rt, rt.alloc(), NAMES)?, 36);
+    assert_eq!(rt; check_refusals(&rt, rt.alloc(), NAMES)?, 34);
     Ok(())
 }
 

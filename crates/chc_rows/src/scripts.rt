@@ -17,7 +17,7 @@ const SAT: &str = "\
     informations and options before the logic and after the question§(set-info :status sat)(set-option :produce-models true)(set-logic HORN)(set-info :source \"a \"\"quoted\"\" text\")(check-sat)(set-info :notes (1 (a |b c|) 2.5))§¶\
     a model that is asked for§(set-logic HORN)(declare-fun p (Int) Bool)(check-sat)(get-model)(get-model)(exit)§(define-fun p ((x0 Int)) Bool true)\n¶\
     what follows the exit§(set-logic HORN)(check-sat)(exit))))§¶\
-    every operator in a body§(set-logic HORN)(declare-fun p (Int) Bool)(assert (forall ((x Int) (b Bool)) (=> (and b (or b (not b)) (xor b b true)) (=> b b) (= x 1 2) (distinct x 1 2) (ite b (<= x 1 2) (< x 1)) (>= (+ x 1) (- x)) (> (* 2 x) (abs (- x 1))) (= (div x 2) (mod x (- 2))) ((_ divisible 3) x) (exists ((y Int)) (= y x)) (let ((z x) (x b)) (and x (p z))) (p x))))(check-sat)§(define-fun p ((x0 Int)) Bool true)\n¶\
+    every operator in a body§(set-logic HORN)(declare-fun p (Int) Bool)(assert (forall ((x Int) (b Bool)) (=> (and b (or b (not b)) (xor b b true)) (=> b b) (= x 1 2) (distinct x 1 2) (ite b (<= x 1 2) (< x 1)) (>= (+ x 1) (- x)) (> (* 2 x) (abs (- x 1))) (= (div x 2) (mod x (- 2))) ((_ divisible 3) x) (let ((z x) (x b)) (and x (p z))) (p x))))(check-sat)§(define-fun p ((x0 Int)) Bool true)\n¶\
     a head under quantifiers inside one another§(set-logic HORN)(declare-fun p (Int) Bool)(assert (forall ((x Int)) (forall ((x Int) (y Bool)) (=> y (p x)))))(check-sat)§(define-fun p ((x0 Int)) Bool true)\n";
 
 /// Runs a script, and asserts that it is answered with these definitions.

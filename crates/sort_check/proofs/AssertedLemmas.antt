@@ -22,7 +22,7 @@ use Rattle.sort_check.specs.Checked.{IsChecked}
 use Rattle.sort_check.specs.Properties.{IsLegalAssertion}
 use Rattle.sort_check.specs.Scripts.{AreAsserted}
 use Rattle.sort_check.proofs.GrowthLemmas.{legal_grows}
-use Rattle.sort_check.proofs.HeadLemmas.{term_within}
+use Rattle.sort_check.proofs.NodeLemmas.{term_within}
 use Rattle.sort_check.proofs.LegalLemmas.{IsSpelt, AreNext, script_next}
 use Rattle.sort_check.proofs.StateLemmas.{append_nothing}
 
@@ -46,7 +46,7 @@ module _ (text : List ℕ) (all : List Pred) (terms : Arena) (arena : IsArena te
   all_legal before [] number asserts is next h = subst (AllByRecursion Legal) (sym h) tt
   all_legal before (Assert at term ∷ cs) number asserts is next h =
       subst (AllByRecursion Legal) (sym h.2)
-      (spelt_legal (declared before) (declared (Assert at term ∷ cs)) term h.0.term.0 is next.0 h.5, all_legal (before ++ Assert at term ∷ []) cs (number + 1) h.1 (is ∙ declared_on before cs (Assert at term)) next.1 h.6)
+      (spelt_legal (declared before) (declared (Assert at term ∷ cs)) term h.0.term.0 is next.0.0 h.5, all_legal (before ++ Assert at term ∷ []) cs (number + 1) h.1 (is ∙ declared_on before cs (Assert at term)) next.1 h.6)
   all_legal before (Declare pred ∷ cs) number asserts is next h = all_legal (before ++ Declare pred ∷ []) cs (number + 1) asserts (is ∙ declared_on before cs (Declare pred)) next.1 h
   all_legal before (SetLogic ∷ cs) number asserts is next h = all_legal (before ++ SetLogic ∷ []) cs (number + 1) asserts (is ∙ declared_on before cs SetLogic) next.1 h
   all_legal before (Inform ∷ cs) number asserts is next h = all_legal (before ++ Inform ∷ []) cs (number + 1) asserts (is ∙ declared_on before cs Inform) next.1 h

@@ -1,6 +1,6 @@
 -- What is known of the commands of a script, each after those before it.
-use Rattle.std.proofs.Common.{◌≡◌, ℕ, ◌+◌, ◌<◌, ◌≤◌, List, [], ◌∷◌, ◌++◌, length, Bool, true, false, not, ◌&&◌, refl, sym, ap, subst, ◌∙◌, arith, length-append}
-use Rattle.std.proofs.lemmas.Grind.{flat_map-append}
+use Rattle.std.proofs.Common.{◌≡◌, ℕ, ◌<◌, ◌≤◌, List, [], ◌∷◌, ◌++◌, length, Bool, true, false, not, ◌&&◌, refl, sym, ap, subst, ◌∙◌, arith}
+use Rattle.std.proofs.lemmas.List.{length-map}
 use Rattle.std.specs.Prelude.{Option, None, Some, Result, Ok, Err, codes, if◌then◌else◌}
 use Rattle.std.specs.List.{list_any, list_all}
 use Rattle.sexp_read.specs.declared.tree.Tree.{Tree, Leaf, List', items-the_row-Tree}
@@ -11,31 +11,30 @@ use Rattle.term_tree.specs.declared.sort.Sort.{Sort}
 use Rattle.term_tree.specs.declared.sort.Sort.TheVariants.{Int as IntSort, Bool as BoolSort}
 use Rattle.term_check.specs.declared.part.Part.{Part}
 use Rattle.term_check.specs.declared.part.Fault.{Fault}
-use Rattle.term_tree.specs.declared.refusal.Kind.TheVariants.{Unbuilt, SortMismatch}
+use Rattle.term_tree.specs.declared.refusal.Kind.TheVariants.{SortMismatch}
 use Rattle.term_check.specs.Rules.{fault, unless, same_sort}
-use Rattle.term_check.specs.Spelling.{Spelled, spelled, is_word, ◌>>=◌, scope_of}
+use Rattle.term_check.specs.Spelling.{Spelled, spelled, is_word, ◌>>=◌, scope_of, sort_named, sort_or_bool}
 use Rattle.term_check.specs.Term.{Term}
 use Rattle.term_check.proofs.Public.{bind_ok, unless_ok}
-use Rattle.sort_check.specs.Commands.{Command, command, listed, worded, plain, set_logic_fault, inform_fault, alone_fault, declaration, declaration_fault, declare_listed, declare_function, declare_constant, predicate_named, assertion, assert_fault, assert_term, asserted, clause_fault, is_headed, declared, declares, most_predicates, is_check_sat, is_exit, is_inform, is_set_logic}
+use Rattle.sort_check.specs.Commands.{Command, command, listed, worded, plain, set_logic_fault, inform_fault, alone_fault, declaration, declaration_fault, declare_listed, declare_function, declare_constant, predicate_named, assertion, assert_fault, assert_term, asserted, bool_fault, declared, most_arguments, most_assertions, most_predicates, is_check_sat, is_exit, is_inform, is_set_logic}
 use Rattle.sort_check.specs.Commands.Command.{SetLogic, Inform, Declare, Assert, CheckSat, GetModel, Exit}
-use Rattle.sort_check.specs.Scripts.{IsScript, Outcome, outcome, stops, after, end_fault}
-use Rattle.sort_check.proofs.RuleLemmas.{declared_facts}
+use Rattle.sort_check.specs.Scripts.{Outcome, outcome, stops, after, end_fault}
+use Rattle.sort_check.proofs.RuleLemmas.{asserted_facts, declared_facts}
 
--- a tree spells the term over the predicates that are declared, and the term ends in a predicate
+-- a tree spells the term over the predicates that are declared, and the term is Bool
 pub record IsSpelt (text : List ℕ) (preds : List Pred) (term : Term) : Type 0 where
   pub tree : Tree
   pub spelling : Spelled
   pub is : spelled text (scope_of preds [] true) 0 tree ≡ Ok spelling
   pub same : spelling.term ≡ term
   pub sorted : spelling.part.sort ≡ BoolSort
-  pub headed : is_headed term ≡ true
 
 -- a command may stand after these
 abbrev pub IsNext : List ℕ → List Command → Command → Type 0
 IsNext text before SetLogic = Unit {0}
 IsNext text before Inform = Unit {0}
-IsNext text before (Declare pred) = length (declared before) < most_predicates
-IsNext text before (Assert at term) = IsSpelt text (declared before) term
+IsNext text before (Declare pred) = (length (declared before) < most_predicates) × (length pred.args ≤ most_arguments)
+IsNext text before (Assert at term) = IsSpelt text (declared before) term × (length (asserted before) < most_assertions)
 IsNext text before CheckSat = Unit {0}
 IsNext text before GetModel = Unit {0}
 IsNext text before Exit = Unit {0}
@@ -56,17 +55,12 @@ choose false x y d h f g = g h
 broken : {A : Type 0} (f : Fault) (d : Command) → (let r : Result Command Fault = Err f in r) ≡ Ok d → A
 broken f d h = absurd (cc)
 
-bool_by : (sort : Sort) (start : ℕ) (part : Part) (headed : Bool) → (if same_sort sort BoolSort then (if headed then None else Some (fault Unbuilt start)) else Some (fault SortMismatch part.start)) ≡ None → sort ≡ BoolSort
-bool_by IntSort start part headed h = absurd (cc)
-bool_by BoolSort start part headed h = refl
+bool_by : (sort : Sort) (f : Fault) → (if same_sort sort BoolSort then None else Some f) ≡ None → sort ≡ BoolSort
+bool_by IntSort f h = absurd (cc)
+bool_by BoolSort f h = refl
 
-bool_is : (start : ℕ) (part : Part) (headed : Bool) → clause_fault start part headed ≡ None → part.sort ≡ BoolSort
-bool_is start part headed h = bool_by part.sort start part headed h
-
-clause_is : (start : ℕ) (part : Part) (b headed : Bool) → (if b then (if headed then None else Some (fault Unbuilt start)) else Some (fault SortMismatch part.start)) ≡ None → headed ≡ true
-clause_is start part true true h = refl
-clause_is start part true false h = absurd (cc)
-clause_is start part false headed h = absurd (cc)
+bool_is : (part : Part) → bool_fault part ≡ None → part.sort ≡ BoolSort
+bool_is part h = bool_by part.sort (fault SortMismatch part.start) h
 
 module _ (text : List ℕ) (before : List Command) where
   given : (o : Option Fault) (c d : Command) → IsNext text before c → unless o (Ok c) ≡ Ok d → IsNext text before d
@@ -75,7 +69,8 @@ module _ (text : List ℕ) (before : List Command) where
   declaration_next : (start : ℕ) (name : Tree) (sorts : List Tree) (result : Tree) (d : Command) → declaration text before start name sorts result ≡ Ok d → IsNext text before d
   declaration_next start name sorts result d h =
       let both = let_by (declaration_fault text (not (list_any is_check_sat before)) (declared before) start name sorts result) (Declare (predicate_named text name sorts)) d h in
-      subst (IsNext text before) both.1 (declared_facts text (not (list_any is_check_sat before)) (declared before) start name sorts result both.0).0
+      let facts = declared_facts text (not (list_any is_check_sat before)) (declared before) start name sorts result both.0 in
+      subst (IsNext text before) both.1 (facts.0, omega (arith, facts.2, length-map sorts (λ sort. sort_or_bool (sort_named text sort))))
 
   listed_next : (start : ℕ) (name sorts result : Tree) (d : Command) → declare_listed text before start name sorts result ≡ Ok d → IsNext text before d
   listed_next start name (List' shape row from to) result d h = declaration_next start name (items-the_row-Tree _ row) result d h
@@ -94,17 +89,17 @@ module _ (text : List ℕ) (before : List Command) where
   constant_next start (name ∷ result ∷ []) d h = declaration_next start name [] result d h
   constant_next start (name ∷ result ∷ more ∷ parts) d h = absurd (cc)
 
-  assertion_next : (start : ℕ) (tree : Tree) (s : Spelled) (d : Command) → spelled text (scope_of (declared before) [] true) 0 tree ≡ Ok s → assertion start s ≡ Ok d → IsNext text before d
-  assertion_next start tree s d is h =
-      let both = let_by (clause_fault start s.part (is_headed s.term)) (Assert start s.term) d h in
-      subst (IsNext text before) both.1 (record { tree = tree; spelling = s; is = is; same = refl; sorted = bool_is start s.part (is_headed s.term) both.0; headed = clause_is start s.part (same_sort s.part.sort BoolSort) (is_headed s.term) both.0 })
+  assertion_next : (start : ℕ) (tree : Tree) (s : Spelled) (d : Command) → length (asserted before) < most_assertions → spelled text (scope_of (declared before) [] true) 0 tree ≡ Ok s → assertion start s ≡ Ok d → IsNext text before d
+  assertion_next start tree s d few is h =
+      let both = let_by (bool_fault s.part) (Assert start s.term) d h in
+      subst (IsNext text before) both.1 (record { tree = tree; spelling = s; is = is; same = refl; sorted = bool_is s.part both.0 }, few)
 
   term_next : (start : ℕ) (parts : List Tree) (d : Command) → assert_term text before start parts ≡ Ok d → IsNext text before d
   term_next start [] d h = absurd (cc)
   term_next start (tree ∷ []) d h =
       let both = unless_ok (assert_fault (not (list_any is_check_sat before)) (length (asserted before)) start) (spelled text (scope_of (declared before) [] true) 0 tree >>= assertion start) d h in
       let found = bind_ok (spelled text (scope_of (declared before) [] true) 0 tree) (assertion start) d both.1 in
-      assertion_next start tree found.0 d found.1 found.2
+      assertion_next start tree found.0 d (asserted_facts (not (list_any is_check_sat before)) (length (asserted before)) start both.0) found.1 found.2
   term_next start (tree ∷ more ∷ parts) d h = absurd (cc)
 
   plain_next : (start : ℕ) (word : Tree) (parts : List Tree) (d : Command) → plain text before start word parts ≡ Ok d → IsNext text before d
@@ -172,25 +167,3 @@ pub script_next : (text : List ℕ) (stop : Option TextStop) (trees : List Tree)
     → outcome text stop [] trees ≡ record { commands = commands; refusal = refusal } → AreNext text [] commands
 script_next text stop trees commands refusal is =
     let h = outcome_follows text stop [] trees in subst (AreNext text []) (sym h.whole ∙ ap (λ (o : Outcome). o.commands) is) h.next
-
--- one command more declares these
-pub declared_more : (before : List Command) (c : Command) → length (declared (before ++ c ∷ [])) ≡ length (declared before) + length (declares c)
-declared_more before c =
-    ap length (flat_map-append declares before (c ∷ [])) ∙ length-append (declared before) (declares c ++ []) ∙ ap (λ (n : ℕ). length (declared before) + n) (length-append (declares c) [] ∙ omega arith)
-
--- no more predicates are declared than may be
-within : (text : List ℕ) (before commands : List Command) → length (declared before) ≤ most_predicates → AreNext text before commands → length (declared before) + length (declared commands) ≤ most_predicates
-within text before [] le h = omega (arith, le)
-within text before (Declare pred ∷ cs) le h =
-    let rest = within text (before ++ Declare pred ∷ []) cs (omega (arith, declared_more before (Declare pred), h.0)) h.1 in omega (arith, rest, declared_more before (Declare pred))
-within text before (SetLogic ∷ cs) le h = let e = declared_more before SetLogic in let rest = within text (before ++ SetLogic ∷ []) cs (omega (arith, e, le)) h.1 in omega (arith, rest, e)
-within text before (Inform ∷ cs) le h = let e = declared_more before Inform in let rest = within text (before ++ Inform ∷ []) cs (omega (arith, e, le)) h.1 in omega (arith, rest, e)
-within text before (Assert at term ∷ cs) le h =
-    let e = declared_more before (Assert at term) in let rest = within text (before ++ Assert at term ∷ []) cs (omega (arith, e, le)) h.1 in omega (arith, rest, e)
-within text before (CheckSat ∷ cs) le h = let e = declared_more before CheckSat in let rest = within text (before ++ CheckSat ∷ []) cs (omega (arith, e, le)) h.1 in omega (arith, rest, e)
-within text before (GetModel ∷ cs) le h = let e = declared_more before GetModel in let rest = within text (before ++ GetModel ∷ []) cs (omega (arith, e, le)) h.1 in omega (arith, rest, e)
-within text before (Exit ∷ cs) le h = let e = declared_more before Exit in let rest = within text (before ++ Exit ∷ []) cs (omega (arith, e, le)) h.1 in omega (arith, rest, e)
-
--- a script declares no more than may be
-pub few_law : (text : List ℕ) (commands : List Command) → IsScript text commands → length (declared commands) ≤ most_predicates
-few_law text commands s = let all = within text [] commands (omega arith) (script_next text s.stop s.trees commands None s.legal) in omega (arith, all)

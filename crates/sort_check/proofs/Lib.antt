@@ -1,9 +1,9 @@
 pub mod AssertedLemmas
-pub mod ClauseLemmas
 pub mod GrowthLemmas
-pub mod HeadLemmas
 pub mod LawLemmas
 pub mod LegalLemmas
+pub mod LimitLemmas
+pub mod NodeLemmas
 pub mod RuleLemmas
 pub mod ScriptLemmas
 pub mod StateLemmas

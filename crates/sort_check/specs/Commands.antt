@@ -19,14 +19,12 @@ use Rattle.sexp_read.specs.Leaves.{symbol_bytes}
 use Rattle.term_tree.specs.declared.sort.Sort.{Sort}
 use Rattle.term_tree.specs.declared.sort.Sort.TheVariants.{Int as IntSort, Bool as BoolSort}
 use Rattle.term_tree.specs.declared.script.Pred.{Pred}
-use Rattle.term_tree.specs.declared.node.OpKind.{OpKind}
-use Rattle.term_tree.specs.declared.node.OpKind.TheVariants.{Implies}
-use Rattle.term_tree.specs.declared.refusal.Kind.TheVariants.{CommandForm, Order, Logic, UnknownSort, Redeclared, SortMismatch, Count, Unbuilt}
+use Rattle.term_tree.specs.declared.refusal.Kind.TheVariants.{CommandForm, Order, Logic, UnknownSort, Redeclared, SortMismatch, Count}
 use Rattle.term_check.specs.declared.part.Part.{Part}
 use Rattle.term_check.specs.declared.part.Fault.{Fault}
 use Rattle.term_check.specs.Operators.{operator_named}
 use Rattle.term_check.specs.Rules.{fault, unless, or_else, same_sort}
-use Rattle.term_check.specs.Term.{Term, predicate, operation, universal, Terms, none, more}
+use Rattle.term_check.specs.Term.{Term}
 use Rattle.term_check.specs.Spelling.{Spelled, ◌>>=◌, is_word, is_symbol, is_some, name_of, name_or_none, sort_named, sort_or_bool, start_of, pred_from, spelled, scope_of}
 
 -- An assertion has the offset of its command.
@@ -168,35 +166,15 @@ declare_constant text before start _ = Err (fault CommandForm start)
 
 -- (assert term)
 
-abbrev pub is_implication : OpKind → Bool
-is_implication Implies = true
-is_implication _ = false
-
-abbrev pub is_predicate : Term → Bool
-is_predicate (predicate at number args) = true
-is_predicate _ = false
-
-abbrev pub ends_in_predicate : Terms → Bool
-ends_in_predicate none = false
-ends_in_predicate (more term none) = is_predicate term
-ends_in_predicate (more term (more next terms)) = ends_in_predicate (more next terms)
-
--- a predicate, (=> t .. t predicate), or one of these under universal quantifiers
-abbrev pub is_headed : Term → Bool
-is_headed (predicate at number args) = true
-is_headed (operation at op args) = is_implication op && ends_in_predicate args
-is_headed (universal at first sorts body) = is_headed body
-is_headed _ = false
-
 abbrev pub assert_fault : Bool → ℕ → ℕ → Option Fault
 assert_fault allowed count start = or_else (order_fault start allowed) (count_fault start (nat_lt count most_assertions))
 
--- Other clauses than those with a head are not answered yet.
-abbrev pub clause_fault : ℕ → Part → Bool → Option Fault
-clause_fault start part headed = if same_sort part.sort BoolSort then (if headed then None else Some (fault Unbuilt start)) else Some (fault SortMismatch part.start)
+-- an assertion is Bool
+abbrev pub bool_fault : Part → Option Fault
+bool_fault part = if same_sort part.sort BoolSort then None else Some (fault SortMismatch part.start)
 
 abbrev pub assertion : ℕ → Spelled → Result Command Fault
-assertion start s = unless (clause_fault start s.part (is_headed s.term)) (Ok (Assert start s.term))
+assertion start s = unless (bool_fault s.part) (Ok (Assert start s.term))
 
 abbrev pub assert_term : List ℕ → List Command → ℕ → List Tree → Result Command Fault
 assert_term text before start (term ∷ []) =

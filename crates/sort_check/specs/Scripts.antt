@@ -1,5 +1,5 @@
 -- Which texts are scripts, which script each spells, and the one refusal of every other text (SMT-LIB 2.6, section 3.9).
-use Rattle.std.specs.Prelude.{◌≡◌, ℕ, ◌+◌, ◌<◌, ◌≤◌, ◌^◌, List, [], ◌∷◌, ◌++◌, length, Option, None, Some, Result, Ok, Err, if◌then◌else◌}
+use Rattle.std.specs.Prelude.{◌≡◌, ℕ, ◌+◌, ◌<◌, ◌≤◌, List, [], ◌∷◌, ◌++◌, length, Option, None, Some, Result, Ok, Err, if◌then◌else◌}
 use Rattle.std.specs.List.{list_any}
 use Rattle.base.specs.Limits.{most_bytes}
 use Rattle.sexp_read.specs.declared.tree.Tree.{Tree}

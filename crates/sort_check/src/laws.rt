@@ -6,12 +6,11 @@ ghost use Rattle.sexp_read.specs.declared.tree.TextStop.{TextStop};
 ghost use Rattle.term_tree.specs.declared.refusal.Checked.{Checked};
 ghost use Rattle.std.specs.List.{AllByRecursion};
 ghost use Rattle.term_tree.specs.Arena.{IsArena};
-ghost use Rattle.term_tree.specs.declared.script.Script.{Script};
 ghost use Rattle.term_tree.specs.declared.refusal.Refusal.{Refusal};
 ghost use Rattle.sort_check.specs.Commands.{Command, declared, most_predicates};
 ghost use Rattle.sort_check.specs.Checked.{IsChecked};
-ghost use Rattle.sort_check.specs.Properties.{IsScriptOrRefused, IsLegalAssertion, HasHead};
-ghost use Rattle.sort_check.specs.Scripts.{IsScript, IsScriptOf, IsRefused};
+ghost use Rattle.sort_check.specs.Properties.{IsScriptOrRefused, IsLegalAssertion, IsWithinLimits};
+ghost use Rattle.sort_check.specs.Scripts.{IsScript, IsRefused};
 
 /// Every text is a script of some commands, or has a refusal.
 pub fn script_or_refused()
@@ -33,12 +32,6 @@ pub fn few_predicates()
     ensures { (text : List ℕ) (commands : List Command) → IsScript text commands → length (declared commands) ≤ most_predicates }
 {}
 
-/// Every assertion of a script ends in a declared predicate, in every arena that has its terms.
-pub fn assertions_have_heads()
-    ensures { (text : List ℕ) (commands : List Command) (script : Script) →
-        IsArena script.terms.nodes → IsScript text commands → IsScriptOf commands script → AllByRecursion (HasHead script) script.asserts }
-{}
-
 /// A text has at most one refusal.
 pub fn one_refusal()
     ensures { (text : List ℕ) (refusal other : Refusal) → IsRefused text refusal → IsRefused text other → refusal ≡ other }
@@ -49,4 +42,10 @@ pub fn one_refusal()
 pub fn assertions_are_legal()
     ensures { (text : List ℕ) (trees : List Tree) (stop : Option TextStop) (checked : Checked) →
         IsArena checked.script.terms.nodes → IsChecked text trees stop checked → AllByRecursion (IsLegalAssertion checked.script) checked.script.asserts }
+{}
+
+/// What the legal commands of a text declare and assert is within the limits: 65,536 assertions, 4,096
+/// predicates, and 256 arguments of each.
+pub fn scripts_are_within_limits()
+    ensures { (text : List ℕ) (trees : List Tree) (stop : Option TextStop) (checked : Checked) → IsChecked text trees stop checked → IsWithinLimits checked.script }
 {}

@@ -3,14 +3,13 @@
 #![tactic(auto)]
 
 mod declaration;
-mod headed;
 mod laws;
 mod rules;
 mod script;
 mod state;
 
 pub use laws::{
-    assertions_are_legal, assertions_have_heads, few_predicates, no_script_is_refused, one_refusal,
-    one_script, script_or_refused,
+    assertions_are_legal, few_predicates, no_script_is_refused, one_refusal, one_script,
+    script_or_refused, scripts_are_within_limits,
 };
 pub use script::{check_script, check_text};

@@ -1,7 +1,7 @@
 //! The rules of commands without names and terms.
 
 ghost use Rattle.std.specs.Prelude.{◌≡◌};
-ghost use Rattle.sort_check.specs.Commands.{order_fault, form_fault, count_fault, logic_fault, set_logic_fault, is_keyword, is_information, inform_fault, alone_fault, assert_fault, clause_fault};
+ghost use Rattle.sort_check.specs.Commands.{order_fault, form_fault, count_fault, logic_fault, set_logic_fault, is_keyword, is_information, inform_fault, alone_fault, assert_fault, bool_fault};
 
 use base::MOST_ASSERTIONS;
 use sexp_read::{LeafKind, Tree, symbol_bytes};
@@ -121,18 +121,12 @@ pub fn assert_fault(allowed: bool, count: usize, start: u32) -> Option<Fault>
     count_fault(start, count < MOST_ASSERTIONS)
 }
 
-/// What is wrong with an asserted term. Other clauses than those with a head are not answered yet.
-pub fn clause_fault(start: u32, part: Part, headed: bool) -> Option<Fault>
-    ensures { result ≡ clause_fault start part headed }
+/// What is wrong with an asserted term.
+pub fn bool_fault(part: Part) -> Option<Fault>
+    ensures { result ≡ bool_fault part }
 {
     match part.sort {
         Sort::Int => Some(fault(Kind::SortMismatch, part.start)),
-        Sort::Bool => {
-            if headed {
-                None
-            } else {
-                Some(fault(Kind::Unbuilt, start))
-            }
-        }
+        Sort::Bool => None,
     }
 }

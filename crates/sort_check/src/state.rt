@@ -10,8 +10,7 @@ ghost use Rattle.sort_check.specs.Scripts.{IsScriptOf, end_fault, refusal_at};
 ghost use Rattle.sort_check.specs.machinery.State.{IsState, Took};
 
 use crate::declaration::{declaration_fault, predicate_named};
-use crate::headed::is_headed;
-use crate::rules::{alone_fault, assert_fault, clause_fault, inform_fault, set_logic_fault};
+use crate::rules::{alone_fault, assert_fault, bool_fault, inform_fault, set_logic_fault};
 use base::{Items, Memory};
 use sexp_read::Tree;
 use std::alloc::Global;
@@ -184,8 +183,7 @@ impl State {
         requires within { found.id.0 < length self.old.terms.nodes }
         ensures { (before : List Command) (s : Spelled) → IsState before self.old → IsTermAt self.old.terms [] s.term found.id.0 → s.part ≡ found.part → IfOk result (λ fault. Took before (assertion start s) fault self.new) }
     {
-        let headed = is_headed(&self.terms, found.id);
-        if let Some(fault) = clause_fault(start, found.part, headed) {
+        if let Some(fault) = bool_fault(found.part) {
             return Ok(Some(fault));
         }
         let command = self.commands;

@@ -2,7 +2,7 @@
 use Rattle.std.specs.Prelude.{◌≡◌, ℕ, List, [], IfSome, Bool, true, false}
 use Rattle.std.specs.declared.option.Option.{Option}
 use Rattle.base.specs.Limits.{most_bytes}
-use Rattle.sort_check.specs.Scripts.{IsRefused}
+use Rattle.chc_cli.specs.Clauses.{IsInputRefused}
 use Rattle.chc_cli.specs.declared.plan.Plan.{Plan}
 use Rattle.chc_cli.specs.declared.plan.Plan.TheVariants.{Answered, Refused, Overlong, ReadFault, OutOfMemory}
 use Rattle.chc_cli.specs.Headline.{IsSatAnswer}
@@ -11,8 +11,8 @@ use Rattle.answer_text.specs.Lines.{error_text}
 
 abbrev pub IsPlan : Option (List ℕ) → Plan → Type 0
 IsPlan left (Answered read text) = IsSatAnswer read.items text.items × IfSome left (λ bytes. read.items ≡ bytes)
-IsPlan left (Refused read refusal line) = IsRefused read.items refusal × IfSome left (λ bytes. read.items ≡ bytes) × (line.items ≡ error_text refusal)
-IsPlan left (Overlong refusal line) = (refusal ≡ record { kind = TooLong; offset = most_bytes; command = 0 }) × IfSome left (λ bytes. IsRefused bytes refusal) × (line.items ≡ error_text refusal)
+IsPlan left (Refused read refusal line) = IsInputRefused read.items refusal × IfSome left (λ bytes. read.items ≡ bytes) × (line.items ≡ error_text refusal)
+IsPlan left (Overlong refusal line) = (refusal ≡ record { kind = TooLong; offset = most_bytes; command = 0 }) × IfSome left (λ bytes. IsInputRefused bytes refusal) × (line.items ≡ error_text refusal)
 IsPlan left ReadFault = Unit {0}
 IsPlan left (OutOfMemory read) = Unit {0}
 

@@ -1,6 +1,6 @@
 use Rattle.std.proofs.Common.{ap, arith, rules, length}
 use Rattle.chc_cli.specs.Headline.IsMeant.{error}
-use Rattle.chc_cli.proofs.PlanLemmas.{answered_only, refused_only, input_of, refused_read, refused_long}
+use Rattle.chc_cli.proofs.PlanLemmas.{answered_only, answered_system, refused_only, input_of, refused_read, refused_long}
 use Rattle.chc_cli.proofs.run.chc_run.Goals as goal
 
 pub returns-in-Answered-clause-refuses_others : goal.returns-in-Answered-clause-refuses_others
@@ -8,11 +8,16 @@ returns-in-Answered-clause-refuses_others g c =
     let plan = c.in-Answered.ensures.plan in
     answered_only c.no_script_is_refused.ensures (g.S.Source.left c.args.source.now) c.in-Answered.read.items c.in-Answered.text.items _ plan.0 plan.1
 
+pub returns-in-Answered-clause-refuses_queries : goal.returns-in-Answered-clause-refuses_queries
+returns-in-Answered-clause-refuses_queries g c =
+    let plan = c.in-Answered.ensures.plan in
+    answered_system (g.S.Source.left c.args.source.now) c.in-Answered.read.items c.in-Answered.text.items _ plan.0 plan.1
+
 pub returns-in-Ok-write_all-2-clause-answers_scripts : goal.returns-in-Ok-write_all-2-clause-answers_scripts
 returns-in-Ok-write_all-2-clause-answers_scripts g c =
     let plan = c.in-Refused.ensures.plan in
     let left = g.S.Source.left c.args.source.now in
-    refused_only c.no_script_is_refused.ensures left c.in-Refused.refusal 1 (input_of left c.in-Refused.read.items c.in-Refused.refusal plan.1 plan.0)
+    refused_only left c.in-Refused.refusal 1 (input_of left c.in-Refused.read.items c.in-Refused.refusal plan.1 plan.0)
 
 pub returns-in-Ok-write_all-2-clause-refused : goal.returns-in-Ok-write_all-2-clause-refused
 returns-in-Ok-write_all-2-clause-refused g c =
@@ -36,7 +41,7 @@ returns-in-Refused-clause-writes_part g c =
 
 pub returns-in-Ok-write_all-3-clause-answers_scripts : goal.returns-in-Ok-write_all-3-clause-answers_scripts
 returns-in-Ok-write_all-3-clause-answers_scripts g c =
-    refused_only c.no_script_is_refused.ensures (g.S.Source.left c.args.source.now) c.in-Overlong.refusal 1 c.in-Overlong.ensures.plan.1
+    refused_only (g.S.Source.left c.args.source.now) c.in-Overlong.refusal 1 c.in-Overlong.ensures.plan.1
 
 pub returns-in-Ok-write_all-3-clause-refused : goal.returns-in-Ok-write_all-3-clause-refused
 returns-in-Ok-write_all-3-clause-refused g c =

@@ -1,8 +1,7 @@
-use Rattle.std.proofs.Common.{◌≡◌, [], Bool, refl, sym, ap, ◌∙◌}
+use Rattle.std.proofs.Common.{◌≡◌, refl, sym, ap, ◌∙◌}
 use Rattle.std.specs.Prelude.{None}
 use Rattle.term_tree.specs.declared.script.Assertion.{Assertion}
-use Rattle.term_check.specs.declared.part.Part.{Part}
-use Rattle.sort_check.specs.Commands.{clause_fault, is_headed}
+use Rattle.sort_check.specs.Commands.{bool_fault}
 use Rattle.sort_check.specs.Commands.Command.{Assert}
 use Rattle.sort_check.proofs.StateLemmas.{and_false, or_false, one_assertion, let_through}
 use Rattle.sort_check.proofs.state.State.assert_found.Goals as goal
@@ -10,8 +9,7 @@ use Rattle.sort_check.proofs.state.State.assert_found.Goals as goal
 pub returns : goal.returns
 returns c before s h is part =
     let self = c.args.self.now in
-    let fault : clause_fault c.args.start s.part (is_headed s.term) ≡ None =
-    ap (λ (p : Part). clause_fault c.args.start p (is_headed s.term)) part ∙ ap (λ (b : Bool). clause_fault c.args.start c.args.found.part b) (sym (c.is_headed-headed.ensures [] s.term is)) ∙ sym c.clause_fault.ensures ∙ c.in_default.is in
+    let fault : bool_fault s.part ≡ None = ap bool_fault part ∙ sym c.bool_fault.ensures ∙ c.in_default.is in
     let a : Assertion = record { term = c.args.found.id; offset = c.from.result; command = self.commands } in
     let_through before _ (Assert c.args.start s.term) _ fault
     (one_assertion before c.args.start s.term a self _ h (record {

@@ -3,7 +3,7 @@ use Rattle.std.specs.Prelude.{None, Err}
 use Rattle.sort_check.specs.Commands.{assert_fault}
 use Rattle.sort_check.specs.declared.state.State.{State}
 use Rattle.term_check.specs.declared.stop.TermStop.{TermStop}
-use Rattle.sort_check.proofs.HeadLemmas.{term_within}
+use Rattle.sort_check.proofs.NodeLemmas.{term_within}
 use Rattle.sort_check.proofs.StateLemmas.{grown, asserted_term, refused_term}
 use Rattle.sort_check.proofs.state.State.assert_one.Goals as goal
 

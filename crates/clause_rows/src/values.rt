@@ -1,0 +1,259 @@
+//! Small clauses against the values of their terms: over all values of two variables from -4 to 4 the
+//! guard has one extension where the guards of the assertion are true, and else none, and arguments
+//! have the values of their terms.
+
+use crate::texts::script_of;
+use base::Memory;
+use clause_form::{Atom, Clause};
+use clause_normal::{ClauseStop, read_clauses};
+use horn_shape::{AtomUse, HornClause, HornStop, clause_of, has_assertion};
+use lin_atoms::{Form, holds};
+use std::alloc::Global;
+use std::process::Abort;
+use std::test::Fail;
+use term_tree::{Script, Sort, TermId, Value, ValueStop, value};
+
+/// What a case shows, and an assertion over two variables with two auxiliary ones at most.
+const CASES: &str = "\
+    quotients by a positive number§(forall ((x Int) (y Int)) (=> (= (div x 3) y) q))¶\
+    quotients by a negative number§(forall ((x Int) (y Int)) (=> (= (div x (- 3)) y) q))¶\
+    remainders§(forall ((x Int) (y Int)) (=> (< (mod (+ x y) (- 2)) 1) q))¶\
+    magnitudes§(forall ((x Int) (y Int)) (=> (<= (abs (- x y)) 2) q))¶\
+    a choice by a comparison§(forall ((x Int) (y Int)) (=> (> (ite (< x y) x (- y)) 0) q))¶\
+    an argument§(forall ((x Int) (y Int)) (=> (p (- (* 2 x) y)) (< x 3) q))¶\
+    a remainder as a head's argument§(forall ((x Int) (y Int)) (=> (distinct x y 1) (p (mod x 3))))¶\
+    a quotient of a remainder§(forall ((x Int) (y Int)) (=> (= (div (mod x 4) 2) y) q))¶\
+    multiples§(forall ((x Int) (y Int)) (=> ((_ divisible 3) (+ x (* 2 y))) (not (= x y)) q))¶\
+    chains of relations§(forall ((x Int) (y Int)) (=> (<= (- 3) x y 2) (>= y x 0) q))¶\
+    an exclusive or of comparisons§(forall ((x Int) (y Int)) (=> (xor (< x 0) (= y 1)) q))¶\
+    equal truth values§(forall ((b Bool) (y Int)) (=> (= b (< y 2)) q))¶\
+    distinct truth values§(forall ((b Bool) (y Int)) (=> (distinct b (not b)) (< y 0) q))¶\
+    a name for a truth value§(forall ((b Bool) (y Int)) (=> (let ((c (or b (< y 0)))) (=> c b)) (r b y)))¶\
+    a choice between truth values§(forall ((b Bool) (y Int)) (=> (ite b (< y 0) (> y 0)) q))¶\
+    a negated guard§(forall ((b Bool) (y Int)) (or (not b) (and b (< y 1)) q))";
+
+/// The values of two variables and of two more.
+type Point = [i64; 4];
+
+/// How many extensions make the guard true, by values from -12 to 12 of so many auxiliary variables,
+/// and the last of them.
+fn extensions(guard: &Form, x: i64, y: i64, auxiliary: usize) -> (u32, Point) {
+    let mut count: u32 = 0;
+    let mut last: Point = [x, y, 0, 0];
+    for a in -12..13 {
+        for b in -12..13 {
+            let unused = (auxiliary < 1 && a != 0) || (auxiliary < 2 && b != 0);
+            let point: Point = [x, y, a, b];
+            if !unused && holds(guard, point.as_slice()) {
+                count = count.saturating_add(1);
+                last = point;
+            }
+        }
+    }
+    (count, last)
+}
+
+/// An integer as the value of a variable of that sort; `None` where it is none.
+fn value_of(sort: Sort, number: i64) -> Option<Value> {
+    match sort {
+        Sort::Int => Some(Value::Int(i128::from(number))),
+        Sort::Bool => match number {
+            0 => Some(Value::Bool(false)),
+            1 => Some(Value::Bool(true)),
+            _ => None,
+        },
+    }
+}
+
+/// The values of the two variables, where both are values of their sorts.
+fn environment(sorts: &[Sort], x: i64, y: i64) -> Option<[Value; 2]> {
+    match sorts {
+        [first, second] => match (value_of(*first, x), value_of(*second, y)) {
+            (Some(x), Some(y)) => Some([x, y]),
+            _ => None,
+        },
+        _ => None,
+    }
+}
+
+/// The value of a term, a truth value as 0 or 1; `None` where there is none here.
+fn number_at(
+    alloc: Global,
+    script: &Script,
+    id: TermId,
+    env: &[Value],
+) -> Result<Option<i128>, Memory> {
+    if id.0 as usize >= script.terms.len() {
+        return Ok(None);
+    }
+    match value(alloc, &script.terms, id, env) {
+        Ok(Value::Int(n)) => Ok(Some(n)),
+        Ok(Value::Bool(b)) => Ok(Some(i128::from(b))),
+        Err(ValueStop::ValueWide { .. }) => Ok(None),
+        Err(ValueStop::Memory) => Err(Memory),
+    }
+}
+
+/// Whether all guards are as the clause says.
+fn are_met(
+    alloc: Global,
+    script: &Script,
+    clause: &HornClause,
+    env: &[Value],
+) -> Result<bool, Memory> {
+    for guard in clause.guards.as_slice() {
+        let awaited = if guard.negated { 0 } else { 1 };
+        if number_at(alloc, script, guard.term, env)? != Some(awaited) {
+            return Ok(false);
+        }
+    }
+    Ok(true)
+}
+
+/// Whether the argument of that number has the value of its term at the point.
+fn is_argument(
+    alloc: Global,
+    script: &Script,
+    given: &AtomUse,
+    made: &Atom,
+    number: usize,
+    env: &[Value],
+    point: &Point,
+) -> Result<bool, Memory> {
+    let (Some(part), Some(variable)) = (given.args.get(number), made.args.get(number)) else {
+        return Ok(false);
+    };
+    let Some(held) = point.get(*variable as usize) else {
+        return Ok(false);
+    };
+    let awaited = number_at(alloc, script, part.term, env)?;
+    Ok(awaited == Some(i128::from(*held)))
+}
+
+/// Whether all arguments have the values of their terms at the point.
+fn are_arguments(
+    alloc: Global,
+    script: &Script,
+    given: &AtomUse,
+    made: &Atom,
+    env: &[Value],
+    point: &Point,
+) -> Result<bool, Memory> {
+    for number in 0..given.args.len() {
+        if !is_argument(alloc, script, given, made, number, env, point)? {
+            return Ok(false);
+        }
+    }
+    Ok(given.args.len() == made.args.len())
+}
+
+/// The same of the body and the head.
+fn are_tuples(
+    alloc: Global,
+    script: &Script,
+    given: &HornClause,
+    made: &Clause,
+    env: &[Value],
+    point: &Point,
+) -> Result<bool, Memory> {
+    for (atom, other) in given.atoms.as_slice().iter().zip(made.atoms.as_slice()) {
+        if !are_arguments(alloc, script, atom, other, env, point)? {
+            return Ok(false);
+        }
+    }
+    match (&given.head, &made.head) {
+        (None, None) => Ok(true),
+        (Some(atom), Some(other)) => are_arguments(alloc, script, atom, other, env, point),
+        _ => Ok(false),
+    }
+}
+
+/// Whether clause and assertion agree at these values of the variables.
+fn agrees_at(
+    alloc: Global,
+    script: &Script,
+    given: &HornClause,
+    made: &Clause,
+    x: i64,
+    y: i64,
+) -> Result<bool, Memory> {
+    let auxiliary = made.sorts.len().saturating_sub(2);
+    let (count, point) = extensions(&made.guard, x, y, auxiliary);
+    let Some(env) = environment(given.vars.as_slice(), x, y) else {
+        return Ok(count == 0);
+    };
+    if !are_met(alloc, script, given, env.as_slice())? {
+        return Ok(count == 0);
+    }
+    let tuples = are_tuples(alloc, script, given, made, env.as_slice(), &point)?;
+    Ok(count == 1 && auxiliary <= 2 && tuples)
+}
+
+fn agrees(
+    alloc: Global,
+    script: &Script,
+    given: &HornClause,
+    made: &Clause,
+) -> Result<bool, Memory> {
+    for x in -4..5 {
+        for y in -4..5 {
+            if !agrees_at(alloc, script, given, made, x, y)? {
+                return Ok(false);
+            }
+        }
+    }
+    Ok(true)
+}
+
+/// Whether the clause of a script's first assertion agrees with it.
+fn first_agrees(alloc: Global, script: &Script, made: &Clause) -> Result<bool, Memory> {
+    if !has_assertion(script, 0) {
+        return Ok(false);
+    }
+    match clause_of(alloc, script, 0) {
+        Ok(given) => agrees(alloc, script, &given, made),
+        Err(HornStop::NotHorn { .. }) => Ok(false),
+        Err(HornStop::Memory) => Err(Memory),
+    }
+}
+
+/// The same of the assertion of a text.
+fn text_agrees(alloc: Global, term: &str) -> Result<bool, Memory> {
+    let text = format!(in alloc; "(assert {term})")?;
+    let Some(checked) = script_of(alloc, text.as_str())? else {
+        return Ok(false);
+    };
+    match read_clauses(alloc, &checked) {
+        Ok(system) => match system.clauses() {
+            [made] => first_agrees(alloc, &checked.script, made),
+            _ => Ok(false),
+        },
+        Err(ClauseStop::Refused(_)) => Ok(false),
+        Err(ClauseStop::Memory) => Err(Memory),
+    }
+}
+
+#[test]
+fn points_of_guards_are_instances(rt: HostRuntime) -> Result<(), Fail> {
+    let mut tried: usize = 0;
+    for case in CASES.split('¶') {
+        let mut parts = case.split('§');
+        let (Some(shows), Some(term)) = (parts.next(), parts.next()) else {
+            break;
+        };
+        let told = text_agrees(rt.alloc(), term)?;
+        assert!(rt; told, "{shows}");
+        tried = tried.saturating_add(1);
+    }
+    assert_eq!(rt; tried, 16);
+    Ok(())
+}
+
+/// The quotient and the remainder of -7 by 2, as the only points.
+#[test]
+fn minus_7_by_2_is_minus_4_and_leaves_1(rt: HostRuntime) -> Result<(), Fail> {
+    let a = rt.alloc();
+    let text = "(forall ((x Int) (y Int)) (=> (= x (div (- 7) 2)) (= y (mod (- 7) 2)) q))";
+    assert!(rt; text_agrees(a, text)?);
+    Ok(())
+}
