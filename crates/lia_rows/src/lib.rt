@@ -8,3 +8,7 @@ mod boxes;
 mod closing;
 #[cfg(test)]
 mod hand;
+#[cfg(test)]
+mod lemmas;
+#[cfg(test)]
+mod literals;
