@@ -1,25 +1,25 @@
 -- The terms of the rows are legal, so that those without a wide form have room, and the variables of the places are fresh.
-use Rattle.std.proofs.Common.{◌≡◌, ℕ, zero, suc, ◌<◌, ◌≤◌, ◌^◌, List, [], ◌∷◌, length, Bool, true, false, ◌&&◌, ◌||◌, not, refl, ap, sym, ◌∙◌, subst, arith}
-use Rattle.std.specs.Prelude.{slice_get, Option, Some, None, nat_lt, ◌==◌, ℤ}
+use Rattle.std.proofs.Common.{◌≡◌, ℕ, zero, suc, ◌<◌, ◌≤◌, ◌^◌, List, [], ◌∷◌, length, Bool, true, refl, ap, sym, ◌∙◌, subst, arith}
+use Rattle.std.specs.Prelude.{slice_get, Option, Some, None, nat_lt, ℤ}
 use Rattle.std.specs.List.{list_all}
 use Rattle.std.specs.Ordering.{nat_cmp}
 use Rattle.std.specs.BTreeMap.{BTreeMap, get}
-use Rattle.std.proofs.lemmas.Bool.{eqb-true, ltb-true}
+use Rattle.std.proofs.lemmas.Bool.{ltb-true}
 use Rattle.lin_atoms.specs.Algebra.{name_in}
 use Rattle.term_tree.specs.declared.node.Node.{Node}
 use Rattle.term_tree.specs.declared.node.Node.TheVariants.{Var}
 use Rattle.term_tree.specs.Arena.{IsArena}
 use Rattle.term_tree.specs.Constants.{constant_of, has_short_constants, is_linear}
-use Rattle.term_tree.specs.Subterms.{IsSubterm}
 use Rattle.term_tree.proofs.Public.{both_true, there_is}
 use Rattle.linear_terms.specs.Linear.{Naming}
-use Rattle.term_tables.specs.machinery.Table.{AreConstants, constant_in, short_constant_of}
+use Rattle.term_tables.specs.machinery.Table.{AreConstants, constant_in}
 use Rattle.term_tables.proofs.ConstantLemmas.{constants_are}
 use Rattle.term_widths.specs.Wide.{first_wide_by}
 use Rattle.term_widths.specs.machinery.Apart.{Occurs}
 use Rattle.term_formulas.specs.Written.{HasRoom, IsFresh}
-use Rattle.term_formulas.specs.machinery.Parts.{is_shaped}
-use Rattle.formula_rows.specs.Samples.{row_terms}
+use Rattle.term_forms.specs.Found.{naming_in}
+use Rattle.term_formulas.specs.machinery.Parts.{ArePlaces, is_shaped}
+use Rattle.formula_rows.specs.Samples.{AreGiven, row_terms}
 
 passes : (test : Node → Bool) (nodes : List Node) → list_all test nodes ≡ true → (id : ℕ) (node : Node) → slice_get nodes id ≡ Some node → test node ≡ true
 passes test [] all id node is = absurd (cc)
@@ -65,7 +65,7 @@ rows_are_shaped nodes id are within =
     ap is_shaped found.1 ∙ passes (λ (n : Node). is_shaped (Some n)) row_terms refl id node here
 
 -- the variables of the terms are below 4
-is_own : Node → Bool
+abbrev is_own : Node → Bool
 is_own (Var binder sort) = nat_lt binder 4
 is_own _ = true
 
@@ -84,3 +84,14 @@ rows_are_fresh nodes own auxiliary v id are none only low same = record {
       let stands : binder ≡ v = sym (ap (λ (names : List ℕ). name_in names binder) none) ∙ named in
       absurd (omega (arith, small, stands, low));
 }
+
+-- the places of the term 8 and of another one, from the variable 4 on
+pub rows_are_places : (kept : List (Option ℤ)) (own : List ℕ) (auxiliary : BTreeMap ℕ ℕ) (nodes : List Node) (other : ℕ) → AreGiven nodes kept own auxiliary
+    → HasRoom (constant_in kept) (naming_in own auxiliary) nodes 8 → HasRoom (constant_in kept) (naming_in own auxiliary) nodes other
+    → ArePlaces (constant_in kept) (naming_in own auxiliary) nodes 4 (8 ∷ other ∷ [])
+rows_are_places kept own auxiliary nodes other given truth integer = (
+  truth,
+  rows_are_fresh nodes own auxiliary 4 8 given.terms given.own given.auxiliary (omega arith) (λ same. refl),
+  rows_are_shaped nodes 8 given.terms truth.there,
+  (integer, rows_are_fresh nodes own auxiliary 5 other given.terms given.own given.auxiliary (omega arith) (λ same. absurd (omega (arith, same))), rows_are_shaped nodes other given.terms integer.there, tt),
+)

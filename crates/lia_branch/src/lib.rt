@@ -7,6 +7,3 @@ mod conjunction;
 pub use asking::{are_below, have_short_constants};
 pub use conjunction::decide_all;
 pub use lia_search::Decision;
-
-#[cfg(test)]
-mod tests;

@@ -8,6 +8,3 @@ mod formula;
 pub use asking::{are_below, have_short_multiples};
 pub use formula::decide;
 pub use lia_search::Decision;
-
-#[cfg(test)]
-mod tests;

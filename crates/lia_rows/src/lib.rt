@@ -1,10 +1,10 @@
-//! Decisions of small boxed formulas against a search of all points, formulas that were worked out by
-//! hand, and small nodes that are closed. It has nothing but tests.
+//! Decisions of small boxed formulas against a search of all points, and conjunctions and formulas with
+//! lemmas that were worked out by hand. It has nothing but tests.
 #![tactic(auto)]
 
 #[cfg(test)]
 mod boxes;
 #[cfg(test)]
-mod closing;
+mod lemmas;
 #[cfg(test)]
-mod hand;
+mod literals;

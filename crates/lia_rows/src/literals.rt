@@ -1,6 +1,6 @@
 //! Conjunctions that were worked out by hand.
 
-use crate::{Decision, are_below, decide_all, have_short_constants};
+use lia_branch::{Decision, are_below, decide_all, have_short_constants};
 use lin_atoms::{Divisor, Lin, Lit};
 use std::alloc::Global;
 use std::test::Fail;

@@ -1,7 +1,7 @@
 //! Formulas with lemmas that were worked out by hand.
 
-use crate::{Decision, are_below, decide, have_short_multiples};
 use base::Items;
+use lia_cases::{Decision, are_below, decide, have_short_multiples};
 use lia_search::has_short_multiples;
 use lin_atoms::{Form, Lin, Lit, holds};
 use std::alloc::Global;
