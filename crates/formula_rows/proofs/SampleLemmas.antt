@@ -65,7 +65,7 @@ rows_are_shaped nodes id are within =
     ap is_shaped found.1 ∙ passes (λ (n : Node). is_shaped (Some n)) row_terms refl id node here
 
 -- the variables of the terms are below 4
-is_own : Node → Bool
+abbrev is_own : Node → Bool
 is_own (Var binder sort) = nat_lt binder 4
 is_own _ = true
 
