@@ -18,8 +18,9 @@ use Rattle.term_tables.proofs.ConstantLemmas.{constants_are}
 use Rattle.term_widths.specs.Wide.{first_wide_by}
 use Rattle.term_widths.specs.machinery.Apart.{Occurs}
 use Rattle.term_formulas.specs.Written.{HasRoom, IsFresh}
-use Rattle.term_formulas.specs.machinery.Parts.{is_shaped}
-use Rattle.formula_rows.specs.Samples.{row_terms}
+use Rattle.term_forms.specs.Found.{naming_in}
+use Rattle.term_formulas.specs.machinery.Parts.{ArePlaces, is_shaped}
+use Rattle.formula_rows.specs.Samples.{AreGiven, row_terms}
 
 passes : (test : Node → Bool) (nodes : List Node) → list_all test nodes ≡ true → (id : ℕ) (node : Node) → slice_get nodes id ≡ Some node → test node ≡ true
 passes test [] all id node is = absurd (cc)
@@ -84,3 +85,11 @@ rows_are_fresh nodes own auxiliary v id are none only low same = record {
       let stands : binder ≡ v = sym (ap (λ (names : List ℕ). name_in names binder) none) ∙ named in
       absurd (omega (arith, small, stands, low));
 }
+
+-- the places of the term 8 and of another one, from the variable 4 on
+pub rows_are_places : (kept : List (Option ℤ)) (own : List ℕ) (auxiliary : BTreeMap ℕ ℕ) (nodes : List Node) (other : ℕ) → AreGiven nodes kept own auxiliary
+    → HasRoom (constant_in kept) (naming_in own auxiliary) nodes 8 → HasRoom (constant_in kept) (naming_in own auxiliary) nodes other
+    → ArePlaces (constant_in kept) (naming_in own auxiliary) nodes 4 (8 ∷ other ∷ [])
+rows_are_places kept own auxiliary nodes other given truth integer =
+    (truth, rows_are_fresh nodes own auxiliary 4 8 given.terms given.own given.auxiliary (omega arith) (λ same. refl), rows_are_shaped nodes 8 given.terms truth.there,
+      (integer, rows_are_fresh nodes own auxiliary 5 other given.terms given.own given.auxiliary (omega arith) (λ same. absurd (omega (arith, same))), rows_are_shaped nodes other given.terms integer.there, tt))
