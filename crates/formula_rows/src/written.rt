@@ -1,6 +1,6 @@
 //! The forms of a row: the calls with what their contracts ask.
 
-ghost use Rattle.std.specs.Prelude.{OnOk};
+ghost use Rattle.std.specs.Prelude.{◌≡◌, ◌≤◌, true, OnOk};
 ghost use Rattle.term_tables.specs.machinery.Table.{constant_in};
 ghost use Rattle.term_forms.specs.Found.{AreFound};
 ghost use Rattle.term_formulas.specs.Written.{HasRoom, naming_by};
@@ -62,11 +62,25 @@ pub fn written(alloc: Global, given: &Given, id: u32, sign: bool) -> Result<Form
     )?)
 }
 
+/// That no other term has the variable v.
+fn may_stand(v: u32, id: u32) -> bool
+    ensures low { result ≡ true → 4 ≤ v }
+    ensures same { result ≡ true → v ≡ 4 → id ≡ 8 }
+{
+    if v < 4 {
+        return false;
+    }
+    if v > 4 {
+        return true;
+    }
+    id == 8
+}
+
 /// What determines the variable v for the term.
 pub fn determined(alloc: Global, given: &Given, v: u32, id: u32) -> Result<Form, Fail>
     requires given { AreGiven given.now.terms.nodes given.now.constants given.now.names.own.items given.now.names.auxiliary }
 {
-    if v < 4 || (v == 4 && id != 8) {
+    if !may_stand(v, id) {
         return Err("the variable is another term's")?;
     }
     let mut known = nothing_read(alloc);
