@@ -90,6 +90,9 @@ rows_are_fresh nodes own auxiliary v id are none only low same = record {
 pub rows_are_places : (kept : List (Option ℤ)) (own : List ℕ) (auxiliary : BTreeMap ℕ ℕ) (nodes : List Node) (other : ℕ) → AreGiven nodes kept own auxiliary
     → HasRoom (constant_in kept) (naming_in own auxiliary) nodes 8 → HasRoom (constant_in kept) (naming_in own auxiliary) nodes other
     → ArePlaces (constant_in kept) (naming_in own auxiliary) nodes 4 (8 ∷ other ∷ [])
-rows_are_places kept own auxiliary nodes other given truth integer =
-    (truth, rows_are_fresh nodes own auxiliary 4 8 given.terms given.own given.auxiliary (omega arith) (λ same. refl), rows_are_shaped nodes 8 given.terms truth.there,
-      (integer, rows_are_fresh nodes own auxiliary 5 other given.terms given.own given.auxiliary (omega arith) (λ same. absurd (omega (arith, same))), rows_are_shaped nodes other given.terms integer.there, tt))
+rows_are_places kept own auxiliary nodes other given truth integer = (
+  truth,
+  rows_are_fresh nodes own auxiliary 4 8 given.terms given.own given.auxiliary (omega arith) (λ same. refl),
+  rows_are_shaped nodes 8 given.terms truth.there,
+  (integer, rows_are_fresh nodes own auxiliary 5 other given.terms given.own given.auxiliary (omega arith) (λ same. absurd (omega (arith, same))), rows_are_shaped nodes other given.terms integer.there, tt),
+)
