@@ -1,19 +1,18 @@
 -- The terms of the rows are legal, so that those without a wide form have room, and the variables of the places are fresh.
-use Rattle.std.proofs.Common.{◌≡◌, ℕ, zero, suc, ◌<◌, ◌≤◌, ◌^◌, List, [], ◌∷◌, length, Bool, true, false, ◌&&◌, ◌||◌, not, refl, ap, sym, ◌∙◌, subst, arith}
-use Rattle.std.specs.Prelude.{slice_get, Option, Some, None, nat_lt, ◌==◌, ℤ}
+use Rattle.std.proofs.Common.{◌≡◌, ℕ, zero, suc, ◌<◌, ◌≤◌, ◌^◌, List, [], ◌∷◌, length, Bool, true, refl, ap, sym, ◌∙◌, subst, arith}
+use Rattle.std.specs.Prelude.{slice_get, Option, Some, None, nat_lt, ℤ}
 use Rattle.std.specs.List.{list_all}
 use Rattle.std.specs.Ordering.{nat_cmp}
 use Rattle.std.specs.BTreeMap.{BTreeMap, get}
-use Rattle.std.proofs.lemmas.Bool.{eqb-true, ltb-true}
+use Rattle.std.proofs.lemmas.Bool.{ltb-true}
 use Rattle.lin_atoms.specs.Algebra.{name_in}
 use Rattle.term_tree.specs.declared.node.Node.{Node}
 use Rattle.term_tree.specs.declared.node.Node.TheVariants.{Var}
 use Rattle.term_tree.specs.Arena.{IsArena}
 use Rattle.term_tree.specs.Constants.{constant_of, has_short_constants, is_linear}
-use Rattle.term_tree.specs.Subterms.{IsSubterm}
 use Rattle.term_tree.proofs.Public.{both_true, there_is}
 use Rattle.linear_terms.specs.Linear.{Naming}
-use Rattle.term_tables.specs.machinery.Table.{AreConstants, constant_in, short_constant_of}
+use Rattle.term_tables.specs.machinery.Table.{AreConstants, constant_in}
 use Rattle.term_tables.proofs.ConstantLemmas.{constants_are}
 use Rattle.term_widths.specs.Wide.{first_wide_by}
 use Rattle.term_widths.specs.machinery.Apart.{Occurs}
