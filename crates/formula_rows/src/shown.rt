@@ -50,8 +50,9 @@ fn shown_lit(alloc: Global, lit: &Lit) -> Result<String, Memory> {
     Ok(shown)
 }
 
+/// All of them in a row, each in parentheses.
 #[cycle(shown)]
-fn shown_all(alloc: Global, forms: &[Form]) -> Result<String, Memory> {
+pub fn shown_all(alloc: Global, forms: &[Form]) -> Result<String, Memory> {
     let mut text = String::new(alloc);
     for form in forms {
         let form = shown(alloc, form)?;
