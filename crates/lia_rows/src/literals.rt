@@ -36,21 +36,44 @@ fn kind(alloc: Global, lits: &[Lit], nodes: u32) -> Result<u32, Fail> {
     }
 }
 
-/// 3 divides x + y, 3 divides x - y - 1, and x is between 0 and 5: x is 2, and y is 1.
+/// A row for each literal: its kind, its divisor, and the numbers a, b and c.
+type Row = (u32, i64, i64, i64, i128);
+
+fn lits(alloc: Global, rows: &[Row]) -> Result<Vec<Lit>, Fail> {
+    let mut lits = Vec::new(alloc);
+    for &(kind, n, a, b, c) in rows {
+        lits.push(lit(alloc, kind, n, a, b, c)?)?;
+    }
+    Ok(lits)
+}
+
+fn decided(alloc: Global, rows: &[Row], nodes: u32) -> Result<u32, Fail> {
+    let lits = lits(alloc, rows)?;
+    kind(alloc, lits.as_slice(), nodes)
+}
+
+/// 3 divides x + y, 3 divides x - y - 1, and both are from 0 to 5: x is 2 and y is 1, or both are 3 more
+/// in turn. So y is 1 more than a multiple of 3, which the last row denies.
+const RESIDUES: [Row; 7] = [
+    (2, 3, 1, 1, 0),
+    (2, 3, 1, -1, -1),
+    (0, 1, -1, 0, 0),
+    (0, 1, 1, 0, -5),
+    (0, 1, 0, -1, 0),
+    (0, 1, 0, 1, -5),
+    (3, 3, 0, 1, -1),
+];
+
+/// Two equations whose coefficients have no room in one row.
+const LARGE: i64 = (1 << 62) + 1;
+
+const WIDE: [Row; 2] = [(1, 1, LARGE, 1, -3), (1, 1, 1, LARGE, -5)];
+
 #[test]
 fn residues(rt: HostRuntime) -> Result<(), Fail> {
     let alloc = rt.alloc();
-    let mut lits = vec![in alloc;
-        lit(alloc, 2, 3, 1, 1, 0)?,
-        lit(alloc, 2, 3, 1, -1, -1)?,
-        lit(alloc, 0, 1, -1, 0, 0)?,
-        lit(alloc, 0, 1, 1, 0, -5)?,
-        lit(alloc, 0, 1, 0, -1, 0)?,
-        lit(alloc, 0, 1, 0, 1, -5)?,
-    ]?;
-    assert!(rt; kind(alloc, lits.as_slice(), 100)? == 1);
-    lits.push(lit(alloc, 3, 3, 0, 1, -1)?)?;
-    assert!(rt; kind(alloc, lits.as_slice(), 1000)? == 2);
+    assert!(rt; decided(alloc, &RESIDUES[..6], 100)? == 1);
+    assert!(rt; decided(alloc, &RESIDUES, 1000)? == 2);
     Ok(())
 }
 
@@ -58,12 +81,7 @@ fn residues(rt: HostRuntime) -> Result<(), Fail> {
 #[test]
 fn ends(rt: HostRuntime) -> Result<(), Fail> {
     let alloc = rt.alloc();
-    assert!(rt; kind(alloc, &[], 1)? == 1);
-    let large = (1 << 62) + 1;
-    let wide = vec![in alloc;
-        lit(alloc, 1, 1, large, 1, -3)?,
-        lit(alloc, 1, 1, 1, large, -5)?,
-    ]?;
-    assert!(rt; kind(alloc, wide.as_slice(), 1)? == 3);
+    assert!(rt; decided(alloc, &[], 1)? == 1);
+    assert!(rt; decided(alloc, &WIDE, 1)? == 3);
     Ok(())
 }
