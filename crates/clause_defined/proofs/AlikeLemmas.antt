@@ -77,10 +77,10 @@ module _ (d : Definition) (sorts : List Sort) (is : IsFormula sorts d.terms.node
   pub classes_below : AreOwnBelow d.terms.nodes d.body.0 classes (length args)
   classes_below binder occurs = class_low binder (argument binder occurs)
 
-  there : ℕ → ℕ
+  abbrev there : ℕ → ℕ
   there v = moved (first_same args) first (length args) v
 
-  back : ℕ → ℕ
+  abbrev back : ℕ → ℕ
   back v = moved (λ w. slice_index_or args w w) (length args) first v
 
   forth_is : IsRenaming d.terms.nodes d.body.0 there (naming_at d args first) (placed_naming classes (length args) (definition_places d))

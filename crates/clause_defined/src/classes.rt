@@ -39,7 +39,8 @@ fn is_same_argument(terms: &Terms, a: &Part, b: &Part) -> bool
 fn class_in(terms: &Terms, args: &[Part], part: &Part) -> usize
     requires all { AllByRecursion (λ part. part.term.0 < length terms.now.nodes) args.now }
     requires there { part.now.term.0 < length terms.now.nodes }
-    ensures { result ≡ class_in terms.now.nodes args.now part.now }
+    ensures is { result ≡ class_in terms.now.nodes args.now part.now }
+    ensures within { result ≤ length args.now }
 {
     for (at, other) in args.iter().enumerate() {
         if is_same_argument(terms, other, part) {
