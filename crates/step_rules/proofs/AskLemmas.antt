@@ -17,7 +17,8 @@ use Rattle.book_rules.specs.StallRules.{has_used_atoms}
 use Rattle.book_rules.specs.State.{Obligation}
 use Rattle.step_rules.specs.Tokens.{all_used}
 use Rattle.step_rules.specs.machinery.Claims.{goal_for}
-use Rattle.step_rules.specs.machinery.Literals.{form_fits, lemmas_are_short}
+use Rattle.cube_rules.specs.machinery.Literals.{form_fits}
+use Rattle.step_rules.specs.machinery.Literals.{lemmas_are_short}
 use Rattle.step_rules.proofs.PlaceLemmas.{goal-cube, goal-there, used-there}
 use Rattle.step_rules.proofs.QueryLemmas.{query-found, query-missing}
 

@@ -17,7 +17,7 @@ use Rattle.book_rules.proofs.Public.{tuples_equal}
 use Rattle.step_rules.specs.Views.{conclusion_of, facts_of}
 use Rattle.step_rules.specs.machinery.Falsity.{IsLastFalse}
 use Rattle.step_rules.specs.machinery.Walks.{lies_in_at}
-use Rattle.step_rules.proofs.TestLemmas.{both_true, from_both, plus-none}
+use Rattle.cube_rules.proofs.Public.{both_true, from_both, plus-none}
 use Rattle.step_rules.proofs.ViewLemmas.{fact_of-at, length-facts}
 
 -- the fact of a number

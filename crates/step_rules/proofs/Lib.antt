@@ -1,5 +1,3 @@
-pub mod TestLemmas
-pub mod FormLemmas
 pub mod ViewLemmas
 pub mod WalkLemmas
 pub mod OnLemmas
@@ -7,11 +5,6 @@ pub mod FactLemmas
 pub mod LiveLemmas
 pub mod RootLemmas
 pub mod RaiseLemmas
-pub mod GatherLemmas
-pub mod LiteralLemmas
-pub mod BoundLemmas
-pub mod PlacedLemmas
-pub mod AreaLemmas
 pub mod PlaceLemmas
 pub mod QueryLemmas
 pub mod AskLemmas

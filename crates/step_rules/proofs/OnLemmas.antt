@@ -8,8 +8,10 @@ use Rattle.book_rules.specs.declared.by.By.{By}
 use Rattle.book_rules.specs.Frames.{Framed}
 use Rattle.book_rules.specs.State.{Obligation}
 use Rattle.book_rules.specs.Walks.{on}
-use Rattle.step_rules.specs.Views.{framed_at, lemmas_of, obligation_of, obligations_of}
-use Rattle.step_rules.proofs.ViewLemmas.{framed_of-at, obligation_of-at}
+use Rattle.cube_rules.specs.Views.{framed_at, lemmas_of}
+use Rattle.step_rules.specs.Views.{obligation_of, obligations_of}
+use Rattle.cube_rules.proofs.Public.{framed_of-at}
+use Rattle.step_rules.proofs.ViewLemmas.{obligation_of-at}
 
 pub told-there : (nodes : List Node) (n : ℕ) (tell : Obligation → Option By) → n < length nodes → tell (obligation_of (node_at nodes n)) ≡ on (slice_get (obligations_of nodes) n) tell
 told-there nodes n tell within = sym (ap (λ (o : Option Obligation). on o tell) (obligation_of-at nodes n within))

@@ -9,14 +9,14 @@ ghost use Rattle.step_rules.specs.Views.{facts_of};
 ghost use Rattle.step_rules.specs.Standing.{state_of};
 ghost use Rattle.step_rules.specs.machinery.Falsity.{IsLastFalse};
 
-use crate::conclusions::{body_at, head_at, holds};
+use crate::conclusions::holds;
 use crate::fact_part::FactPart;
 use crate::lent::Lent;
 use crate::levels::unless_live;
-use crate::same::same_tuple;
 use base::Memory;
 use book_rules::By;
 use cube_forms::Tuple;
+use cube_rules::{body_at, head_at, same_tuple};
 use derivations::Facts;
 
 /// What the step concludes: the head of its instance.

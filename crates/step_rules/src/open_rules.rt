@@ -10,7 +10,8 @@ ghost use Rattle.std.specs.List.{find};
 ghost use Rattle.book_rules.specs.Walks.{first_number, first_told};
 ghost use Rattle.step_rules.specs.machinery.Walks.{is_unknown, lies_in, lies_in_at};
 ghost use Rattle.step_rules.specs.Taken.{open_of};
-ghost use Rattle.step_rules.specs.Views.{facts_of, framed_at, fresh_of, lemmas_of};
+ghost use Rattle.cube_rules.specs.Views.{framed_at, lemmas_of};
+ghost use Rattle.step_rules.specs.Views.{facts_of, fresh_of};
 ghost use Rattle.step_rules.specs.Standing.{state_of};
 ghost use Rattle.cube_forms.specs.Cubes.{cube_holds};
 ghost use Rattle.book_rules.specs.Same.{same_cube};
@@ -18,18 +19,18 @@ ghost use Rattle.book_rules.specs.State.{holds};
 ghost use Rattle.book_rules.specs.Areas.{point_cube};
 ghost use Rattle.clause_form.specs.System.{is_clause};
 
-use crate::areas::{is_area, knows};
-use crate::conclusions::{atom_at, head_at, holds, is_head};
-use crate::framed::body_shut_out;
+use crate::conclusions::holds;
 use crate::lent::Lent;
 use crate::levels::{below, unless_live};
-use crate::literals::{have_room, same_cube};
 use crate::open_part::OpenPart;
-use crate::places::{is_wide, point_cube, projected_cube};
 use base::Memory;
 use book_rules::By;
 use clause_form::{Atom, Clause};
 use cube_forms::Tuple;
+use cube_rules::{
+    atom_at, body_shut_out, have_room, head_at, is_area, is_head, is_wide, knows, point_cube,
+    projected_cube, same_cube,
+};
 use derivations::Facts;
 use lemma_frames::Frames;
 use lin_atoms::Lit;
@@ -154,7 +155,8 @@ fn atom_fits(
     let k = below(parent.level);
     if !is_area(
         parts.alloc,
-        step,
+        &step.area,
+        step.seen.point(),
         clause,
         atom,
         &parent.cube,

@@ -19,18 +19,16 @@ ghost use Rattle.step_rules.specs.machinery.Literals.{lemmas_are_short};
 ghost use Rattle.book_rules.specs.Proofs.{is_head};
 
 use crate::claim::Claim;
-use crate::conclusions::is_head;
 use crate::lent::Lent;
 use crate::levels::{below, unless_live};
-use crate::literals::form_has_room;
 use crate::proving::all_may_use;
-use crate::same::same_form;
 use crate::stall_part::StallPart;
 use base::Memory;
 use book_rules::By;
 use chc_tokens::{Goal, Used, checked_query_of};
 use clause_form::Clause;
 use cube_forms::negate;
+use cube_rules::{form_has_room, is_head, same_form};
 use obligation_tree::Obligation;
 use std::alloc::Global;
 

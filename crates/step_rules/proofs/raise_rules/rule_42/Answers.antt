@@ -1,9 +1,9 @@
 use Rattle.std.proofs.Common.{◌<◌, ◌≤◌, ◌+◌, length, drop, Some, None, refl, sym, ◌∙◌, arith}
 use Rattle.step_rules.specs.Standing.{state_of}
-use Rattle.step_rules.specs.Views.{framed_at, lemmas_of}
-use Rattle.step_rules.proofs.GatherLemmas.{framed-end}
+use Rattle.cube_rules.specs.Views.{framed_at, lemmas_of}
+use Rattle.cube_rules.proofs.Public.{framed-end}
 use Rattle.step_rules.proofs.RaiseLemmas.{placed-on, placed-left}
-use Rattle.step_rules.proofs.ViewLemmas.{framed-drop}
+use Rattle.cube_rules.proofs.Public.{framed-drop}
 use Rattle.step_rules.proofs.raise_rules.rule_42.Goals as goal
 
 pub returns-in-Some : goal.returns-in-Some
