@@ -30,3 +30,11 @@ more-suc (y ∷ args) (suc i) arg bound new within is old less h =
 
 pub bound-more : (args : List ℕ) (i arg bound new : ℕ) → i < length args → arg ≡ get_or args i arg → bound ≤ new → arg < new → list_any (λ v. nat_le bound v) (take i args) ≡ false → list_any (λ v. nat_le new v) (take (i + 1) args) ≡ false
 bound-more args i arg bound new within is old less h = ap (λ k. list_any (λ v. nat_le new v) (take k args)) (plus-one i) ∙ more-suc args i arg bound new within is old less h
+
+-- what is above all is so further up
+pub none-above : (args : List ℕ) (bound k : ℕ) → bound ≤ k → list_any (λ v. nat_le bound v) args ≡ false → list_any (λ v. nat_le k v) args ≡ false
+none-above [] bound k high none = refl
+none-above (y ∷ args) bound k high none =
+    let both = both_false (nat_le bound y) (list_any (λ v. nat_le bound v) args) none in
+    let low = more-than y bound both.0 in
+    from_none (nat_le k y) (list_any (λ v. nat_le k v) args) (not-le y k (omega (arith, low, high))) (none-above args bound k high both.1)

@@ -1,6 +1,9 @@
 use Rattle.std.proofs.Common.{arith}
+use Rattle.cube_rules.proofs.BoundLemmas.{none-above}
 use Rattle.cube_rules.proofs.PlacedLemmas.{names-are}
 use Rattle.cube_rules.proofs.places.first_places.Goals as goal
 
 pub returns : goal.returns
-returns c = names-are c.args.args.now c.loop-variable.names.items c.loop-variable.variable c.loop-variable.invariant ?
+returns c =
+    let over = c.loop-variable-test.false in
+    names-are c.args.args.now c.loop-variable.names.items c.loop-variable.variable c.loop-variable.invariant (none-above c.args.args.now c.bound_of.result c.loop-variable.variable (omega arith) c.bound_of.ensures)
