@@ -1,4 +1,4 @@
-ghost use Rattle.std.specs.Prelude.{◌≡◌, ◌++◌, ◌<◌, ◌≤◌, ℕ, length, nat_le, IfOk, IfNone, OnOk, MatchOption, true, false};
+ghost use Rattle.std.specs.Prelude.{◌≡◌, ◌++◌, ◌<◌, ◌≤◌, ◌^◌, ℕ, length, nat_le, IfOk, IfNone, OnOk, MatchOption, true, false};
 ghost use Rattle.std.specs.List.{list_all, list_any};
 ghost use Rattle.base.specs.Limits.{most_arguments};
 ghost use Rattle.lin_atoms.specs.Algebra.{name_in};
@@ -31,8 +31,10 @@ fn first_place(args: &[u32], variable: u32) -> u32
 
 /// The bound, or one more than the argument.
 fn bound_with(bound: usize, arg: u32) -> usize
+    requires { bound ≤ 2 ^ 32 }
     ensures old { bound ≤ result }
     ensures new { arg < result }
+    ensures most { result ≤ 2 ^ 32 }
 {
     let arg = arg as usize;
     if arg >= bound { arg + 1 } else { bound }
@@ -40,7 +42,8 @@ fn bound_with(bound: usize, arg: u32) -> usize
 
 /// One more than the greatest argument, 0 for none.
 fn bound_of(args: &[u32]) -> usize
-    ensures { list_any (λ v. nat_le result v) args.now ≡ false }
+    ensures above { list_any (λ v. nat_le result v) args.now ≡ false }
+    ensures most { result ≤ 2 ^ 32 }
 {
     let mut bound = 0;
     for arg in args {

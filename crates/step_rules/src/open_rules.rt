@@ -1,21 +1,21 @@
 //! The rules of Open. Each answers what breaks it, if anything.
 
-ghost use Rattle.std.specs.Prelude.{◌≡◌, ◌&&◌, ◌<◌, ◌≤◌, length, slice_get, IfOk, option_map, true};
-ghost use Rattle.book_rules.specs.Walks.{has};
-ghost use Rattle.book_rules.specs.Instances.{head_at};
+ghost use Rattle.std.specs.Prelude.{◌≡◌, ◌&&◌, ◌<◌, ◌≤◌, ◌-◌, nat_lt, length, slice_get, IfOk, if◌then◌else◌, option_map, Some, None, true};
+ghost use Rattle.book_rules.specs.declared.by.By.TheVariants.{Obligation as ByObligation, Step};
+ghost use Rattle.book_rules.specs.Instances.{body_at, head_at};
 ghost use Rattle.chc_tokens.specs.Kept.{seen_point};
 ghost use Rattle.base.specs.Limits.{most_arguments};
-ghost use Rattle.book_rules.specs.OpenRules.{atom_fits, clause_fits, has_fact_in, is_cube, rule_1, rule_2, rule_3, rule_4, rule_5, rule_6, rule_9, tuple_of, unknown, atom_of};
+ghost use Rattle.book_rules.specs.OpenRules.{atom_fits, clause_fits, clause_of, has_fact_in, is_cube, shut_out, rule_1, rule_2, rule_3, rule_4, rule_5, rule_6, rule_9, tuple_of, unknown, atom_of};
 ghost use Rattle.std.specs.List.{find};
-ghost use Rattle.book_rules.specs.Walks.{first_number, first_told};
+ghost use Rattle.book_rules.specs.Walks.{first_number, first_told, has, on};
 ghost use Rattle.step_rules.specs.machinery.Walks.{is_unknown, lies_in, lies_in_at};
 ghost use Rattle.step_rules.specs.Taken.{open_of};
 ghost use Rattle.cube_rules.specs.Views.{framed_at, lemmas_of};
-ghost use Rattle.step_rules.specs.Views.{facts_of, fresh_of};
+ghost use Rattle.step_rules.specs.Views.{conclusion_of, facts_of, fresh_of};
 ghost use Rattle.step_rules.specs.Standing.{state_of};
 ghost use Rattle.cube_forms.specs.Cubes.{cube_holds};
 ghost use Rattle.book_rules.specs.Same.{same_cube};
-ghost use Rattle.book_rules.specs.State.{holds};
+ghost use Rattle.book_rules.specs.State.{holds, holds_of};
 ghost use Rattle.book_rules.specs.Areas.{point_cube};
 ghost use Rattle.clause_form.specs.System.{is_clause};
 
@@ -31,7 +31,7 @@ use cube_rules::{
     atom_at, body_shut_out, have_room, head_at, is_area, is_head, is_wide, knows, point_cube,
     projected_cube, same_cube,
 };
-use derivations::Facts;
+use derivations::{Fact, Facts};
 use lemma_frames::Frames;
 use lin_atoms::Lit;
 use obligation_tree::Obligation;
@@ -44,14 +44,24 @@ pub(crate) fn rule_1(parts: &Lent, step: &OpenPart) -> Option<By>
     unless_live(parts.tree, step.parent)
 }
 
+/// What is told of a parent by its level.
+fn told_of_level(step: &OpenPart, parent: &Obligation) -> Option<By>
+    ensures { result ≡ (if nat_lt parent.now.level 2 then Some (ByObligation step.now.parent) else None) }
+{
+    if parent.level < 2 {
+        return Some(By::Obligation(step.parent));
+    }
+    None
+}
+
 /// 2: the parent's level is at least 2.
 pub(crate) fn rule_2(parts: &Lent, step: &OpenPart) -> Option<By>
     ensures { result ≡ rule_2 (state_of parts.now) (open_of step.now) }
 {
-    if step.parent < parts.tree.count() && parts.tree.obligation(step.parent).level < 2 {
-        return Some(By::Obligation(step.parent));
+    if step.parent >= parts.tree.count() {
+        return None;
     }
-    None
+    told_of_level(step, parts.tree.obligation(step.parent))
 }
 
 /// Whether the literals hold the tuple.
@@ -66,18 +76,24 @@ fn all_hold(lits: &[Lit], tuple: &[i64]) -> bool
     true
 }
 
-/// Whether the fact of that number is of the predicate and lies in the cube.
+/// Whether the fact is of the predicate and lies in the cube.
+fn is_in(fact: &Fact, pred: u32, cube: &[Lit]) -> bool
+    ensures { result ≡ holds_of (Some pred) cube.now (conclusion_of fact.now.pred fact.now.tuple) }
+{
+    match fact.pred {
+        Some(of) => pred == of && all_hold(cube, fact.tuple.as_slice()),
+        None => false,
+    }
+}
+
+/// Whether there is a fact of that number, and it is.
 fn lies_in(facts: &Facts, pred: u32, cube: &[Lit], id: u32) -> bool
     ensures { result ≡ lies_in_at facts.now pred cube.now id }
 {
     if id >= facts.count() {
         return false;
     }
-    let fact = facts.fact(id);
-    match fact.pred {
-        Some(of) => pred == of && all_hold(cube, fact.tuple.as_slice()),
-        None => false,
-    }
+    is_in(facts.fact(id), pred, cube)
 }
 
 /// The first of the numbers whose fact does.
@@ -187,15 +203,10 @@ fn clause_fits(
     }
 }
 
-/// 3: the clause's head is of the parent's predicate, the atom is there, the area is of that atom,
-/// clause and parent, and the cube is of that area and atom.
-pub(crate) fn rule_3(parts: &Lent, step: &OpenPart) -> Result<Option<By>, Memory>
-    ensures { IfOk result (λ by. by ≡ rule_3 parts.now.system (state_of parts.now) (open_of step.now)) }
+/// What is told of a parent by rule 3.
+fn misfit(parts: &Lent, step: &OpenPart, parent: &Obligation) -> Result<Option<By>, Memory>
+    ensures { IfOk result (λ by. by ≡ (if has (clause_of parts.now.system (open_of step.now)) (clause_fits (state_of parts.now) (open_of step.now) (fresh_of parent.now)) then None else Some Step)) }
 {
-    if step.parent >= parts.tree.count() {
-        return Ok(None);
-    }
-    let parent = parts.tree.obligation(step.parent);
     match parts.system.clauses().get(step.seen.clause() as usize) {
         Some(clause) => {
             if clause_fits(parts, step, parent, clause)? {
@@ -206,6 +217,18 @@ pub(crate) fn rule_3(parts: &Lent, step: &OpenPart) -> Result<Option<By>, Memory
         }
         None => Ok(Some(By::Step)),
     }
+}
+
+/// 3: the clause's head is of the parent's predicate, the atom is there, the area is of that atom,
+/// clause and parent, and the cube is of that area and atom.
+pub(crate) fn rule_3(parts: &Lent, step: &OpenPart) -> Result<Option<By>, Memory>
+    ensures { IfOk result (λ by. by ≡ rule_3 parts.now.system (state_of parts.now) (open_of step.now)) }
+{
+    if step.parent >= parts.tree.count() {
+        return Ok(None);
+    }
+    let by = misfit(parts, step, parts.tree.obligation(step.parent))?;
+    Ok(by)
 }
 
 /// Whether the parent holds the instance's head, and the step's cube the atom's tuple.
@@ -230,14 +253,10 @@ fn is_held(
     }
 }
 
-/// 4: the parent holds the instance's head, and the cube holds the atom's tuple.
-pub(crate) fn rule_4(parts: &Lent, step: &OpenPart) -> Result<Option<By>, Memory>
-    ensures { IfOk result (λ by. by ≡ rule_4 parts.now.system (state_of parts.now) (open_of step.now)) }
+/// What is told of a parent by rule 4.
+fn unheld(parts: &Lent, step: &OpenPart, parent: &Obligation) -> Result<Option<By>, Memory>
+    ensures { IfOk result (λ by. by ≡ (if has (clause_of parts.now.system (open_of step.now)) (λ clause. holds (fresh_of parent.now) (head_at (seen_point step.now.seen) clause)) && has (atom_of parts.now.system (open_of step.now)) (λ atom. cube_holds (tuple_of (open_of step.now) atom) step.now.cube) then None else Some (ByObligation step.now.parent))) }
 {
-    if step.parent >= parts.tree.count() {
-        return Ok(None);
-    }
-    let parent = parts.tree.obligation(step.parent);
     match parts.system.clauses().get(step.seen.clause() as usize) {
         Some(clause) => {
             if is_held(parts.alloc, step, parent, clause)? {
@@ -250,6 +269,28 @@ pub(crate) fn rule_4(parts: &Lent, step: &OpenPart) -> Result<Option<By>, Memory
     }
 }
 
+/// 4: the parent holds the instance's head, and the cube holds the atom's tuple.
+pub(crate) fn rule_4(parts: &Lent, step: &OpenPart) -> Result<Option<By>, Memory>
+    ensures { IfOk result (λ by. by ≡ rule_4 parts.now.system (state_of parts.now) (open_of step.now)) }
+{
+    if step.parent >= parts.tree.count() {
+        return Ok(None);
+    }
+    let by = unheld(parts, step, parts.tree.obligation(step.parent))?;
+    Ok(by)
+}
+
+/// What is told of a parent by rule 5.
+fn shut_below(parts: &Lent, step: &OpenPart, parent: &Obligation) -> Result<Option<By>, Memory>
+    ensures { IfOk result (λ by. by ≡ on (clause_of parts.now.system (open_of step.now)) (λ clause. first_told (shut_out (lemmas_of parts.now.frames.lemmas) (parent.now.level - 1)) (body_at (seen_point step.now.seen) clause))) }
+{
+    let k = below(parent.level);
+    match parts.system.clauses().get(step.seen.clause() as usize) {
+        Some(clause) => body_shut_out(parts.alloc, parts.frames, k, step.seen.point(), clause),
+        None => Ok(None),
+    }
+}
+
 /// 5: no lemma of the frame below the parent shuts a body tuple of the instance out.
 pub(crate) fn rule_5(parts: &Lent, step: &OpenPart) -> Result<Option<By>, Memory>
     ensures { IfOk result (λ by. by ≡ rule_5 parts.now.system (state_of parts.now) (open_of step.now)) }
@@ -257,11 +298,8 @@ pub(crate) fn rule_5(parts: &Lent, step: &OpenPart) -> Result<Option<By>, Memory
     if step.parent >= parts.tree.count() {
         return Ok(None);
     }
-    let k = below(parts.tree.obligation(step.parent).level);
-    match parts.system.clauses().get(step.seen.clause() as usize) {
-        Some(clause) => body_shut_out(parts.alloc, parts.frames, k, step.seen.point(), clause),
-        None => Ok(None),
-    }
+    let by = shut_below(parts, step, parts.tree.obligation(step.parent))?;
+    Ok(by)
 }
 
 /// The step's atom, where it is there.
@@ -347,6 +385,19 @@ fn first_unknown(
     Ok(None)
 }
 
+/// What is told of a parent by rule 9.
+fn unknown_below(parts: &Lent, step: &OpenPart, parent: &Obligation) -> Result<Option<By>, Memory>
+    ensures { IfOk result (λ by. by ≡ on (clause_of parts.now.system (open_of step.now)) (λ clause. first_told (unknown (lemmas_of parts.now.frames.lemmas) (parent.now.level - 1) (open_of step.now)) clause.atoms)) }
+{
+    let k = below(parent.level);
+    match parts.system.clauses().get(step.seen.clause() as usize) {
+        Some(clause) => {
+            first_unknown(parts.alloc, parts.frames, k, step, clause.atoms.as_slice())
+        }
+        None => Ok(None),
+    }
+}
+
 /// 9: on each body atom the area knows each lemma of the frame below the parent on its predicate.
 pub(crate) fn rule_9(parts: &Lent, step: &OpenPart) -> Result<Option<By>, Memory>
     ensures { IfOk result (λ by. by ≡ rule_9 parts.now.system (state_of parts.now) (open_of step.now)) }
@@ -354,11 +405,6 @@ pub(crate) fn rule_9(parts: &Lent, step: &OpenPart) -> Result<Option<By>, Memory
     if step.parent >= parts.tree.count() {
         return Ok(None);
     }
-    let k = below(parts.tree.obligation(step.parent).level);
-    match parts.system.clauses().get(step.seen.clause() as usize) {
-        Some(clause) => {
-            first_unknown(parts.alloc, parts.frames, k, step, clause.atoms.as_slice())
-        }
-        None => Ok(None),
-    }
+    let by = unknown_below(parts, step, parts.tree.obligation(step.parent))?;
+    Ok(by)
 }

@@ -1,6 +1,10 @@
 //! The rules of Stall but 51, which looks at live children. Each answers what breaks it, if anything.
 
-ghost use Rattle.std.specs.Prelude.{◌≡◌, ◌&&◌, [], slice_get, None, IfOk, true, Some};
+ghost use Rattle.std.specs.Prelude.{◌≡◌, ◌&&◌, ◌-◌, [], slice_get, None, IfOk, if◌then◌else◌, true, Some};
+ghost use Rattle.book_rules.specs.declared.by.By.TheVariants.{Clause as ByClause, Obligation as ByObligation, Step};
+ghost use Rattle.book_rules.specs.Proofs.{all_may_use};
+ghost use Rattle.book_rules.specs.Walks.{has};
+ghost use Rattle.cube_rules.specs.Views.{lemmas_of};
 ghost use Rattle.std.specs.List.{list_all};
 ghost use Rattle.farkas_proof.specs.KeptEvidence.{given_form};
 ghost use Rattle.book_rules.specs.Queries.{query};
@@ -110,6 +114,25 @@ fn query_fits(
     is_asked(parts, step, obligation, clause)
 }
 
+/// What is told of a target by rule 52.
+fn unfit(parts: &Lent, step: &StallPart, target: &Obligation) -> Result<Option<By>, Memory>
+    requires cube { target.now.pred ≡ None → target.now.cube ≡ [] }
+    requires asked { obligation_fits parts.now.system.preds (fresh_of target.now) ≡ true }
+    requires places { has_places parts.now.system (step_of (StallStep step.now)) ≡ true }
+    ensures { IfOk result (λ by. by ≡ (if has (slice_get parts.now.system.clauses step.now.clause) (query_fits (stall_of step.now) (fresh_of target.now)) then None else Some Step)) }
+{
+    match parts.system.clauses().get(step.clause as usize) {
+        Some(clause) => {
+            if query_fits(parts, step, target, clause)? {
+                Ok(None)
+            } else {
+                Ok(Some(By::Step))
+            }
+        }
+        None => Ok(Some(By::Step)),
+    }
+}
+
 /// 52: the clause and the used atoms are there, its head is of the target's predicate, and the
 /// evidence is of the query of clause, used lemmas and cube; at level 1 the clause has no body atom.
 pub(crate) fn rule_52(parts: &Lent, step: &StallPart) -> Result<Option<By>, Memory>
@@ -120,17 +143,21 @@ pub(crate) fn rule_52(parts: &Lent, step: &StallPart) -> Result<Option<By>, Memo
     if step.target >= parts.tree.count() {
         return Ok(None);
     }
-    let obligation = parts.tree.obligation(step.target);
-    match parts.system.clauses().get(step.clause as usize) {
-        Some(clause) => {
-            if query_fits(parts, step, obligation, clause)? {
-                Ok(None)
-            } else {
-                Ok(Some(By::Step))
-            }
-        }
-        None => Ok(Some(By::Step)),
+    let by = unfit(parts, step, parts.tree.obligation(step.target))?;
+    Ok(by)
+}
+
+/// What is told of a target by rule 53.
+fn misused_below(parts: &Lent, step: &StallPart, target: &Obligation) -> Option<By>
+    ensures { result ≡ (if all_may_use parts.now.system (lemmas_of parts.now.frames.lemmas) (target.now.level - 1) None step.now.clause (all_used step.now.used) then None else Some (ByClause step.now.clause)) }
+{
+    let k = below(target.level);
+    let (sys, own) = (parts.system, Claim::False);
+    let used = step.used.as_slice();
+    if all_may_use(sys, parts.frames, k, &own, step.clause, used) {
+        return None;
     }
+    Some(By::Clause(step.clause))
 }
 
 /// 53: each used lemma is in the frame below the target.
@@ -140,27 +167,25 @@ pub(crate) fn rule_53(parts: &Lent, step: &StallPart) -> Option<By>
     if step.target >= parts.tree.count() {
         return None;
     }
-    let k = below(parts.tree.obligation(step.target).level);
-    let (sys, own) = (parts.system, Claim::False);
-    if all_may_use(
-        sys,
-        parts.frames,
-        k,
-        &own,
-        step.clause,
-        step.used.as_slice(),
-    ) {
-        return None;
+    misused_below(parts, step, parts.tree.obligation(step.target))
+}
+
+/// What is told of a target of a number that is stalled, or isn't.
+fn told_of_mark(id: u32, stalled: bool) -> Option<By>
+    ensures { result ≡ (if stalled then Some (ByObligation id) else None) }
+{
+    if stalled {
+        return Some(By::Obligation(id));
     }
-    Some(By::Clause(step.clause))
+    None
 }
 
 /// 54: the target isn't stalled.
 pub(crate) fn rule_54(parts: &Lent, step: &StallPart) -> Option<By>
     ensures { result ≡ rule_54 (state_of parts.now) (stall_of step.now) }
 {
-    if step.target < parts.tree.count() && parts.tree.is_stalled(step.target) {
-        return Some(By::Obligation(step.target));
+    if step.target >= parts.tree.count() {
+        return None;
     }
-    None
+    told_of_mark(step.target, parts.tree.is_stalled(step.target))
 }

@@ -6,4 +6,4 @@ use Rattle.cube_rules.proofs.places.first_places.Goals as goal
 pub returns : goal.returns
 returns c =
     let over = c.loop-variable-test.false in
-    names-are c.args.args.now c.loop-variable.names.items c.loop-variable.variable c.loop-variable.invariant (none-above c.args.args.now c.bound_of.result c.loop-variable.variable (omega arith) c.bound_of.ensures)
+    names-are c.args.args.now c.loop-variable.names.items c.loop-variable.variable c.loop-variable.invariant (none-above c.args.args.now c.bound_of-bound.result c.loop-variable.variable (omega arith) c.bound_of-bound.ensures.above)
