@@ -95,10 +95,10 @@ wide-lit args (NDiv d lin) room wide = wide-lin (first_place args) lin room wide
 
 -- of one literal of a cube
 
-pub wide-cube : (args : List ℕ) (cube rest : List Lit) (i : ℕ) (lit : Lit) → i < length cube → lit ≡ get_or cube i lit → list_any is_wide_term (linear_of (lit_in_places args lit)).terms ≡ true → is_wide (map (lit_in_places args) cube ++ rest) ≡ true
-wide-cube args [] rest i lit within is wide = absurd (omega arith)
-wide-cube args (x ∷ cube) rest zero lit within is wide = one-wide (list_any is_wide_term (linear_of (lit_in_places args x)).terms) _ (sym (ap (λ (l : Lit). list_any is_wide_term (linear_of (lit_in_places args l)).terms) is) ∙ wide)
-wide-cube args (x ∷ cube) rest (suc i) lit within is wide = or-wide (list_any is_wide_term (linear_of (lit_in_places args x)).terms) _ (wide-cube args cube rest i lit (omega arith) is wide)
+pub wide-cube : (args : List ℕ) (cube : List Lit) (i : ℕ) (lit : Lit) → i < length cube → lit ≡ get_or cube i lit → list_any is_wide_term (linear_of (lit_in_places args lit)).terms ≡ true → is_wide (map (lit_in_places args) cube) ≡ true
+wide-cube args [] i lit within is wide = absurd (omega arith)
+wide-cube args (x ∷ cube) zero lit within is wide = one-wide (list_any is_wide_term (linear_of (lit_in_places args x)).terms) _ (sym (ap (λ (l : Lit). list_any is_wide_term (linear_of (lit_in_places args l)).terms) is) ∙ wide)
+wide-cube args (x ∷ cube) (suc i) lit within is wide = or-wide (list_any is_wide_term (linear_of (lit_in_places args x)).terms) _ (wide-cube args cube i lit (omega arith) is wide)
 
 one-fails : (b c : Bool) → b ≡ false → (b && c) ≡ false
 one-fails true c h = absurd (true≢false h)
@@ -108,7 +108,25 @@ rest-fails : (b c : Bool) → c ≡ false → (b && c) ≡ false
 rest-fails true c h = h
 rest-fails false c h = refl
 
-pub apart-cube : (args : List ℕ) (cube rest : List Lit) (i : ℕ) (lit : Lit) → i < length cube → lit ≡ get_or cube i lit → lit_fits (lit_in_places args lit) ≡ false → list_all lit_fits (map (lit_in_places args) cube ++ rest) ≡ false
-apart-cube args [] rest i lit within is wide = absurd (omega arith)
-apart-cube args (x ∷ cube) rest zero lit within is wide = one-fails (lit_fits (lit_in_places args x)) _ (sym (ap (λ (l : Lit). lit_fits (lit_in_places args l)) is) ∙ wide)
-apart-cube args (x ∷ cube) rest (suc i) lit within is wide = rest-fails (lit_fits (lit_in_places args x)) _ (apart-cube args cube rest i lit (omega arith) is wide)
+pub apart-cube : (args : List ℕ) (cube : List Lit) (i : ℕ) (lit : Lit) → i < length cube → lit ≡ get_or cube i lit → lit_fits (lit_in_places args lit) ≡ false → list_all lit_fits (map (lit_in_places args) cube) ≡ false
+apart-cube args [] i lit within is wide = absurd (omega arith)
+apart-cube args (x ∷ cube) zero lit within is wide = one-fails (lit_fits (lit_in_places args x)) _ (sym (ap (λ (l : Lit). lit_fits (lit_in_places args l)) is) ∙ wide)
+apart-cube args (x ∷ cube) (suc i) lit within is wide = rest-fails (lit_fits (lit_in_places args x)) _ (apart-cube args cube i lit (omega arith) is wide)
+
+-- with more literals behind it
+
+or-more : (b c d : Bool) → (c ≡ true → d ≡ true) → (b || c) ≡ true → (b || d) ≡ true
+or-more true c d more h = refl
+or-more false c d more h = more h
+
+and-more : (b c d : Bool) → (c ≡ false → d ≡ false) → (b && c) ≡ false → (b && d) ≡ false
+and-more true c d more h = more h
+and-more false c d more h = refl
+
+pub wide-more : (xs ys : List Lit) → is_wide xs ≡ true → is_wide (xs ++ ys) ≡ true
+wide-more [] ys h = absurd (true≢false (sym h))
+wide-more (x ∷ xs) ys h = or-more (list_any is_wide_term (linear_of x).terms) (is_wide xs) (is_wide (xs ++ ys)) (wide-more xs ys) h
+
+pub apart-more : (xs ys : List Lit) → list_all lit_fits xs ≡ false → list_all lit_fits (xs ++ ys) ≡ false
+apart-more [] ys h = absurd (true≢false h)
+apart-more (x ∷ xs) ys h = and-more (lit_fits x) (list_all lit_fits xs) (list_all lit_fits (xs ++ ys)) (apart-more xs ys) h

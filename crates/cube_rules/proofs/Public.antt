@@ -1,4 +1,5 @@
 -- The lemmas that proofs of other crates cite.
+pub use Rattle.cube_rules.proofs.AreaLemmas.{cube-none}
 pub use Rattle.cube_rules.proofs.FormLemmas.{fits-And, fits-Or}
 pub use Rattle.cube_rules.proofs.GatherLemmas.{framed-end}
 pub use Rattle.cube_rules.proofs.LiteralLemmas.{constant-at, form-wide, long-short, negated-short}

@@ -1,10 +1,12 @@
-ghost use Rattle.std.specs.Prelude.{◌≡◌, ◌++◌, ◌<◌, ◌||◌, length, IfOk, OnOk, MatchOption, false};
-ghost use Rattle.std.specs.List.{list_all};
+ghost use Rattle.std.specs.Prelude.{◌≡◌, ◌++◌, ◌<◌, ◌&&◌, ◌||◌, length, IfOk, OnOk, MatchOption, true, false};
+ghost use Rattle.std.specs.List.{list_all, list_any};
+ghost use Rattle.lin_atoms.specs.Denial.{lit_fits};
 ghost use Rattle.cube_forms.specs.Cubes.{cube_at, has_room};
-ghost use Rattle.book_rules.specs.Areas.{are_among, is_among, is_area, knows, same_variables, stands_in};
+ghost use Rattle.book_rules.specs.Areas.{are_among, cover, is_among, is_area, knows, same_variables, stands_in};
 ghost use Rattle.book_rules.specs.Queries.{args_of};
+ghost use Rattle.book_rules.specs.Same.{same_tuple};
 ghost use Rattle.cube_rules.specs.Views.{framed_at, lemmas_of};
-ghost use Rattle.cube_rules.specs.machinery.Literals.{are_placed, atom_lits, frame_lits, lemma_lits};
+ghost use Rattle.cube_rules.specs.machinery.Literals.{are_placed, atom_lits, frame_lits, lemma_lits, roomy_denials};
 
 use crate::literals::{any_among, are_among, cover, have_room, is_among, push_roomy, stands_in};
 use crate::same::same_tuple;
@@ -109,6 +111,21 @@ fn all_stand(lits: &[Lit], guard: &Form, head: &[Lit], frame: &[Lit]) -> bool
     true
 }
 
+/// Tells that the area's literals have room.
+fn area_has_room(area: &Projected)
+    ensures { list_all lit_fits area.now.lits ≡ true }
+{
+    have_room(area.lits());
+}
+
+/// Whether the area has the head's literals, and each of its own stands in the guard, among those,
+/// or among the frame's.
+fn have_places(area: &Projected, guard: &Form, head: &[Lit], frame: &[Lit]) -> bool
+    ensures { result ≡ (list_all (is_among area.now.lits) head.now && list_all (λ lit. stands_in lit guard.now || is_among head.now lit || is_among frame.now lit) area.now.lits) }
+{
+    are_among(area.lits(), head) && all_stand(area.lits(), guard, head, frame)
+}
+
 /// Whether the area has the parent's literals at the head, and each of its literals stands in the
 /// guard, among those, or in a form of the frame.
 fn are_placed(
@@ -121,18 +138,38 @@ fn are_placed(
 ) -> Result<bool, Memory>
     ensures { IfOk result (λ b. b ≡ are_placed clause.now cube.now (lemmas_of frames.now.lemmas) k area.now) }
 {
-    have_room(area.lits());
+    area_has_room(area);
     match at_head(alloc, cube, &clause.head)? {
         None => Ok(false),
         Some(head) => {
-            let frame = frame_lits(alloc, frames, k, clause.atoms.as_slice())?;
-            let head = head.as_slice();
-            Ok(
-                are_among(area.lits(), head)
-                    && all_stand(area.lits(), &clause.guard, head, frame.as_slice()),
-            )
+            let atoms = clause.atoms.as_slice();
+            let frame = frame_lits(alloc, frames, k, atoms)?;
+            let heads = head.as_slice();
+            let forms = frame.as_slice();
+            Ok(have_places(area, &clause.guard, heads, forms))
         }
     }
+}
+
+/// Whether the area's kept variables are the atom's.
+fn is_on(area: &Projected, atom: &Atom) -> bool
+    ensures { result ≡ same_variables area.now.keep atom.now.args }
+{
+    same_variables(area.keep(), atom.args.as_slice())
+}
+
+/// Whether the area's model is the point.
+fn is_at(area: &Projected, point: &[i64]) -> bool
+    ensures { result ≡ same_tuple area.now.model point.now }
+{
+    same_tuple(area.model(), point)
+}
+
+/// Whether the area covers the form.
+fn covers(area: &Projected, form: &Form) -> bool
+    ensures { result ≡ cover area.now.lits form.now }
+{
+    cover(area.lits(), form)
 }
 
 /// Whether the area is of the atom, the clause at the instance's point, and a parent with this cube
@@ -149,25 +186,40 @@ pub fn is_area(
 ) -> Result<bool, Memory>
     ensures { IfOk result (λ b. b ≡ is_area clause.now point.now atom.now cube.now (lemmas_of frames.now.lemmas) k area.now) }
 {
-    if !same_variables(area.keep(), atom.args.as_slice()) {
+    if !is_on(area, atom) {
         return Ok(false);
     }
-    if !same_tuple(area.model(), point) {
+    if !is_at(area, point) {
         return Ok(false);
     }
-    if !cover(area.lits(), &clause.guard) {
+    if !covers(area, &clause.guard) {
         return Ok(false);
     }
     let placed = are_placed(alloc, area, clause, cube, frames, k)?;
     Ok(placed)
 }
 
+/// The literals of a lemma's form at the atom's arguments, without those that have no room.
+fn lits_on(alloc: Global, atom: &Atom, lemma: &Lemma) -> Result<Vec<Lit>, Memory>
+    ensures { IfOk result (λ lits. lits.items ≡ roomy_denials atom.now.args lemma.now) }
+{
+    let mut lits = Vec::new(alloc);
+    push_roomy(alloc, &mut lits, lemma.cube().lits(), atom.args.as_slice())?;
+    Ok(lits)
+}
+
+/// Whether one of these is one of the area's.
+fn has_any(area: &Projected, those: &[Lit]) -> bool
+    ensures { result ≡ list_any (is_among area.now.lits) those.now }
+{
+    any_among(area.lits(), those)
+}
+
 /// Whether the area knows the lemma on the atom: it covers the lemma's form at the atom's arguments.
 pub fn knows(alloc: Global, area: &Projected, atom: &Atom, lemma: &Lemma) -> Result<bool, Memory>
     ensures { IfOk result (λ b. b ≡ knows area.now atom.now lemma.now) }
 {
-    let mut lits = Vec::new(alloc);
-    push_roomy(alloc, &mut lits, lemma.cube().lits(), atom.args.as_slice())?;
-    have_room(area.lits());
-    Ok(any_among(area.lits(), lits.as_slice()))
+    let lits = lits_on(alloc, atom, lemma)?;
+    area_has_room(area);
+    Ok(has_any(area, lits.as_slice()))
 }

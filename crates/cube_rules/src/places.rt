@@ -1,4 +1,4 @@
-ghost use Rattle.std.specs.Prelude.{◌≡◌, ◌++◌, ◌<◌, ◌≤◌, ◌^◌, ℕ, length, nat_le, IfOk, IfNone, OnOk, MatchOption, true, false};
+ghost use Rattle.std.specs.Prelude.{◌≡◌, ◌++◌, ◌<◌, ◌≤◌, ◌^◌, ℕ, length, map, nat_le, IfOk, IfNone, OnOk, MatchOption, true, false};
 ghost use Rattle.std.specs.List.{list_all, list_any};
 ghost use Rattle.base.specs.Limits.{most_arguments};
 ghost use Rattle.lin_atoms.specs.Algebra.{name_in};
@@ -108,6 +108,28 @@ fn in_places(alloc: Global, lit: &Lit, args: &[u32], names: &[u32]) -> Result<Op
     }
 }
 
+/// The literals of a cube over variables, over the first places of the variables; none where a
+/// number has no room, and then the cube is wide.
+fn all_in_places(
+    alloc: Global,
+    cube: &[Lit],
+    args: &[u32],
+    names: &[u32],
+) -> Result<Option<Vec<Lit>>, Memory>
+    requires { (v : ℕ) → name_in names.now v ≡ first_place args.now v }
+    ensures made { IfOk result (λ found. MatchOption found (is_wide (map (lit_in_places args.now) cube.now) ≡ true) (λ lits. lits.items ≡ map (lit_in_places args.now) cube.now)) }
+    ensures apart { IfOk result (λ found. IfNone found (list_all lit_fits (map (lit_in_places args.now) cube.now) ≡ false)) }
+{
+    let mut lits = Vec::with_capacity(alloc, cube.len())?;
+    for lit in cube {
+        match in_places(alloc, lit, args, names)? {
+            Some(lit) => lits.push(lit)?,
+            None => return Ok(None),
+        }
+    }
+    Ok(Some(lits))
+}
+
 /// The area's cube over argument places, and the equations of later places; none where a number has
 /// no room, and then the cube is wide.
 pub fn projected_cube(
@@ -121,15 +143,14 @@ pub fn projected_cube(
 {
     let args = atom.args.as_slice();
     let names = first_places(alloc, args)?;
-    let mut lits = Vec::new(alloc);
-    for lit in area.cube() {
-        match in_places(alloc, lit, args, names.as_slice())? {
-            Some(lit) => lits.push(lit)?,
-            None => return Ok(None),
+    match all_in_places(alloc, area.cube(), args, names.as_slice())? {
+        Some(lits) => {
+            let mut lits = lits;
+            push_equations(alloc, &mut lits, args)?;
+            Ok(Some(lits))
         }
+        None => Ok(None),
     }
-    push_equations(alloc, &mut lits, args)?;
-    Ok(Some(lits))
 }
 
 /// The tuple, as an equation for each place.

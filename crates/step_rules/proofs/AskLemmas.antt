@@ -1,18 +1,16 @@
 -- What a Stall's evidence is compared with, as the code asks it.
-use Rattle.std.proofs.Common.{◌≡◌, ◌<◌, ◌≤◌, ℕ, List, [], ◌∷◌, length, Bool, true, false, not, ◌&&◌, ◌||◌, Some, None, refl, ap, sym, ◌∙◌, arith}
-use Rattle.std.specs.Prelude.{Option, slice_get, ◌==◌}
+use Rattle.std.proofs.Common.{◌≡◌, ℕ, List, [], Bool, true, false, not, ◌&&◌, Some, None, refl, ap, sym, ◌∙◌}
+use Rattle.std.specs.Prelude.{Option, slice_get}
 use Rattle.std.specs.List.{list_all}
-use Rattle.std.proofs.lemmas.Bool.{eqb-true}
 use Rattle.lin_atoms.specs.declared.lit.Lit.{Lit}
 use Rattle.lin_atoms.specs.declared.form.Form.{Form}
 use Rattle.clause_form.specs.System.{Clauses, is_clause}
-use Rattle.clause_form.specs.declared.atom.Atom.{Atom}
 use Rattle.clause_form.specs.declared.clause.Clause.{Clause}
 use Rattle.chc_tokens.specs.Queries.{goal_cube, has_goal, query_at, query_in}
 use Rattle.chc_tokens.specs.declared.goal.Goal.{Goal}
 use Rattle.chc_tokens.specs.declared.used.Used.{Used as UsedLemma}
 use Rattle.book_rules.specs.Places.{obligation_fits, used_has_places}
-use Rattle.book_rules.specs.Proofs.{is_empty, is_head}
+use Rattle.book_rules.specs.Proofs.{is_head}
 use Rattle.book_rules.specs.Queries.{query}
 use Rattle.book_rules.specs.Same.{same_form}
 use Rattle.book_rules.specs.StallRules.{has_used_atoms}
@@ -65,17 +63,10 @@ fitting true false s l head low = absurd (cc)
 fitting true true false l head low = refl
 fitting true true true l head low = sym low
 
-pub low : (level : ℕ) (atoms : List Atom) → level ≡ 1 → 0 < length atoms → (not (level == 1) || is_empty atoms) ≡ false
-low level [] is some = absurd (omega arith)
-low level (atom ∷ atoms) is some = ap (λ n. not (n == 1) || false) is
+pub not-true : (b : Bool) → not b ≡ true → b ≡ false
+not-true true h = absurd (cc)
+not-true false h = refl
 
-always : (b : Bool) → (not b || true) ≡ true
-always true = refl
-always false = refl
-
-pub not-low : (level : ℕ) (atoms : List Atom) → (level ≡ 1 → length atoms ≤ 0) → (not (level == 1) || is_empty atoms) ≡ true
-not-low level [] h = always (level == 1)
-not-low level (atom ∷ atoms) h = by (level == 1) refl where
-  by : (b : Bool) → (level == 1) ≡ b → (not b || false) ≡ true
-  by false is = refl
-  by true is = let none = h (eqb-true level 1 is) in absurd (omega (arith, none))
+pub not-false : (b : Bool) → not b ≡ false → b ≡ true
+not-false true h = refl
+not-false false h = absurd (cc)

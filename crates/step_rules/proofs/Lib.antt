@@ -1,6 +1,7 @@
 pub mod ViewLemmas
 pub mod WalkLemmas
 pub mod OnLemmas
+pub mod CubeLemmas
 pub mod FactLemmas
 pub mod LiveLemmas
 pub mod RootLemmas

@@ -1,12 +1,13 @@
 //! The rules of Open. Each answers what breaks it, if anything.
 
-ghost use Rattle.std.specs.Prelude.{◌≡◌, ◌&&◌, ◌<◌, ◌≤◌, ◌-◌, nat_lt, length, slice_get, IfOk, if◌then◌else◌, option_map, Some, None, true};
+ghost use Rattle.std.specs.Prelude.{◌≡◌, ◌&&◌, ◌||◌, ◌<◌, ◌≤◌, ◌-◌, nat_lt, length, slice_get, IfOk, if◌then◌else◌, option_map, Some, None, true};
 ghost use Rattle.book_rules.specs.declared.by.By.TheVariants.{Obligation as ByObligation, Step};
 ghost use Rattle.book_rules.specs.Instances.{body_at, head_at};
 ghost use Rattle.chc_tokens.specs.Kept.{seen_point};
 ghost use Rattle.base.specs.Limits.{most_arguments};
 ghost use Rattle.book_rules.specs.OpenRules.{atom_fits, clause_fits, clause_of, has_fact_in, is_cube, shut_out, rule_1, rule_2, rule_3, rule_4, rule_5, rule_6, rule_9, tuple_of, unknown, atom_of};
-ghost use Rattle.std.specs.List.{find};
+ghost use Rattle.std.specs.List.{find, list_all};
+ghost use Rattle.lin_atoms.specs.Denial.{lit_fits};
 ghost use Rattle.book_rules.specs.Walks.{first_number, first_told, has, on};
 ghost use Rattle.step_rules.specs.machinery.Walks.{is_unknown, lies_in, lies_in_at};
 ghost use Rattle.step_rules.specs.Taken.{open_of};
@@ -16,7 +17,7 @@ ghost use Rattle.step_rules.specs.Standing.{state_of};
 ghost use Rattle.cube_forms.specs.Cubes.{cube_holds};
 ghost use Rattle.book_rules.specs.Same.{same_cube};
 ghost use Rattle.book_rules.specs.State.{holds, holds_of};
-ghost use Rattle.book_rules.specs.Areas.{point_cube};
+ghost use Rattle.book_rules.specs.Areas.{is_wide, point_cube};
 ghost use Rattle.clause_form.specs.System.{is_clause};
 
 use crate::conclusions::holds;
@@ -122,13 +123,59 @@ fn has_fact_in(facts: &Facts, pred: u32, cube: &[Lit]) -> bool
     fact_in(facts, pred, cube).is_some()
 }
 
+/// Whether the step's cube has these literals, in this order.
+fn is_same_cube(step: &OpenPart, lits: &[Lit]) -> bool
+    ensures { result ≡ same_cube step.now.cube lits.now }
+{
+    same_cube(step.cube.lits(), lits)
+}
+
+/// Tells that the literals of the step's cube have room.
+fn cube_has_room(step: &OpenPart)
+    ensures { list_all lit_fits step.now.cube ≡ true }
+{
+    have_room(step.cube.lits());
+}
+
 /// Whether the step's cube is the tuple's.
 fn is_point(alloc: Global, step: &OpenPart, tuple: &[i64]) -> Result<bool, Memory>
     requires { length tuple.now ≤ most_arguments }
     ensures { IfOk result (λ b. b ≡ same_cube step.now.cube (point_cube tuple.now)) }
 {
     let point = point_cube(alloc, tuple)?;
-    Ok(same_cube(step.cube.lits(), point.as_slice()))
+    Ok(is_same_cube(step, point.as_slice()))
+}
+
+/// Whether the step's cube is that of the atom's tuple.
+fn is_of_point(alloc: Global, step: &OpenPart, atom: &Atom) -> Result<bool, Memory>
+    requires { length atom.now.args ≤ most_arguments }
+    ensures { IfOk result (λ b. b ≡ same_cube step.now.cube (point_cube (tuple_of (open_of step.now) atom.now))) }
+{
+    let tuple = Tuple::at(alloc, step.seen.point(), atom.args.as_slice())?;
+    let is = is_point(alloc, step, tuple.as_slice())?;
+    Ok(is)
+}
+
+/// Whether the tuple's cube may stand for these literals: they hold a recorded fact, or are wide.
+fn may_be_point(parts: &Lent, pred: u32, lits: &[Lit]) -> bool
+    ensures { result ≡ (has_fact_in (facts_of parts.now.facts) pred lits.now || is_wide lits.now) }
+{
+    has_fact_in(parts.facts, pred, lits) || is_wide(lits)
+}
+
+/// Whether the step's cube has these literals, or is the atom's tuple where it may stand for them.
+fn is_cube_of(parts: &Lent, step: &OpenPart, atom: &Atom, lits: &[Lit]) -> Result<bool, Memory>
+    requires { length atom.now.args ≤ most_arguments }
+    ensures { IfOk result (λ b. b ≡ (same_cube step.now.cube lits.now || (same_cube step.now.cube (point_cube (tuple_of (open_of step.now) atom.now)) && (has_fact_in (facts_of parts.now.facts) atom.now.pred lits.now || is_wide lits.now)))) }
+{
+    if is_same_cube(step, lits) {
+        return Ok(true);
+    }
+    if !may_be_point(parts, atom.pred, lits) {
+        return Ok(false);
+    }
+    let is = is_of_point(parts.alloc, step, atom)?;
+    Ok(is)
 }
 
 /// Whether the step's cube is the area's over the atom's places, or the atom's tuple where that cube
@@ -137,22 +184,15 @@ fn is_cube(parts: &Lent, step: &OpenPart, atom: &Atom) -> Result<bool, Memory>
     requires { length atom.now.args ≤ most_arguments }
     ensures { IfOk result (λ b. b ≡ is_cube (state_of parts.now) (open_of step.now) atom.now) }
 {
-    let alloc = parts.alloc;
-    let tuple = Tuple::at(alloc, step.seen.point(), atom.args.as_slice())?;
-    match projected_cube(alloc, atom, &step.area)? {
+    match projected_cube(parts.alloc, atom, &step.area)? {
         None => {
-            have_room(step.cube.lits());
-            is_point(alloc, step, tuple.as_slice())
+            cube_has_room(step);
+            let is = is_of_point(parts.alloc, step, atom)?;
+            Ok(is)
         }
         Some(lits) => {
-            let lits = lits.as_slice();
-            if same_cube(step.cube.lits(), lits) {
-                return Ok(true);
-            }
-            if !has_fact_in(parts.facts, atom.pred, lits) && !is_wide(lits) {
-                return Ok(false);
-            }
-            is_point(alloc, step, tuple.as_slice())
+            let is = is_cube_of(parts, step, atom, lits.as_slice())?;
+            Ok(is)
         }
     }
 }

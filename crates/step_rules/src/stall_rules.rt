@@ -1,6 +1,6 @@
 //! The rules of Stall but 51, which looks at live children. Each answers what breaks it, if anything.
 
-ghost use Rattle.std.specs.Prelude.{◌≡◌, ◌&&◌, ◌-◌, [], slice_get, None, IfOk, if◌then◌else◌, true, Some};
+ghost use Rattle.std.specs.Prelude.{◌≡◌, ◌==◌, ◌&&◌, ◌||◌, ◌-◌, not, [], slice_get, None, IfOk, if◌then◌else◌, true, Some};
 ghost use Rattle.book_rules.specs.declared.by.By.TheVariants.{Clause as ByClause, Obligation as ByObligation, Step};
 ghost use Rattle.book_rules.specs.Proofs.{all_may_use};
 ghost use Rattle.book_rules.specs.Walks.{has};
@@ -20,7 +20,9 @@ ghost use Rattle.step_rules.specs.Standing.{IsStanding};
 ghost use Rattle.clause_form.specs.System.{is_clause};
 ghost use Rattle.step_rules.specs.machinery.Claims.{goal_for};
 ghost use Rattle.step_rules.specs.machinery.Literals.{lemmas_are_short};
-ghost use Rattle.book_rules.specs.Proofs.{is_head};
+ghost use Rattle.book_rules.specs.Proofs.{is_empty, is_head};
+ghost use Rattle.chc_tokens.specs.Queries.{query_at};
+ghost use Rattle.cube_rules.specs.machinery.Literals.{form_fits};
 
 use crate::claim::Claim;
 use crate::lent::Lent;
@@ -33,6 +35,7 @@ use chc_tokens::{Goal, Used, checked_query_of};
 use clause_form::Clause;
 use cube_forms::negate;
 use cube_rules::{form_has_room, is_head, same_form};
+use lin_atoms::Form;
 use obligation_tree::Obligation;
 use std::alloc::Global;
 
@@ -63,6 +66,37 @@ fn are_short(used: &[Used])
     }
 }
 
+/// The query of the step's clause and used lemmas, and the goal; none where it isn't there or has no
+/// room.
+fn asked(parts: &Lent, step: &StallPart, goal: &Goal) -> Result<Option<Form>, Memory>
+    ensures { IfOk result (λ found. found ≡ query_at parts.now.system step.now.clause goal.now step.now.used) }
+{
+    let used = step.used.as_slice();
+    let found = checked_query_of(parts.alloc, parts.system, step.clause, goal, used)?;
+    Ok(found)
+}
+
+/// Whether the evidence is of this form.
+fn is_of(step: &StallPart, query: &Form) -> bool
+    ensures { result ≡ same_form (given_form step.now.evidence) query.now }
+{
+    same_form(step.evidence.form(), query)
+}
+
+/// Tells that the literals of the evidence's form have room.
+fn evidence_has_room(step: &StallPart)
+    ensures { form_fits (given_form step.now.evidence) ≡ true }
+{
+    form_has_room(step.evidence.form());
+}
+
+/// Tells that the numbers of the step's used lemmas are short.
+fn used_are_short(step: &StallPart)
+    ensures { lemmas_are_short step.now.used ≡ true }
+{
+    are_short(step.used.as_slice());
+}
+
 /// Whether the used atoms are there, and the evidence is of the query of clause, used lemmas and
 /// cube. A query in which a number has no room is equal to no form that is kept.
 fn is_asked(
@@ -80,15 +114,21 @@ fn is_asked(
     ensures { IfOk result (λ b. b ≡ (has_used_atoms clause.now (all_used step.now.used) && same_form (given_form step.now.evidence) (query clause.now obligation.now.cube (all_used step.now.used)))) }
 {
     let goal = goal_of(parts.alloc, obligation)?;
-    let (sys, used) = (parts.system, step.used.as_slice());
-    match checked_query_of(parts.alloc, sys, step.clause, &goal, used)? {
-        Some(query) => Ok(same_form(step.evidence.form(), &query)),
+    match asked(parts, step, &goal)? {
+        Some(query) => Ok(is_of(step, &query)),
         None => {
-            form_has_room(step.evidence.form());
-            are_short(used);
+            evidence_has_room(step);
+            used_are_short(step);
             Ok(false)
         }
     }
+}
+
+/// Whether the obligation is of level 1, where the clause has a body atom.
+fn is_too_low(obligation: &Obligation, clause: &Clause) -> bool
+    ensures { result ≡ not (not (obligation.now.level == 1) || is_empty clause.now.atoms) }
+{
+    obligation.level == 1 && clause.atoms.len() > 0
 }
 
 /// Whether the evidence is of a query of the obligation through the clause.
@@ -108,10 +148,11 @@ fn query_fits(
     if !is_head(obligation.pred, &clause.head) {
         return Ok(false);
     }
-    if obligation.level == 1 && clause.atoms.len() > 0 {
+    if is_too_low(obligation, clause) {
         return Ok(false);
     }
-    is_asked(parts, step, obligation, clause)
+    let is = is_asked(parts, step, obligation, clause)?;
+    Ok(is)
 }
 
 /// What is told of a target by rule 52.

@@ -1,0 +1,23 @@
+use Rattle.std.proofs.Common.{List, ◌||◌, ◌&&◌, ap, ◌∙◌}
+use Rattle.lin_atoms.specs.declared.lit.Lit.{Lit}
+use Rattle.book_rules.specs.Areas.{is_wide, point_cube, projected_cube}
+use Rattle.book_rules.specs.OpenRules.{has_fact_in, tuple_of}
+use Rattle.book_rules.specs.Same.{same_cube}
+use Rattle.cube_rules.proofs.Public.{cube-none}
+use Rattle.step_rules.specs.Taken.{open_of}
+use Rattle.step_rules.specs.Views.{facts_of}
+use Rattle.step_rules.proofs.open_rules.is_cube.Goals as goal
+
+pub returns-in-None : goal.returns-in-None
+returns-in-None c =
+    let step = c.args.step.now in
+    let atom = c.args.atom.now in
+    c.in_ok-is-in-None.ensures ∙ cube-none step.cube (projected_cube atom step.area) (point_cube (tuple_of (open_of step) atom)) _ _ c.cube_has_room.ensures c.in-None.ensures.apart c.in-None.ensures.made
+
+pub returns-in-Some : goal.returns-in-Some
+returns-in-Some c =
+    let step = c.args.step.now in
+    let atom = c.args.atom.now in
+    let facts = facts_of c.args.parts.now.facts in
+    c.in_ok-is-in-Some.ensures
+    ∙ ap (λ (lits : List Lit). same_cube step.cube lits || (same_cube step.cube (point_cube (tuple_of (open_of step) atom)) && (has_fact_in facts atom.pred lits || is_wide lits))) (c.as_slice.ensures.value ∙ c.in-Some.ensures.made)
