@@ -15,7 +15,7 @@ returns-in-Some c =
     let end = c.count-id-end.ensures in
     let less = c.loop-id-test.true in
     let within : id < length lemmas = omega arith in
-    sym (pairs-on (seen_outside nodes.system (state_of nodes)) nodes.level id (framed_at lemmas id) (drop id (lemmas_of lemmas)) (drop (id + 1) (lemmas_of lemmas)) c.as_slice.result.now c.loop-id.place _ (Some c.in-Some.by) (framed-drop lemmas id within) c.in-Some.ensures refl) ∙ c.loop-id.invariant.0
+    sym (pairs-on (seen_outside nodes.system (state_of nodes)) nodes.level id (framed_at lemmas id) (drop id (lemmas_of lemmas)) (drop (id + 1) (lemmas_of lemmas)) c.as_slice-kept.result.now c.loop-id.place _ (Some c.in-Some.by) (framed-drop lemmas id within) c.in-Some.ensures refl) ∙ c.loop-id.invariant.0
 
 pub loop-id-preserved : goal.loop-id-preserved
 loop-id-preserved c =
@@ -25,7 +25,7 @@ loop-id-preserved c =
     let end = c.count-id-end.ensures in
     let less = c.loop-id-test.true in
     let within : id < length lemmas = omega arith in
-    (sym (pairs-on (seen_outside nodes.system (state_of nodes)) nodes.level id (framed_at lemmas id) (drop id (lemmas_of lemmas)) (drop (id + 1) (lemmas_of lemmas)) c.as_slice.result.now c.loop-id.place c.next_place.result None (framed-drop lemmas id within) c.in-None.ensures c.next_place.ensures.is) ∙ c.loop-id.invariant.0, c.next_place.ensures.room)
+    (sym (pairs-on (seen_outside nodes.system (state_of nodes)) nodes.level id (framed_at lemmas id) (drop id (lemmas_of lemmas)) (drop (id + 1) (lemmas_of lemmas)) c.as_slice-kept.result.now c.loop-id.place c.next_place.result None (framed-drop lemmas id within) c.in-None.ensures c.next_place.ensures.is) ∙ c.loop-id.invariant.0, c.next_place.ensures.room)
 
 pub returns : goal.returns
 returns c =
@@ -35,4 +35,4 @@ returns c =
     let end = c.count-id-end.ensures in
     let less = c.loop-id-test.false in
     let past : length lemmas ≤ id = omega arith in
-    sym (pairs-end (seen_outside nodes.system (state_of nodes)) nodes.level id (drop id (lemmas_of lemmas)) c.as_slice.result.now c.loop-id.place (framed-end lemmas id past)) ∙ c.loop-id.invariant.0
+    sym (pairs-end (seen_outside nodes.system (state_of nodes)) nodes.level id (drop id (lemmas_of lemmas)) c.as_slice-kept.result.now c.loop-id.place (framed-end lemmas id past)) ∙ c.loop-id.invariant.0
