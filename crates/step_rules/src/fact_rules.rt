@@ -5,8 +5,9 @@ ghost use Rattle.book_rules.specs.declared.by.By.TheVariants.{Obligation as ByOb
 ghost use Rattle.book_rules.specs.FactRules.{are_facts_of, concluded, is_fact_of, rule_20, rule_21, rule_22, rule_23};
 ghost use Rattle.book_rules.specs.State.{holds, holds_of, same_conclusion};
 ghost use Rattle.book_rules.specs.Walks.{first_number, on};
+ghost use Rattle.step_rules.specs.machinery.Told.{unholding_told};
 ghost use Rattle.step_rules.specs.Taken.{record_of};
-ghost use Rattle.step_rules.specs.Views.{conclusion_of, facts_of, obligations_of};
+ghost use Rattle.step_rules.specs.Views.{conclusion_of, facts_of, fresh_of, obligations_of};
 ghost use Rattle.step_rules.specs.Standing.{state_of};
 ghost use Rattle.step_rules.specs.machinery.Falsity.{IsLastFalse};
 
@@ -155,7 +156,7 @@ fn told_of_target(
     id: u32,
     target: &Obligation,
 ) -> Result<Option<By>, Memory>
-    ensures { IfOk result (λ by. by ≡ (if holds_of target.now.pred target.now.cube (concluded parts.now.system (record_of step.now)) then None else Some (ByObligation id))) }
+    ensures { IfOk result (λ by. by ≡ unholding_told parts.now.system (record_of step.now) id (fresh_of target.now)) }
 {
     let conclusion = concluded(parts, step)?;
     if holds(target, &conclusion) {
@@ -166,7 +167,7 @@ fn told_of_target(
 
 /// The same of the target of that number.
 fn told_at(parts: &Lent, step: &FactPart, id: u32) -> Result<Option<By>, Memory>
-    ensures { IfOk result (λ by. by ≡ on (slice_get (obligations_of parts.now.tree.nodes) id) (λ o. if holds o (concluded parts.now.system (record_of step.now)) then None else Some (ByObligation id))) }
+    ensures { IfOk result (λ by. by ≡ on (slice_get (obligations_of parts.now.tree.nodes) id) (unholding_told parts.now.system (record_of step.now) id)) }
 {
     if id >= parts.tree.count() {
         return Ok(None);

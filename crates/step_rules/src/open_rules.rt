@@ -10,6 +10,7 @@ ghost use Rattle.std.specs.List.{find, list_all};
 ghost use Rattle.lin_atoms.specs.Denial.{lit_fits};
 ghost use Rattle.book_rules.specs.Walks.{first_number, first_told, has, on};
 ghost use Rattle.step_rules.specs.machinery.Walks.{is_unknown, lies_in, lies_in_at};
+ghost use Rattle.step_rules.specs.machinery.Told.{low_told, misfit_told, shut_told, unheld_told, unknown_told};
 ghost use Rattle.step_rules.specs.Taken.{open_of};
 ghost use Rattle.cube_rules.specs.Views.{framed_at, lemmas_of};
 ghost use Rattle.step_rules.specs.Views.{conclusion_of, facts_of, fresh_of};
@@ -47,7 +48,7 @@ pub(crate) fn rule_1(parts: &Lent, step: &OpenPart) -> Option<By>
 
 /// What is told of a parent by its level.
 fn told_of_level(step: &OpenPart, parent: &Obligation) -> Option<By>
-    ensures { result ≡ (if nat_lt parent.now.level 2 then Some (ByObligation step.now.parent) else None) }
+    ensures { result ≡ low_told (open_of step.now) (fresh_of parent.now) }
 {
     if parent.level < 2 {
         return Some(By::Obligation(step.parent));
@@ -245,7 +246,7 @@ fn clause_fits(
 
 /// What is told of a parent by rule 3.
 fn misfit(parts: &Lent, step: &OpenPart, parent: &Obligation) -> Result<Option<By>, Memory>
-    ensures { IfOk result (λ by. by ≡ (if has (clause_of parts.now.system (open_of step.now)) (clause_fits (state_of parts.now) (open_of step.now) (fresh_of parent.now)) then None else Some Step)) }
+    ensures { IfOk result (λ by. by ≡ misfit_told parts.now.system (state_of parts.now) (open_of step.now) (fresh_of parent.now)) }
 {
     match parts.system.clauses().get(step.seen.clause() as usize) {
         Some(clause) => {
@@ -295,7 +296,7 @@ fn is_held(
 
 /// What is told of a parent by rule 4.
 fn unheld(parts: &Lent, step: &OpenPart, parent: &Obligation) -> Result<Option<By>, Memory>
-    ensures { IfOk result (λ by. by ≡ (if has (clause_of parts.now.system (open_of step.now)) (λ clause. holds (fresh_of parent.now) (head_at (seen_point step.now.seen) clause)) && has (atom_of parts.now.system (open_of step.now)) (λ atom. cube_holds (tuple_of (open_of step.now) atom) step.now.cube) then None else Some (ByObligation step.now.parent))) }
+    ensures { IfOk result (λ by. by ≡ unheld_told parts.now.system (open_of step.now) (fresh_of parent.now)) }
 {
     match parts.system.clauses().get(step.seen.clause() as usize) {
         Some(clause) => {
@@ -322,7 +323,7 @@ pub(crate) fn rule_4(parts: &Lent, step: &OpenPart) -> Result<Option<By>, Memory
 
 /// What is told of a parent by rule 5.
 fn shut_below(parts: &Lent, step: &OpenPart, parent: &Obligation) -> Result<Option<By>, Memory>
-    ensures { IfOk result (λ by. by ≡ on (clause_of parts.now.system (open_of step.now)) (λ clause. first_told (shut_out (lemmas_of parts.now.frames.lemmas) (parent.now.level - 1)) (body_at (seen_point step.now.seen) clause))) }
+    ensures { IfOk result (λ by. by ≡ shut_told parts.now.system (state_of parts.now) (open_of step.now) (fresh_of parent.now)) }
 {
     let k = below(parent.level);
     match parts.system.clauses().get(step.seen.clause() as usize) {
@@ -427,7 +428,7 @@ fn first_unknown(
 
 /// What is told of a parent by rule 9.
 fn unknown_below(parts: &Lent, step: &OpenPart, parent: &Obligation) -> Result<Option<By>, Memory>
-    ensures { IfOk result (λ by. by ≡ on (clause_of parts.now.system (open_of step.now)) (λ clause. first_told (unknown (lemmas_of parts.now.frames.lemmas) (parent.now.level - 1) (open_of step.now)) clause.atoms)) }
+    ensures { IfOk result (λ by. by ≡ unknown_told parts.now.system (state_of parts.now) (open_of step.now) (fresh_of parent.now)) }
 {
     let k = below(parent.level);
     match parts.system.clauses().get(step.seen.clause() as usize) {

@@ -11,6 +11,7 @@ ghost use Rattle.book_rules.specs.Queries.{query};
 ghost use Rattle.book_rules.specs.Same.{same_form};
 ghost use Rattle.book_rules.specs.StallRules.{has_used_atoms, query_fits, rule_50, rule_52, rule_53, rule_54};
 ghost use Rattle.book_rules.specs.Places.{has_places, obligation_fits};
+ghost use Rattle.step_rules.specs.machinery.Told.{misused_told, unfit_told};
 ghost use Rattle.step_rules.specs.Taken.{stall_of, step_of};
 ghost use Rattle.step_rules.specs.Tokens.{all_used};
 ghost use Rattle.step_rules.specs.Views.{fresh_of};
@@ -160,7 +161,7 @@ fn unfit(parts: &Lent, step: &StallPart, target: &Obligation) -> Result<Option<B
     requires cube { target.now.pred ≡ None → target.now.cube ≡ [] }
     requires asked { obligation_fits parts.now.system.preds (fresh_of target.now) ≡ true }
     requires places { has_places parts.now.system (step_of (StallStep step.now)) ≡ true }
-    ensures { IfOk result (λ by. by ≡ (if has (slice_get parts.now.system.clauses step.now.clause) (query_fits (stall_of step.now) (fresh_of target.now)) then None else Some Step)) }
+    ensures { IfOk result (λ by. by ≡ unfit_told parts.now.system (stall_of step.now) (fresh_of target.now)) }
 {
     match parts.system.clauses().get(step.clause as usize) {
         Some(clause) => {
@@ -190,7 +191,7 @@ pub(crate) fn rule_52(parts: &Lent, step: &StallPart) -> Result<Option<By>, Memo
 
 /// What is told of a target by rule 53.
 fn misused_below(parts: &Lent, step: &StallPart, target: &Obligation) -> Option<By>
-    ensures { result ≡ (if all_may_use parts.now.system (lemmas_of parts.now.frames.lemmas) (target.now.level - 1) None step.now.clause (all_used step.now.used) then None else Some (ByClause step.now.clause)) }
+    ensures { result ≡ misused_told parts.now.system (state_of parts.now) (stall_of step.now) (fresh_of target.now) }
 {
     let k = below(target.level);
     let (sys, own) = (parts.system, Claim::False);

@@ -1,4 +1,6 @@
 use Rattle.std.proofs.Common.{◌<◌, ◌≤◌, length, refl, ◌∙◌, arith}
+use Rattle.step_rules.specs.Taken.{stall_of}
+use Rattle.step_rules.specs.machinery.Told.{unfit_told}
 use Rattle.step_rules.proofs.OnLemmas.{past-told, told-asked}
 use Rattle.step_rules.proofs.RootLemmas.{bare-asked, fits-asked}
 use Rattle.step_rules.specs.Views.{facts_of}
@@ -9,7 +11,7 @@ returns-then-target-count c =
     let nodes = c.args.parts.now.tree.nodes in
     let n = c.args.step.now.target in
     let past : length nodes ≤ n = omega arith in
-    past-told nodes n _ past
+    past-told nodes n (unfit_told c.args.parts.now.system (stall_of c.args.step.now)) past
 
 pub unfit-requires-clause-cube : goal.unfit-requires-clause-cube
 unfit-requires-clause-cube c =
@@ -30,4 +32,4 @@ returns c =
     let nodes = c.args.parts.now.tree.nodes in
     let n = c.args.step.now.target in
     let within : n < length nodes = omega arith in
-    c.in_ok-by.ensures ∙ told-asked nodes n _ c.obligation.result.now within c.obligation.ensures (λ x closed stalled. refl)
+    c.in_ok-by.ensures ∙ told-asked nodes n (unfit_told c.args.parts.now.system (stall_of c.args.step.now)) c.obligation.result.now within c.obligation.ensures (λ x closed stalled. refl)
