@@ -44,13 +44,13 @@ third-fails true b c d is = second-fails b c d is
 third-fails false b c d is = refl
 
 pub no-variables : (clause : Clause) (point : List ℤ) (atom : Atom) (cube : List Lit) (es : List Framed) (k : ℕ) (area : Kept) → same_variables area.keep atom.args ≡ false → false ≡ is_area clause point atom cube es k area
-no-variables clause point atom cube es k area is = first-fails (same_variables area.keep atom.args) _ is
+no-variables clause point atom cube es k area is = first-fails (same_variables area.keep atom.args) (same_tuple area.model point && cover area.lits clause.guard && are_placed clause cube es k area) is
 
 pub no-model : (clause : Clause) (point : List ℤ) (atom : Atom) (cube : List Lit) (es : List Framed) (k : ℕ) (area : Kept) → same_tuple area.model point ≡ false → false ≡ is_area clause point atom cube es k area
-no-model clause point atom cube es k area is = second-fails (same_variables area.keep atom.args) (same_tuple area.model point) _ is
+no-model clause point atom cube es k area is = second-fails (same_variables area.keep atom.args) (same_tuple area.model point) (cover area.lits clause.guard && are_placed clause cube es k area) is
 
 pub no-cover : (clause : Clause) (point : List ℤ) (atom : Atom) (cube : List Lit) (es : List Framed) (k : ℕ) (area : Kept) → cover area.lits clause.guard ≡ false → false ≡ is_area clause point atom cube es k area
-no-cover clause point atom cube es k area is = third-fails (same_variables area.keep atom.args) (same_tuple area.model point) (cover area.lits clause.guard) _ is
+no-cover clause point atom cube es k area is = third-fails (same_variables area.keep atom.args) (same_tuple area.model point) (cover area.lits clause.guard) (are_placed clause cube es k area) is
 
 -- a cube where the projected one is wide, and no kept cube
 only-point : (a p h w : Bool) → a ≡ false → w ≡ true → p ≡ (a || (p && (h || w)))

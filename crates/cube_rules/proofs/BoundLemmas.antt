@@ -20,16 +20,16 @@ not-le x bound less = grind (arith, nat_tests)
 more-than : (x bound : ℕ) → nat_le bound x ≡ false → x < bound
 more-than x bound h = grind (arith, nat_tests)
 
-more-suc : (args : List ℕ) (i arg bound new : ℕ) → i < length args → arg ≡ get_or args i arg → bound ≤ new → arg < new → list_any (λ v. nat_le bound v) (take i args) ≡ false → list_any (λ v. nat_le new v) (take (suc i) args) ≡ false
-more-suc [] i arg bound new within is old less h = absurd (omega arith)
-more-suc (y ∷ args) zero arg bound new within is old less h = from_none (nat_le new y) false (not-le y new (omega (arith, is, less))) refl
-more-suc (y ∷ args) (suc i) arg bound new within is old less h =
+more-suc : (args : List ℕ) (i d bound new : ℕ) → i < length args → bound ≤ new → get_or args i d < new → list_any (λ v. nat_le bound v) (take i args) ≡ false → list_any (λ v. nat_le new v) (take (suc i) args) ≡ false
+more-suc [] i d bound new within old less h = absurd (omega arith)
+more-suc (y ∷ args) zero d bound new within old less h = from_none (nat_le new y) false (not-le y new less) refl
+more-suc (y ∷ args) (suc i) d bound new within old less h =
     let both = both_false (nat_le bound y) (list_any (λ v. nat_le bound v) (take i args)) h in
     let low = more-than y bound both.0 in
-    from_none (nat_le new y) (list_any (λ v. nat_le new v) (take (suc i) args)) (not-le y new (omega (arith, low, old))) (more-suc args i arg bound new (omega arith) is old less both.1)
+    from_none (nat_le new y) (list_any (λ v. nat_le new v) (take (suc i) args)) (not-le y new (omega (arith, low, old))) (more-suc args i d bound new (omega arith) old less both.1)
 
-pub bound-more : (args : List ℕ) (i arg bound new : ℕ) → i < length args → arg ≡ get_or args i arg → bound ≤ new → arg < new → list_any (λ v. nat_le bound v) (take i args) ≡ false → list_any (λ v. nat_le new v) (take (i + 1) args) ≡ false
-bound-more args i arg bound new within is old less h = ap (λ k. list_any (λ v. nat_le new v) (take k args)) (plus-one i) ∙ more-suc args i arg bound new within is old less h
+pub bound-more : (args : List ℕ) (i d bound new : ℕ) → i < length args → bound ≤ new → get_or args i d < new → list_any (λ v. nat_le bound v) (take i args) ≡ false → list_any (λ v. nat_le new v) (take (i + 1) args) ≡ false
+bound-more args i d bound new within old less h = ap (λ k. list_any (λ v. nat_le new v) (take k args)) (plus-one i) ∙ more-suc args i d bound new within old less h
 
 -- what is above all is so further up
 pub none-above : (args : List ℕ) (bound k : ℕ) → bound ≤ k → list_any (λ v. nat_le bound v) args ≡ false → list_any (λ v. nat_le k v) args ≡ false

@@ -1,7 +1,9 @@
 -- Cubes over the first places of variables.
-use Rattle.std.proofs.Common.{◌≡◌, ℕ, zero, suc, ◌+◌, ◌<◌, ◌≤◌, List, [], ◌∷◌, ◌++◌, length, drop, get_or, map, Bool, true, false, ◌&&◌, ◌||◌, cond, refl, ap, ap₂, sym, ◌∙◌, arith, inl, inr, cases_lt}
+use Rattle.std.proofs.Common.{◌≡◌, ℕ, zero, suc, ◌+◌, ◌<◌, ◌≤◌, List, [], ◌∷◌, ◌++◌, length, drop, get_or, map, Bool, true, false, ◌&&◌, ◌||◌, cond, refl, ap, ap₂, sym, ◌∙◌, arith, inl, inr}
 use Rattle.std.specs.Prelude.{ℤ, nat_abs, nat_le, ◌==◌, ◌⊎◌}
 use Rattle.std.specs.List.{list_all, list_any, range_with_len}
+use Rattle.std.proofs.lemmas.List.{map-append}
+use Rattle.std.proofs.lemmas.Bool.{cases_lt}
 use Rattle.std.proofs.lemmas.Bool.Decides.{nat_tests}
 use mathlib.Core.Bool.{true≢false}
 use Rattle.base.specs.Widths.{is_long, is_short}
@@ -13,7 +15,7 @@ use Rattle.lin_atoms.specs.declared.lit.Lit.TheVariants.{Le, Eq, Div, NDiv}
 use Rattle.cube_forms.specs.Cubes.{lit_at}
 use Rattle.book_rules.specs.Areas.{first_place, is_wide, lit_in_places, place_from}
 use Rattle.cube_rules.specs.machinery.Literals.{is_wide_term}
-use Rattle.cube_rules.proofs.TestLemmas.{both_true, from_both, plus-none}
+use Rattle.cube_rules.proofs.TestLemmas.{both_true, from_both, plus-none, plus-one}
 
 -- a table of first places
 
@@ -46,9 +48,24 @@ names-are args names bound is none v = by (cases_lt v bound) where
   by (inl less) = ap (λ (ns : List ℕ). get_or ns v v) is ∙ get-in (first_place args) 0 bound v v less ∙ ap (first_place args) (let same : 0 + v ≡ v = omega arith in same)
   by (inr past) = ap (λ (ns : List ℕ). get_or ns v v) is ∙ get-past (first_place args) 0 bound v v past ∙ sym (absent-place 0 args bound v none past)
 
+range-from : (k n : ℕ) → range_with_len k (suc n) ≡ range_with_len k n ++ (k + n) ∷ []
+range-from k zero = ap (λ (m : ℕ). m ∷ []) (plus-none k)
+range-from k (suc n) =
+    let shift : k + 1 + n ≡ k + suc n = omega arith in
+    ap (λ (ns : List ℕ). k ∷ ns) (range-from (k + 1) n ∙ ap (λ (m : ℕ). range_with_len (k + 1) n ++ m ∷ []) shift)
+
+pub names-more : (args names new : List ℕ) (v place : ℕ) → new ≡ names ++ place ∷ [] → place ≡ first_place args v → names ≡ map (first_place args) (range_with_len 0 v) → new ≡ map (first_place args) (range_with_len 0 (v + 1))
+names-more args names new v place made is was =
+    let same : 0 + v ≡ v = omega arith in
+    let longer : range_with_len 0 (v + 1) ≡ range_with_len 0 v ++ v ∷ [] = ap (range_with_len 0) (plus-one v) ∙ range-from 0 v ∙ ap (λ (m : ℕ). range_with_len 0 v ++ m ∷ []) same in
+    made
+    ∙ ap₂ (λ (ns : List ℕ) (m : ℕ). ns ++ m ∷ []) was is
+    ∙ sym (map-append (first_place args) (range_with_len 0 v) (v ∷ []))
+    ∙ sym (ap (map (first_place args)) longer)
+
 -- renaming by it
 
-renamed-terms : (f g : ℕ → ℕ) → ((v : ℕ) → f v ≡ g v) → (ts : List (ℕ × ℤ)) → map (λ (t : ℕ × ℤ). (f t.0, t.1)) ts ≡ map (λ (t : ℕ × ℤ). (g t.0, t.1)) ts
+renamed-terms : (f g : ℕ → ℕ) → ((v : ℕ) → f v ≡ g v) → (ts : List (ℕ × ℤ)) → map {B = ℕ × ℤ} (λ (t : ℕ × ℤ). (f t.0, t.1)) ts ≡ map {B = ℕ × ℤ} (λ (t : ℕ × ℤ). (g t.0, t.1)) ts
 renamed-terms f g same [] = refl
 renamed-terms f g same (t ∷ ts) = ap₂ (λ (v : ℕ) (rest : List (ℕ × ℤ)). (v, t.1) ∷ rest) (same t.0) (renamed-terms f g same ts)
 

@@ -1,8 +1,8 @@
 -- The first that passes, as loops find it.
-use Rattle.std.proofs.Common.{◌≡◌, ℕ, zero, suc, ◌+◌, ◌<◌, ◌≤◌, List, [], ◌∷◌, length, drop, filter, Bool, true, false, ◌||◌, cond, Some, None, refl, ap, sym, ◌∙◌, subst, arith, zero-add, inl, inr, cases_lt}
+use Rattle.std.proofs.Common.{◌≡◌, ℕ, zero, suc, ◌+◌, ◌<◌, ◌≤◌, List, [], ◌∷◌, length, drop, filter, Bool, true, false, ◌||◌, cond, Some, None, refl, ap, sym, ◌∙◌, subst, arith, zero-add, inl, inr}
 use Rattle.std.specs.Prelude.{ℤ, Option, option_map, slice_get, is_some, ◌⊎◌, ◌==◌}
 use Rattle.std.specs.List.{AllPairs, Contains, find, list_any, range_with_len}
-use Rattle.std.proofs.lemmas.Bool.{eqb-true}
+use Rattle.std.proofs.lemmas.Bool.{cases_lt, eqb-true}
 use mathlib.Core.Bool.{true≢false}
 use Rattle.lin_atoms.specs.declared.lit.Lit.{Lit}
 use Rattle.cube_forms.specs.Cubes.{cube_holds}

@@ -1,7 +1,10 @@
 use Rattle.std.proofs.Common.{arith}
 use Rattle.cube_rules.proofs.BoundLemmas.{none-above}
-use Rattle.cube_rules.proofs.PlacedLemmas.{names-are}
+use Rattle.cube_rules.proofs.PlacedLemmas.{names-are, names-more}
 use Rattle.cube_rules.proofs.places.first_places.Goals as goal
+
+pub loop-variable-preserved : goal.loop-variable-preserved
+loop-variable-preserved c = names-more c.args.args.now c.loop-variable.names.items c.push.new.self.items c.loop-variable.variable c.first_place.result c.in_ok-push.ensures.items c.first_place.ensures c.loop-variable.invariant
 
 pub returns : goal.returns
 returns c =
