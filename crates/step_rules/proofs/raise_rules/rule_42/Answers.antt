@@ -24,7 +24,7 @@ loop-id-preserved c =
     let end = c.count-id-end.ensures in
     let less = c.loop-id-test.true in
     let within : id < length lemmas = omega arith in
-    (sym (placed-on nodes.system nodes.level id (framed_at lemmas id) (drop id (lemmas_of lemmas)) (drop (id + 1) (lemmas_of lemmas)) c.as_slice-kept.result.now c.loop-id.place c.next_place.result None (framed-drop lemmas id within) c.in-None.ensures c.next_place.ensures.is) ∙ c.loop-id.invariant.0, c.next_place.ensures.room)
+    (sym (placed-on nodes.system nodes.level id (framed_at lemmas id) (drop id (lemmas_of lemmas)) (drop (id + 1) (lemmas_of lemmas)) c.as_slice-kept.result.now c.loop-id.place c.next_place-place.result None (framed-drop lemmas id within) c.in-None.ensures c.next_place-place.ensures.is) ∙ c.loop-id.invariant.0, c.next_place-place.ensures.room)
 
 pub returns-then-place-kept : goal.returns-then-place-kept
 returns-then-place-kept c =
