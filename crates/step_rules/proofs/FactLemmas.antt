@@ -4,19 +4,16 @@ use Rattle.std.specs.Prelude.{ℤ, Option, is_none, is_some, slice_get, ◌==◌
 use Rattle.std.proofs.lemmas.Bool.{cases_lt, eqb-true}
 use Rattle.std.proofs.lemmas.Bool.Decides.{nat_tests}
 use mathlib.Core.Bool.{true≢false}
-use Rattle.lin_atoms.specs.declared.lit.Lit.{Lit}
-use Rattle.cube_forms.specs.Cubes.{cube_holds}
 use Rattle.derivations.specs.Facts.{Concludes, height_of, pred_of, tuple_of}
 use Rattle.derivations.specs.declared.fact.Fact.{Fact as KeptFact}
 use Rattle.book_rules.specs.FactRules.{are_facts_of, is_fact_of}
 use Rattle.book_rules.specs.Instances.{Ground}
 use Rattle.book_rules.specs.Same.{same_tuple}
-use Rattle.book_rules.specs.State.{Fact, holds_of, same_conclusion}
+use Rattle.book_rules.specs.State.{Fact, same_conclusion}
 use Rattle.book_rules.specs.Walks.{first_number, has, number_from}
 use Rattle.book_rules.proofs.Public.{tuples_equal}
 use Rattle.step_rules.specs.Views.{conclusion_of, facts_of}
 use Rattle.step_rules.specs.machinery.Falsity.{IsLastFalse}
-use Rattle.step_rules.specs.machinery.Walks.{lies_in_at}
 use Rattle.cube_rules.proofs.Public.{both_true, from_both, plus-none}
 use Rattle.step_rules.proofs.ViewLemmas.{fact_of-at, length-facts}
 

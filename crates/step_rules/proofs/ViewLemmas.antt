@@ -5,18 +5,14 @@ use Rattle.std.specs.List.{fold}
 use Rattle.std.proofs.lemmas.List.{map-append, map-set, length_push}
 use Rattle.std.proofs.lemmas.List.Sums.{fold-append}
 use Rattle.std.proofs.lemmas.Option.{get_or_from_slice_get, slice_get-get_or, slice_get-map}
-use Rattle.lemma_frames.specs.Frames.{lemma_of, level_of, lifted, pred_of}
-use Rattle.lemma_frames.specs.declared.framed.Framed.{Framed as KeptLemma}
 use Rattle.derivations.specs.Facts.{greatest as kept_greatest, height_of, heights, with_height}
 use Rattle.derivations.specs.declared.fact.Fact.{Fact as KeptFact}
-use Rattle.obligation_tree.specs.Nodes.{absent, is_live as is_live_node, marked_at, node_at}
+use Rattle.obligation_tree.specs.Nodes.{absent, marked_at, node_at}
 use Rattle.obligation_tree.specs.declared.node.Node.{Node}
 use Rattle.book_rules.specs.Effects.{greatest, height_at}
-use Rattle.book_rules.specs.Frames.{Framed}
 use Rattle.book_rules.specs.State.{Fact, Obligation}
-use Rattle.cube_rules.specs.Views.{framed_at, framed_of, lemmas_of}
 use Rattle.step_rules.specs.Views.{conclusion_of, facts_of, new_fact, obligation_of, obligations_of, with_fact}
-use Rattle.cube_rules.proofs.Public.{plus-one}
+pub use Rattle.cube_rules.proofs.Public.{framed_of-at, lemmas-lifted, lemmas-push}
 
 -- lists that grow by one
 

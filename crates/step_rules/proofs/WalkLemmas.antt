@@ -1,6 +1,6 @@
 -- The first that passes, as loops find it.
 use Rattle.std.proofs.Common.{◌≡◌, ℕ, zero, suc, ◌+◌, ◌<◌, ◌≤◌, List, [], ◌∷◌, length, drop, filter, Bool, true, false, ◌||◌, cond, Some, None, refl, ap, sym, ◌∙◌, subst, arith, zero-add, inl, inr}
-use Rattle.std.specs.Prelude.{ℤ, Option, option_map, slice_get, is_some, ◌⊎◌, ◌==◌}
+use Rattle.std.specs.Prelude.{ℤ, Option, slice_get, is_some, ◌⊎◌, ◌==◌}
 use Rattle.std.specs.List.{AllPairs, Contains, find, list_any, range_with_len}
 use Rattle.std.proofs.lemmas.Bool.{cases_lt, eqb-true}
 use mathlib.Core.Bool.{true≢false}
@@ -12,10 +12,11 @@ use Rattle.derivations.specs.Facts.{AreOf, height_of, pred_of}
 use Rattle.derivations.specs.declared.fact.Fact.{Fact as KeptFact}
 use Rattle.book_rules.specs.State.{Fact, Obligation, holds_of, is_live}
 use Rattle.book_rules.specs.Instances.{Ground}
-use Rattle.book_rules.specs.Walks.{first_number, first_told, has, number_from, or_else}
+use Rattle.book_rules.specs.Walks.{first_number, has, number_from}
 use Rattle.step_rules.specs.Views.{conclusion_of, facts_of, obligation_of, obligations_of}
 use Rattle.step_rules.specs.machinery.Walks.{lies_in}
 use Rattle.cube_rules.proofs.Public.{both_true, plus-none, plus-one}
+pub use Rattle.cube_rules.proofs.Public.{goes-on, is-found, is-over, is-told, tells-on}
 use Rattle.step_rules.proofs.ViewLemmas.{fact_of-at, length-facts}
 
 -- over numbers in place of items

@@ -17,4 +17,4 @@ returns-in-None c =
     let step = c.args.step.now in
     let found = rw c.in-None.is at c.in_ok-asked.ensures in
     asked-missing b.system step.clause c.args.clause.now (fresh_of c.args.obligation.now) step.used (given_form step.evidence) c.in_ok-goal.goal c.requires.there c.in_ok-goal.ensures c.requires.cube found
-        c.evidence_has_room.ensures c.used_are_short.ensures c.requires.legal c.requires.head c.requires.asked c.requires.places
+    c.evidence_has_room.ensures c.used_are_short.ensures c.requires.legal c.requires.head c.requires.asked c.requires.places

@@ -1,4 +1,4 @@
-use Rattle.std.proofs.Common.{◌<◌, ◌≤◌, length, refl, ◌∙◌, arith}
+use Rattle.std.proofs.Common.{◌+◌, ◌<◌, ◌≤◌, length, refl, ◌∙◌, arith}
 use Rattle.step_rules.specs.Taken.{stall_of}
 use Rattle.step_rules.specs.machinery.Told.{unfit_told}
 use Rattle.step_rules.proofs.OnLemmas.{past-told, told-asked}
@@ -18,7 +18,7 @@ unfit-requires-clause-cube c =
     let b = c.args.parts.now in
     let n = c.args.step.now.target in
     let within : n < length b.tree.nodes = omega arith in
-    bare-asked _ (facts_of b.facts) b.tree.nodes c.requires.kept.rooted n within c.obligation.result.now c.obligation.ensures
+    bare-asked (b.level + 1) (facts_of b.facts) b.tree.nodes c.requires.kept.rooted n within c.obligation.result.now c.obligation.ensures
 
 pub unfit-requires-clause-asked : goal.unfit-requires-clause-asked
 unfit-requires-clause-asked c =
