@@ -35,22 +35,26 @@ opened false b c rest more p q r = absurd (cc)
 pub area-is : (clause : Clause) (point : List ℤ) (atom : Atom) (cube : List Lit) (es : List Framed) (k : ℕ) (area : Kept) → same_variables area.keep atom.args ≡ true → same_tuple area.model point ≡ true → cover area.lits clause.guard ≡ true → are_placed clause cube es k area ≡ is_area clause point atom cube es k area
 area-is clause point atom cube es k area variables model covers = opened (same_variables area.keep atom.args) (same_tuple area.model point) (cover area.lits clause.guard) _ _ variables model covers
 
-second-fails : (a b c : Bool) → b ≡ false → false ≡ (a && b && c)
-second-fails true b c is = first-fails b c is
-second-fails false b c is = refl
+fails-1 : (a b c d e : Bool) → a ≡ false → false ≡ (a && b && c && d && e)
+fails-1 a b c d e is = sym (ap (λ x. x && b && c && d && e) is)
 
-third-fails : (a b c d : Bool) → c ≡ false → false ≡ (a && b && c && d)
-third-fails true b c d is = second-fails b c d is
-third-fails false b c d is = refl
+fails-2 : (a b c d e : Bool) → b ≡ false → false ≡ (a && b && c && d && e)
+fails-2 true b c d e is = sym (ap (λ x. x && c && d && e) is)
+fails-2 false b c d e is = refl
+
+fails-3 : (a b c d e : Bool) → c ≡ false → false ≡ (a && b && c && d && e)
+fails-3 true true c d e is = sym (ap (λ x. x && d && e) is)
+fails-3 true false c d e is = refl
+fails-3 false b c d e is = refl
 
 pub no-variables : (clause : Clause) (point : List ℤ) (atom : Atom) (cube : List Lit) (es : List Framed) (k : ℕ) (area : Kept) → same_variables area.keep atom.args ≡ false → false ≡ is_area clause point atom cube es k area
-no-variables clause point atom cube es k area is = first-fails (same_variables area.keep atom.args) (same_tuple area.model point && cover area.lits clause.guard && are_placed clause cube es k area) is
+no-variables clause point atom cube es k area is = fails-1 (same_variables area.keep atom.args) (same_tuple area.model point) (cover area.lits clause.guard) _ _ is
 
 pub no-model : (clause : Clause) (point : List ℤ) (atom : Atom) (cube : List Lit) (es : List Framed) (k : ℕ) (area : Kept) → same_tuple area.model point ≡ false → false ≡ is_area clause point atom cube es k area
-no-model clause point atom cube es k area is = second-fails (same_variables area.keep atom.args) (same_tuple area.model point) (cover area.lits clause.guard && are_placed clause cube es k area) is
+no-model clause point atom cube es k area is = fails-2 (same_variables area.keep atom.args) (same_tuple area.model point) (cover area.lits clause.guard) _ _ is
 
 pub no-cover : (clause : Clause) (point : List ℤ) (atom : Atom) (cube : List Lit) (es : List Framed) (k : ℕ) (area : Kept) → cover area.lits clause.guard ≡ false → false ≡ is_area clause point atom cube es k area
-no-cover clause point atom cube es k area is = third-fails (same_variables area.keep atom.args) (same_tuple area.model point) (cover area.lits clause.guard) (are_placed clause cube es k area) is
+no-cover clause point atom cube es k area is = fails-3 (same_variables area.keep atom.args) (same_tuple area.model point) (cover area.lits clause.guard) _ _ is
 
 -- a cube where the projected one is wide, and no kept cube
 only-point : (a p h w : Bool) → a ≡ false → w ≡ true → p ≡ (a || (p && (h || w)))

@@ -12,5 +12,5 @@ returns-then-not-is_at c = no-model c.args.clause.now c.args.point.now c.args.at
 pub returns-then-not-covers : goal.returns-then-not-covers
 returns-then-not-covers c = no-cover c.args.clause.now c.args.point.now c.args.atom.now c.args.cube.now (lemmas_of c.args.frames.now.lemmas) c.args.k c.args.area.now (sym c.covers.ensures ∙ c.if-not-covers.true)
 
-pub returns-in_ok-placed : goal.returns-in_ok-placed
-returns-in_ok-placed c = c.in_ok-placed.ensures ∙ area-is c.args.clause.now c.args.point.now c.args.atom.now c.args.cube.now (lemmas_of c.args.frames.now.lemmas) c.args.k c.args.area.now (sym c.is_on.ensures ∙ c.if-not-is_on.false) (sym c.is_at.ensures ∙ c.if-not-is_at.false) (sym c.covers.ensures ∙ c.if-not-covers.false)
+pub returns : goal.returns
+returns c = c.in_ok-placed.ensures ∙ area-is c.args.clause.now c.args.point.now c.args.atom.now c.args.cube.now (lemmas_of c.args.frames.now.lemmas) c.args.k c.args.area.now (sym c.is_on.ensures ∙ c.if-not-is_on.false) (sym c.is_at.ensures ∙ c.if-not-is_at.false) (sym c.covers.ensures ∙ c.if-not-covers.false)

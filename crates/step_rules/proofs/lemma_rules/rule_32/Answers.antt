@@ -15,8 +15,8 @@ returns-then-lemma-count c =
     let past : length b.frames.lemmas ≤ step.lemma = omega arith in
     lemma-past b.frames.lemmas step.lemma (λ (found : Option Framed). on found (λ (e : Framed). unshown b.system step.from (Some e.lemma) (all_shown step.proofs))) past
 
-pub returns-in_ok-by : goal.returns-in_ok-by
-returns-in_ok-by c =
+pub returns : goal.returns
+returns c =
     let b = c.args.parts.now in
     let step = c.args.step.now in
     let within : step.lemma < length b.frames.lemmas = omega arith in

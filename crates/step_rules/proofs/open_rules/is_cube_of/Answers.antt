@@ -17,8 +17,8 @@ returns-then-not-may_be_point c =
     let lits = c.args.lits.now in
     neither (same_cube step.cube lits) (same_cube step.cube (point_cube (tuple_of (open_of step) atom))) (has_fact_in (facts_of c.args.parts.now.facts) atom.pred lits || is_wide lits) (sym c.is_same_cube.ensures ∙ c.if-is_same_cube.false) (sym c.may_be_point.ensures ∙ c.if-not-may_be_point.true)
 
-pub returns-in_ok-is : goal.returns-in_ok-is
-returns-in_ok-is c =
+pub returns : goal.returns
+returns c =
     let step = c.args.step.now in
     let atom = c.args.atom.now in
     let lits = c.args.lits.now in

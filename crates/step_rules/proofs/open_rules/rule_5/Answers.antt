@@ -12,8 +12,8 @@ returns-then-parent-count c =
     let past : length nodes ≤ n = omega arith in
     past-told nodes n (shut_told c.args.parts.now.system (state_of c.args.parts.now) (open_of c.args.step.now)) past
 
-pub returns-in_ok-by : goal.returns-in_ok-by
-returns-in_ok-by c =
+pub returns : goal.returns
+returns c =
     let nodes = c.args.parts.now.tree.nodes in
     let n = c.args.step.now.parent in
     let within : n < length nodes = omega arith in

@@ -15,7 +15,7 @@ returns-in-Some c =
     let end = c.count-id-end.ensures in
     let less = c.loop-id-test.true in
     let within : id < length lemmas = omega arith in
-    let told = rw c.in-Some.is at c.in_ok-outside_at.ensures in
+    let told = rw c.in-Some.is at c.in_ok-by.ensures in
     sym (pairs-on (seen_outside nodes.system (state_of nodes)) nodes.level id (framed_at lemmas id) (drop id (lemmas_of lemmas)) (drop (id + 1) (lemmas_of lemmas)) c.as_slice-kept.result.now c.loop-id.place _ (Some c.in-Some.by) (framed-drop lemmas id within) told refl) ∙ c.loop-id.invariant.0
 
 pub loop-id-preserved : goal.loop-id-preserved
@@ -26,7 +26,7 @@ loop-id-preserved c =
     let end = c.count-id-end.ensures in
     let less = c.loop-id-test.true in
     let within : id < length lemmas = omega arith in
-    let told = rw c.in-None.is at c.in_ok-outside_at.ensures in
+    let told = rw c.in-None.is at c.in_ok-by.ensures in
     (sym (pairs-on (seen_outside nodes.system (state_of nodes)) nodes.level id (framed_at lemmas id) (drop id (lemmas_of lemmas)) (drop (id + 1) (lemmas_of lemmas)) c.as_slice-kept.result.now c.loop-id.place c.next_place-place.result None (framed-drop lemmas id within) told c.next_place-place.ensures.is) ∙ c.loop-id.invariant.0, c.next_place-place.ensures.room)
 
 pub returns : goal.returns

@@ -26,8 +26,8 @@ returns-then-is_too_low c =
 pub is_asked-requires-clause-head : goal.is_asked-requires-clause-head
 is_asked-requires-clause-head c = sym c.is_head.ensures ∙ c.if-not-is_head.false
 
-pub returns-in_ok-is : goal.returns-in_ok-is
-returns-in_ok-is c =
+pub returns : goal.returns
+returns c =
     let o = c.args.obligation.now in
     let step = c.args.step.now in
     let clause = c.args.clause.now in

@@ -27,8 +27,8 @@ unfit-requires-clause-asked c =
     let within : n < length b.tree.nodes = omega arith in
     fits-asked b.system.preds b.tree.nodes c.requires.kept.over.obligations n within c.obligation.result.now c.obligation.ensures
 
-pub returns-in_ok-by : goal.returns-in_ok-by
-returns-in_ok-by c =
+pub returns : goal.returns
+returns c =
     let nodes = c.args.parts.now.tree.nodes in
     let n = c.args.step.now.target in
     let within : n < length nodes = omega arith in
