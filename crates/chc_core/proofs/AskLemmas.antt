@@ -112,3 +112,10 @@ fact-clause-within b f can =
 
 pub concluded-is : (b : Contents) (f : FactPart) (clause : Clause) (told : Option Ground) → slice_get b.system.clauses (record_of f).seen.clause ≡ Some clause → told ≡ head_at (record_of f).seen.point clause → told ≡ concluded b.system (record_of f)
 concluded-is b f clause told there is = is ∙ sym (ap (λ (found : Option Clause). on found (λ (c : Clause). head_at (record_of f).seen.point c)) there)
+
+pub asked-lives : (b : Contents) (o : OpenPart) (asked : Asked) → CanTake b (OpenStep o)
+    → ((parent : Obligation) (atom : Atom) → parent_of (state_of b) (open_of o) ≡ Some parent → atom_of b.system (open_of o) ≡ Some atom → fresh_of asked ≡ child_of (open_of o) parent atom) → is_live_at b.tree.nodes asked.parent ≡ true
+asked-lives b o asked can child =
+    let c = can_open b o can in
+    let parent : asked.parent ≡ o.parent = ap (λ (x : Obligation). x.parent) (child c.parent c.atom c.there (atom-there b o c.clause c.atom c.of_clause c.of_atom)) in
+    ap (is_live_at b.tree.nodes) parent ∙ parent-lives b o can

@@ -1,5 +1,5 @@
 -- What the code makes for each step is the rules' effect.
-use Rattle.std.proofs.Common.{◌≡◌, ℕ, zero, suc, ◌+◌, ◌<◌, ◌≤◌, List, [], ◌∷◌, ◌++◌, length, map, get_or, Bool, true, false, cond, ◌&&◌, Some, None, refl, ap, ap₂, sym, ◌∙◌, subst, arith, inl, inr}
+use Rattle.std.proofs.Common.{◌≡◌, ℕ, zero, suc, ◌+◌, ◌-◌, ◌^◌, ◌<◌, ◌≤◌, List, [], ◌∷◌, ◌++◌, length, map, get_or, Bool, true, false, cond, ◌&&◌, Some, None, refl, ap, ap₂, sym, ◌∙◌, subst, arith, inl, inr}
 use Rattle.std.specs.Prelude.{◌⊎◌, ℤ, Option, ◌==◌, is_none, is_some, option_map, slice_get}
 use Rattle.std.specs.List.{list_any}
 use Rattle.std.proofs.lemmas.Bool.{cases_lt, eq-eqb}
@@ -263,3 +263,26 @@ made-stall b t m can made level spent =
     let same = ap (λ (found : Option Obligation). written 0 (stalled_with (state_of b) t.target found)) (sym there) in
     let none : b.spent ≡ b.spent + 0 = omega arith in
     made-is b (StallStep t) m b.frames b.facts (marked_at t.target b.tree.nodes) s made same level refl refl (obligations-marked b.tree.nodes t.target within) refl (spent ∙ none) refl refl (can.kept).false_last
+
+-- room for one more
+
+pub lemmas-room : (b : Contents) → IsBook b → length b.frames.lemmas < 2 ^ 32 - 1
+lemmas-room b kept = (let most = (small b kept).lemmas in omega (arith, most))
+
+pub facts-room : (b : Contents) → IsBook b → length b.facts < 2 ^ 32 - 1
+facts-room b kept = (let most = (small b kept).facts in omega (arith, most))
+
+pub nodes-room : (b : Contents) → IsBook b → length b.tree.nodes < 2 ^ 32 - 1
+nodes-room b kept = (let most = (small b kept).nodes in omega (arith, most))
+
+pub journal-room : (b : Contents) → IsBook b → length b.journal < 2 ^ 32 - 1
+journal-room b kept = (let most = (small b kept).journal in omega (arith, most))
+
+-- a lifted lemma's level is below the book's, which is small
+pub lift-room : (b : Contents) (l : LiftPart) → CanTake b (LiftStep l) → level_of b.frames.lemmas l.lemma < 2 ^ 32 - 1
+lift-room b l can =
+    let most = (small b can.kept).level in
+    let lifts = can_lift b l can in
+    let is = lifts.1 in
+    let below = lifts.2 in
+    omega (arith, most, is, below)

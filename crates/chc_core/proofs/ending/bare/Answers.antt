@@ -1,0 +1,26 @@
+use Rattle.std.proofs.Common.{◌≡◌, true, false, ap, sym, ◌∙◌}
+use Rattle.std.specs.Prelude.{option_map}
+use Rattle.book_rules.specs.declared.end.End.TheVariants.{Sat}
+use Rattle.book_rules.specs.Legal.{is_bare}
+use Rattle.step_rules.specs.Views.{lemmas_of}
+use Rattle.chc_core.proofs.EndLemmas.{bare_is, bare-found, bare-next, bare-over}
+use Rattle.chc_core.proofs.ending.bare.Goals as goal
+
+pub loop-level-preserved : goal.loop-level-preserved
+loop-level-preserved c =
+    let b = c.args.parts.now in
+    let level = c.loop-level.level in
+    let isnt : is_bare (lemmas_of b.frames.lemmas) level ≡ false = sym (bare_is b.frames.lemmas level c.level_is_bare.result c.level_is_bare.ensures) ∙ c.if-level_is_bare.false in
+    sym (ap (option_map Sat) (bare-next (lemmas_of b.frames.lemmas) level b.level c.loop-level-test.true isnt)) ∙ c.loop-level.invariant
+
+pub returns-then-level_is_bare : goal.returns-then-level_is_bare
+returns-then-level_is_bare c =
+    let b = c.args.parts.now in
+    let level = c.loop-level.level in
+    let is : is_bare (lemmas_of b.frames.lemmas) level ≡ true = sym (bare_is b.frames.lemmas level c.level_is_bare.result c.level_is_bare.ensures) ∙ c.if-level_is_bare.true in
+    sym (ap (option_map Sat) (bare-found (lemmas_of b.frames.lemmas) level b.level c.loop-level-test.true is)) ∙ c.loop-level.invariant
+
+pub returns : goal.returns
+returns c =
+    let b = c.args.parts.now in
+    sym (ap (option_map Sat) (bare-over (lemmas_of b.frames.lemmas) c.loop-level.level b.level c.loop-level-test.false)) ∙ c.loop-level.invariant
