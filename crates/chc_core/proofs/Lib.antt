@@ -1,6 +1,7 @@
 pub mod ClosingLemmas
 pub mod TokenLemmas
 pub mod BookLemmas
+pub mod ReaderLemmas
 pub mod EndLemmas
 pub mod MakingLemmas
 pub mod MadeLemmas
