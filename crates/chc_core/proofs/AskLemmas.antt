@@ -5,6 +5,7 @@ use Rattle.std.proofs.lemmas.List.{length-map}
 use Rattle.std.proofs.lemmas.Option.{slice_get-get_or, slice_get_within}
 use Rattle.lin_atoms.specs.declared.lit.Lit.{Lit}
 use Rattle.cube_forms.specs.Cubes.{tuple_at}
+use Rattle.clause_form.specs.System.{Clauses}
 use Rattle.clause_form.specs.declared.atom.Atom.{Atom}
 use Rattle.clause_form.specs.declared.clause.Clause.{Clause}
 use Rattle.obligation_tree.specs.Nodes.{is_live_at, node_at}
@@ -119,3 +120,11 @@ asked-lives b o asked can child =
     let c = can_open b o can in
     let parent : asked.parent ≡ o.parent = ap (λ (x : Obligation). x.parent) (child c.parent c.atom c.there (atom-there b o c.clause c.atom c.of_clause c.of_atom)) in
     ap (is_live_at b.tree.nodes) parent ∙ parent-lives b o can
+
+-- a clause as the code finds it
+
+pub clause-there : (b : Contents) (sys : Clauses) (n m : ℕ) (found : Clause) → sys ≡ b.system → n ≡ m → slice_get sys.clauses n ≡ Some found → slice_get b.system.clauses m ≡ Some found
+clause-there b sys n m found same number there = subst (λ (s : Clauses). slice_get s.clauses m ≡ Some found) same (subst (λ (k : ℕ). slice_get sys.clauses k ≡ Some found) number there)
+
+pub clause-room : (b : Contents) (sys : Clauses) (n m : ℕ) → sys ≡ b.system → n ≡ m → m < length b.system.clauses → n < length sys.clauses
+clause-room b sys n m same number within = subst (λ (s : Clauses). n < length s.clauses) (sym same) (subst (λ (k : ℕ). k < length b.system.clauses) (sym number) within)

@@ -1,5 +1,5 @@
 -- The end, as the code finds it: levels that no lemma has, and leaves that are stalled.
-use Rattle.std.proofs.Common.{◌≡◌, ℕ, zero, suc, ◌+◌, ◌-◌, ◌<◌, ◌≤◌, List, [], ◌∷◌, length, map, filter, Bool, true, false, not, ◌&&◌, ◌||◌, cond, Some, None, refl, ap, ap₂, sym, ◌∙◌, subst, arith}
+use Rattle.std.proofs.Common.{◌≡◌, ℕ, zero, suc, ◌+◌, ◌-◌, ◌<◌, ◌≤◌, List, [], ◌∷◌, length, map, filter, drop, get_or, Bool, true, false, not, ◌&&◌, ◌||◌, cond, Some, None, refl, ap, ap₂, sym, ◌∙◌, subst, arith}
 use Rattle.std.specs.Prelude.{Option, ◌==◌, ◌↔◌, is_some, nat_lt, option_map, slice_get}
 use Rattle.std.specs.Bool.{IsTrue}
 use Rattle.std.specs.List.{All, list_all, list_any, range_with_len}
@@ -146,3 +146,16 @@ leaves-there nodes = All-filter (λ m. not (has_live_child nodes m)) (λ n. n < 
       let below : k < length nodes = omega (arith, within, long) in
       let same = get_or-range_with_len 0 (length nodes) k d below in
       omega (arith, below, same)
+
+-- a test of the rest of a list, where the loop has come to its end, and where an item fails
+
+pub all-past : (test : ℕ → Bool) (xs : List ℕ) (n : ℕ) → length xs ≤ n → list_all test (drop n xs) ≡ true
+all-past test [] zero past = refl
+all-past test [] (suc n) past = refl
+all-past test (x ∷ xs) zero past = absurd (omega (arith, past))
+all-past test (x ∷ xs) (suc n) past = all-past test xs n (omega (arith, past))
+
+pub all-fails : (test : ℕ → Bool) (xs : List ℕ) (n : ℕ) → n < length xs → test (get_or xs n 0) ≡ false → list_all test (drop n xs) ≡ false
+all-fails test [] n within fails = absurd (omega (arith, within))
+all-fails test (x ∷ xs) zero within fails = ap (λ (b : Bool). b && list_all test xs) fails
+all-fails test (x ∷ xs) (suc n) within fails = all-fails test xs n (omega (arith, within)) fails

@@ -286,3 +286,15 @@ lift-room b l can =
     let is = lifts.1 in
     let below = lifts.2 in
     omega (arith, most, is, below)
+
+pub spent-room : (b : Contents) (n : ℕ) → IsBook b → n ≡ b.spent → n + 1 < 2 ^ 32
+spent-room b n kept is = (let most = (small b kept).spent in omega (arith, most, is))
+
+pub level-room : (b : Contents) (n : ℕ) → IsBook b → n ≡ b.level → n + 1 + 1 < 2 ^ 32
+level-room b n kept is = (let most = (small b kept).level in omega (arith, most, is))
+
+pub from-room : (b : Contents) (l : LiftPart) → CanTake b (LiftStep l) → l.from + 1 < 2 ^ 32
+from-room b l can =
+    let most = (small b can.kept).level in
+    let below = (can_lift b l can).2 in
+    omega (arith, most, below)
