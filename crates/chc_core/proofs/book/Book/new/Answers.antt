@@ -3,7 +3,7 @@ use Rattle.chc_core.specs.machinery.Books.{IsBook}
 use Rattle.chc_core.proofs.BookLemmas.{new-kept}
 use Rattle.chc_core.proofs.book.Book.new.Goals as goal
 
-pub new-requires : goal.new-parts-requires
+pub new-requires : goal.new-requires
 new-requires c = c.requires.numbered.1
 
 pub invariant_of-result : goal.invariant_of-result
