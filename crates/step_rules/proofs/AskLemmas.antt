@@ -1,5 +1,5 @@
 -- What a Stall's evidence is compared with, as the code asks it.
-use Rattle.std.proofs.Common.{◌≡◌, ℕ, List, [], Bool, true, false, ◌&&◌, Some, None, refl, ap, sym, ◌∙◌}
+use Rattle.std.proofs.Common.{◌≡◌, ℕ, List, [], Bool, true, false, not, ◌&&◌, Some, None, refl, ap, sym, ◌∙◌}
 use Rattle.std.specs.Prelude.{Option, slice_get}
 use Rattle.std.specs.List.{list_all}
 use Rattle.lin_atoms.specs.declared.lit.Lit.{Lit}
@@ -17,7 +17,8 @@ use Rattle.book_rules.specs.StallRules.{has_used_atoms}
 use Rattle.book_rules.specs.State.{Obligation}
 use Rattle.step_rules.specs.Tokens.{all_used}
 use Rattle.step_rules.specs.machinery.Claims.{goal_for}
-use Rattle.step_rules.specs.machinery.Literals.{form_fits, lemmas_are_short}
+use Rattle.cube_rules.specs.machinery.Literals.{form_fits}
+use Rattle.step_rules.specs.machinery.Literals.{lemmas_are_short}
 use Rattle.step_rules.proofs.PlaceLemmas.{goal-cube, goal-there, used-there}
 use Rattle.step_rules.proofs.QueryLemmas.{query-found, query-missing}
 
@@ -44,3 +45,28 @@ asked-missing sys number clause o used kept goal there is bare found room short 
     let cube = cube-of o.pred o.cube goal is bare in
     let goes = goal-there sys.preds clause o.pred o.cube _ legal head fits in
     sym (ap (λ (c : List Lit). answer clause c used kept) (sym cube) ∙ query-missing clause goal used kept (in-clause sys number clause goal used None there found) room (ap (has_goal clause) is ∙ goes) short (used-there sys number clause used there legal places))
+
+-- the parts of the test: the used atoms, the head, the form, and the level
+pub headless : (u h s l : Bool) → h ≡ false → false ≡ (u && h && s && l)
+headless true h s l is = sym (ap (λ b. b && s && l) is)
+headless false h s l is = refl
+
+pub too-low : (u h s l : Bool) → l ≡ false → false ≡ (u && h && s && l)
+too-low false h s l is = refl
+too-low true false s l is = refl
+too-low true true false l is = refl
+too-low true true true l is = sym is
+
+pub fitting : (u h s l : Bool) → h ≡ true → l ≡ true → (u && s) ≡ (u && h && s && l)
+fitting false h s l head low = refl
+fitting true false s l head low = absurd (cc)
+fitting true true false l head low = refl
+fitting true true true l head low = sym low
+
+pub not-true : (b : Bool) → not b ≡ true → b ≡ false
+not-true true h = absurd (cc)
+not-true false h = refl
+
+pub not-false : (b : Bool) → not b ≡ false → b ≡ true
+not-false true h = refl
+not-false false h = absurd (cc)

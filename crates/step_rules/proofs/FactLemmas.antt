@@ -1,23 +1,20 @@
 -- What stands among the facts: at a number, and as the first with a conclusion.
-use Rattle.std.proofs.Common.{◌≡◌, ◌↔◌, ℕ, zero, suc, ◌+◌, ◌-◌, ◌<◌, ◌≤◌, List, [], ◌∷◌, length, drop, get_or, Bool, true, false, ◌&&◌, cond, Some, None, refl, ap, ap₂, sym, ◌∙◌, arith, inl, inr, cases_lt}
+use Rattle.std.proofs.Common.{◌≡◌, ◌↔◌, ℕ, zero, suc, ◌+◌, ◌-◌, ◌<◌, ◌≤◌, List, [], ◌∷◌, length, drop, get_or, Bool, true, false, ◌&&◌, cond, Some, None, refl, ap, ap₂, sym, ◌∙◌, subst, arith, inl, inr}
 use Rattle.std.specs.Prelude.{ℤ, Option, is_none, is_some, slice_get, ◌==◌, ◌⊎◌}
-use Rattle.std.proofs.lemmas.Bool.{eqb-true}
+use Rattle.std.proofs.lemmas.Bool.{cases_lt, eqb-true}
 use Rattle.std.proofs.lemmas.Bool.Decides.{nat_tests}
 use mathlib.Core.Bool.{true≢false}
-use Rattle.lin_atoms.specs.declared.lit.Lit.{Lit}
-use Rattle.cube_forms.specs.Cubes.{cube_holds}
 use Rattle.derivations.specs.Facts.{Concludes, height_of, pred_of, tuple_of}
 use Rattle.derivations.specs.declared.fact.Fact.{Fact as KeptFact}
 use Rattle.book_rules.specs.FactRules.{are_facts_of, is_fact_of}
 use Rattle.book_rules.specs.Instances.{Ground}
 use Rattle.book_rules.specs.Same.{same_tuple}
-use Rattle.book_rules.specs.State.{Fact, holds_of, same_conclusion}
+use Rattle.book_rules.specs.State.{Fact, same_conclusion}
 use Rattle.book_rules.specs.Walks.{first_number, has, number_from}
 use Rattle.book_rules.proofs.Public.{tuples_equal}
 use Rattle.step_rules.specs.Views.{conclusion_of, facts_of}
 use Rattle.step_rules.specs.machinery.Falsity.{IsLastFalse}
-use Rattle.step_rules.specs.machinery.Walks.{lies_in_at}
-use Rattle.step_rules.proofs.TestLemmas.{both_true, from_both, plus-none}
+use Rattle.cube_rules.proofs.Public.{both_true, from_both, plus-none}
 use Rattle.step_rules.proofs.ViewLemmas.{fact_of-at, length-facts}
 
 -- the fact of a number
@@ -125,10 +122,10 @@ not-false facts m y at some =
     let is = is-at facts m y at in
     ap is_none is.conclusion ∙ no-pred is.kept.pred is.kept.tuple ∙ some-is is.kept.pred (ap is_some (sym is.pred) ∙ some)
 
-pub false-last : (facts : List KeptFact) (n : ℕ) (f : KeptFact) → IsLastFalse facts → n + 1 ≡ length facts → f ≡ get_or facts n f → f.pred ≡ None → Some n ≡ first_number is_false (facts_of facts)
+pub false-last : (facts : List KeptFact) (n : ℕ) (f : KeptFact) → IsLastFalse facts → n + 1 ≡ length facts → f ≡ get_or facts n f → is_none f.pred ≡ true → Some n ≡ first_number is_false (facts_of facts)
 false-last facts n f last long is none =
     let at = fact_of-at facts n f (get-is facts n f (omega (arith, long)) is) in
-    sym (first-where 0 is_false (facts_of facts) n (made facts n f) at (no-pred f.pred f.tuple ∙ ap is_none none) (λ m y less there. not-false facts m y there (last m (omega (arith, long, less)))) ∙ ap (λ i. Some i) (let zero-n : 0 + n ≡ n = omega arith in zero-n))
+    sym (first-where 0 is_false (facts_of facts) n (made facts n f) at (no-pred f.pred f.tuple ∙ none) (λ m y less there. not-false facts m y there (last m (omega (arith, long, less)))) ∙ ap (λ i. Some i) (let zero-n : 0 + n ≡ n = omega arith in zero-n))
 
 pub false-none : (facts : List KeptFact) (n : ℕ) (f : KeptFact) → IsLastFalse facts → n + 1 ≡ length facts → f ≡ get_or facts n f → is_none f.pred ≡ false → None ≡ first_number is_false (facts_of facts)
 false-none facts n f last long is some = sym (none-where 0 is_false (facts_of facts) never) where
@@ -170,8 +167,8 @@ then-same tuple a is = from_both (a.0 == a.0) (same_tuple tuple a.1) (nat-same a
 abbrev is_of : Ground → Fact → Bool
 is_of a f = same_conclusion f.conclusion (Some a)
 
-pub found-is : (facts : List KeptFact) (found : Option ℕ) (a : Ground) → ((n : ℕ) → (found ≡ Some n) ↔ Concludes facts n (Some a.0) a.1) → found ≡ first_number (is_of a) (facts_of facts)
-found-is facts found a tells = by found refl where
+found-at : (facts : List KeptFact) (found : Option ℕ) (a : Ground) → ((n : ℕ) → (found ≡ Some n) ↔ Concludes facts n (Some a.0) a.1) → found ≡ first_number (is_of a) (facts_of facts)
+found-at facts found a tells = by found refl where
   concluded : (m : ℕ) (y : Fact) → slice_get (facts_of facts) m ≡ Some y → is_of a y ≡ true → found ≡ Some m
   concluded m y at passes =
       let is = is-at facts m y at in
@@ -191,6 +188,9 @@ found-is facts found a tells = by found refl where
       let passes : is_of a (made facts n kept.0) ≡ true = ap (λ (p : Option ℕ). same_conclusion (conclusion_of p kept.0.tuple) (Some a)) (sym kept.2 ∙ told.1) ∙ then-same kept.0.tuple a (sym kept.3 ∙ told.2) in
       some ∙ sym (first-where 0 (is_of a) (facts_of facts) n (made facts n kept.0) at passes (λ m y less there. fails (is_of a y) (λ holds. (let both : Some n ≡ Some m = sym some ∙ concluded m y there holds in let same : n ≡ m = cc in absurd (omega (arith, less, same))))) ∙ ap (λ i. Some i) (let zero-n : 0 + n ≡ n = omega arith in zero-n))
 
+pub found-is : (facts : List KeptFact) (found : Option ℕ) (a : Ground) (tuple : List ℤ) → tuple ≡ a.1 → ((n : ℕ) → (found ≡ Some n) ↔ Concludes facts n (Some a.0) tuple) → found ≡ first_number (is_of a) (facts_of facts)
+found-is facts found a tuple is tells = found-at facts found a (subst (λ (ts : List ℤ). (n : ℕ) → (found ≡ Some n) ↔ Concludes facts n (Some a.0) ts) is tells)
+
 numbers-same : {X : Type 0} (k : ℕ) (p q : X → Bool) → ((x : X) → p x ≡ q x) → (xs : List X) → number_from k p xs ≡ number_from k q xs
 numbers-same k p q same [] = refl
 numbers-same k p q same (x ∷ xs) =
@@ -203,17 +203,3 @@ none-alike (Some a) = refl
 
 pub false-is : (facts : List KeptFact) (found : Option ℕ) → found ≡ first_number is_false (facts_of facts) → found ≡ first_number (λ (f : Fact). same_conclusion f.conclusion None) (facts_of facts)
 false-is facts found is = is ∙ numbers-same 0 is_false (λ (f : Fact). same_conclusion f.conclusion None) (λ f. none-alike f.conclusion) (facts_of facts)
-
--- the code's tests of a fact
-
-pub lies-some : (facts : List KeptFact) (n : ℕ) (f : KeptFact) (pred : ℕ) (cube : List Lit) (of : ℕ) → n < length facts → f ≡ get_or facts n f → f.pred ≡ Some of → (pred == of && cube_holds f.tuple cube) ≡ lies_in_at facts pred cube n
-lies-some facts n f pred cube of within is some = sym (fact-has facts n f (holds_of (Some pred) cube) within is ∙ ap (λ (p : Option ℕ). holds_of (Some pred) cube (conclusion_of p f.tuple)) some)
-
-pub lies-none : (facts : List KeptFact) (n : ℕ) (f : KeptFact) (pred : ℕ) (cube : List Lit) → n < length facts → f ≡ get_or facts n f → f.pred ≡ None → false ≡ lies_in_at facts pred cube n
-lies-none facts n f pred cube within is none = sym (fact-has facts n f (holds_of (Some pred) cube) within is ∙ ap (λ (p : Option ℕ). holds_of (Some pred) cube (conclusion_of p f.tuple)) none)
-
-pub fact-some : (facts : List KeptFact) (n : ℕ) (f : KeptFact) (a : Ground) (of : ℕ) → n < length facts → f ≡ get_or facts n f → f.pred ≡ Some of → (of == a.0 && same_tuple f.tuple a.1) ≡ is_fact_of (facts_of facts) n a
-fact-some facts n f a of within is some = sym (fact-has facts n f (λ c. same_conclusion c (Some a)) within is ∙ ap (λ (p : Option ℕ). same_conclusion (conclusion_of p f.tuple) (Some a)) some)
-
-pub fact-none : (facts : List KeptFact) (n : ℕ) (f : KeptFact) (a : Ground) → n < length facts → f ≡ get_or facts n f → f.pred ≡ None → false ≡ is_fact_of (facts_of facts) n a
-fact-none facts n f a within is none = sym (fact-has facts n f (λ c. same_conclusion c (Some a)) within is ∙ ap (λ (p : Option ℕ). same_conclusion (conclusion_of p f.tuple) (Some a)) none)

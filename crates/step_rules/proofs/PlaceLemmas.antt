@@ -20,7 +20,7 @@ use Rattle.book_rules.specs.StallRules.{has_used_atoms}
 use Rattle.book_rules.specs.Walks.{has, on}
 use Rattle.step_rules.specs.Tokens.{all_used, used_of}
 use Rattle.step_rules.specs.machinery.Claims.{goal_for}
-use Rattle.step_rules.proofs.TestLemmas.{all_at, both_true, from_both}
+use Rattle.cube_rules.proofs.Public.{all_at, both_true, from_both}
 
 -- of an atom's predicate, with a length for each place
 over-atom : (preds : List (List Sort)) (n : ℕ) (atom : Atom) (cube : List Lit) → is_atom preds n atom ≡ true → is_over preds atom.pred cube ≡ true → cube_is_below (length atom.args) cube ≡ true

@@ -26,10 +26,11 @@ use Rattle.book_rules.specs.Queries.{Used, args_of, base, query}
 use Rattle.book_rules.specs.Same.{same_form}
 use Rattle.book_rules.specs.StallRules.{has_used_atoms}
 use Rattle.step_rules.specs.Tokens.{all_used, used_of}
-use Rattle.step_rules.specs.machinery.Literals.{fits_step, form_fits, lemmas_are_short}
-use Rattle.step_rules.proofs.FormLemmas.{fits-And, fits-Or}
-use Rattle.step_rules.proofs.LiteralLemmas.{constant-at, form-wide, long-short, negated-short}
-use Rattle.step_rules.proofs.TestLemmas.{both_true, from_both, still_false}
+use Rattle.cube_rules.specs.machinery.Literals.{fits_step, form_fits}
+use Rattle.step_rules.specs.machinery.Literals.{lemmas_are_short}
+use Rattle.cube_rules.proofs.Public.{fits-And, fits-Or}
+use Rattle.cube_rules.proofs.Public.{constant-at, form-wide, long-short, negated-short}
+use Rattle.cube_rules.proofs.Public.{both_true, from_both, still_false}
 
 -- the query is the same in both
 

@@ -13,10 +13,10 @@ use Rattle.book_rules.specs.RaiseRules.{below_from, first_pair, in_places, is_no
 use Rattle.book_rules.specs.Steps.{NoLift, Why}
 use Rattle.book_rules.specs.Walks.{or_else}
 use Rattle.step_rules.specs.Tokens.{all_no_lifts, no_lift_of, why_of}
-use Rattle.step_rules.specs.Views.{framed_at, lemmas_of}
+use Rattle.cube_rules.specs.Views.{framed_at, lemmas_of}
 use Rattle.step_rules.specs.machinery.Places.{kept_told, pair_told, place_after, told_below}
-use Rattle.step_rules.proofs.TestLemmas.{plus-one}
-use Rattle.step_rules.proofs.ViewLemmas.{mapped-end}
+use Rattle.cube_rules.proofs.Public.{plus-one}
+use Rattle.cube_rules.proofs.Public.{mapped-end}
 
 some-suc : {X : Type 0} (xs : List X) (i : ℕ) (x : X) → slice_get xs i ≡ Some x → drop i xs ≡ x ∷ drop (suc i) xs
 some-suc [] i x there = absurd (cc)

@@ -5,26 +5,16 @@ use Rattle.std.specs.List.{fold}
 use Rattle.std.proofs.lemmas.List.{map-append, map-set, length_push}
 use Rattle.std.proofs.lemmas.List.Sums.{fold-append}
 use Rattle.std.proofs.lemmas.Option.{get_or_from_slice_get, slice_get-get_or, slice_get-map}
-use Rattle.lemma_frames.specs.Frames.{lemma_of, level_of, lifted, pred_of}
-use Rattle.lemma_frames.specs.declared.framed.Framed.{Framed as KeptLemma}
 use Rattle.derivations.specs.Facts.{greatest as kept_greatest, height_of, heights, with_height}
 use Rattle.derivations.specs.declared.fact.Fact.{Fact as KeptFact}
-use Rattle.obligation_tree.specs.Nodes.{absent, is_live as is_live_node, marked_at, node_at}
+use Rattle.obligation_tree.specs.Nodes.{absent, marked_at, node_at}
 use Rattle.obligation_tree.specs.declared.node.Node.{Node}
 use Rattle.book_rules.specs.Effects.{greatest, height_at}
-use Rattle.book_rules.specs.Frames.{Framed}
 use Rattle.book_rules.specs.State.{Fact, Obligation}
-use Rattle.step_rules.specs.Views.{conclusion_of, facts_of, new_fact, framed_at, framed_of, lemmas_of, obligation_of, obligations_of, with_fact}
-use Rattle.step_rules.proofs.TestLemmas.{plus-one}
+use Rattle.step_rules.specs.Views.{conclusion_of, facts_of, new_fact, obligation_of, obligations_of, with_fact}
+pub use Rattle.cube_rules.proofs.Public.{framed_of-at, lemmas-lifted, lemmas-push}
 
 -- lists that grow by one
-
-pub lemmas-push : (lemmas : List KeptLemma) (f : KeptLemma) → lemmas_of (lemmas ++ f ∷ []) ≡ lemmas_of lemmas ++ framed_of f ∷ []
-lemmas-push lemmas f = map-append framed_of lemmas (f ∷ [])
-
-pub length-lemmas : (lemmas : List KeptLemma) → length (lemmas_of lemmas) ≡ length lemmas
-length-lemmas [] = refl
-length-lemmas (f ∷ lemmas) = ap suc (length-lemmas lemmas)
 
 pub facts-push : (facts : List KeptFact) (f : KeptFact) → facts_of (facts ++ f ∷ []) ≡ with_fact (facts_of facts) f
 facts-push facts f = fold-append with_fact [] facts (f ∷ [])
@@ -34,11 +24,6 @@ obligations-push nodes n = map-append obligation_of nodes (n ∷ [])
 
 -- what stands at a number
 
-pub framed_of-at : (lemmas : List KeptLemma) (n : ℕ) → n < length lemmas → slice_get (lemmas_of lemmas) n ≡ Some (framed_at lemmas n)
-framed_of-at [] n within = absurd (omega arith)
-framed_of-at (f ∷ lemmas) zero within = refl
-framed_of-at (f ∷ lemmas) (suc n) within = framed_of-at lemmas n (omega arith)
-
 pub obligation_of-at : (nodes : List Node) (n : ℕ) → n < length nodes → slice_get (obligations_of nodes) n ≡ Some (obligation_of (node_at nodes n))
 obligation_of-at nodes n within = slice_get-map obligation_of nodes n ∙ ap (option_map obligation_of) (slice_get-get_or nodes n absent within)
 
@@ -46,11 +31,6 @@ pub obligation-past : (nodes : List Node) (n : ℕ) → length nodes ≤ n → s
 obligation-past [] n past = refl
 obligation-past (x ∷ nodes) zero past = absurd (omega arith)
 obligation-past (x ∷ nodes) (suc n) past = obligation-past nodes n (omega arith)
-
-pub framed-past : (lemmas : List KeptLemma) (n : ℕ) → length lemmas ≤ n → slice_get (lemmas_of lemmas) n ≡ None
-framed-past [] n past = refl
-framed-past (f ∷ lemmas) zero past = absurd (omega arith)
-framed-past (f ∷ lemmas) (suc n) past = framed-past lemmas n (omega arith)
 
 length-fold : (before : List Fact) (facts : List KeptFact) → length (fold with_fact before facts) ≡ length before + length facts
 length-fold before [] = omega arith
@@ -132,32 +112,5 @@ fact_of-at facts n f there =
 
 -- what changes in its place
 
-pub lemmas-lifted : (lemmas : List KeptLemma) (n : ℕ) → n < length lemmas → lemmas_of (lifted lemmas n) ≡ slice_set (lemmas_of lemmas) n (record { lemma = (framed_at lemmas n).lemma; level = level_of lemmas n + 1 })
-lemmas-lifted lemmas n within = map-set framed_of lemmas n (record { pred = pred_of lemmas n; level = level_of lemmas n + 1; lemma = lemma_of lemmas n })
-
 pub obligations-marked : (nodes : List Node) (n : ℕ) → n < length nodes → obligations_of (marked_at n nodes) ≡ slice_set (obligations_of nodes) n (record (obligation_of (node_at nodes n)) { stalled = true })
 obligations-marked nodes n within = map-set obligation_of nodes n (record (node_at nodes n) { stalled = true })
-
--- what is still to come
-
-framed-suc : (lemmas : List KeptLemma) (i : ℕ) → i < length lemmas → drop i (lemmas_of lemmas) ≡ framed_at lemmas i ∷ drop (suc i) (lemmas_of lemmas)
-framed-suc [] i within = absurd (omega arith)
-framed-suc (f ∷ lemmas) zero within = refl
-framed-suc (f ∷ lemmas) (suc i) within = framed-suc lemmas i (omega arith)
-
-pub framed-drop : (lemmas : List KeptLemma) (i : ℕ) → i < length lemmas → drop i (lemmas_of lemmas) ≡ framed_at lemmas i ∷ drop (i + 1) (lemmas_of lemmas)
-framed-drop lemmas i within = framed-suc lemmas i within ∙ ap (λ k. framed_at lemmas i ∷ drop k (lemmas_of lemmas)) (sym (plus-one i))
-
-mapped-suc : {X Y : Type 0} (f : X → Y) (xs : List X) (i : ℕ) (x : X) → i < length xs → x ≡ get_or xs i x → map f (drop i xs) ≡ f x ∷ map f (drop (suc i) xs)
-mapped-suc f [] i x within is = absurd (omega arith)
-mapped-suc f (y ∷ xs) zero x within is = ap (λ z. f z ∷ map f xs) (sym is)
-mapped-suc f (y ∷ xs) (suc i) x within is = mapped-suc f xs i x (omega arith) is
-
-pub mapped-drop : {X Y : Type 0} (f : X → Y) (xs : List X) (i : ℕ) (x : X) → i < length xs → x ≡ get_or xs i x → map f (drop i xs) ≡ f x ∷ map f (drop (i + 1) xs)
-mapped-drop f xs i x within is = mapped-suc f xs i x within is ∙ ap (λ k. f x ∷ map f (drop k xs)) (sym (plus-one i))
-
-pub mapped-end : {X Y : Type 0} (f : X → Y) (xs : List X) (i : ℕ) → length xs ≤ i → map f (drop i xs) ≡ []
-mapped-end f [] zero past = refl
-mapped-end f [] (suc i) past = refl
-mapped-end f (y ∷ xs) zero past = absurd (omega arith)
-mapped-end f (y ∷ xs) (suc i) past = mapped-end f xs i (omega arith)

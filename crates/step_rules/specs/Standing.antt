@@ -7,7 +7,8 @@ use Rattle.obligation_tree.specs.Nodes.{State as Tree}
 use Rattle.book_rules.specs.Places.{AreOver}
 use Rattle.book_rules.specs.Rooted.{IsRooted}
 use Rattle.book_rules.specs.State.{State}
-use Rattle.step_rules.specs.Views.{facts_of, lemmas_of, obligations_of}
+use Rattle.cube_rules.specs.Views.{lemmas_of}
+use Rattle.step_rules.specs.Views.{facts_of, obligations_of}
 use Rattle.step_rules.specs.machinery.Falsity.{IsLastFalse}
 
 -- the clauses, the units given and spent, the closed level, and how many entries the journal has, beside lemmas, facts and obligations

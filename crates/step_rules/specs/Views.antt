@@ -1,26 +1,14 @@
 -- Lemmas, facts and obligations of which the rules speak, as they stand in a book's parts.
 use Rattle.std.specs.Prelude.{ℕ, ℤ, suc, List, [], ◌∷◌, ◌++◌, map, length, Bool, false, Option, None, option_map}
 use Rattle.std.specs.List.{fold}
-use Rattle.lemma_frames.specs.Frames.{lemma_of, level_of, pred_of}
-use Rattle.lemma_frames.specs.declared.framed.Framed.{Framed as KeptLemma}
 use Rattle.derivations.specs.declared.fact.Fact.{Fact as KeptFact}
 use Rattle.obligation_tree.specs.Nodes.{closed_in, is_stalled_in, obligation_in}
 use Rattle.obligation_tree.specs.declared.node.Node.{Node}
 use Rattle.obligation_tree.specs.declared.obligation.Obligation.{Obligation as Asked}
 use Rattle.book_rules.specs.Effects.{greatest}
-use Rattle.book_rules.specs.Frames.{Framed}
+pub use Rattle.cube_rules.specs.Views.{framed_at, framed_of, lemmas_of}
 use Rattle.book_rules.specs.Instances.{Ground}
 use Rattle.book_rules.specs.State.{Fact, Obligation}
-
-abbrev pub framed_of : KeptLemma → Framed
-framed_of f = record { lemma = record { pred = f.pred; cube = f.lemma }; level = f.level }
-
-abbrev pub lemmas_of : List KeptLemma → List Framed
-lemmas_of lemmas = map framed_of lemmas
-
--- the lemma of a number
-abbrev pub framed_at : List KeptLemma → ℕ → Framed
-framed_at lemmas n = record { lemma = record { pred = pred_of lemmas n; cube = lemma_of lemmas n }; level = level_of lemmas n }
 
 -- a predicate with its tuple, or false
 abbrev pub conclusion_of : Option ℕ → List ℤ → Option Ground

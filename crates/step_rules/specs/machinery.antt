@@ -4,3 +4,4 @@ pub mod Claims
 pub mod Literals
 pub mod Walks
 pub mod Places
+pub mod Told

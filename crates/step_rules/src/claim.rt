@@ -1,6 +1,6 @@
-use crate::same::same_lemma;
 use chc_tokens::Goal;
 use cube_forms::Lemma;
+use cube_rules::same_lemma;
 
 /// What proofs are asked for: that no instance makes false, or that a lemma holds of its predicate.
 #[derive(Drop)]

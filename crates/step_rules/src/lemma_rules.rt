@@ -1,6 +1,9 @@
 //! The rules of Lemma and of Lift. Each answers what breaks it, if anything.
 
-ghost use Rattle.std.specs.Prelude.{◌≡◌, ◌<◌, ◌^◌, length, Some, IfOk};
+ghost use Rattle.std.specs.Prelude.{◌≡◌, ◌==◌, ◌<◌, ◌^◌, length, if◌then◌else◌, Some, None, IfOk};
+ghost use Rattle.book_rules.specs.declared.by.By.TheVariants.{Lemma as ByLemma};
+ghost use Rattle.book_rules.specs.Proofs.{unshown};
+ghost use Rattle.step_rules.specs.Tokens.{all_shown};
 ghost use Rattle.book_rules.specs.LemmaRules.{closes, rule_10, rule_11, rule_12, rule_13, rule_14, rule_30, rule_31, rule_32, rule_33};
 ghost use Rattle.step_rules.specs.Taken.{learn_of, learnt_of, lift_of};
 ghost use Rattle.step_rules.specs.Views.{fresh_of};
@@ -15,6 +18,7 @@ use crate::lift_part::LiftPart;
 use crate::proving::{misused, unshown};
 use base::{Copied, Memory};
 use book_rules::By;
+use cube_forms::Lemma;
 use obligation_tree::Obligation;
 
 /// 10: the level is from 1 to the book's.
@@ -89,6 +93,16 @@ pub(crate) fn rule_14(parts: &Lent, step: &LemmaPart) -> Option<By>
     Some(By::Obligation(step.target))
 }
 
+/// What is told of a lemma of a number by the level that it is lifted from.
+fn told_of_level(id: u32, from: u32, level: u32) -> Option<By>
+    ensures { result ≡ (if level == from then None else Some (ByLemma id)) }
+{
+    if level == from {
+        return None;
+    }
+    Some(By::Lemma(id))
+}
+
 /// 30: the lemma is there, and of the level that it is lifted from.
 pub(crate) fn rule_30(parts: &Lent, step: &LiftPart) -> Option<By>
     ensures { result ≡ rule_30 (state_of parts.now) (lift_of step.now) }
@@ -96,10 +110,7 @@ pub(crate) fn rule_30(parts: &Lent, step: &LiftPart) -> Option<By>
     if step.lemma >= parts.frames.count() {
         return Some(By::Step);
     }
-    if parts.frames.level_of(step.lemma) == step.from {
-        return None;
-    }
-    Some(By::Lemma(step.lemma))
+    told_of_level(step.lemma, step.from, parts.frames.level_of(step.lemma))
 }
 
 /// 31: the level above is at most the book's.
@@ -112,6 +123,15 @@ pub(crate) fn rule_31(parts: &Lent, step: &LiftPart) -> Option<By>
     None
 }
 
+/// What is told of a lemma on a predicate by rule 32.
+fn unlifted(parts: &Lent, step: &LiftPart, pred: u32, lemma: &Lemma) -> Result<Option<By>, Memory>
+    requires { length parts.now.system.clauses < 2 ^ 32 }
+    ensures { IfOk result (λ by. by ≡ unshown parts.now.system step.now.from (Some (record { pred = pred; cube = lemma.now })) (all_shown step.now.proofs)) }
+{
+    let claim = Claim::Holds(pred, lemma.copy(parts.alloc)?);
+    Ok(unshown(parts.system, step.from, &claim, step.proofs.as_slice()))
+}
+
 /// 32: each clause of that head has a proof of this lemma.
 pub(crate) fn rule_32(parts: &Lent, step: &LiftPart) -> Result<Option<By>, Memory>
     requires { length parts.now.system.clauses < 2 ^ 32 }
@@ -121,9 +141,8 @@ pub(crate) fn rule_32(parts: &Lent, step: &LiftPart) -> Result<Option<By>, Memor
         return Ok(None);
     }
     let pred = parts.frames.pred_of(step.lemma);
-    let lemma = parts.frames.lemma(step.lemma).copy(parts.alloc)?;
-    let claim = Claim::Holds(pred, lemma);
-    Ok(unshown(parts.system, step.from, &claim, step.proofs.as_slice()))
+    let by = unlifted(parts, step, pred, parts.frames.lemma(step.lemma))?;
+    Ok(by)
 }
 
 /// 33: each used lemma is in the frame of the level that it is lifted from.

@@ -2,27 +2,22 @@
 //! a step breaks, with what breaks it.
 #![tactic(auto)]
 
-mod areas;
 mod breaking;
 mod children;
 mod claim;
 mod conclusions;
 mod fact_part;
 mod fact_rules;
-mod framed;
 mod lemma_part;
 mod lemma_rules;
 mod lent;
 mod levels;
 mod lift_part;
-mod literals;
 mod open_part;
 mod open_rules;
-mod places;
 mod proving;
 mod raise_part;
 mod raise_rules;
-mod same;
 mod stall_part;
 mod stall_rules;
 mod step;

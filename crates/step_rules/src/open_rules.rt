@@ -1,36 +1,39 @@
 //! The rules of Open. Each answers what breaks it, if anything.
 
-ghost use Rattle.std.specs.Prelude.{◌≡◌, ◌&&◌, ◌<◌, ◌≤◌, length, slice_get, IfOk, option_map, true};
-ghost use Rattle.book_rules.specs.Walks.{has};
-ghost use Rattle.book_rules.specs.Instances.{head_at};
+ghost use Rattle.std.specs.Prelude.{◌≡◌, ◌&&◌, ◌||◌, ◌<◌, ◌≤◌, ◌-◌, nat_lt, length, slice_get, IfOk, if◌then◌else◌, option_map, Some, None, true};
+ghost use Rattle.book_rules.specs.declared.by.By.TheVariants.{Obligation as ByObligation, Step};
+ghost use Rattle.book_rules.specs.Instances.{body_at, head_at};
 ghost use Rattle.chc_tokens.specs.Kept.{seen_point};
 ghost use Rattle.base.specs.Limits.{most_arguments};
-ghost use Rattle.book_rules.specs.OpenRules.{atom_fits, clause_fits, has_fact_in, is_cube, rule_1, rule_2, rule_3, rule_4, rule_5, rule_6, rule_9, tuple_of, unknown, atom_of};
-ghost use Rattle.std.specs.List.{find};
-ghost use Rattle.book_rules.specs.Walks.{first_number, first_told};
+ghost use Rattle.book_rules.specs.OpenRules.{atom_fits, clause_fits, clause_of, has_fact_in, is_cube, shut_out, rule_1, rule_2, rule_3, rule_4, rule_5, rule_6, rule_9, tuple_of, unknown, atom_of};
+ghost use Rattle.std.specs.List.{find, list_all};
+ghost use Rattle.lin_atoms.specs.Denial.{lit_fits};
+ghost use Rattle.book_rules.specs.Walks.{first_number, first_told, has, on};
 ghost use Rattle.step_rules.specs.machinery.Walks.{is_unknown, lies_in, lies_in_at};
+ghost use Rattle.step_rules.specs.machinery.Told.{low_told, misfit_told, shut_told, unheld_told, unknown_told};
 ghost use Rattle.step_rules.specs.Taken.{open_of};
-ghost use Rattle.step_rules.specs.Views.{facts_of, framed_at, fresh_of, lemmas_of};
+ghost use Rattle.cube_rules.specs.Views.{framed_at, lemmas_of};
+ghost use Rattle.step_rules.specs.Views.{conclusion_of, facts_of, fresh_of};
 ghost use Rattle.step_rules.specs.Standing.{state_of};
 ghost use Rattle.cube_forms.specs.Cubes.{cube_holds};
 ghost use Rattle.book_rules.specs.Same.{same_cube};
-ghost use Rattle.book_rules.specs.State.{holds};
-ghost use Rattle.book_rules.specs.Areas.{point_cube};
+ghost use Rattle.book_rules.specs.State.{holds, holds_of};
+ghost use Rattle.book_rules.specs.Areas.{is_wide, point_cube};
 ghost use Rattle.clause_form.specs.System.{is_clause};
 
-use crate::areas::{is_area, knows};
-use crate::conclusions::{atom_at, head_at, holds, is_head};
-use crate::framed::body_shut_out;
+use crate::conclusions::holds;
 use crate::lent::Lent;
 use crate::levels::{below, unless_live};
-use crate::literals::{have_room, same_cube};
 use crate::open_part::OpenPart;
-use crate::places::{is_wide, point_cube, projected_cube};
 use base::Memory;
 use book_rules::By;
 use clause_form::{Atom, Clause};
 use cube_forms::Tuple;
-use derivations::Facts;
+use cube_rules::{
+    atom_at, body_shut_out, have_room, head_at, is_area, is_head, is_wide, knows, point_cube,
+    projected_cube, same_cube,
+};
+use derivations::{Fact, Facts};
 use lemma_frames::Frames;
 use lin_atoms::Lit;
 use obligation_tree::Obligation;
@@ -43,14 +46,24 @@ pub(crate) fn rule_1(parts: &Lent, step: &OpenPart) -> Option<By>
     unless_live(parts.tree, step.parent)
 }
 
+/// What is told of a parent by its level.
+fn told_of_level(step: &OpenPart, parent: &Obligation) -> Option<By>
+    ensures { result ≡ low_told (open_of step.now) (fresh_of parent.now) }
+{
+    if parent.level < 2 {
+        return Some(By::Obligation(step.parent));
+    }
+    None
+}
+
 /// 2: the parent's level is at least 2.
 pub(crate) fn rule_2(parts: &Lent, step: &OpenPart) -> Option<By>
     ensures { result ≡ rule_2 (state_of parts.now) (open_of step.now) }
 {
-    if step.parent < parts.tree.count() && parts.tree.obligation(step.parent).level < 2 {
-        return Some(By::Obligation(step.parent));
+    if step.parent >= parts.tree.count() {
+        return None;
     }
-    None
+    told_of_level(step, parts.tree.obligation(step.parent))
 }
 
 /// Whether the literals hold the tuple.
@@ -65,18 +78,24 @@ fn all_hold(lits: &[Lit], tuple: &[i64]) -> bool
     true
 }
 
-/// Whether the fact of that number is of the predicate and lies in the cube.
+/// Whether the fact is of the predicate and lies in the cube.
+fn is_in(fact: &Fact, pred: u32, cube: &[Lit]) -> bool
+    ensures { result ≡ holds_of (Some pred) cube.now (conclusion_of fact.now.pred fact.now.tuple) }
+{
+    match fact.pred {
+        Some(of) => pred == of && all_hold(cube, fact.tuple.as_slice()),
+        None => false,
+    }
+}
+
+/// Whether there is a fact of that number, and it is.
 fn lies_in(facts: &Facts, pred: u32, cube: &[Lit], id: u32) -> bool
     ensures { result ≡ lies_in_at facts.now pred cube.now id }
 {
     if id >= facts.count() {
         return false;
     }
-    let fact = facts.fact(id);
-    match fact.pred {
-        Some(of) => pred == of && all_hold(cube, fact.tuple.as_slice()),
-        None => false,
-    }
+    is_in(facts.fact(id), pred, cube)
 }
 
 /// The first of the numbers whose fact does.
@@ -105,13 +124,59 @@ fn has_fact_in(facts: &Facts, pred: u32, cube: &[Lit]) -> bool
     fact_in(facts, pred, cube).is_some()
 }
 
+/// Whether the step's cube has these literals, in this order.
+fn is_same_cube(step: &OpenPart, lits: &[Lit]) -> bool
+    ensures { result ≡ same_cube step.now.cube lits.now }
+{
+    same_cube(step.cube.lits(), lits)
+}
+
+/// Tells that the literals of the step's cube have room.
+fn cube_has_room(step: &OpenPart)
+    ensures { list_all lit_fits step.now.cube ≡ true }
+{
+    have_room(step.cube.lits());
+}
+
 /// Whether the step's cube is the tuple's.
 fn is_point(alloc: Global, step: &OpenPart, tuple: &[i64]) -> Result<bool, Memory>
     requires { length tuple.now ≤ most_arguments }
     ensures { IfOk result (λ b. b ≡ same_cube step.now.cube (point_cube tuple.now)) }
 {
     let point = point_cube(alloc, tuple)?;
-    Ok(same_cube(step.cube.lits(), point.as_slice()))
+    Ok(is_same_cube(step, point.as_slice()))
+}
+
+/// Whether the step's cube is that of the atom's tuple.
+fn is_of_point(alloc: Global, step: &OpenPart, atom: &Atom) -> Result<bool, Memory>
+    requires { length atom.now.args ≤ most_arguments }
+    ensures { IfOk result (λ b. b ≡ same_cube step.now.cube (point_cube (tuple_of (open_of step.now) atom.now))) }
+{
+    let tuple = Tuple::at(alloc, step.seen.point(), atom.args.as_slice())?;
+    let is = is_point(alloc, step, tuple.as_slice())?;
+    Ok(is)
+}
+
+/// Whether the tuple's cube may stand for these literals: they hold a recorded fact, or are wide.
+fn may_be_point(parts: &Lent, pred: u32, lits: &[Lit]) -> bool
+    ensures { result ≡ (has_fact_in (facts_of parts.now.facts) pred lits.now || is_wide lits.now) }
+{
+    has_fact_in(parts.facts, pred, lits) || is_wide(lits)
+}
+
+/// Whether the step's cube has these literals, or is the atom's tuple where it may stand for them.
+fn is_cube_of(parts: &Lent, step: &OpenPart, atom: &Atom, lits: &[Lit]) -> Result<bool, Memory>
+    requires { length atom.now.args ≤ most_arguments }
+    ensures { IfOk result (λ b. b ≡ (same_cube step.now.cube lits.now || (same_cube step.now.cube (point_cube (tuple_of (open_of step.now) atom.now)) && (has_fact_in (facts_of parts.now.facts) atom.now.pred lits.now || is_wide lits.now)))) }
+{
+    if is_same_cube(step, lits) {
+        return Ok(true);
+    }
+    if !may_be_point(parts, atom.pred, lits) {
+        return Ok(false);
+    }
+    let is = is_of_point(parts.alloc, step, atom)?;
+    Ok(is)
 }
 
 /// Whether the step's cube is the area's over the atom's places, or the atom's tuple where that cube
@@ -120,22 +185,15 @@ fn is_cube(parts: &Lent, step: &OpenPart, atom: &Atom) -> Result<bool, Memory>
     requires { length atom.now.args ≤ most_arguments }
     ensures { IfOk result (λ b. b ≡ is_cube (state_of parts.now) (open_of step.now) atom.now) }
 {
-    let alloc = parts.alloc;
-    let tuple = Tuple::at(alloc, step.seen.point(), atom.args.as_slice())?;
-    match projected_cube(alloc, atom, &step.area)? {
+    match projected_cube(parts.alloc, atom, &step.area)? {
         None => {
-            have_room(step.cube.lits());
-            is_point(alloc, step, tuple.as_slice())
+            cube_has_room(step);
+            let is = is_of_point(parts.alloc, step, atom)?;
+            Ok(is)
         }
         Some(lits) => {
-            let lits = lits.as_slice();
-            if same_cube(step.cube.lits(), lits) {
-                return Ok(true);
-            }
-            if !has_fact_in(parts.facts, atom.pred, lits) && !is_wide(lits) {
-                return Ok(false);
-            }
-            is_point(alloc, step, tuple.as_slice())
+            let is = is_cube_of(parts, step, atom, lits.as_slice())?;
+            Ok(is)
         }
     }
 }
@@ -154,7 +212,8 @@ fn atom_fits(
     let k = below(parent.level);
     if !is_area(
         parts.alloc,
-        step,
+        &step.area,
+        step.seen.point(),
         clause,
         atom,
         &parent.cube,
@@ -185,15 +244,10 @@ fn clause_fits(
     }
 }
 
-/// 3: the clause's head is of the parent's predicate, the atom is there, the area is of that atom,
-/// clause and parent, and the cube is of that area and atom.
-pub(crate) fn rule_3(parts: &Lent, step: &OpenPart) -> Result<Option<By>, Memory>
-    ensures { IfOk result (λ by. by ≡ rule_3 parts.now.system (state_of parts.now) (open_of step.now)) }
+/// What is told of a parent by rule 3.
+fn misfit(parts: &Lent, step: &OpenPart, parent: &Obligation) -> Result<Option<By>, Memory>
+    ensures { IfOk result (λ by. by ≡ misfit_told parts.now.system (state_of parts.now) (open_of step.now) (fresh_of parent.now)) }
 {
-    if step.parent >= parts.tree.count() {
-        return Ok(None);
-    }
-    let parent = parts.tree.obligation(step.parent);
     match parts.system.clauses().get(step.seen.clause() as usize) {
         Some(clause) => {
             if clause_fits(parts, step, parent, clause)? {
@@ -204,6 +258,18 @@ pub(crate) fn rule_3(parts: &Lent, step: &OpenPart) -> Result<Option<By>, Memory
         }
         None => Ok(Some(By::Step)),
     }
+}
+
+/// 3: the clause's head is of the parent's predicate, the atom is there, the area is of that atom,
+/// clause and parent, and the cube is of that area and atom.
+pub(crate) fn rule_3(parts: &Lent, step: &OpenPart) -> Result<Option<By>, Memory>
+    ensures { IfOk result (λ by. by ≡ rule_3 parts.now.system (state_of parts.now) (open_of step.now)) }
+{
+    if step.parent >= parts.tree.count() {
+        return Ok(None);
+    }
+    let by = misfit(parts, step, parts.tree.obligation(step.parent))?;
+    Ok(by)
 }
 
 /// Whether the parent holds the instance's head, and the step's cube the atom's tuple.
@@ -228,14 +294,10 @@ fn is_held(
     }
 }
 
-/// 4: the parent holds the instance's head, and the cube holds the atom's tuple.
-pub(crate) fn rule_4(parts: &Lent, step: &OpenPart) -> Result<Option<By>, Memory>
-    ensures { IfOk result (λ by. by ≡ rule_4 parts.now.system (state_of parts.now) (open_of step.now)) }
+/// What is told of a parent by rule 4.
+fn unheld(parts: &Lent, step: &OpenPart, parent: &Obligation) -> Result<Option<By>, Memory>
+    ensures { IfOk result (λ by. by ≡ unheld_told parts.now.system (open_of step.now) (fresh_of parent.now)) }
 {
-    if step.parent >= parts.tree.count() {
-        return Ok(None);
-    }
-    let parent = parts.tree.obligation(step.parent);
     match parts.system.clauses().get(step.seen.clause() as usize) {
         Some(clause) => {
             if is_held(parts.alloc, step, parent, clause)? {
@@ -248,6 +310,28 @@ pub(crate) fn rule_4(parts: &Lent, step: &OpenPart) -> Result<Option<By>, Memory
     }
 }
 
+/// 4: the parent holds the instance's head, and the cube holds the atom's tuple.
+pub(crate) fn rule_4(parts: &Lent, step: &OpenPart) -> Result<Option<By>, Memory>
+    ensures { IfOk result (λ by. by ≡ rule_4 parts.now.system (state_of parts.now) (open_of step.now)) }
+{
+    if step.parent >= parts.tree.count() {
+        return Ok(None);
+    }
+    let by = unheld(parts, step, parts.tree.obligation(step.parent))?;
+    Ok(by)
+}
+
+/// What is told of a parent by rule 5.
+fn shut_below(parts: &Lent, step: &OpenPart, parent: &Obligation) -> Result<Option<By>, Memory>
+    ensures { IfOk result (λ by. by ≡ shut_told parts.now.system (state_of parts.now) (open_of step.now) (fresh_of parent.now)) }
+{
+    let k = below(parent.level);
+    match parts.system.clauses().get(step.seen.clause() as usize) {
+        Some(clause) => body_shut_out(parts.alloc, parts.frames, k, step.seen.point(), clause),
+        None => Ok(None),
+    }
+}
+
 /// 5: no lemma of the frame below the parent shuts a body tuple of the instance out.
 pub(crate) fn rule_5(parts: &Lent, step: &OpenPart) -> Result<Option<By>, Memory>
     ensures { IfOk result (λ by. by ≡ rule_5 parts.now.system (state_of parts.now) (open_of step.now)) }
@@ -255,11 +339,8 @@ pub(crate) fn rule_5(parts: &Lent, step: &OpenPart) -> Result<Option<By>, Memory
     if step.parent >= parts.tree.count() {
         return Ok(None);
     }
-    let k = below(parts.tree.obligation(step.parent).level);
-    match parts.system.clauses().get(step.seen.clause() as usize) {
-        Some(clause) => body_shut_out(parts.alloc, parts.frames, k, step.seen.point(), clause),
-        None => Ok(None),
-    }
+    let by = shut_below(parts, step, parts.tree.obligation(step.parent))?;
+    Ok(by)
 }
 
 /// The step's atom, where it is there.
@@ -345,6 +426,19 @@ fn first_unknown(
     Ok(None)
 }
 
+/// What is told of a parent by rule 9.
+fn unknown_below(parts: &Lent, step: &OpenPart, parent: &Obligation) -> Result<Option<By>, Memory>
+    ensures { IfOk result (λ by. by ≡ unknown_told parts.now.system (state_of parts.now) (open_of step.now) (fresh_of parent.now)) }
+{
+    let k = below(parent.level);
+    match parts.system.clauses().get(step.seen.clause() as usize) {
+        Some(clause) => {
+            first_unknown(parts.alloc, parts.frames, k, step, clause.atoms.as_slice())
+        }
+        None => Ok(None),
+    }
+}
+
 /// 9: on each body atom the area knows each lemma of the frame below the parent on its predicate.
 pub(crate) fn rule_9(parts: &Lent, step: &OpenPart) -> Result<Option<By>, Memory>
     ensures { IfOk result (λ by. by ≡ rule_9 parts.now.system (state_of parts.now) (open_of step.now)) }
@@ -352,11 +446,6 @@ pub(crate) fn rule_9(parts: &Lent, step: &OpenPart) -> Result<Option<By>, Memory
     if step.parent >= parts.tree.count() {
         return Ok(None);
     }
-    let k = below(parts.tree.obligation(step.parent).level);
-    match parts.system.clauses().get(step.seen.clause() as usize) {
-        Some(clause) => {
-            first_unknown(parts.alloc, parts.frames, k, step, clause.atoms.as_slice())
-        }
-        None => Ok(None),
-    }
+    let by = unknown_below(parts, step, parts.tree.obligation(step.parent))?;
+    Ok(by)
 }

@@ -2,15 +2,14 @@ ghost use Rattle.std.specs.Prelude.{◌≡◌, ◌<◌, ◌^◌, length, slice_g
 ghost use Rattle.std.specs.List.{list_any};
 ghost use Rattle.book_rules.specs.Proofs.{all_may_use, is_proof_of, may_use, misused, needs, unshown};
 ghost use Rattle.step_rules.specs.Tokens.{all_shown, all_used, used_of};
-ghost use Rattle.step_rules.specs.Views.{lemmas_of};
+ghost use Rattle.cube_rules.specs.Views.{lemmas_of};
 ghost use Rattle.step_rules.specs.machinery.Claims.{claim_of};
 
 use crate::claim::Claim;
-use crate::conclusions::is_head;
-use crate::framed::frame_has;
 use book_rules::By;
 use chc_tokens::{Shown, Used};
 use clause_form::{Clause, System};
+use cube_rules::{frame_has, is_head};
 use lemma_frames::Frames;
 
 /// Whether a clause needs a proof of the claim under lemmas of level k.

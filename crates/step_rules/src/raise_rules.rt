@@ -4,20 +4,18 @@ ghost use Rattle.std.specs.Prelude.{◌≡◌, ◌+◌, ◌<◌, ◌≤◌, ◌^
 ghost use Rattle.book_rules.specs.RaiseRules.{is_no_lift_of, rule_40, rule_41, rule_42, rule_43, rule_44, seen_outside, evidence_outside, why_clause};
 ghost use Rattle.step_rules.specs.Taken.{raise_of};
 ghost use Rattle.step_rules.specs.Tokens.{no_lift_of, why_of};
-ghost use Rattle.step_rules.specs.Views.{framed_at};
+ghost use Rattle.cube_rules.specs.Views.{framed_at};
 ghost use Rattle.step_rules.specs.Standing.{state_of};
 ghost use Rattle.step_rules.specs.machinery.Places.{kept_told, pair_told, place_after, told_below};
 
 use crate::claim::Claim;
-use crate::conclusions::is_head;
-use crate::framed::body_shut_out;
 use crate::lent::Lent;
 use crate::proving::{all_may_use, misused, unshown};
 use crate::raise_part::RaisePart;
-use crate::same::same_lemma;
 use base::Memory;
 use book_rules::By;
 use chc_tokens::{NoLift, Why};
+use cube_rules::{body_shut_out, is_head, same_lemma};
 
 /// 40: each clause with head false has a proof of the query.
 pub(crate) fn rule_40(parts: &Lent, step: &RaisePart) -> Option<By>

@@ -37,13 +37,6 @@ lies_in pred cube f = holds_of (Some pred) cube f.conclusion
 abbrev pub lies_in_at : List KeptFact → ℕ → List Lit → ℕ → Bool
 lies_in_at facts pred cube n = has (slice_get (facts_of facts) n) (lies_in pred cube)
 
--- a lemma of this level or more that shuts the tuple out, that is equal to another, and that the area doesn't know on the atom
-
-abbrev pub shuts : ℕ → Ground → Framed → Bool
-shuts k a e = nat_le k e.level && excludes e.lemma a
-
-abbrev pub equals : ℕ → Lemma → Framed → Bool
-equals k lemma e = nat_le k e.level && same_lemma e.lemma lemma
-
+-- a lemma of this level or more that the area doesn't know on the atom
 abbrev pub is_unknown : ℕ → Kept → Atom → Framed → Bool
 is_unknown k area atom e = nat_le k e.level && (e.lemma.pred == atom.pred) && not (knows area atom e.lemma.cube)

@@ -2,7 +2,7 @@ use Rattle.std.proofs.Common.{◌≡◌, drop}
 use Rattle.book_rules.specs.OpenRules.{unknown}
 use Rattle.book_rules.specs.Walks.{first_told}
 use Rattle.step_rules.specs.Taken.{open_of}
-use Rattle.step_rules.specs.Views.{lemmas_of}
+use Rattle.cube_rules.specs.Views.{lemmas_of}
 use Rattle.step_rules.proofs.open_rules.first_unknown.Given as goal
 
 -- the rest decides

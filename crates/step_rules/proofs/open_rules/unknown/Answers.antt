@@ -1,10 +1,10 @@
 use Rattle.std.proofs.Common.{◌<◌, ◌≤◌, length, ap, sym, ◌∙◌, arith}
 use Rattle.std.specs.Prelude.{option_map}
 use Rattle.book_rules.specs.declared.by.By.TheVariants.{Lemma}
-use Rattle.step_rules.specs.Views.{framed_at, lemmas_of}
+use Rattle.cube_rules.specs.Views.{framed_at, lemmas_of}
 use Rattle.step_rules.specs.machinery.Walks.{is_unknown}
-use Rattle.step_rules.proofs.ViewLemmas.{framed_of-at, length-lemmas}
-use Rattle.step_rules.proofs.WalkLemmas.{goes-on, is-found, is-over}
+use Rattle.cube_rules.proofs.Public.{framed_of-at, length-lemmas}
+use Rattle.cube_rules.proofs.Public.{goes-on, is-found, is-over}
 use Rattle.step_rules.proofs.open_rules.unknown.Goals as goal
 
 pub loop-id-preserved : goal.loop-id-preserved

@@ -1,6 +1,6 @@
 use Rattle.std.proofs.Common.{◌≡◌, drop}
 use Rattle.book_rules.specs.Walks.{first_number, number_from}
-use Rattle.step_rules.specs.Views.{lemmas_of}
+use Rattle.cube_rules.specs.Views.{lemmas_of}
 use Rattle.step_rules.specs.machinery.Walks.{is_unknown}
 use Rattle.step_rules.proofs.open_rules.unknown.Given as goal
 

@@ -1,7 +1,7 @@
 use Rattle.std.proofs.Common.{◌≡◌, drop}
 use Rattle.book_rules.specs.Proofs.{all_may_use}
 use Rattle.step_rules.specs.Tokens.{all_used}
-use Rattle.step_rules.specs.Views.{lemmas_of}
+use Rattle.cube_rules.specs.Views.{lemmas_of}
 use Rattle.step_rules.specs.machinery.Claims.{claim_of}
 use Rattle.step_rules.proofs.proving.all_may_use.Given as goal
 

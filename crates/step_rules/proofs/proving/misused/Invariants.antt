@@ -1,7 +1,7 @@
 use Rattle.std.proofs.Common.{◌≡◌, drop}
 use Rattle.book_rules.specs.Proofs.{misused}
 use Rattle.step_rules.specs.Tokens.{all_shown}
-use Rattle.step_rules.specs.Views.{lemmas_of}
+use Rattle.cube_rules.specs.Views.{lemmas_of}
 use Rattle.step_rules.specs.machinery.Claims.{claim_of}
 use Rattle.step_rules.proofs.proving.misused.Given as goal
 

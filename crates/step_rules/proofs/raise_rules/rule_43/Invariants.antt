@@ -2,7 +2,7 @@ use Rattle.std.proofs.Common.{◌≡◌, ◌≤◌, drop}
 use Rattle.book_rules.specs.RaiseRules.{below_from, first_pair, seen_outside, rule_43}
 use Rattle.step_rules.specs.Taken.{raise_of}
 use Rattle.step_rules.specs.Tokens.{all_no_lifts}
-use Rattle.step_rules.specs.Views.{lemmas_of}
+use Rattle.cube_rules.specs.Views.{lemmas_of}
 use Rattle.step_rules.specs.Standing.{state_of}
 use Rattle.step_rules.proofs.raise_rules.rule_43.Given as goal
 

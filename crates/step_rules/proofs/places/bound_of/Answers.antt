@@ -1,5 +1,0 @@
-use Rattle.step_rules.proofs.BoundLemmas.{bound-more}
-use Rattle.step_rules.proofs.places.bound_of.Goals as goal
-
-pub loop-arg-preserved : goal.loop-arg-preserved
-loop-arg-preserved c = bound-more c.args.args.now c.loop-arg.arg-index c.arg-item.result c.loop-arg.bound c.bound_with.result c.loop-arg-test.true c.arg-item.is c.bound_with.ensures.old c.bound_with.ensures.new c.loop-arg.invariant

@@ -1,8 +1,0 @@
-use Rattle.std.proofs.Common.{◌≡◌, take, false}
-use Rattle.std.specs.Prelude.{nat_le}
-use Rattle.std.specs.List.{list_any}
-use Rattle.step_rules.proofs.places.bound_of.Given as goal
-
--- above all so far
-abbrev pub invariant-loop-arg : goal.invariant-loop-arg
-invariant-loop-arg l = list_any (λ v. nat_le l.bound v) (take l.arg-index l.args) ≡ false
