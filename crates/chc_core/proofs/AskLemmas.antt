@@ -1,5 +1,5 @@
 -- What the code reads for each step is there, and an Open's obligation is the rules' child.
-use Rattle.std.proofs.Common.{◌≡◌, ℕ, ℤ, ◌+◌, ◌-◌, ◌<◌, ◌≤◌, List, [], ◌∷◌, length, get_or, Bool, true, Some, None, refl, ap, ap₂, sym, ◌∙◌, subst, arith}
+use Rattle.std.proofs.Common.{◌≡◌, ℕ, ℤ, ◌-◌, ◌<◌, ◌≤◌, List, length, get_or, true, Some, None, ap, ap₂, sym, ◌∙◌, subst, arith}
 use Rattle.std.specs.Prelude.{Option, is_some, slice_get}
 use Rattle.std.proofs.lemmas.List.{length-map}
 use Rattle.std.proofs.lemmas.Option.{slice_get-get_or, slice_get_within}
@@ -20,7 +20,7 @@ use Rattle.book_rules.specs.Walks.{has, on}
 use Rattle.book_rules.proofs.ListLemmas.{unless_none}
 use Rattle.book_rules.proofs.SoundLemmas.{unbroken}
 use Rattle.step_rules.specs.Taken.{open_of, record_of}
-use Rattle.step_rules.specs.Views.{conclusion_of, fresh_of, obligation_of, obligations_of}
+use Rattle.step_rules.specs.Views.{fresh_of, obligation_of, obligations_of}
 use Rattle.step_rules.specs.declared.fact_part.FactPart.{FactPart}
 use Rattle.step_rules.specs.declared.open_part.OpenPart.{OpenPart}
 use Rattle.step_rules.specs.declared.step.Step.TheVariants.{FactStep, OpenStep}

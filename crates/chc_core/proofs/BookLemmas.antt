@@ -1,5 +1,5 @@
 -- The invariant of a book: the opening has it, and each commit keeps it.
-use Rattle.std.proofs.Common.{◌≡◌, ℕ, ◌+◌, ◌≤◌, List, [], ◌∷◌, ◌++◌, map, length, Some, None, refl, ap, sym, ◌∙◌, subst, arith}
+use Rattle.std.proofs.Common.{◌≡◌, ℕ, ◌+◌, ◌≤◌, List, [], ◌∷◌, ◌++◌, length, Some, None, refl, ap, sym, ◌∙◌, subst, arith}
 use Rattle.std.specs.Prelude.{Option, replicate, true}
 use Rattle.std.proofs.lemmas.List.{length-map, map-append}
 use Rattle.clause_form.specs.System.{Clauses, is_system}

@@ -1,5 +1,5 @@
 -- What closes in a tree is what the rules close.
-use Rattle.std.proofs.Common.{◌≡◌, ℕ, zero, suc, ◌≤◌, ◌+◌, List, [], ◌∷◌, ◌++◌, map, length, ℤ, Bool, true, false, cond, not, ◌&&◌, ◌||◌, Some, None, refl, ap, ap₂, sym, ◌∙◌, append_assoc, append-nil, subst, arith, inl, inr}
+use Rattle.std.proofs.Common.{◌≡◌, ℕ, zero, suc, ◌+◌, List, [], ◌∷◌, ◌++◌, map, length, ℤ, Bool, true, false, cond, not, ◌&&◌, ◌||◌, Some, None, refl, ap, ap₂, sym, ◌∙◌, append_assoc, append-nil, subst, arith, inl, inr}
 use Rattle.std.specs.Prelude.{◌⊎◌, Option, nat_lt, nat_le, ◌==◌, slice_get}
 use Rattle.std.proofs.Math.Dec.{leb-suc-suc}
 use Rattle.std.proofs.lemmas.Bool.{eq-eqb, le-ltb, lt-ltb}
@@ -12,7 +12,6 @@ use Rattle.obligation_tree.specs.Closing.{after_fact, after_lemma, after_raise, 
 use Rattle.obligation_tree.specs.declared.node.Node.{Node}
 use Rattle.obligation_tree.specs.declared.obligation.Obligation.{Obligation as Asked}
 use Rattle.book_rules.specs.Effects.{close_from, closed_at, is_closing, raised_tree}
-use Rattle.book_rules.specs.Frames.{Lemma}
 use Rattle.book_rules.specs.LemmaRules.{closes}
 use Rattle.book_rules.specs.State.{Obligation, holds, holds_of, is_live, is_of}
 use Rattle.book_rules.specs.Walks.{AllOf, has}

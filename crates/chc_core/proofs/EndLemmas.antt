@@ -1,6 +1,6 @@
 -- The end, as the code finds it: levels that no lemma has, and leaves that are stalled.
-use Rattle.std.proofs.Common.{◌≡◌, ℕ, zero, suc, ◌+◌, ◌-◌, ◌<◌, ◌≤◌, List, [], ◌∷◌, length, map, filter, drop, get_or, Bool, true, false, not, ◌&&◌, ◌||◌, cond, Some, None, refl, ap, ap₂, sym, ◌∙◌, subst, arith}
-use Rattle.std.specs.Prelude.{Option, ◌==◌, ◌↔◌, is_some, nat_lt, option_map, slice_get}
+use Rattle.std.proofs.Common.{◌≡◌, ℕ, zero, suc, ◌+◌, ◌-◌, ◌<◌, ◌≤◌, List, [], ◌∷◌, length, filter, drop, get_or, Bool, true, false, not, ◌&&◌, ◌||◌, cond, Some, None, refl, ap, ap₂, sym, ◌∙◌, subst, arith}
+use Rattle.std.specs.Prelude.{Option, ◌==◌, ◌↔◌, is_some, nat_lt}
 use Rattle.std.specs.Bool.{IsTrue}
 use Rattle.std.specs.List.{All, list_all, list_any, range_with_len}
 use Rattle.std.proofs.lemmas.Bool.{eq-eqb, eqb-true, le-ltb, lt-ltb}
@@ -17,7 +17,7 @@ use Rattle.book_rules.specs.Frames.{Framed}
 use Rattle.book_rules.specs.Legal.{all_stalled_from, bare_from, is_bare}
 use Rattle.book_rules.specs.Rooted.{AreRooted}
 use Rattle.book_rules.specs.StallRules.{is_live_child}
-use Rattle.book_rules.specs.State.{Fact, Obligation, is_live}
+use Rattle.book_rules.specs.State.{Fact, Obligation}
 use Rattle.book_rules.specs.Walks.{AllOf}
 use Rattle.book_rules.proofs.ListLemmas.{all_of-at, any_at, both_false, true_not_false}
 use Rattle.step_rules.specs.Views.{framed_at, framed_of, lemmas_of, obligation_of, obligations_of}

@@ -1,8 +1,8 @@
 -- What the code makes for each step is the rules' effect.
-use Rattle.std.proofs.Common.{◌≡◌, ℕ, zero, suc, ◌+◌, ◌-◌, ◌^◌, ◌<◌, ◌≤◌, List, [], ◌∷◌, ◌++◌, length, map, get_or, Bool, true, false, cond, ◌&&◌, Some, None, refl, ap, ap₂, sym, ◌∙◌, subst, arith, inl, inr}
-use Rattle.std.specs.Prelude.{◌⊎◌, ℤ, Option, ◌==◌, is_none, is_some, option_map, slice_get}
+use Rattle.std.proofs.Common.{◌≡◌, ℕ, zero, suc, ◌+◌, ◌-◌, ◌^◌, ◌<◌, ◌≤◌, List, [], ◌∷◌, ◌++◌, length, map, get_or, Bool, true, false, Some, None, refl, ap, ap₂, sym, ◌∙◌, subst, arith}
+use Rattle.std.specs.Prelude.{ℤ, Option, ◌==◌, is_none, is_some, option_map, slice_get}
 use Rattle.std.specs.List.{list_any}
-use Rattle.std.proofs.lemmas.Bool.{cases_lt, eq-eqb}
+use Rattle.std.proofs.lemmas.Bool.{eq-eqb}
 use Rattle.std.proofs.lemmas.List.{get_or_append_left, length-map, length_push, map-append}
 use Rattle.std.proofs.lemmas.Option.{get_or_from_slice_get, slice_get-map}
 use mathlib.Core.Bool.{true≢false}
@@ -12,7 +12,7 @@ use Rattle.lemma_frames.specs.Frames.{Lemmas, lemma_of, level_of, lifted, pred_o
 use Rattle.derivations.specs.Facts.{Concludes, pred_of, tuple_of}
 use Rattle.derivations.specs.declared.fact.Fact.{Fact as KeptFact}
 use Rattle.obligation_tree.specs.Closing.{after_fact, after_lemma, after_raise}
-use Rattle.obligation_tree.specs.Nodes.{State as Tree, fresh, is_live_at, marked_at, node_at}
+use Rattle.obligation_tree.specs.Nodes.{State as Tree, fresh, marked_at, node_at}
 use Rattle.obligation_tree.specs.declared.node.Node.{Node}
 use Rattle.obligation_tree.specs.declared.obligation.Obligation.{Obligation as Asked}
 use Rattle.book_rules.specs.declared.by.By.TheVariants.{Fact as ByFact}
@@ -26,12 +26,12 @@ use Rattle.book_rules.specs.LemmaRules.{closes}
 use Rattle.book_rules.specs.OpenRules.{atom_of, parent_of}
 use Rattle.book_rules.specs.Rooted.{AreRooted}
 use Rattle.book_rules.specs.Same.{same_tuple}
-use Rattle.book_rules.specs.State.{Fact, Obligation, State, holds, is_live, same_conclusion}
+use Rattle.book_rules.specs.State.{Fact, Obligation, State, holds, same_conclusion}
 use Rattle.book_rules.specs.Walks.{AllOf, on, or_else}
 use Rattle.book_rules.proofs.EqualLemmas.{tuples_equal}
 use Rattle.book_rules.proofs.ListLemmas.{both_false, from_both, neither, true_not_false, untold_passes}
 use Rattle.book_rules.proofs.SoundLemmas.{unbroken}
-use Rattle.step_rules.specs.Taken.{learn_of, lift_of, open_of, raise_of, record_of, stall_of, step_of}
+use Rattle.step_rules.specs.Taken.{learn_of, open_of, record_of, step_of}
 use Rattle.step_rules.specs.Views.{conclusion_of, facts_of, framed_at, framed_of, fresh_of, lemmas_of, obligation_of, obligations_of}
 use Rattle.step_rules.specs.declared.fact_part.FactPart.{FactPart}
 use Rattle.step_rules.specs.declared.lemma_part.LemmaPart.{LemmaPart}

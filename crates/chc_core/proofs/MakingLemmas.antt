@@ -1,6 +1,6 @@
 -- What each step makes is the rules' effect.
-use Rattle.std.proofs.Common.{◌≡◌, ℕ, zero, suc, ◌+◌, ◌<◌, ◌≤◌, List, [], ◌∷◌, ◌++◌, length, Bool, true, cond, ◌&&◌, Some, None, refl, ap, ap₂, sym, ◌∙◌, subst, arith}
-use Rattle.std.specs.Prelude.{Option, ℤ, is_none, nat_le, nat_lt, ◌==◌, option_map, slice_get, slice_index_or}
+use Rattle.std.proofs.Common.{◌≡◌, ℕ, ◌+◌, ◌<◌, ◌≤◌, List, length, true, cond, ◌&&◌, Some, None, refl, ap, sym, ◌∙◌, subst, arith}
+use Rattle.std.specs.Prelude.{Option, ℤ, is_none, nat_le, nat_lt, ◌==◌, option_map, slice_get}
 use Rattle.std.specs.List.{All}
 use Rattle.std.proofs.lemmas.Bool.{eqb-true}
 use Rattle.std.proofs.lemmas.Bool.Decides.{nat_tests}
@@ -12,38 +12,33 @@ use Rattle.cube_forms.specs.Cubes.{cube_is_below}
 use Rattle.clause_form.specs.declared.atom.Atom.{Atom}
 use Rattle.clause_form.specs.declared.clause.Clause.{Clause}
 use Rattle.lemma_frames.specs.Frames.{level_of}
-use Rattle.chc_tokens.specs.declared.used.Used.{Used as UsedLemma}
-use Rattle.book_rules.specs.Effects.{after, child_of, fact_of as plain_fact, greatest}
-use Rattle.book_rules.specs.Legal.{end}
 use Rattle.book_rules.specs.declared.by.By.{By}
 use Rattle.book_rules.specs.declared.by.By.TheVariants.{Entry, Lemma as ByLemma, Level as ByLevel, Obligation as ByObligation, Step as ByStep}
-use Rattle.book_rules.specs.OpenRules.{atom_fits, atom_of, clause_fits, clause_of, parent_of, rule_1, rule_2, rule_3}
+use Rattle.book_rules.specs.OpenRules.{atom_fits, clause_fits, clause_of, parent_of, rule_1, rule_2, rule_3}
 use Rattle.book_rules.specs.Proofs.{is_head}
-use Rattle.book_rules.specs.FactRules.{are_facts_of, is_fact_of, rule_20}
+use Rattle.book_rules.specs.FactRules.{are_facts_of, rule_20}
 use Rattle.book_rules.specs.Frames.{Framed}
-use Rattle.book_rules.specs.Instances.{Ground, body_at}
+use Rattle.book_rules.specs.Instances.{body_at}
 use Rattle.book_rules.specs.LemmaRules.{closes, level_is, lifted_of, rule_10, rule_11, rule_12, rule_13, rule_14, rule_30, rule_31}
 use Rattle.book_rules.specs.Places.{obligation_fits, places_of}
 use Rattle.book_rules.specs.StallRules.{rule_50}
-use Rattle.book_rules.specs.Rules.{broken}
-use Rattle.book_rules.specs.State.{Fact, Obligation, is_live, is_of, same_conclusion, unless_live}
+use Rattle.book_rules.specs.State.{Obligation, is_live, is_of, unless_live}
 use Rattle.book_rules.specs.Walks.{has, on}
 use Rattle.book_rules.proofs.CountLemmas.{has_a_unit}
 use Rattle.book_rules.proofs.ListLemmas.{all_of-at, both_true, cond_none, unless_none}
 use Rattle.book_rules.proofs.SoundLemmas.{unbroken}
 use Rattle.chc_core.specs.Contents.{Contents}
-use Rattle.step_rules.specs.Taken.{learn_of, lift_of, open_of, record_of, stall_of, step_of}
+use Rattle.step_rules.specs.Taken.{learn_of, lift_of, open_of, record_of, stall_of}
 use Rattle.chc_core.specs.Views.{state_of}
 use Rattle.step_rules.specs.Views.{framed_at, framed_of, lemmas_of, obligation_of, obligations_of}
-use Rattle.chc_core.specs.declared.made.Made.{Made}
 use Rattle.step_rules.specs.declared.open_part.OpenPart.{OpenPart}
 use Rattle.step_rules.specs.declared.lemma_part.LemmaPart.{LemmaPart}
 use Rattle.step_rules.specs.declared.fact_part.FactPart.{FactPart}
 use Rattle.step_rules.specs.declared.lift_part.LiftPart.{LiftPart}
 use Rattle.step_rules.specs.declared.stall_part.StallPart.{StallPart}
 use Rattle.step_rules.specs.declared.step.Step.{Step}
-use Rattle.step_rules.specs.declared.step.Step.TheVariants.{OpenStep, LemmaStep, FactStep, LiftStep, RaiseStep, StallStep}
-use Rattle.chc_core.specs.machinery.Making.{CanTake, IsMadeBy}
+use Rattle.step_rules.specs.declared.step.Step.TheVariants.{OpenStep, LemmaStep, FactStep, LiftStep, StallStep}
+use Rattle.chc_core.specs.machinery.Making.{CanTake}
 use Rattle.chc_core.proofs.BookLemmas.{room}
 use Rattle.chc_core.proofs.LawLemmas.{has-there, premises-there}
 use Rattle.step_rules.proofs.Public.{framed_of-at, length-facts}

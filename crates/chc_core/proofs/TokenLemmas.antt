@@ -1,5 +1,5 @@
 -- What the tokens of a step stand for holds of the system that they were made for.
-use Rattle.std.proofs.Common.{◌≡◌, ℕ, ℤ, List, [], ◌∷◌, map, length, Bool, true, false, cond, not, ◌&&◌, Some, None, refl, ap, sym, ◌∙◌, subst}
+use Rattle.std.proofs.Common.{◌≡◌, ℤ, List, [], ◌∷◌, map, length, Bool, true, false, cond, not, ◌&&◌, Some, None, refl, ap, sym, ◌∙◌}
 use Rattle.std.specs.Prelude.{Option, is_some, option_map, slice_get}
 use Rattle.std.specs.List.{list_all}
 use Rattle.std.proofs.lemmas.Bool.{eqb-true}

@@ -1,8 +1,7 @@
-use Rattle.std.proofs.Common.{◌≡◌, ℕ, ◌<◌, ◌≤◌, List, Bool, true, false, ap, sym, ◌∙◌, subst}
+use Rattle.std.proofs.Common.{◌≡◌, ◌<◌, ◌≤◌, true, false, ap, sym, ◌∙◌, subst}
 use Rattle.std.specs.Prelude.{◌↔◌, option_map}
 use Rattle.std.specs.Bool.{IsTrue}
 use Rattle.lemma_frames.specs.Frames.{IsBare}
-use Rattle.lemma_frames.specs.declared.framed.Framed.{Framed as KeptLemma}
 use Rattle.book_rules.specs.declared.end.End.TheVariants.{Sat}
 use Rattle.book_rules.specs.Legal.{is_bare}
 use Rattle.step_rules.specs.Views.{lemmas_of}

@@ -1,6 +1,5 @@
 use Rattle.std.proofs.Common.{◌≡◌, ℕ, ◌+◌, ◌<◌, ◌≤◌, List, length, get_or, false, rules, ap, ap₂, sym, ◌∙◌, subst}
 use Rattle.obligation_tree.specs.Nodes.{leaf_numbers, node_at}
-use Rattle.obligation_tree.specs.declared.node.Node.{Node}
 use Rattle.step_rules.specs.Views.{facts_of}
 use Rattle.chc_core.specs.Contents.{Contents}
 use Rattle.chc_core.proofs.BookLemmas.{rooted}

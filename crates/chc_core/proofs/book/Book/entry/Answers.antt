@@ -1,4 +1,4 @@
-use Rattle.std.proofs.Common.{◌≤◌, length, arith, subst}
+use Rattle.std.proofs.Common.{arith, subst}
 use Rattle.chc_core.specs.machinery.Books.{IsBook}
 use Rattle.chc_core.proofs.MadeLemmas.{journal-room}
 use Rattle.chc_core.proofs.book.Book.entry.Goals as goal
