@@ -13,22 +13,26 @@ const VARIABLES: u32 = 3;
 /// Numbers that look random.
 #[derive(Drop)]
 struct Numbers {
-    state: u64,
+    state: i64,
 }
 
 impl Numbers {
-    /// The next number, below `n`.
-    fn below(&mut self, n: u64) -> u64 {
+    /// The next number, from 0 to `n - 1`.
+    fn below(&mut self, n: i64) -> i64 {
         self.state = self
             .state
             .wrapping_mul(6_364_136_223_846_793_005)
             .wrapping_add(1_442_695_040_888_963_407);
-        (self.state >> 33) % n
+        if n <= 0 {
+            return 0;
+        }
+        ((self.state >> 33) % n).wrapping_abs()
     }
 
     /// The next number, from -n to n.
-    fn around(&mut self, n: u64) -> i64 {
-        self.below(2 * n + 1) as i64 - n as i64
+    fn around(&mut self, n: i64) -> i64 {
+        self.below(n.wrapping_mul(2).wrapping_add(1))
+            .wrapping_sub(n)
     }
 }
 
@@ -46,7 +50,7 @@ fn form(alloc: Global, numbers: &mut Numbers) -> Result<Lin, Fail> {
 fn literal(alloc: Global, numbers: &mut Numbers) -> Result<Lit, Fail> {
     let kind = numbers.below(6);
     let lin = form(alloc, numbers)?;
-    let n = Divisor::new(numbers.below(4) as i64 + 2).ok_or("no divisor")?;
+    let n = Divisor::new(numbers.below(4).wrapping_add(2)).ok_or("no divisor")?;
     Ok(match kind {
         0 => Lit::Eq(lin),
         1 => Lit::Div(n, lin),
@@ -146,7 +150,7 @@ fn formulas_with_lemmas_are_decided(rt: HostRuntime) -> Result<(), Fail> {
         let mut lemmas = Vec::new(alloc);
         let mut parts = Items::new(alloc);
         parts.push(form.copy(alloc)?)?;
-        for _ in 0..numbers.below(4) + 1 {
+        for _ in 0..numbers.below(4).wrapping_add(1) {
             let lemma = if numbers.below(4) == 0 {
                 Form::Lit(literal(alloc, &mut numbers)?)
             } else {

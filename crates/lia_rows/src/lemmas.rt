@@ -53,8 +53,8 @@ fn bounds(alloc: Global) -> Result<Form, Fail> {
 
 /// x isn't n.
 fn other_than(alloc: Global, n: i128) -> Result<Form, Fail> {
-    let low = le(alloc, 1, 1 - n)?;
-    let high = le(alloc, -1, 1 + n)?;
+    let low = le(alloc, 1, 1i128.wrapping_sub(n))?;
+    let high = le(alloc, -1, 1i128.wrapping_add(n))?;
     Ok(Form::Or(Items::from_vec(vec![in alloc; low, high]?)))
 }
 
