@@ -3,6 +3,7 @@ pub mod CoordinateLemmas
 pub mod DefinitionLemmas
 pub mod EnteredLemmas
 pub mod ListLemmas
+pub mod PartLemmas
 pub mod PlainLemmas
 pub mod PointLemmas
 pub mod SortedLemmas

@@ -9,15 +9,13 @@ use Rattle.std.specs.List.{list_all}
 use Rattle.std.proofs.lemmas.Bool.{eqb-true}
 use Rattle.term_tree.specs.declared.sort.Sort.{Sort}
 use Rattle.term_tree.specs.declared.node.TermId.{TermId}
-use Rattle.term_tree.specs.declared.node.OpKind.{OpKind}
-use Rattle.term_tree.specs.declared.node.OpKind.TheVariants.{Not, And as AndOp, Or as OrOp, Implies, Xor, Eq, Distinct, Ite, Abs, Div, Mod}
+use Rattle.term_tree.specs.declared.node.OpKind.TheVariants.{Not, And as AndOp, Or as OrOp, Implies, Ite, Abs, Div, Mod}
 use Rattle.term_tree.specs.declared.node.Node.{Node}
-use Rattle.term_tree.specs.declared.node.Node.TheVariants.{Num, True, False, Var, LetVar, Pred, Op, Divisible, Let, Forall, Exists}
+use Rattle.term_tree.specs.declared.node.Node.TheVariants.{Pred, Op, Let, Forall, Exists}
 use Rattle.term_tree.specs.declared.scalar.Value.TheVariants.{Bool as Truth}
 use Rattle.term_tree.specs.Arena.{IsArena, has_parts_below}
 use Rattle.term_tree.specs.Legal.{Scope, next_variable, node_numbers, numbers_through, parameters, with_bound, with_variables}
-use Rattle.term_tree.specs.Subterms.{is_among, is_part}
-use Rattle.term_tree.proofs.Public.{arena_below, both_true, eqb_self, numbered_at}
+use Rattle.term_tree.proofs.Public.{arena_below, numbered_at}
 use Rattle.horn_shape.specs.Plain.{is_plain_term, node_is_plain}
 use Rattle.horn_shape.specs.Shape.{Content, Reading, arguments, at, atom_of, body_form, body_reading, both, clause_form, clause_reading, denial, disjunct_form, disjunct_reading, disjuncts, each, head_of, implication, is_application, quantified}
 use Rattle.horn_shape.specs.machinery.Gathering.{place_of}
@@ -29,8 +27,9 @@ use Rattle.horn_shape.proofs.ShapeLemmas.{body_mixed, clause_mixed, disjunct_mix
 use Rattle.linear_terms.specs.declared.standing.Spot.{Spot}
 use Rattle.linear_terms.specs.declared.standing.Standing.{Standing}
 use Rattle.linear_terms.specs.declared.standing.Standing.TheVariants.{Plain, Bit, Argument}
-use Rattle.linear_terms.specs.Text.{Sorting, are_truths, chosen, inner, is_unit, needs_one, operands, spot_as}
+use Rattle.linear_terms.specs.Text.{Sorting, inner, is_unit, needs_one, spot_as}
 use Rattle.clause_laws.proofs.EnteredLemmas.{IsEntered, IsIn, at_part, at_top, body_scope, in_both, part_scope, top_spot}
+use Rattle.clause_laws.proofs.PartLemmas.{id_same, mapped_among, one_spot, part_of_inner, plain_below}
 
 abbrev pub term_id : ℕ → TermId
 term_id k = record { 0 = k }
@@ -135,65 +134,6 @@ module _ (whole : List Sort) (n : ℕ) (sorts vars : List Sort) (scope : Scope) 
   next_more =
       let long = ahead.long in
       record { front = ahead.front ++ sorts; are = ahead.are ∙ sym (append_assoc ahead.front sorts vars); long = omega (arith, long, length-append ahead.front sorts) }
-
--- What parts in the text are.
-id_same : (a b : Spot) → a ≡ b → a.id ≡ b.id
-id_same a b same = ap (λ (s : Spot). s.id) same
-
-or_right : (x y : Bool) → y ≡ true → (x || y) ≡ true
-or_right true y h = refl
-or_right false y h = h
-
-mapped_among : (standing : Standing) (ids : List TermId) (part : Spot) → IsIn part (map (spot_as standing) ids) → is_among part.id ids ≡ true
-mapped_among standing [] part h = absurd h
-mapped_among standing (id ∷ ids) part (inl same) =
-    ap (λ (k : ℕ). is_among k (id ∷ ids)) (id_same part (spot_as standing id) same) ∙ ap (λ (b : Bool). b || is_among id.0 ids) (eqb_self id.0)
-mapped_among standing (id ∷ ids) part (inr later) = or_right (id.0 == part.id) (is_among part.id ids) (mapped_among standing ids part later)
-
-chosen_among : (ids : List TermId) (part : Spot) → IsIn part (chosen ids) → is_among part.id ids ≡ true
-chosen_among [] part h = absurd h
-chosen_among (id ∷ ids) part (inl same) = ap (λ (k : ℕ). is_among k (id ∷ ids)) (id_same part (spot_as Bit id) same) ∙ ap (λ (b : Bool). b || is_among id.0 ids) (eqb_self id.0)
-chosen_among (id ∷ ids) part (inr later) = or_right (id.0 == part.id) (is_among part.id ids) (mapped_among Plain ids part later)
-
-operand_among : (sorts : Sorting) (args : List TermId) (part : Spot) (op : OpKind) → IsIn part (operands sorts op args) → is_among part.id args ≡ true
-operand_among sorts args part Xor h = mapped_among Bit args part h
-operand_among sorts args part Eq h = mapped_among (if are_truths sorts args then Bit else Plain) args part h
-operand_among sorts args part Distinct h = mapped_among (if are_truths sorts args then Bit else Plain) args part h
-operand_among sorts args part Ite h = chosen_among args part h
-operand_among sorts args part _ h = mapped_among Plain args part h
-
-one_spot : (id : TermId) (part : Spot) → IsIn part (spot_as Plain id ∷ []) → part ≡ spot_as Plain id
-one_spot id part (inl same) = same
-one_spot id part (inr none) = absurd none
-
-pub part_of_inner : (sorts : Sorting) (node : Node) (part : Spot) → IsIn part (inner sorts node) → is_part part.id node ≡ true
-part_of_inner sorts (Pred pred args) part h = mapped_among Argument args part h
-part_of_inner sorts (Op op args) part h = operand_among sorts args part op h
-part_of_inner sorts (Divisible by arg) part h = ap (λ (k : ℕ). arg.0 == k) (id_same part (spot_as Plain arg) (one_spot arg part h)) ∙ eqb_self arg.0
-part_of_inner sorts (Let bound body) part h = elim (in_both part (map (spot_as Bit) bound) (spot_as Plain body ∷ []) h) [
-  | inl bit ↦ ap (λ (b : Bool). b || (body.0 == part.id)) (mapped_among Bit bound part bit)
-  | inr last ↦ or_right (is_among part.id bound) (body.0 == part.id) (ap (λ (k : ℕ). body.0 == k) (id_same part (spot_as Plain body) (one_spot body part last)) ∙ eqb_self body.0)
-]
-part_of_inner sorts (Forall first kinds body) part h = ap (λ (k : ℕ). body.0 == k) (id_same part (spot_as Plain body) (one_spot body part h)) ∙ eqb_self body.0
-part_of_inner sorts (Exists first kinds body) part h = ap (λ (k : ℕ). body.0 == k) (id_same part (spot_as Plain body) (one_spot body part h)) ∙ eqb_self body.0
-part_of_inner sorts (Num n) part h = absurd h
-part_of_inner sorts True part h = absurd h
-part_of_inner sorts False part h = absurd h
-part_of_inner sorts (Var binder sort) part h = absurd h
-part_of_inner sorts (LetVar bound) part h = absurd h
-
-plain_below : (f : ℕ → Bool) (node : Node) (part : ℕ) → node_is_plain f node ≡ true → is_part part node ≡ true → f part ≡ true
-plain_below f (LetVar bound) part plain has = ap f (sym (eqb-true bound.0 part has)) ∙ plain
-plain_below f (Op op args) part plain has = among_plain f part args plain has
-plain_below f (Divisible by arg) part plain has = ap f (sym (eqb-true arg.0 part has)) ∙ plain
-plain_below f (Let bound body) part plain has =
-    let both = both_true (list_all (λ a. f a.0) bound) (f body.0) plain in
-    by_test (is_among part bound) refl has both.0 both.1
-  where
-    by_test : (b : Bool) → is_among part bound ≡ b → (b || (body.0 == part)) ≡ true → list_all (λ a. f a.0) bound ≡ true → f body.0 ≡ true → f part ≡ true
-    by_test true among h all last = among_plain f part bound all among
-    by_test false none h all last = ap f (sym (eqb-true body.0 part h)) ∙ last
-plain_below f _ part plain has = absurd (cc)
 
 knows_let : (whole : List Sort) (standing : Standing) (bound : List TermId) (scope : Scope) → Knows whole scope → Knows whole (body_scope standing bound scope)
 knows_let whole Plain bound scope known = known

@@ -37,7 +37,8 @@ use Rattle.clause_laws.proofs.SpotLemmas.{inner_below, spots_at}
 use Rattle.term_widths.proofs.PositionLemmas.{position_is}
 use Rattle.clause_laws.proofs.SortedLemmas.{subterm_sorted}
 use Rattle.clause_laws.proofs.EnteredLemmas.{IsEntered, IsIn, at_part, at_top, bits_named, entered_scoped, got_position, in_flat, part_scope, part_there, subterm_entered, top_spot, units_named}
-use Rattle.clause_laws.proofs.StageLemmas.{IsRead, entered_read, part_of_inner, place_plain}
+use Rattle.clause_laws.proofs.PartLemmas.{part_of_inner}
+use Rattle.clause_laws.proofs.StageLemmas.{IsRead, entered_read, place_plain}
 
 -- a subterm of a subterm is one
 through : (nodes : List Node) (top mid id : ℕ) → IsSubterm nodes top mid → IsSubterm nodes mid id → IsSubterm nodes top id
