@@ -22,7 +22,7 @@ use term_formulas::{formula, joined, place_forms};
 use term_tree::{Sort, Terms};
 
 /// A conjunction of the parts; one part is itself, and none is true.
-pub(crate) fn conjunction(parts: Items<Form>) -> Form
+pub fn conjunction(parts: Items<Form>) -> Form
     ensures { result ≡ conjunction parts }
 {
     if parts.is_empty() {

@@ -9,6 +9,9 @@ mod reading;
 mod stop;
 mod tables;
 
-pub use making::normal;
+pub use guard::conjunction;
+pub use making::{assertion_of, auxiliaries, has_number, judged, made_own, names_of, normal};
+pub use naming::names_over;
 pub use reading::read_clauses;
 pub use stop::{ClauseStop, NormalStop};
+pub use tables::{Tables, tables_of};

@@ -48,7 +48,7 @@ fn is_too_large(clause: &HornClause, auxiliary: usize) -> bool
 
 /// That every number in the term has room, or the first of its terms of which one hasn't. The linear
 /// forms that are read are kept.
-pub(crate) fn judged(
+pub fn judged(
     alloc: Global,
     terms: &Terms,
     tables: &Tables,
@@ -101,7 +101,7 @@ pub(crate) fn made(
 }
 
 /// The assertion that the clause was made of.
-pub(crate) fn assertion_of(script: &Script, clause: &HornClause) -> Assertion
+pub fn assertion_of(script: &Script, clause: &HornClause) -> Assertion
     requires legal { IsLegalScript script.now }
     requires clause { IsClauseOf script.now clause.now.assertion clause.now }
     ensures is { slice_get script.now.asserts clause.now.assertion ≡ Some result }
@@ -112,14 +112,14 @@ pub(crate) fn assertion_of(script: &Script, clause: &HornClause) -> Assertion
 }
 
 /// That the number of a term has 32 bits, for a proof that needs it.
-pub(crate) fn has_number(id: TermId)
+pub fn has_number(id: TermId)
     ensures { id.0 < 2 ^ 32 }
 {
     let _number = id.0;
 }
 
 /// The terms of the assertion that have auxiliary variables.
-pub(crate) fn auxiliaries(
+pub fn auxiliaries(
     alloc: Global,
     script: &Script,
     tables: &Tables,
@@ -137,7 +137,7 @@ pub(crate) fn auxiliaries(
 }
 
 /// The names of the assertion's variables, where these are few.
-pub(crate) fn names_of(
+pub fn names_of(
     alloc: Global,
     script: &Script,
     clause: &HornClause,
@@ -201,7 +201,7 @@ fn judged_apart(
 }
 
 /// The normal clause of an assertion that has room and few variables.
-fn made_own(
+pub fn made_own(
     alloc: Global,
     script: &Script,
     tables: &Tables,

@@ -9,13 +9,13 @@ use term_tree::{Pred, Terms};
 /// What is told of every term once: its sort, and its value if it is a constant. It serves every
 /// assertion of a script.
 #[derive(Debug, Drop)]
-pub(crate) struct Tables {
-    pub(crate) sorts: SortTable,
-    pub(crate) constants: ConstantTable,
+pub struct Tables {
+    pub sorts: SortTable,
+    pub constants: ConstantTable,
 }
 
 /// Looks at every term once.
-pub(crate) fn tables_of(alloc: Global, preds: &[Pred], terms: &Terms) -> Result<Tables, Memory>
+pub fn tables_of(alloc: Global, preds: &[Pred], terms: &Terms) -> Result<Tables, Memory>
     ensures sorts { IfOk result (λ tables. AreSorts preds.now terms.now.nodes tables.sorts) }
     ensures constants { IfOk result (λ tables. AreConstants terms.now.nodes tables.constants) }
 {

@@ -20,6 +20,16 @@ root level = record { pred = None; level = level; cube = []; point = []; parent 
 abbrev pub fresh : Obligation → Node
 fresh obligation = record { obligation = obligation; closed_by = None; stalled = false }
 
+-- what a node has, for the specs of other crates
+abbrev pub obligation_in : Node → Obligation
+obligation_in node = node.obligation
+
+abbrev pub closed_in : Node → Option ℕ
+closed_in node = node.closed_by
+
+abbrev pub is_stalled_in : Node → Bool
+is_stalled_in node = node.stalled
+
 abbrev pub closed_with : ℕ → Node → Node
 closed_with entry node = record node { closed_by = Some entry }
 

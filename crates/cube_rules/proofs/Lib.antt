@@ -1,0 +1,10 @@
+pub mod TestLemmas
+pub mod FormLemmas
+pub mod ViewLemmas
+pub mod WalkLemmas
+pub mod LiteralLemmas
+pub mod GatherLemmas
+pub mod BoundLemmas
+pub mod PlacedLemmas
+pub mod AreaLemmas
+pub mod Public

@@ -1,0 +1,6 @@
+use Rattle.book_rules.proofs.Public.{cubes_equal}
+use Rattle.cube_rules.proofs.TestLemmas.{agree}
+use Rattle.cube_rules.proofs.same.same_lemma.Goals as goal
+
+pub returns : goal.returns
+returns c = agree _ _ _ c.equals.ensures (cubes_equal c.args.a.now c.args.b.now)
