@@ -1,0 +1,12 @@
+pub mod ViewLemmas
+pub mod WalkLemmas
+pub mod OnLemmas
+pub mod CubeLemmas
+pub mod FactLemmas
+pub mod LiveLemmas
+pub mod RootLemmas
+pub mod RaiseLemmas
+pub mod PlaceLemmas
+pub mod QueryLemmas
+pub mod AskLemmas
+pub mod Public

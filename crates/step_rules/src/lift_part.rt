@@ -1,0 +1,14 @@
+use base::Items;
+use chc_tokens::Shown;
+
+/// A Lift: a lemma goes one level higher.
+#[derive(Drop)]
+pub struct LiftPart {
+    /// The lemma's number.
+    pub lemma: u32,
+    /// Its level before.
+    pub from: u32,
+    /// For each clause with a head of the lemma's predicate, that the frame of that level on the
+    /// body implies it.
+    pub proofs: Items<Shown>,
+}

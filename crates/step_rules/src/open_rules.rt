@@ -1,0 +1,451 @@
+//! The rules of Open. Each answers what breaks it, if anything.
+
+ghost use Rattle.std.specs.Prelude.{◌≡◌, ◌&&◌, ◌||◌, ◌<◌, ◌≤◌, ◌-◌, nat_lt, length, slice_get, IfOk, if◌then◌else◌, option_map, Some, None, true};
+ghost use Rattle.book_rules.specs.declared.by.By.TheVariants.{Obligation as ByObligation, Step};
+ghost use Rattle.book_rules.specs.Instances.{body_at, head_at};
+ghost use Rattle.chc_tokens.specs.Kept.{seen_point};
+ghost use Rattle.base.specs.Limits.{most_arguments};
+ghost use Rattle.book_rules.specs.OpenRules.{atom_fits, clause_fits, clause_of, has_fact_in, is_cube, shut_out, rule_1, rule_2, rule_3, rule_4, rule_5, rule_6, rule_9, tuple_of, unknown, atom_of};
+ghost use Rattle.std.specs.List.{find, list_all};
+ghost use Rattle.lin_atoms.specs.Denial.{lit_fits};
+ghost use Rattle.book_rules.specs.Walks.{first_number, first_told, has, on};
+ghost use Rattle.step_rules.specs.machinery.Walks.{is_unknown, lies_in, lies_in_at};
+ghost use Rattle.step_rules.specs.machinery.Told.{low_told, misfit_told, shut_told, unheld_told, unknown_told};
+ghost use Rattle.step_rules.specs.Taken.{open_of};
+ghost use Rattle.cube_rules.specs.Views.{framed_at, lemmas_of};
+ghost use Rattle.step_rules.specs.Views.{conclusion_of, facts_of, fresh_of};
+ghost use Rattle.step_rules.specs.Standing.{state_of};
+ghost use Rattle.cube_forms.specs.Cubes.{cube_holds};
+ghost use Rattle.book_rules.specs.Same.{same_cube};
+ghost use Rattle.book_rules.specs.State.{holds, holds_of};
+ghost use Rattle.book_rules.specs.Areas.{is_wide, point_cube};
+ghost use Rattle.clause_form.specs.System.{is_clause};
+
+use crate::conclusions::holds;
+use crate::lent::Lent;
+use crate::levels::{below, unless_live};
+use crate::open_part::OpenPart;
+use base::Memory;
+use book_rules::By;
+use clause_form::{Atom, Clause};
+use cube_forms::Tuple;
+use cube_rules::{
+    atom_at, body_shut_out, have_room, head_at, is_area, is_head, is_wide, knows, point_cube,
+    projected_cube, same_cube,
+};
+use derivations::{Fact, Facts};
+use lemma_frames::Frames;
+use lin_atoms::Lit;
+use obligation_tree::Obligation;
+use std::alloc::Global;
+
+/// 1: the parent is live.
+pub(crate) fn rule_1(parts: &Lent, step: &OpenPart) -> Option<By>
+    ensures { result ≡ rule_1 (state_of parts.now) (open_of step.now) }
+{
+    unless_live(parts.tree, step.parent)
+}
+
+/// What is told of a parent by its level.
+fn told_of_level(step: &OpenPart, parent: &Obligation) -> Option<By>
+    ensures { result ≡ low_told (open_of step.now) (fresh_of parent.now) }
+{
+    if parent.level < 2 {
+        return Some(By::Obligation(step.parent));
+    }
+    None
+}
+
+/// 2: the parent's level is at least 2.
+pub(crate) fn rule_2(parts: &Lent, step: &OpenPart) -> Option<By>
+    ensures { result ≡ rule_2 (state_of parts.now) (open_of step.now) }
+{
+    if step.parent >= parts.tree.count() {
+        return None;
+    }
+    told_of_level(step, parts.tree.obligation(step.parent))
+}
+
+/// Whether the literals hold the tuple.
+fn all_hold(lits: &[Lit], tuple: &[i64]) -> bool
+    ensures { result ≡ cube_holds tuple.now lits.now }
+{
+    for lit in lits {
+        if !lit.holds(tuple) {
+            return false;
+        }
+    }
+    true
+}
+
+/// Whether the fact is of the predicate and lies in the cube.
+fn is_in(fact: &Fact, pred: u32, cube: &[Lit]) -> bool
+    ensures { result ≡ holds_of (Some pred) cube.now (conclusion_of fact.now.pred fact.now.tuple) }
+{
+    match fact.pred {
+        Some(of) => pred == of && all_hold(cube, fact.tuple.as_slice()),
+        None => false,
+    }
+}
+
+/// Whether there is a fact of that number, and it is.
+fn lies_in(facts: &Facts, pred: u32, cube: &[Lit], id: u32) -> bool
+    ensures { result ≡ lies_in_at facts.now pred cube.now id }
+{
+    if id >= facts.count() {
+        return false;
+    }
+    is_in(facts.fact(id), pred, cube)
+}
+
+/// The first of the numbers whose fact does.
+fn first_in(facts: &Facts, pred: u32, cube: &[Lit], numbers: &[u32]) -> Option<u32>
+    ensures { result ≡ find (lies_in_at facts.now pred cube.now) numbers.now }
+{
+    for id in numbers {
+        if lies_in(facts, pred, cube, *id) {
+            return Some(*id);
+        }
+    }
+    None
+}
+
+/// The first recorded fact of the predicate in the cube.
+fn fact_in(facts: &Facts, pred: u32, cube: &[Lit]) -> Option<u32>
+    ensures { result ≡ first_number (lies_in pred cube.now) (facts_of facts.now) }
+{
+    first_in(facts, pred, cube, facts.of(pred))
+}
+
+/// Whether a recorded fact of the predicate lies in the cube.
+fn has_fact_in(facts: &Facts, pred: u32, cube: &[Lit]) -> bool
+    ensures { result ≡ has_fact_in (facts_of facts.now) pred cube.now }
+{
+    fact_in(facts, pred, cube).is_some()
+}
+
+/// Whether the step's cube has these literals, in this order.
+fn is_same_cube(step: &OpenPart, lits: &[Lit]) -> bool
+    ensures { result ≡ same_cube step.now.cube lits.now }
+{
+    same_cube(step.cube.lits(), lits)
+}
+
+/// Tells that the literals of the step's cube have room.
+fn cube_has_room(step: &OpenPart)
+    ensures { list_all lit_fits step.now.cube ≡ true }
+{
+    have_room(step.cube.lits());
+}
+
+/// Whether the step's cube is the tuple's.
+fn is_point(alloc: Global, step: &OpenPart, tuple: &[i64]) -> Result<bool, Memory>
+    requires { length tuple.now ≤ most_arguments }
+    ensures { IfOk result (λ b. b ≡ same_cube step.now.cube (point_cube tuple.now)) }
+{
+    let point = point_cube(alloc, tuple)?;
+    Ok(is_same_cube(step, point.as_slice()))
+}
+
+/// Whether the step's cube is that of the atom's tuple.
+fn is_of_point(alloc: Global, step: &OpenPart, atom: &Atom) -> Result<bool, Memory>
+    requires { length atom.now.args ≤ most_arguments }
+    ensures { IfOk result (λ b. b ≡ same_cube step.now.cube (point_cube (tuple_of (open_of step.now) atom.now))) }
+{
+    let tuple = Tuple::at(alloc, step.seen.point(), atom.args.as_slice())?;
+    let is = is_point(alloc, step, tuple.as_slice())?;
+    Ok(is)
+}
+
+/// Whether the tuple's cube may stand for these literals: they hold a recorded fact, or are wide.
+fn may_be_point(parts: &Lent, pred: u32, lits: &[Lit]) -> bool
+    ensures { result ≡ (has_fact_in (facts_of parts.now.facts) pred lits.now || is_wide lits.now) }
+{
+    has_fact_in(parts.facts, pred, lits) || is_wide(lits)
+}
+
+/// Whether the step's cube has these literals, or is the atom's tuple where it may stand for them.
+fn is_cube_of(parts: &Lent, step: &OpenPart, atom: &Atom, lits: &[Lit]) -> Result<bool, Memory>
+    requires { length atom.now.args ≤ most_arguments }
+    ensures { IfOk result (λ b. b ≡ (same_cube step.now.cube lits.now || (same_cube step.now.cube (point_cube (tuple_of (open_of step.now) atom.now)) && (has_fact_in (facts_of parts.now.facts) atom.now.pred lits.now || is_wide lits.now)))) }
+{
+    if is_same_cube(step, lits) {
+        return Ok(true);
+    }
+    if !may_be_point(parts, atom.pred, lits) {
+        return Ok(false);
+    }
+    let is = is_of_point(parts.alloc, step, atom)?;
+    Ok(is)
+}
+
+/// Whether the step's cube is the area's over the atom's places, or the atom's tuple where that cube
+/// holds a recorded fact or is wide.
+fn is_cube(parts: &Lent, step: &OpenPart, atom: &Atom) -> Result<bool, Memory>
+    requires { length atom.now.args ≤ most_arguments }
+    ensures { IfOk result (λ b. b ≡ is_cube (state_of parts.now) (open_of step.now) atom.now) }
+{
+    match projected_cube(parts.alloc, atom, &step.area)? {
+        None => {
+            cube_has_room(step);
+            let is = is_of_point(parts.alloc, step, atom)?;
+            Ok(is)
+        }
+        Some(lits) => {
+            let is = is_cube_of(parts, step, atom, lits.as_slice())?;
+            Ok(is)
+        }
+    }
+}
+
+/// Whether the area is of this atom and the cube of both.
+fn atom_fits(
+    parts: &Lent,
+    step: &OpenPart,
+    parent: &Obligation,
+    clause: &Clause,
+    atom: &Atom,
+) -> Result<bool, Memory>
+    requires { length atom.now.args ≤ most_arguments }
+    ensures { IfOk result (λ b. b ≡ atom_fits (state_of parts.now) (open_of step.now) (fresh_of parent.now) clause.now atom.now) }
+{
+    let k = below(parent.level);
+    if !is_area(
+        parts.alloc,
+        &step.area,
+        step.seen.point(),
+        clause,
+        atom,
+        &parent.cube,
+        parts.frames,
+        k,
+    )? {
+        return Ok(false);
+    }
+    is_cube(parts, step, atom)
+}
+
+/// Whether the clause's head is of the parent's predicate, and the atom is there and fits.
+fn clause_fits(
+    parts: &Lent,
+    step: &OpenPart,
+    parent: &Obligation,
+    clause: &Clause,
+) -> Result<bool, Memory>
+    requires { is_clause parts.now.system.preds clause.now ≡ true }
+    ensures { IfOk result (λ b. b ≡ clause_fits (state_of parts.now) (open_of step.now) (fresh_of parent.now) clause.now) }
+{
+    if !is_head(parent.pred, &clause.head) {
+        return Ok(false);
+    }
+    match clause.atoms.as_slice().get(step.atom as usize) {
+        Some(atom) => atom_fits(parts, step, parent, clause, atom),
+        None => Ok(false),
+    }
+}
+
+/// What is told of a parent by rule 3.
+fn misfit(parts: &Lent, step: &OpenPart, parent: &Obligation) -> Result<Option<By>, Memory>
+    ensures { IfOk result (λ by. by ≡ misfit_told parts.now.system (state_of parts.now) (open_of step.now) (fresh_of parent.now)) }
+{
+    match parts.system.clauses().get(step.seen.clause() as usize) {
+        Some(clause) => {
+            if clause_fits(parts, step, parent, clause)? {
+                Ok(None)
+            } else {
+                Ok(Some(By::Step))
+            }
+        }
+        None => Ok(Some(By::Step)),
+    }
+}
+
+/// 3: the clause's head is of the parent's predicate, the atom is there, the area is of that atom,
+/// clause and parent, and the cube is of that area and atom.
+pub(crate) fn rule_3(parts: &Lent, step: &OpenPart) -> Result<Option<By>, Memory>
+    ensures { IfOk result (λ by. by ≡ rule_3 parts.now.system (state_of parts.now) (open_of step.now)) }
+{
+    if step.parent >= parts.tree.count() {
+        return Ok(None);
+    }
+    let by = misfit(parts, step, parts.tree.obligation(step.parent))?;
+    Ok(by)
+}
+
+/// Whether the parent holds the instance's head, and the step's cube the atom's tuple.
+fn is_held(
+    alloc: Global,
+    step: &OpenPart,
+    parent: &Obligation,
+    clause: &Clause,
+) -> Result<bool, Memory>
+    ensures { IfOk result (λ b. b ≡ (holds (fresh_of parent.now) (head_at (seen_point step.now.seen) clause.now) && has (slice_get clause.now.atoms step.now.atom) (λ atom. cube_holds (tuple_of (open_of step.now) atom) step.now.cube))) }
+{
+    let head = head_at(alloc, step.seen.point(), clause)?;
+    if !holds(parent, &head) {
+        return Ok(false);
+    }
+    match clause.atoms.as_slice().get(step.atom as usize) {
+        Some(atom) => {
+            let pair = atom_at(alloc, step.seen.point(), atom)?;
+            Ok(step.cube.holds(pair.1.as_slice()))
+        }
+        None => Ok(false),
+    }
+}
+
+/// What is told of a parent by rule 4.
+fn unheld(parts: &Lent, step: &OpenPart, parent: &Obligation) -> Result<Option<By>, Memory>
+    ensures { IfOk result (λ by. by ≡ unheld_told parts.now.system (open_of step.now) (fresh_of parent.now)) }
+{
+    match parts.system.clauses().get(step.seen.clause() as usize) {
+        Some(clause) => {
+            if is_held(parts.alloc, step, parent, clause)? {
+                Ok(None)
+            } else {
+                Ok(Some(By::Obligation(step.parent)))
+            }
+        }
+        None => Ok(Some(By::Obligation(step.parent))),
+    }
+}
+
+/// 4: the parent holds the instance's head, and the cube holds the atom's tuple.
+pub(crate) fn rule_4(parts: &Lent, step: &OpenPart) -> Result<Option<By>, Memory>
+    ensures { IfOk result (λ by. by ≡ rule_4 parts.now.system (state_of parts.now) (open_of step.now)) }
+{
+    if step.parent >= parts.tree.count() {
+        return Ok(None);
+    }
+    let by = unheld(parts, step, parts.tree.obligation(step.parent))?;
+    Ok(by)
+}
+
+/// What is told of a parent by rule 5.
+fn shut_below(parts: &Lent, step: &OpenPart, parent: &Obligation) -> Result<Option<By>, Memory>
+    ensures { IfOk result (λ by. by ≡ shut_told parts.now.system (state_of parts.now) (open_of step.now) (fresh_of parent.now)) }
+{
+    let k = below(parent.level);
+    match parts.system.clauses().get(step.seen.clause() as usize) {
+        Some(clause) => body_shut_out(parts.alloc, parts.frames, k, step.seen.point(), clause),
+        None => Ok(None),
+    }
+}
+
+/// 5: no lemma of the frame below the parent shuts a body tuple of the instance out.
+pub(crate) fn rule_5(parts: &Lent, step: &OpenPart) -> Result<Option<By>, Memory>
+    ensures { IfOk result (λ by. by ≡ rule_5 parts.now.system (state_of parts.now) (open_of step.now)) }
+{
+    if step.parent >= parts.tree.count() {
+        return Ok(None);
+    }
+    let by = shut_below(parts, step, parts.tree.obligation(step.parent))?;
+    Ok(by)
+}
+
+/// The step's atom, where it is there.
+pub(crate) fn atom_of<'a>(parts: &'a Lent, step: &OpenPart) -> Option<&'a Atom>
+    ensures { option_map (λ atom. atom.now) result ≡ atom_of parts.now.system (open_of step.now) }
+{
+    match parts.system.clauses().get(step.seen.clause() as usize) {
+        Some(clause) => clause.atoms.as_slice().get(step.atom as usize),
+        None => None,
+    }
+}
+
+/// 6: no recorded fact of the atom's predicate lies in the cube.
+pub(crate) fn rule_6(parts: &Lent, step: &OpenPart) -> Option<By>
+    ensures { result ≡ rule_6 parts.now.system (state_of parts.now) (open_of step.now) }
+{
+    match atom_of(parts, step) {
+        Some(atom) => {
+            match fact_in(parts.facts, atom.pred, step.cube.lits()) {
+                Some(id) => Some(By::Fact(id)),
+                None => None,
+            }
+        }
+        None => None,
+    }
+}
+
+/// Whether a lemma is of this level or more, on the atom's predicate, and the area doesn't know it
+/// on the atom.
+fn is_unknown(
+    alloc: Global,
+    frames: &Frames,
+    id: u32,
+    k: u32,
+    step: &OpenPart,
+    atom: &Atom,
+) -> Result<bool, Memory>
+    requires { id < length frames.now.lemmas }
+    ensures { IfOk result (λ b. b ≡ is_unknown k step.now.area atom.now (framed_at frames.now.lemmas id)) }
+{
+    if frames.level_of(id) < k || frames.pred_of(id) != atom.pred {
+        return Ok(false);
+    }
+    let known = knows(alloc, &step.area, atom, frames.lemma(id))?;
+    Ok(!known)
+}
+
+/// The first lemma of this level or more on the atom's predicate that the area doesn't know on it.
+fn unknown(
+    alloc: Global,
+    frames: &Frames,
+    k: u32,
+    step: &OpenPart,
+    atom: &Atom,
+) -> Result<Option<By>, Memory>
+    ensures { IfOk result (λ by. by ≡ unknown (lemmas_of frames.now.lemmas) k (open_of step.now) atom.now) }
+{
+    for id in 0..frames.count() {
+        let unknown = is_unknown(alloc, frames, id, k, step, atom)?;
+        if unknown {
+            return Ok(Some(By::Lemma(id)));
+        }
+    }
+    Ok(None)
+}
+
+/// The first such, of those of the first atom that has one.
+fn first_unknown(
+    alloc: Global,
+    frames: &Frames,
+    k: u32,
+    step: &OpenPart,
+    atoms: &[Atom],
+) -> Result<Option<By>, Memory>
+    ensures { IfOk result (λ by. by ≡ first_told (unknown (lemmas_of frames.now.lemmas) k (open_of step.now)) atoms.now) }
+{
+    for atom in atoms {
+        match unknown(alloc, frames, k, step, atom)? {
+            Some(by) => return Ok(Some(by)),
+            None => {}
+        }
+    }
+    Ok(None)
+}
+
+/// What is told of a parent by rule 9.
+fn unknown_below(parts: &Lent, step: &OpenPart, parent: &Obligation) -> Result<Option<By>, Memory>
+    ensures { IfOk result (λ by. by ≡ unknown_told parts.now.system (state_of parts.now) (open_of step.now) (fresh_of parent.now)) }
+{
+    let k = below(parent.level);
+    match parts.system.clauses().get(step.seen.clause() as usize) {
+        Some(clause) => {
+            first_unknown(parts.alloc, parts.frames, k, step, clause.atoms.as_slice())
+        }
+        None => Ok(None),
+    }
+}
+
+/// 9: on each body atom the area knows each lemma of the frame below the parent on its predicate.
+pub(crate) fn rule_9(parts: &Lent, step: &OpenPart) -> Result<Option<By>, Memory>
+    ensures { IfOk result (λ by. by ≡ rule_9 parts.now.system (state_of parts.now) (open_of step.now)) }
+{
+    if step.parent >= parts.tree.count() {
+        return Ok(None);
+    }
+    let by = unknown_below(parts, step, parts.tree.obligation(step.parent))?;
+    Ok(by)
+}
