@@ -1,0 +1,10 @@
+pub mod ClosingLemmas
+pub mod TokenLemmas
+pub mod BookLemmas
+pub mod ReaderLemmas
+pub mod EndLemmas
+pub mod MakingLemmas
+pub mod MadeLemmas
+pub mod AskLemmas
+pub mod LawLemmas
+pub mod Public
