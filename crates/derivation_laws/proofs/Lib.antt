@@ -1,0 +1,11 @@
+pub mod AtomLemmas
+pub mod DerivableLemmas
+pub mod ExampleLemmas
+pub mod FactLemmas
+pub mod HeightLemmas
+pub mod PlaceLemmas
+pub mod Public
+pub mod ReachLemmas
+pub mod StepLemmas
+pub mod SystemLemmas
+pub mod ValueLemmas
