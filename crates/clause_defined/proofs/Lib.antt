@@ -1,0 +1,7 @@
+mod AlikeLemmas
+mod ClassLemmas
+mod ClauseLemmas
+mod JudgeLemmas
+mod RoomLemmas
+mod UseLemmas
+mod WholeLemmas
