@@ -1,10 +1,9 @@
 //! Assertions as clauses: which are answered, and which refusal is told of the others, at which place
 //! and in which order.
 
-use crate::readings::check_table;
+use crate::readings::{check_run, check_table};
 use std::alloc::Global;
 use std::process::Abort;
-use std::test::Fail;
 
 /// Assertions that are no Horn clauses, or whose linear forms are too wide. Each case is what it shows, how its text begins, the rest of the text, and the refusal.
 const REFUSED: &str = "\
@@ -48,110 +47,98 @@ const ANSWERED: &str = "\
     a coefficient of 2^63 - 1§P§(assert (forall ((x Int)) (p (* 9223372036854775807 x))))(check-sat)§(define-fun p ((x0 Int)) Bool true)\n";
 
 #[test]
-fn assertions_that_are_no_clauses_are_refused_at_their_place(rt: HostRuntime) -> Result<(), Fail> {
-    assert_eq!(rt; check_table(&rt, rt.alloc(), REFUSED, 1)?, 12);
-    Ok(())
+fn assertions_that_are_no_clauses_are_refused_at_their_place(rt: HostRuntime) {
+    assert!(rt; check_table(&rt, rt.alloc(), REFUSED, 1) == 12);
 }
 
 #[test]
-fn the_first_command_that_is_refused_is_told(rt: HostRuntime) -> Result<(), Fail> {
-    assert_eq!(rt; check_table(&rt, rt.alloc(), ORDER, 1)?, 12);
-    Ok(())
+fn the_first_command_that_is_refused_is_told(rt: HostRuntime) {
+    assert!(rt; check_table(&rt, rt.alloc(), ORDER, 1) == 12);
 }
 
 #[test]
-fn clauses_with_heads_are_answered(rt: HostRuntime) -> Result<(), Fail> {
-    assert_eq!(rt; check_table(&rt, rt.alloc(), ANSWERED, 0)?, 8);
-    Ok(())
+fn clauses_with_heads_are_answered(rt: HostRuntime) {
+    assert!(rt; check_table(&rt, rt.alloc(), ANSWERED, 0) == 8);
+}
+
+/// A script that declares a predicate p over an integer, up to here.
+const BEGINS: &str = "(set-logic HORN)(declare-fun p (Int) Bool)";
+
+fn add(rt: &impl Abort, text: &mut String, part: &str) {
+    text.push_str(part).expect(rt, "memory");
+}
+
+fn add_variable(rt: &impl Abort, alloc: Global, text: &mut String, number: usize) {
+    let part = format!(in alloc; "(x{number} Int)").expect(rt, "memory");
+    add(rt, text, part.as_str());
 }
 
 /// What stands in front of so many variables and behind them.
-fn quantified(alloc: Global, variables: usize, body: &str) -> Result<String, Fail> {
-    let mut text = String::from_str(alloc, "P§(assert (forall (")?;
-    for i in 0..variables {
-        let one = format!(in alloc; "(x{i} Int)")?;
-        text.push_str(one.as_str())?;
+fn quantified(rt: &impl Abort, alloc: Global, variables: usize, body: &str) -> String {
+    let mut text = String::from_str(alloc, BEGINS).expect(rt, "memory");
+    add(rt, &mut text, "(assert (forall (");
+    for number in 0..variables {
+        add_variable(rt, alloc, &mut text, number);
     }
-    text.push_str(") ")?;
-    text.push_str(body)?;
-    text.push_str("))(check-sat)")?;
-    Ok(text)
+    add(rt, &mut text, ") ");
+    add(rt, &mut text, body);
+    add(rt, &mut text, "))(check-sat)");
+    text
 }
 
 /// An implication of so many parts, each of which is this one.
-fn implied(alloc: Global, count: usize, part: &str) -> Result<String, Fail> {
-    let mut text = String::from_str(alloc, "P§(assert (forall ((x Int)) (=> (and true")?;
+fn implied(rt: &impl Abort, alloc: Global, count: usize, part: &str) -> String {
+    let mut text = String::from_str(alloc, BEGINS).expect(rt, "memory");
+    add(rt, &mut text, "(assert (forall ((x Int)) (=> (and true");
     for _ in 0..count {
-        text.push_str(part)?;
+        add(rt, &mut text, part);
     }
-    text.push_str(") (p x))))(check-sat)")?;
-    Ok(text)
+    add(rt, &mut text, ") (p x))))(check-sat)");
+    text
 }
 
-/// Checks one text by its status and what is told.
-fn check_one(
-    rt: &impl Abort,
-    alloc: Global,
-    shows: &str,
-    text: &str,
-    status: u8,
-    told: &str,
-) -> Result<(), Fail> {
-    let case = format!(in alloc; "{shows}§{text}§{told}")?;
-    assert_eq!(rt; check_table(rt, alloc, case.as_str(), status)?, 1);
-    Ok(())
-}
-
-const TRUE: &str = "(define-fun p ((x0 Int)) Bool true)\n";
-
-const COUNT: &str = "kind 17 Count at byte 42 after 2 commands";
-
-#[test]
-fn a_clause_has_at_most_1024_variables_of_its_own(rt: HostRuntime) -> Result<(), Fail> {
-    let a = rt.alloc();
-    let most = quantified(a, 1024, "(p 0)")?;
-    check_one(&rt, a, "1,024 variables", most.as_str(), 0, TRUE)?;
-    let over = quantified(a, 1025, "(p 0)")?;
-    check_one(&rt, a, "1,025 variables", over.as_str(), 1, COUNT)?;
-    let query = quantified(a, 1025, "(not (p 0))")?;
-    check_one(
-        &rt,
-        a,
-        "a query of 1,025 variables",
-        query.as_str(),
-        1,
-        COUNT,
-    )
+/// Asserts that a text is answered, or refused for its number of variables or atoms.
+fn check_count(rt: &impl Abort, alloc: Global, shows: &str, text: String, answered: bool) {
+    if answered {
+        let told = "(define-fun p ((x0 Int)) Bool true)\n";
+        check_run(rt, alloc, shows, text.as_str(), 0, told);
+    } else {
+        let told = "kind 17 Count at byte 42 after 2 commands";
+        check_run(rt, alloc, shows, text.as_str(), 1, told);
+    }
 }
 
 #[test]
-fn a_clause_has_at_most_64_body_atoms(rt: HostRuntime) -> Result<(), Fail> {
-    let a = rt.alloc();
-    let most = implied(a, 64, " (p x)")?;
-    check_one(&rt, a, "64 body atoms", most.as_str(), 0, TRUE)?;
-    let over = implied(a, 65, " (p x)")?;
-    check_one(&rt, a, "65 body atoms", over.as_str(), 1, COUNT)
+fn a_clause_has_at_most_1024_variables_of_its_own(rt: HostRuntime) {
+    for (shows, variables, body, answered) in [
+        ("1,024 variables", 1024, "(p 0)", true),
+        ("1,025 variables", 1025, "(p 0)", false),
+        ("a query of 1,025 variables", 1025, "(not (p 0))", false),
+    ] {
+        let text = quantified(&rt, rt.alloc(), variables, body);
+        check_count(&rt, rt.alloc(), shows, text, answered);
+    }
 }
 
 #[test]
-fn a_clause_has_at_most_2048_variables_in_all(rt: HostRuntime) -> Result<(), Fail> {
-    let a = rt.alloc();
-    let most = implied(a, 2047, " (< (abs x) 9)")?;
-    check_one(
-        &rt,
-        a,
-        "2,048 variables with auxiliary ones",
-        most.as_str(),
-        0,
-        TRUE,
-    )?;
-    let over = implied(a, 2048, " (< (abs x) 9)")?;
-    check_one(
-        &rt,
-        a,
-        "2,049 variables with auxiliary ones",
-        over.as_str(),
-        1,
-        COUNT,
-    )
+fn a_clause_has_at_most_64_body_atoms_and_2048_variables_in_all(rt: HostRuntime) {
+    for (shows, count, part, answered) in [
+        ("64 body atoms", 64, " (p x)", true),
+        ("65 body atoms", 65, " (p x)", false),
+        (
+            "2,048 variables with auxiliary ones",
+            2047,
+            " (< (abs x) 9)",
+            true,
+        ),
+        (
+            "2,049 variables with auxiliary ones",
+            2048,
+            " (< (abs x) 9)",
+            false,
+        ),
+    ] {
+        let text = implied(&rt, rt.alloc(), count, part);
+        check_count(&rt, rt.alloc(), shows, text, answered);
+    }
 }

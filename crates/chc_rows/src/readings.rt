@@ -1,10 +1,10 @@
 //! One text for each rule of the language of scripts that stands nowhere else here: what a reader
 //! of the rules could take in another way, most of all.
 
-use crate::runs::run;
+use crate::cases::four;
+use crate::runs::{check_ran, run};
 use std::alloc::Global;
 use std::process::Abort;
-use std::test::Fail;
 
 /// Bytes and tokens. Each case is what it shows, how its text begins, the rest of the text, and the refusal.
 const BYTES: &str = "\
@@ -147,70 +147,57 @@ fn beginning(name: &str) -> &str {
     }
 }
 
-/// Runs a text, and asserts its status and its output.
-fn check_run(
-    rt: &impl Abort,
-    alloc: Global,
-    shows: &str,
-    text: &str,
-    status: u8,
-    expected: &str,
-) -> Result<(), Fail> {
-    let run = run(alloc, &["solve"], text.as_bytes())?;
-    assert_eq!(rt; run.report.status, status, "status of {shows}");
-    assert_eq!(rt;
-        run.held.as_slice(),
-        expected.as_bytes(),
-        "output of {shows}"
-    );
-    Ok(())
+/// A case's text.
+fn text_of(rt: &impl Abort, alloc: Global, begins: &str, rest: &str) -> String {
+    let start = beginning(begins);
+    format!(in alloc; "{start}{rest}").expect(rt, "memory")
+}
+
+/// The output of that status with what is told.
+fn output_of(rt: &impl Abort, alloc: Global, status: u8, told: &str) -> String {
+    if status == 0 {
+        format!(in alloc; "sat\n(\n{told})\n").expect(rt, "memory")
+    } else {
+        format!(in alloc; "(error \"{told}\")\n").expect(rt, "memory")
+    }
+}
+
+/// Runs a text, and asserts its status and what is told.
+pub fn check_run(rt: &impl Abort, alloc: Global, shows: &str, text: &str, status: u8, told: &str) {
+    let run = run(rt, alloc, &["solve"], text.as_bytes());
+    let expected = output_of(rt, alloc, status, told);
+    check_ran(rt, shows, &run, status, expected.as_bytes());
 }
 
 /// Checks each case of a table by its status and what is told, and answers how many there are.
-pub fn check_table(rt: &impl Abort, alloc: Global, table: &str, status: u8) -> Result<usize, Fail> {
+pub fn check_table(rt: &impl Abort, alloc: Global, table: &str, status: u8) -> usize {
     let mut tried: usize = 0;
     for case in table.split('¶') {
-        let mut parts = case.split('§');
-        let (Some(shows), Some(begins), Some(rest), Some(told)) = (
-            parts.next(),
-            parts.next(),
-            parts.next(),
-            parts.next(),
-        ) else {
-            break;
-        };
-        let text = format!(in alloc; "{}{rest}", beginning(begins))?;
-        let expected = if status == 0 {
-            format!(in alloc; "sat\n(\n{told})\n")?
-        } else {
-            format!(in alloc; "(error \"{told}\")\n")?
-        };
-        check_run(rt, alloc, shows, text.as_str(), status, expected.as_str())?;
-        tried = tried.saturating_add(1);
+        if let Some((shows, begins, rest, told)) = four(case) {
+            let text = text_of(rt, alloc, begins, rest);
+            check_run(rt, alloc, shows, text.as_str(), status, told);
+            tried = tried.saturating_add(1);
+        }
     }
-    Ok(tried)
+    tried
 }
 
 #[test]
-fn bytes_and_tokens_are_read_by_their_rules(rt: HostRuntime) -> Result<(), Fail> {
-    assert_eq!(rt; check_table(&rt, rt.alloc(), BYTES, 1)?, 14);
-    Ok(())
+fn bytes_and_tokens_are_read_by_their_rules(rt: HostRuntime) {
+    assert!(rt; check_table(&rt, rt.alloc(), BYTES, 1) == 14);
 }
 
 #[test]
-fn commands_are_read_by_their_rules(rt: HostRuntime) -> Result<(), Fail> {
-    assert_eq!(rt; check_table(&rt, rt.alloc(), COMMANDS, 1)?, 21);
-    Ok(())
+fn commands_are_read_by_their_rules(rt: HostRuntime) {
+    assert!(rt; check_table(&rt, rt.alloc(), COMMANDS, 1) == 21);
 }
 
 #[test]
-fn terms_are_read_by_their_rules(rt: HostRuntime) -> Result<(), Fail> {
-    assert_eq!(rt; check_table(&rt, rt.alloc(), TERMS, 1)?, 69);
-    Ok(())
+fn terms_are_read_by_their_rules(rt: HostRuntime) {
+    assert!(rt; check_table(&rt, rt.alloc(), TERMS, 1) == 69);
 }
 
 #[test]
-fn what_looks_wrong_and_is_legal_is_answered(rt: HostRuntime) -> Result<(), Fail> {
-    assert_eq!(rt; check_table(&rt, rt.alloc(), LEGAL, 0)?, 14);
-    Ok(())
+fn what_looks_wrong_and_is_legal_is_answered(rt: HostRuntime) {
+    assert!(rt; check_table(&rt, rt.alloc(), LEGAL, 0) == 14);
 }

@@ -1,7 +1,7 @@
-use crate::runs::run;
+use crate::cases::three;
+use crate::runs::{check_ran, run};
 use std::alloc::Global;
 use std::process::Abort;
-use std::test::Fail;
 
 /// What a case shows, its script, and the definitions of its answer.
 const SAT: &str = "\
@@ -21,41 +21,25 @@ const SAT: &str = "\
     a head under quantifiers inside one another§(set-logic HORN)(declare-fun p (Int) Bool)(assert (forall ((x Int)) (forall ((x Int) (y Bool)) (=> y (p x)))))(check-sat)§(define-fun p ((x0 Int)) Bool true)\n";
 
 /// Runs a script, and asserts that it is answered with these definitions.
-fn check_sat(
-    rt: &impl Abort,
-    alloc: Global,
-    shows: &str,
-    script: &str,
-    definitions: &str,
-) -> Result<(), Fail> {
-    let run = run(alloc, &["solve"], script.as_bytes())?;
-    let answer = format!(in alloc; "sat\n(\n{definitions})\n")?;
-    assert_eq!(rt; run.report.status, 0, "status of {shows}");
-    assert_eq!(rt; run.held.as_slice(), answer.as_bytes(), "output of {shows}");
-    assert_eq!(rt;
-        run.report.read.as_slice(),
-        script.as_bytes(),
+fn check_sat(rt: &impl Abort, alloc: Global, shows: &str, script: &str, definitions: &str) {
+    let run = run(rt, alloc, &["solve"], script.as_bytes());
+    let answer = format!(in alloc; "sat\n(\n{definitions})\n").expect(rt, "memory");
+    check_ran(rt, shows, &run, 0, answer.as_bytes());
+    assert!(rt;
+        run.report.read.as_slice() == script.as_bytes(),
         "bytes read of {shows}"
     );
     assert!(rt; run.report.refusal.is_none(), "refusal of {shows}");
-    Ok(())
 }
 
 #[test]
-fn scripts_whose_assertions_have_heads_are_sat_with_true(rt: HostRuntime) -> Result<(), Fail> {
+fn scripts_whose_assertions_have_heads_are_sat_with_true(rt: HostRuntime) {
     let mut tried: usize = 0;
     for case in SAT.split('¶') {
-        let mut parts = case.split('§');
-        let (Some(shows), Some(script), Some(definitions)) = (
-            parts.next(),
-            parts.next(),
-            parts.next(),
-        ) else {
-            break;
-        };
-        check_sat(&rt, rt.alloc(), shows, script, definitions)?;
-        tried = tried.saturating_add(1);
+        if let Some((shows, script, definitions)) = three(case) {
+            check_sat(&rt, rt.alloc(), shows, script, definitions);
+            tried = tried.saturating_add(1);
+        }
     }
-    assert_eq!(rt; tried, 14);
-    Ok(())
+    assert!(rt; tried == 14);
 }

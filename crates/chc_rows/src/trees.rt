@@ -2,11 +2,11 @@
 
 ghost use Rattle.std.specs.Prelude.{◌<◌, ◌^◌, length};
 
-use base::Memory;
+use crate::cases::three;
 use sexp_read::read_commands;
 use sort_check::check_script;
 use std::alloc::Global;
-use std::test::Fail;
+use std::process::Abort;
 
 /// What a case shows, its text, how many predicates and assertions its legal commands have, and the refusal.
 const TEXTS: &str = "\
@@ -17,39 +17,39 @@ const TEXTS: &str = "\
     no question§(set-logic HORN)§0 0 kind 18 at byte 16 after 1 commands";
 
 /// How many predicates and assertions the text has, and its refusal.
-fn told(alloc: Global, text: &[u8]) -> Result<String, Memory>
+fn told(rt: &impl Abort, alloc: Global, text: &[u8]) -> String
     requires { length text.now < 2 ^ 32 }
 {
-    let trees = read_commands(alloc, text)?;
-    let checked = check_script(alloc, text, &trees)?;
+    let trees = read_commands(alloc, text).expect(rt, "memory");
+    let checked = check_script(alloc, text, &trees).expect(rt, "memory");
     let preds = checked.script.preds.len();
     let asserts = checked.script.asserts.len();
-    match checked.stop {
-        None => Ok(format!(in alloc; "{preds} {asserts}")?),
+    match &checked.stop {
+        None => format!(in alloc; "{preds} {asserts}").expect(rt, "memory"),
         Some(refusal) => {
             let (kind, offset, command) = (refusal.kind.number(), refusal.offset, refusal.command);
-            Ok(format!(in alloc;
+            let told = format!(in alloc;
                 "{preds} {asserts} kind {kind} at byte {offset} after {command} commands"
-            )?)
+            );
+            told.expect(rt, "memory")
         }
     }
 }
 
+fn check(rt: &impl Abort, alloc: Global, shows: &str, text: &[u8], expected: &str) {
+    assert!(rt; text.len() < 1000, "{shows}");
+    let found = told(rt, alloc, text);
+    assert_eq!(rt; found.as_str(), expected, "{shows}");
+}
+
 #[test]
-fn trees_are_checked_as_their_text_is(rt: HostRuntime) -> Result<(), Fail> {
+fn trees_are_checked_as_their_text_is(rt: HostRuntime) {
     let mut tried: usize = 0;
     for case in TEXTS.split('¶') {
-        let mut parts = case.split('§');
-        let (Some(shows), Some(text), Some(expected)) = (parts.next(), parts.next(), parts.next())
-        else {
-            break;
-        };
-        let bytes = text.as_bytes();
-        assert!(rt; bytes.len() < 1000, "{shows}");
-        let found = told(rt.alloc(), bytes)?;
-        assert_eq!(rt; found.as_str(), expected, "{shows}");
-        tried = tried.saturating_add(1);
+        if let Some((shows, text, expected)) = three(case) {
+            check(&rt, rt.alloc(), shows, text.as_bytes(), expected);
+            tried = tried.saturating_add(1);
+        }
     }
-    assert_eq!(rt; tried, 5);
-    Ok(())
+    assert!(rt; tried == 5);
 }

@@ -1,29 +1,31 @@
-use crate::runs::run;
+use crate::runs::{check_ran, run};
 use std::alloc::Global;
 use std::process::Abort;
-use std::test::Fail;
+
+const USAGE: &str =
+    "usage: chc solve [--workers N] [--units N] [--nodes N] | check [--nodes N] | gen --depth N --seed N\n";
 
 /// Runs the words, and asserts that they are no command.
-fn check_usage(rt: &impl Abort, alloc: Global, words: &[&str]) -> Result<(), Fail> {
-    let usage =
-        b"usage: chc solve [--workers N] [--units N] [--nodes N] | check [--nodes N] | gen --depth N --seed N\n".as_slice();
-    let run = run(alloc, words, b"(set-logic HORN)(check-sat)")?;
-    assert_eq!(rt; run.report.status, 2, "status of {words:?}");
-    assert_eq!(rt; run.held.as_slice(), usage, "output of {words:?}");
+fn check_usage(rt: &impl Abort, alloc: Global, shows: &str, words: &[&str]) {
+    let run = run(rt, alloc, words, b"(set-logic HORN)(check-sat)");
+    check_ran(rt, shows, &run, 2, USAGE.as_bytes());
     assert!(rt;
         run.report.read.is_empty(),
-        "{words:?} are answered without reading"
+        "{shows} is answered without reading"
     );
-    assert!(rt; run.report.refusal.is_none(), "{words:?} refuse no script");
-    Ok(())
+    assert!(rt; run.report.refusal.is_none(), "{shows} refuses no script");
 }
 
 #[test]
-fn other_words_are_answered_with_the_usage_line(rt: HostRuntime) -> Result<(), Fail> {
-    check_usage(&rt, rt.alloc(), &[])?;
-    check_usage(&rt, rt.alloc(), &["solve", "--workers", "65"])?;
-    check_usage(&rt, rt.alloc(), &["check"])?;
-    check_usage(&rt, rt.alloc(), &["solv"])?;
-    check_usage(&rt, rt.alloc(), &["solve", ""])?;
-    Ok(())
+fn other_words_are_answered_with_the_usage_line(rt: HostRuntime) {
+    check_usage(&rt, rt.alloc(), "nothing", &[]);
+    check_usage(
+        &rt,
+        rt.alloc(),
+        "solve --workers 65",
+        &["solve", "--workers", "65"],
+    );
+    check_usage(&rt, rt.alloc(), "check", &["check"]);
+    check_usage(&rt, rt.alloc(), "solv", &["solv"]);
+    check_usage(&rt, rt.alloc(), "solve and an empty word", &["solve", ""]);
 }

@@ -8,7 +8,17 @@ mod guards;
 #[cfg(test)]
 mod limits;
 #[cfg(test)]
+mod misfits;
+#[cfg(test)]
+mod orders;
+#[cfg(test)]
+mod parts;
+#[cfg(test)]
+mod points;
+#[cfg(test)]
 mod shapes;
+#[cfg(test)]
+mod small;
 #[cfg(test)]
 mod texts;
 #[cfg(test)]

@@ -1,6 +1,6 @@
 //! Scripts from their texts.
 
-ghost use Rattle.std.specs.Prelude.{◌<◌, ◌^◌, length, IfOk, IfSome};
+ghost use Rattle.std.specs.Prelude.{◌<◌, ◌^◌, length, IfOk};
 ghost use Rattle.horn_shape.specs.Clause.{IsLegalScript};
 
 use base::Memory;
@@ -8,6 +8,7 @@ use clause_form::{Clause, System};
 use clause_normal::{ClauseStop, read_clauses};
 use sort_check::{assertions_are_legal, check_text, scripts_are_within_limits};
 use std::alloc::Global;
+use std::process::Abort;
 use term_tree::Checked;
 
 /// What a text begins with: the logic, and predicates p over an integer, q without arguments and r
@@ -27,67 +28,67 @@ pub fn checked(alloc: Global, text: &[u8]) -> Result<Checked, Memory>
     Ok(checked)
 }
 
+/// What is told of a refusal.
+fn refused(rt: &impl Abort, alloc: Global, kind: u8, offset: u64, command: u32) -> String {
+    let told = format!(in alloc; "kind {kind} at byte {offset} after {command} commands");
+    told.expect(rt, "memory")
+}
+
 /// What the clauses of a text look like, or its refusal.
-fn told(alloc: Global, text: &[u8]) -> Result<String, Memory>
+fn told(rt: &impl Abort, alloc: Global, text: &[u8]) -> String
     requires { length text.now < 2 ^ 32 }
 {
-    let checked = checked(alloc, text)?;
+    let checked = checked(alloc, text).expect(rt, "memory");
     match read_clauses(alloc, &checked) {
-        Ok(system) => all_told(alloc, &system),
-        Err(ClauseStop::Memory) => Err(Memory),
+        Ok(system) => all_told(rt, alloc, &system),
+        Err(ClauseStop::Memory) => rt.panic("memory"),
         Err(ClauseStop::Refused(refusal)) => {
-            let (kind, offset, command) = (refusal.kind.number(), refusal.offset, refusal.command);
-            Ok(format!(in alloc; "kind {kind} at byte {offset} after {command} commands")?)
+            let kind = refusal.kind.number();
+            refused(rt, alloc, kind, refusal.offset, refusal.command)
         }
     }
 }
 
 /// How many variables of its own the clause has, how many in all, how many body atoms, and what it
 /// ends in.
-fn clause_told(alloc: Global, clause: &Clause) -> Result<String, Memory> {
+fn clause_told(rt: &impl Abort, alloc: Global, clause: &Clause) -> String {
     let (user, all, atoms) = (clause.user, clause.sorts.len(), clause.atoms.len());
     let ends = if clause.head.is_some() {
         "head"
     } else {
         "false"
     };
-    Ok(format!(in alloc; "{user} {all} {atoms} {ends};")?)
+    format!(in alloc; "{user} {all} {atoms} {ends};").expect(rt, "memory")
 }
 
-fn all_told(alloc: Global, system: &System) -> Result<String, Memory> {
+fn all_told(rt: &impl Abort, alloc: Global, system: &System) -> String {
     let mut all = String::new(alloc);
     for clause in system.clauses() {
-        let one = clause_told(alloc, clause)?;
-        all.push_str(one.as_str())?;
+        let one = clause_told(rt, alloc, clause);
+        all.push_str(one.as_str()).expect(rt, "memory");
     }
-    Ok(all)
+    all
 }
 
 /// The text with its beginning and the question.
-fn whole(alloc: Global, rest: &str) -> Result<String, Memory> {
-    Ok(format!(in alloc; "{BEGINS}{rest}(check-sat)")?)
+fn whole(rt: &impl Abort, alloc: Global, rest: &str) -> String {
+    format!(in alloc; "{BEGINS}{rest}(check-sat)").expect(rt, "memory")
 }
 
-/// Whether that is told of the text behind the beginning.
-pub fn tells(alloc: Global, rest: &str, awaited: &str) -> Result<bool, Memory> {
-    let text = whole(alloc, rest)?;
-    let bytes = text.as_bytes();
-    if bytes.len() >= 1 << 24 {
-        return Ok(false);
-    }
-    let found = told(alloc, bytes)?;
-    Ok(found.as_str() == awaited)
+/// Asserts what is told of the text behind the beginning.
+pub fn check(rt: &impl Abort, alloc: Global, shows: &str, rest: &str, awaited: &str) {
+    let text = whole(rt, alloc, rest);
+    assert!(rt; text.len() < 1 << 24, "{shows}");
+    let found = told(rt, alloc, text.as_bytes());
+    assert_eq!(rt; found.as_str(), awaited, "{shows}");
 }
 
-/// The script of the text behind the beginning; nothing of one that is too long.
-pub fn script_of(alloc: Global, rest: &str) -> Result<Option<Checked>, Memory>
-    ensures { IfOk result (λ checked. IfSome checked (λ c. IsLegalScript c.script)) }
+/// The script of the text behind the beginning.
+pub fn script_of(rt: &impl Abort, alloc: Global, rest: &str) -> Checked
+    ensures { IsLegalScript result.script }
 {
-    let text = whole(alloc, rest)?;
+    let text = whole(rt, alloc, rest);
     let bytes = text.as_bytes();
-    if bytes.len() >= 1 << 24 {
-        return Ok(None);
-    }
-    let checked = checked(alloc, bytes)?;
-    Ok(Some(checked))
+    assert!(rt; bytes.len() < 1 << 24);
+    checked(alloc, bytes).expect(rt, "memory")
 }

@@ -3,15 +3,13 @@
 //! have the values of their terms.
 
 use crate::texts::script_of;
-use base::Memory;
-use clause_form::{Atom, Clause};
-use clause_normal::{ClauseStop, read_clauses};
+use clause_form::{Atom, Clause, System};
+use clause_normal::read_clauses;
 use horn_shape::{AtomUse, HornClause, HornStop, clause_of, has_assertion};
 use lin_atoms::{Form, holds};
 use std::alloc::Global;
 use std::process::Abort;
-use std::test::Fail;
-use term_tree::{Script, Sort, TermId, Value, ValueStop, value};
+use term_tree::{Checked, Script, Sort, TermId, Value, ValueStop, value};
 
 /// What a case shows, and an assertion over two variables with two auxiliary ones at most.
 const CASES: &str = "\
@@ -35,6 +33,12 @@ const CASES: &str = "\
 /// The values of two variables and of two more.
 type Point = [i64; 4];
 
+/// Whether the guard is true at the point, whose auxiliary variables past so many are 0.
+fn is_extension(guard: &Form, point: Point, auxiliary: usize) -> bool {
+    let unused = (auxiliary < 1 && point[2] != 0) || (auxiliary < 2 && point[3] != 0);
+    !unused && holds(guard, point.as_slice())
+}
+
 /// How many extensions make the guard true, by values from -12 to 12 of so many auxiliary variables,
 /// and the last of them.
 fn extensions(guard: &Form, x: i64, y: i64, auxiliary: usize) -> (u32, Point) {
@@ -42,9 +46,8 @@ fn extensions(guard: &Form, x: i64, y: i64, auxiliary: usize) -> (u32, Point) {
     let mut last: Point = [x, y, 0, 0];
     for a in -12..13 {
         for b in -12..13 {
-            let unused = (auxiliary < 1 && a != 0) || (auxiliary < 2 && b != 0);
             let point: Point = [x, y, a, b];
-            if !unused && holds(guard, point.as_slice()) {
+            if is_extension(guard, point, auxiliary) {
                 count = count.saturating_add(1);
                 last = point;
             }
@@ -78,40 +81,43 @@ fn environment(sorts: &[Sort], x: i64, y: i64) -> Option<[Value; 2]> {
 
 /// The value of a term, a truth value as 0 or 1; `None` where there is none here.
 fn number_at(
+    rt: &impl Abort,
     alloc: Global,
     script: &Script,
     id: TermId,
     env: &[Value],
-) -> Result<Option<i128>, Memory> {
+) -> Option<i128> {
     if id.0 as usize >= script.terms.len() {
-        return Ok(None);
+        return None;
     }
     match value(alloc, &script.terms, id, env) {
-        Ok(Value::Int(n)) => Ok(Some(n)),
-        Ok(Value::Bool(b)) => Ok(Some(i128::from(b))),
-        Err(ValueStop::ValueWide { .. }) => Ok(None),
-        Err(ValueStop::Memory) => Err(Memory),
+        Ok(Value::Int(n)) => Some(n),
+        Ok(Value::Bool(b)) => Some(i128::from(b)),
+        Err(ValueStop::ValueWide { .. }) => None,
+        Err(ValueStop::Memory) => rt.panic("memory"),
     }
 }
 
 /// Whether all guards are as the clause says.
 fn are_met(
+    rt: &impl Abort,
     alloc: Global,
     script: &Script,
     clause: &HornClause,
     env: &[Value],
-) -> Result<bool, Memory> {
+) -> bool {
     for guard in clause.guards.as_slice() {
         let awaited = if guard.negated { 0 } else { 1 };
-        if number_at(alloc, script, guard.term, env)? != Some(awaited) {
-            return Ok(false);
+        if number_at(rt, alloc, script, guard.term, env) != Some(awaited) {
+            return false;
         }
     }
-    Ok(true)
+    true
 }
 
 /// Whether the argument of that number has the value of its term at the point.
 fn is_argument(
+    rt: &impl Abort,
     alloc: Global,
     script: &Script,
     given: &AtomUse,
@@ -119,141 +125,161 @@ fn is_argument(
     number: usize,
     env: &[Value],
     point: &Point,
-) -> Result<bool, Memory> {
+) -> bool {
     let (Some(part), Some(variable)) = (given.args.get(number), made.args.get(number)) else {
-        return Ok(false);
+        return false;
     };
     let Some(held) = point.get(*variable as usize) else {
-        return Ok(false);
+        return false;
     };
-    let awaited = number_at(alloc, script, part.term, env)?;
-    Ok(awaited == Some(i128::from(*held)))
+    number_at(rt, alloc, script, part.term, env) == Some(i128::from(*held))
 }
 
 /// Whether all arguments have the values of their terms at the point.
 fn are_arguments(
+    rt: &impl Abort,
     alloc: Global,
     script: &Script,
     given: &AtomUse,
     made: &Atom,
     env: &[Value],
     point: &Point,
-) -> Result<bool, Memory> {
+) -> bool {
     for number in 0..given.args.len() {
-        if !is_argument(alloc, script, given, made, number, env, point)? {
-            return Ok(false);
+        if !is_argument(rt, alloc, script, given, made, number, env, point) {
+            return false;
         }
     }
-    Ok(given.args.len() == made.args.len())
+    given.args.len() == made.args.len()
 }
 
-/// The same of the body and the head.
-fn are_tuples(
+/// The same of the head, where there is one.
+fn is_head(
+    rt: &impl Abort,
     alloc: Global,
     script: &Script,
     given: &HornClause,
     made: &Clause,
     env: &[Value],
     point: &Point,
-) -> Result<bool, Memory> {
+) -> bool {
+    match (&given.head, &made.head) {
+        (None, None) => true,
+        (Some(atom), Some(other)) => are_arguments(rt, alloc, script, atom, other, env, point),
+        _ => false,
+    }
+}
+
+/// The same of the body and the head.
+fn are_tuples(
+    rt: &impl Abort,
+    alloc: Global,
+    script: &Script,
+    given: &HornClause,
+    made: &Clause,
+    env: &[Value],
+    point: &Point,
+) -> bool {
     for (atom, other) in given.atoms.as_slice().iter().zip(made.atoms.as_slice()) {
-        if !are_arguments(alloc, script, atom, other, env, point)? {
-            return Ok(false);
+        if !are_arguments(rt, alloc, script, atom, other, env, point) {
+            return false;
         }
     }
-    match (&given.head, &made.head) {
-        (None, None) => Ok(true),
-        (Some(atom), Some(other)) => are_arguments(alloc, script, atom, other, env, point),
-        _ => Ok(false),
-    }
+    is_head(rt, alloc, script, given, made, env, point)
 }
 
 /// Whether clause and assertion agree at these values of the variables.
 fn agrees_at(
+    rt: &impl Abort,
     alloc: Global,
     script: &Script,
     given: &HornClause,
     made: &Clause,
     x: i64,
     y: i64,
-) -> Result<bool, Memory> {
+) -> bool {
     let auxiliary = made.sorts.len().saturating_sub(2);
     let (count, point) = extensions(&made.guard, x, y, auxiliary);
     let Some(env) = environment(given.vars.as_slice(), x, y) else {
-        return Ok(count == 0);
+        return count == 0;
     };
-    if !are_met(alloc, script, given, env.as_slice())? {
-        return Ok(count == 0);
+    if !are_met(rt, alloc, script, given, env.as_slice()) {
+        return count == 0;
     }
-    let tuples = are_tuples(alloc, script, given, made, env.as_slice(), &point)?;
-    Ok(count == 1 && auxiliary <= 2 && tuples)
+    count == 1
+        && auxiliary <= 2
+        && are_tuples(rt, alloc, script, given, made, env.as_slice(), &point)
 }
 
 fn agrees(
+    rt: &impl Abort,
     alloc: Global,
     script: &Script,
     given: &HornClause,
     made: &Clause,
-) -> Result<bool, Memory> {
+) -> bool {
     for x in -4..5 {
         for y in -4..5 {
-            if !agrees_at(alloc, script, given, made, x, y)? {
-                return Ok(false);
+            if !agrees_at(rt, alloc, script, given, made, x, y) {
+                return false;
             }
         }
     }
-    Ok(true)
+    true
 }
 
 /// Whether the clause of a script's first assertion agrees with it.
-fn first_agrees(alloc: Global, script: &Script, made: &Clause) -> Result<bool, Memory> {
+fn first_agrees(rt: &impl Abort, alloc: Global, script: &Script, made: &Clause) -> bool {
     if !has_assertion(script, 0) {
-        return Ok(false);
+        return false;
     }
     match clause_of(alloc, script, 0) {
-        Ok(given) => agrees(alloc, script, &given, made),
-        Err(HornStop::NotHorn { .. }) => Ok(false),
-        Err(HornStop::Memory) => Err(Memory),
+        Ok(given) => agrees(rt, alloc, script, &given, made),
+        Err(HornStop::NotHorn { .. }) => false,
+        Err(HornStop::Memory) => rt.panic("memory"),
+    }
+}
+
+/// The same of the one assertion of a script.
+fn script_agrees(rt: &impl Abort, alloc: Global, checked: &Checked, system: &System) -> bool {
+    match system.clauses() {
+        [made] => first_agrees(rt, alloc, &checked.script, made),
+        _ => false,
     }
 }
 
 /// The same of the assertion of a text.
-fn text_agrees(alloc: Global, term: &str) -> Result<bool, Memory> {
-    let text = format!(in alloc; "(assert {term})")?;
-    let Some(checked) = script_of(alloc, text.as_str())? else {
-        return Ok(false);
-    };
-    match read_clauses(alloc, &checked) {
-        Ok(system) => match system.clauses() {
-            [made] => first_agrees(alloc, &checked.script, made),
-            _ => Ok(false),
-        },
-        Err(ClauseStop::Refused(_)) => Ok(false),
-        Err(ClauseStop::Memory) => Err(Memory),
+pub fn text_agrees(rt: &impl Abort, alloc: Global, term: &str) -> bool {
+    let text = format!(in alloc; "(assert {term})").expect(rt, "memory");
+    let checked = script_of(rt, alloc, text.as_str());
+    let system = read_clauses(alloc, &checked).expect(rt, "clauses");
+    script_agrees(rt, alloc, &checked, &system)
+}
+
+/// The parts of a case.
+pub fn parts(case: &str) -> Option<(&str, &str)> {
+    let mut parts = case.split('§');
+    match (parts.next(), parts.next()) {
+        (Some(shows), Some(term)) => Some((shows, term)),
+        _ => None,
     }
 }
 
 #[test]
-fn points_of_guards_are_instances(rt: HostRuntime) -> Result<(), Fail> {
+fn points_of_guards_are_instances(rt: HostRuntime) {
     let mut tried: usize = 0;
     for case in CASES.split('¶') {
-        let mut parts = case.split('§');
-        let (Some(shows), Some(term)) = (parts.next(), parts.next()) else {
-            break;
-        };
-        let told = text_agrees(rt.alloc(), term)?;
-        assert!(rt; told, "{shows}");
-        tried = tried.saturating_add(1);
+        if let Some((shows, term)) = parts(case) {
+            assert!(rt; text_agrees(&rt, rt.alloc(), term), "{shows}");
+            tried = tried.saturating_add(1);
+        }
     }
-    assert_eq!(rt; tried, 16);
-    Ok(())
+    assert!(rt; tried == 16);
 }
 
 /// The quotient and the remainder of -7 by 2, as the only points.
 #[test]
-fn minus_7_by_2_is_minus_4_and_leaves_1(rt: HostRuntime) -> Result<(), Fail> {
-    let a = rt.alloc();
+fn minus_7_by_2_is_minus_4_and_leaves_1(rt: HostRuntime) {
     let text = "(forall ((x Int) (y Int)) (=> (= x (div (- 7) 2)) (= y (mod (- 7) 2)) q))";
-    assert!(rt; text_agrees(a, text)?);
-    Ok(())
+    assert!(rt; text_agrees(&rt, rt.alloc(), text));
 }

@@ -19,7 +19,7 @@ use Rattle.term_widths.specs.machinery.Apart.{Occurs}
 use Rattle.term_formulas.specs.Written.{HasRoom, IsFresh}
 use Rattle.term_forms.specs.Found.{naming_in}
 use Rattle.term_formulas.specs.machinery.Parts.{ArePlaces, is_shaped}
-use Rattle.formula_rows.specs.Samples.{AreGiven, row_terms}
+use Rattle.formula_rows.specs.machinery.Samples.{AreGiven, row_terms}
 
 passes : (test : Node → Bool) (nodes : List Node) → list_all test nodes ≡ true → (id : ℕ) (node : Node) → slice_get nodes id ≡ Some node → test node ≡ true
 passes test [] all id node is = absurd (cc)

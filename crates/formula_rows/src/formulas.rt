@@ -1,6 +1,6 @@
 //! Where each Bool term of the rows is true, and where it is false.
 
-ghost use Rattle.formula_rows.specs.Samples.{AreGiven};
+ghost use Rattle.formula_rows.specs.machinery.Samples.{AreGiven};
 
 use crate::samples::{Given, all_given};
 use crate::shown::shown;

@@ -1,6 +1,6 @@
 //! What determines the auxiliary variables of the rows: u for x <= y, and v for each integer term.
 
-ghost use Rattle.formula_rows.specs.Samples.{AreGiven};
+ghost use Rattle.formula_rows.specs.machinery.Samples.{AreGiven};
 
 use crate::samples::{Given, all_given};
 use crate::shown::{shown, shown_all};

@@ -3,7 +3,7 @@
 ghost use Rattle.std.specs.Prelude.{◌≡◌, ◌++◌, ℕ, [], ◌∷◌, map, Some, IfOk, OnOk};
 ghost use Rattle.std.specs.Ordering.{nat_cmp};
 ghost use Rattle.std.specs.BTreeMap.{get};
-ghost use Rattle.formula_rows.specs.Samples.{AreGiven, chosen, chosen_one, constants, made_of, named, row_terms, variables};
+ghost use Rattle.formula_rows.specs.machinery.Samples.{AreGiven, chosen, chosen_one, constants, made_of, named, row_terms, variables};
 
 use base::{Items, Memory};
 use std::alloc::Global;

@@ -4,7 +4,7 @@ ghost use Rattle.std.specs.Prelude.{◌≡◌, ◌≤◌, true, OnOk};
 ghost use Rattle.term_tables.specs.machinery.Table.{constant_in};
 ghost use Rattle.term_forms.specs.Found.{AreFound};
 ghost use Rattle.term_formulas.specs.Written.{HasRoom, naming_by};
-ghost use Rattle.formula_rows.specs.Samples.{AreGiven};
+ghost use Rattle.formula_rows.specs.machinery.Samples.{AreGiven};
 
 use crate::samples::Given;
 use base::Items;

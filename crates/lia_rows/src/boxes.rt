@@ -1,12 +1,12 @@
 //! Formulas over three variables from -2 to 2, tried at each of their 125 points.
 
-use base::Items;
+use base::{Copied, Items, Same};
 use lia_branch::{Decision, are_below, decide_all, have_short_constants};
 use lia_cases::{are_below as are_all_below, decide, have_short_multiples};
 use lia_search::has_short_multiples;
 use lin_atoms::{Divisor, Form, Lin, Lit, holds};
 use std::alloc::Global;
-use std::test::Fail;
+use std::process::Abort;
 
 const VARIABLES: u32 = 3;
 
@@ -36,36 +36,56 @@ impl Numbers {
     }
 }
 
-fn form(alloc: Global, numbers: &mut Numbers) -> Result<Lin, Fail> {
-    let mut terms = Vec::new(alloc);
-    for variable in 0..VARIABLES {
-        let coefficient = numbers.around(3);
-        if coefficient != 0 {
-            terms.push((variable, coefficient))?;
-        }
+fn add_term(rt: &impl Abort, terms: &mut Vec<(u32, i64)>, variable: u32, coefficient: i64) {
+    if coefficient != 0 {
+        terms.push((variable, coefficient)).expect(rt, "memory");
     }
-    Ok(Lin::new(terms, i128::from(numbers.around(4)))?)
 }
 
-fn literal(alloc: Global, numbers: &mut Numbers) -> Result<Lit, Fail> {
-    let kind = numbers.below(6);
-    let lin = form(alloc, numbers)?;
-    let n = Divisor::new(numbers.below(4).wrapping_add(2)).ok_or("no divisor")?;
-    Ok(match kind {
+fn form(rt: &impl Abort, alloc: Global, numbers: &mut Numbers) -> Lin {
+    let mut terms = Vec::new(alloc);
+    for variable in 0..VARIABLES {
+        add_term(rt, &mut terms, variable, numbers.around(3));
+    }
+    Lin::new(terms, i128::from(numbers.around(4))).expect(rt, "a form")
+}
+
+/// The literal of that kind.
+fn literal_of(kind: i64, n: Divisor, lin: Lin) -> Lit {
+    match kind {
         0 => Lit::Eq(lin),
         1 => Lit::Div(n, lin),
         2 => Lit::NDiv(n, lin),
         _ => Lit::Le(lin),
-    })
+    }
 }
 
-/// Each variable is from -2 to 2.
-fn boxed(alloc: Global, lits: &mut Vec<Lit>) -> Result<(), Fail> {
+fn literal(rt: &impl Abort, alloc: Global, numbers: &mut Numbers) -> Lit {
+    let kind = numbers.below(6);
+    let lin = form(rt, alloc, numbers);
+    let n = Divisor::new(numbers.below(4).wrapping_add(2)).expect(rt, "a divisor");
+    literal_of(kind, n, lin)
+}
+
+/// The variable, or its negative, is at most 2.
+fn at_most(rt: &impl Abort, alloc: Global, variable: u32, coefficient: i64) -> Lit {
+    let terms = Vec::from_array(alloc, [(variable, coefficient)]).expect(rt, "memory");
+    Lit::Le(Lin::new(terms, -2).expect(rt, "a form"))
+}
+
+/// Each variable is from -2 to 2, and so many other literals are true.
+fn boxed(rt: &impl Abort, alloc: Global, numbers: &mut Numbers, count: i64) -> Vec<Lit> {
+    let mut lits = Vec::new(alloc);
     for variable in 0..VARIABLES {
-        lits.push(Lit::Le(Lin::new(vec![in alloc; (variable, 1)]?, -2)?))?;
-        lits.push(Lit::Le(Lin::new(vec![in alloc; (variable, -1)]?, -2)?))?;
+        lits.push(at_most(rt, alloc, variable, 1))
+            .expect(rt, "memory");
+        lits.push(at_most(rt, alloc, variable, -1))
+            .expect(rt, "memory");
     }
-    Ok(())
+    for _ in 0..count {
+        lits.push(literal(rt, alloc, numbers)).expect(rt, "memory");
+    }
+    lits
 }
 
 /// Whether the formula is true at one of the points.
@@ -82,87 +102,125 @@ fn has_point(form: &Form) -> bool {
     false
 }
 
-fn conjunction(alloc: Global, lits: &[Lit]) -> Result<Form, Fail> {
+fn conjunction(rt: &impl Abort, alloc: Global, lits: &[Lit]) -> Form {
     let mut parts = Items::new(alloc);
     for lit in lits {
-        parts.push(Form::Lit(base::Copied::copy(lit, alloc)?))?;
+        let copy = lit.copy(alloc).expect(rt, "memory");
+        parts.push(Form::Lit(copy)).expect(rt, "memory");
     }
-    Ok(Form::And(parts))
+    Form::And(parts)
 }
 
 /// Whether the decision is right, and none is given up.
 fn is_right(whole: &Form, decision: Decision) -> bool {
     match decision {
         Decision::Model(point) => point.len() == 3 && holds(whole, point.as_slice()),
-        Decision::Refuted(refuted) => {
-            !has_point(whole) && base::Same::equals(refuted.form(), whole)
-        }
+        Decision::Refuted(refuted) => !has_point(whole) && refuted.form().equals(whole),
         Decision::GaveUp(_) => false,
     }
 }
 
+/// Decides the next conjunction.
+fn check_conjunction(rt: &impl Abort, alloc: Global, numbers: &mut Numbers) {
+    let count = numbers.below(5);
+    let lits = boxed(rt, alloc, numbers, count);
+    assert!(rt; are_below(lits.as_slice(), 3));
+    assert!(rt; have_short_constants(lits.as_slice()));
+    let decision = decide_all(alloc, lits.as_slice(), 3, 1000).expect(rt, "memory");
+    let whole = conjunction(rt, alloc, lits.as_slice());
+    assert!(rt; is_right(&whole, decision));
+}
+
 #[test]
-fn conjunctions_are_decided(rt: HostRuntime) -> Result<(), Fail> {
-    let alloc = rt.alloc();
+fn conjunctions_are_decided(rt: HostRuntime) {
     let mut numbers = Numbers { state: 7 };
     for _ in 0..300 {
-        let mut lits = Vec::new(alloc);
-        boxed(alloc, &mut lits)?;
-        for _ in 0..numbers.below(5) {
-            lits.push(literal(alloc, &mut numbers)?)?;
-        }
-        assert!(rt; are_below(lits.as_slice(), 3) && have_short_constants(lits.as_slice()));
-        let whole = conjunction(alloc, lits.as_slice())?;
-        assert!(rt; is_right(&whole, decide_all(alloc, lits.as_slice(), 3, 1000)?));
+        check_conjunction(&rt, rt.alloc(), &mut numbers);
     }
-    Ok(())
 }
 
-/// A disjunction of two parts, each a literal, or a conjunction of a literal and a disjunction.
-fn disjunction(alloc: Global, numbers: &mut Numbers) -> Result<Form, Fail> {
-    let mut parts = Items::new(alloc);
-    for _ in 0..2 {
-        let first = Form::Lit(literal(alloc, numbers)?);
-        if numbers.below(3) == 0 {
-            let mut inner = Items::new(alloc);
-            inner.push(Form::Lit(literal(alloc, numbers)?))?;
-            inner.push(Form::Lit(literal(alloc, numbers)?))?;
-            let mut both = Items::new(alloc);
-            both.push(first)?;
-            both.push(Form::Or(inner))?;
-            parts.push(Form::And(both))?;
-        } else {
-            parts.push(first)?;
-        }
+fn pair(rt: &impl Abort, alloc: Global, first: Form, second: Form) -> Items<Form> {
+    Items::from_vec(Vec::from_array(alloc, [first, second]).expect(rt, "memory"))
+}
+
+/// A disjunction of two literals.
+fn either(rt: &impl Abort, alloc: Global, numbers: &mut Numbers) -> Form {
+    let first = Form::Lit(literal(rt, alloc, numbers));
+    let second = Form::Lit(literal(rt, alloc, numbers));
+    Form::Or(pair(rt, alloc, first, second))
+}
+
+/// A literal, or a conjunction of a literal and a disjunction.
+fn part(rt: &impl Abort, alloc: Global, numbers: &mut Numbers) -> Form {
+    let first = Form::Lit(literal(rt, alloc, numbers));
+    if numbers.below(3) != 0 {
+        return first;
     }
-    Ok(Form::Or(parts))
+    let inner = either(rt, alloc, numbers);
+    Form::And(pair(rt, alloc, first, inner))
+}
+
+/// A literal, or a disjunction of two parts.
+fn lemma(rt: &impl Abort, alloc: Global, numbers: &mut Numbers) -> Form {
+    if numbers.below(4) == 0 {
+        return Form::Lit(literal(rt, alloc, numbers));
+    }
+    let first = part(rt, alloc, numbers);
+    let second = part(rt, alloc, numbers);
+    Form::Or(pair(rt, alloc, first, second))
+}
+
+/// From one to four lemmas.
+fn lemmas(rt: &impl Abort, alloc: Global, numbers: &mut Numbers) -> Vec<Form> {
+    let mut lemmas = Vec::new(alloc);
+    for _ in 0..numbers.below(4).wrapping_add(1) {
+        lemmas.push(lemma(rt, alloc, numbers)).expect(rt, "memory");
+    }
+    lemmas
+}
+
+fn add_copy(rt: &impl Abort, alloc: Global, parts: &mut Items<Form>, form: &Form) {
+    let copy = form.copy(alloc).expect(rt, "memory");
+    parts.push(copy).expect(rt, "memory");
+}
+
+/// The conjunction of a form and lemmas.
+fn joined(rt: &impl Abort, alloc: Global, form: &Form, lemmas: &[Form]) -> Form {
+    let mut parts = Items::new(alloc);
+    add_copy(rt, alloc, &mut parts, form);
+    for lemma in lemmas {
+        add_copy(rt, alloc, &mut parts, lemma);
+    }
+    Form::And(parts)
+}
+
+/// Whether the form under the lemmas is decided rightly.
+fn is_decided(rt: &impl Abort, alloc: Global, form: &Form, lemmas: &[Form]) -> bool {
+    assert!(rt; form.is_below(3));
+    assert!(rt; has_short_multiples(form));
+    assert!(rt; are_all_below(lemmas, 3));
+    assert!(rt; have_short_multiples(lemmas));
+    let decision = decide(alloc, form, lemmas, 3, 1000).expect(rt, "memory");
+    is_right(&joined(rt, alloc, form, lemmas), decision)
+}
+
+/// The conjunction of the next literal and the bounds of all variables.
+fn bounded(rt: &impl Abort, alloc: Global, numbers: &mut Numbers) -> Form {
+    let lits = boxed(rt, alloc, numbers, 1);
+    conjunction(rt, alloc, lits.as_slice())
+}
+
+/// Decides the next formula with lemmas.
+fn check_formula(rt: &impl Abort, alloc: Global, numbers: &mut Numbers) {
+    let form = bounded(rt, alloc, numbers);
+    let lemmas = lemmas(rt, alloc, numbers);
+    assert!(rt; is_decided(rt, alloc, &form, lemmas.as_slice()));
 }
 
 #[test]
-fn formulas_with_lemmas_are_decided(rt: HostRuntime) -> Result<(), Fail> {
-    let alloc = rt.alloc();
+fn formulas_with_lemmas_are_decided(rt: HostRuntime) {
     let mut numbers = Numbers { state: 11 };
     for _ in 0..150 {
-        let mut lits = Vec::new(alloc);
-        boxed(alloc, &mut lits)?;
-        lits.push(literal(alloc, &mut numbers)?)?;
-        let form = conjunction(alloc, lits.as_slice())?;
-        let mut lemmas = Vec::new(alloc);
-        let mut parts = Items::new(alloc);
-        parts.push(form.copy(alloc)?)?;
-        for _ in 0..numbers.below(4).wrapping_add(1) {
-            let lemma = if numbers.below(4) == 0 {
-                Form::Lit(literal(alloc, &mut numbers)?)
-            } else {
-                disjunction(alloc, &mut numbers)?
-            };
-            parts.push(lemma.copy(alloc)?)?;
-            lemmas.push(lemma)?;
-        }
-        let whole = Form::And(parts);
-        assert!(rt; form.is_below(3) && has_short_multiples(&form));
-        assert!(rt; are_all_below(lemmas.as_slice(), 3) && have_short_multiples(lemmas.as_slice()));
-        assert!(rt; is_right(&whole, decide(alloc, &form, lemmas.as_slice(), 3, 1000)?));
+        check_formula(&rt, rt.alloc(), &mut numbers);
     }
-    Ok(())
 }

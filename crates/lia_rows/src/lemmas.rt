@@ -5,11 +5,12 @@ use lia_cases::{Decision, are_below, decide, have_short_multiples};
 use lia_search::has_short_multiples;
 use lin_atoms::{Form, Lin, Lit, holds};
 use std::alloc::Global;
-use std::test::Fail;
+use std::process::Abort;
 
 /// `a*x + c <= 0`.
-fn le(alloc: Global, a: i64, c: i128) -> Result<Form, Fail> {
-    Ok(Form::Lit(Lit::Le(Lin::new(vec![in alloc; (0, a)]?, c)?)))
+fn le(rt: &impl Abort, alloc: Global, a: i64, c: i128) -> Form {
+    let terms = Vec::from_array(alloc, [(0, a)]).expect(rt, "memory");
+    Form::Lit(Lit::Le(Lin::new(terms, c).expect(rt, "a form")))
 }
 
 fn all_hold(lemmas: &[Form], point: &[i64]) -> bool {
@@ -33,53 +34,54 @@ fn told(decision: &Decision, form: &Form, lemmas: &[Form]) -> u32 {
     }
 }
 
-fn kind(alloc: Global, form: &Form, lemmas: &[Form], nodes: u32) -> Result<u32, Fail> {
-    if !form.is_below(1) || !has_short_multiples(form) || nodes == 0 {
-        return Ok(0);
-    }
-    if !are_below(lemmas, 1) || !have_short_multiples(lemmas) {
-        return Ok(0);
-    }
-    let decision = decide(alloc, form, lemmas, 1, nodes)?;
-    Ok(told(&decision, form, lemmas))
+fn kind(rt: &impl Abort, alloc: Global, form: &Form, lemmas: &[Form], nodes: u32) -> u32 {
+    assert!(rt; nodes > 0);
+    assert!(rt; form.is_below(1));
+    assert!(rt; has_short_multiples(form));
+    assert!(rt; are_below(lemmas, 1));
+    assert!(rt; have_short_multiples(lemmas));
+    let decision = decide(alloc, form, lemmas, 1, nodes).expect(rt, "memory");
+    told(&decision, form, lemmas)
+}
+
+fn pair(rt: &impl Abort, alloc: Global, first: Form, second: Form) -> Items<Form> {
+    Items::from_vec(Vec::from_array(alloc, [first, second]).expect(rt, "memory"))
 }
 
 /// x is from 0 to 20.
-fn bounds(alloc: Global) -> Result<Form, Fail> {
-    let low = le(alloc, -1, 0)?;
-    let high = le(alloc, 1, -20)?;
-    Ok(Form::And(Items::from_vec(vec![in alloc; low, high]?)))
+fn bounds(rt: &impl Abort, alloc: Global) -> Form {
+    let (low, high) = (le(rt, alloc, -1, 0), le(rt, alloc, 1, -20));
+    Form::And(pair(rt, alloc, low, high))
 }
 
 /// x isn't n.
-fn other_than(alloc: Global, n: i128) -> Result<Form, Fail> {
-    let low = le(alloc, 1, 1i128.wrapping_sub(n))?;
-    let high = le(alloc, -1, 1i128.wrapping_add(n))?;
-    Ok(Form::Or(Items::from_vec(vec![in alloc; low, high]?)))
+fn other_than(rt: &impl Abort, alloc: Global, n: i128) -> Form {
+    let low = le(rt, alloc, 1, 1i128.wrapping_sub(n));
+    let high = le(rt, alloc, -1, 1i128.wrapping_add(n));
+    Form::Or(pair(rt, alloc, low, high))
 }
 
 /// x is none of the numbers from 0 to `n - 1`.
-fn excluded(alloc: Global, n: u8) -> Result<Vec<Form>, Fail> {
+fn excluded(rt: &impl Abort, alloc: Global, n: u8) -> Vec<Form> {
     let mut lemmas = Vec::new(alloc);
     for i in 0..n {
-        lemmas.push(other_than(alloc, i128::from(i))?)?;
+        lemmas
+            .push(other_than(rt, alloc, i128::from(i)))
+            .expect(rt, "memory");
     }
-    Ok(lemmas)
+    lemmas
 }
 
 /// What is told of x from 0 to 20 where the first `n` numbers are excluded.
-fn decided(alloc: Global, n: u8, nodes: u32) -> Result<u32, Fail> {
-    let bounds = bounds(alloc)?;
-    let lemmas = excluded(alloc, n)?;
-    kind(alloc, &bounds, lemmas.as_slice(), nodes)
+fn decided(rt: &impl Abort, alloc: Global, n: u8, nodes: u32) -> u32 {
+    let (bounds, lemmas) = (bounds(rt, alloc), excluded(rt, alloc, n));
+    kind(rt, alloc, &bounds, lemmas.as_slice(), nodes)
 }
 
 /// The lemmas exclude numbers one by one: up to 19, so that 20 is left, and then 20 as well.
 #[test]
-fn lemmas_are_taken_in(rt: HostRuntime) -> Result<(), Fail> {
-    let alloc = rt.alloc();
-    assert!(rt; decided(alloc, 20, 100)? == 1);
-    assert!(rt; decided(alloc, 20, 5)? == 3);
-    assert!(rt; decided(alloc, 21, 100)? == 2);
-    Ok(())
+fn lemmas_are_taken_in(rt: HostRuntime) {
+    for (n, nodes, wanted) in [(20, 100, 1), (20, 5, 3), (21, 100, 2)] {
+        assert!(rt; decided(&rt, rt.alloc(), n, nodes) == wanted);
+    }
 }

@@ -3,11 +3,11 @@
 ghost use Rattle.std.specs.Prelude.{◌≡◌, ◌<◌, length, true};
 ghost use Rattle.std.specs.List.{All};
 
-use base::Items;
+use base::{Items, Memory};
 use cube_forms::Tuple;
 use derivations::{Fact, Facts};
 use std::alloc::Global;
-use std::test::Fail;
+use std::process::Abort;
 
 /// Whether each is the number of a fact.
 fn are_there(facts: &Facts, premises: &[u32]) -> bool
@@ -28,7 +28,7 @@ fn put(
     pred: u32,
     value: i64,
     premises: &[u32],
-) -> Result<Option<u32>, Fail> {
+) -> Result<Option<u32>, Memory> {
     if facts.count() >= 1000 || !are_there(facts, premises) {
         return Ok(None);
     }
@@ -48,31 +48,40 @@ fn put(
     }
 }
 
-/// Facts 0 to 4: p(5), q(5) from 0, p(3), q(9) from 2 and 1, and p(-7) from 2.
-fn made(alloc: Global) -> Result<Facts, Fail> {
-    let mut facts = Facts::new(alloc)?;
-    put(alloc, &mut facts, 0, 5, &[])?;
-    put(alloc, &mut facts, 1, 5, &[0])?;
-    put(alloc, &mut facts, 0, 3, &[])?;
-    put(alloc, &mut facts, 1, 9, &[2, 1])?;
-    put(alloc, &mut facts, 0, -7, &[2])?;
-    Ok(facts)
+/// The same where memory is ample.
+fn added(
+    rt: &impl Abort,
+    alloc: Global,
+    facts: &mut Facts,
+    pred: u32,
+    value: i64,
+    premises: &[u32],
+) -> Option<u32> {
+    put(alloc, facts, pred, value, premises).expect(rt, "memory")
 }
 
-fn height(facts: &Facts, id: u32) -> Option<u32> {
-    if id < facts.count() {
-        Some(facts.height(id))
-    } else {
-        None
-    }
+/// Facts 0 to 4: p(5), q(5) from 0, p(3), q(9) from 2 and 1, and p(-7) from 2.
+fn made(rt: &impl Abort, alloc: Global) -> Facts {
+    let mut facts = Facts::new(alloc).expect(rt, "memory");
+    added(rt, alloc, &mut facts, 0, 5, &[]);
+    added(rt, alloc, &mut facts, 1, 5, &[0]);
+    added(rt, alloc, &mut facts, 0, 3, &[]);
+    added(rt, alloc, &mut facts, 1, 9, &[2, 1]);
+    added(rt, alloc, &mut facts, 0, -7, &[2]);
+    facts
+}
+
+/// Whether the fact of that number has this height.
+fn has_height(facts: &Facts, id: u32, height: u32) -> bool {
+    id < facts.count() && facts.height(id) == height
 }
 
 /// Whether a fact rests on exactly these.
-fn rests_on(facts: &Facts, id: u32, wanted: &[u32]) -> Result<bool, Fail> {
+fn rests_on(rt: &impl Abort, facts: &Facts, id: u32, wanted: &[u32]) -> bool {
     if id >= facts.count() {
-        return Ok(false);
+        return false;
     }
-    Ok(facts.steps_to(id)?.as_slice() == wanted)
+    facts.steps_to(id).expect(rt, "memory").as_slice() == wanted
 }
 
 /// Whether these are the facts of a predicate.
@@ -90,8 +99,8 @@ fn stands(facts: &Facts, id: u32, value: i64, premises: &[u32]) -> bool {
 }
 
 #[test]
-fn a_tuple_is_found_with_its_predicate(rt: HostRuntime) -> Result<(), Fail> {
-    let facts = made(rt.alloc())?;
+fn a_tuple_is_found_with_its_predicate(rt: HostRuntime) {
+    let facts = made(&rt, rt.alloc());
     for (pred, value, wanted) in [
         (0, 5, Some(0)),
         (1, 5, Some(1)),
@@ -102,42 +111,41 @@ fn a_tuple_is_found_with_its_predicate(rt: HostRuntime) -> Result<(), Fail> {
         (0, 4, None),
         (2, 5, None),
     ] {
-        assert_eq!(rt; facts.find(pred, &[value]), wanted, "{pred} {value}");
+        assert!(rt; facts.find(pred, &[value]) == wanted, "{pred} {value}");
     }
-    assert_eq!(rt; facts.find(0, &[]), None);
-    assert!(rt;
-        are_of(&facts, 0, &[0, 2, 4]) && are_of(&facts, 1, &[1, 3]) && are_of(&facts, 7, &[])
-    );
-    Ok(())
+    assert!(rt; facts.find(0, &[]).is_none());
+    assert!(rt; are_of(&facts, 0, &[0, 2, 4]));
+    assert!(rt; are_of(&facts, 1, &[1, 3]));
+    assert!(rt; are_of(&facts, 7, &[]));
 }
 
 #[test]
-fn a_fact_rests_on_its_premises(rt: HostRuntime) -> Result<(), Fail> {
-    let facts = made(rt.alloc())?;
+fn a_fact_rests_on_its_premises(rt: HostRuntime) {
+    let facts = made(&rt, rt.alloc());
     for (id, wanted) in [(0, 1), (1, 2), (2, 1), (3, 3), (4, 2)] {
-        assert_eq!(rt; height(&facts, id), Some(wanted), "{id}");
+        assert!(rt; has_height(&facts, id, wanted), "{id}");
     }
-    assert!(rt; rests_on(&facts, 3, &[0, 1, 2, 3])?);
-    assert!(rt; rests_on(&facts, 4, &[2, 4])?);
-    assert!(rt; rests_on(&facts, 2, &[2])?);
-    Ok(())
+    assert!(rt; rests_on(&rt, &facts, 3, &[0, 1, 2, 3]));
+    assert!(rt; rests_on(&rt, &facts, 4, &[2, 4]));
+    assert!(rt; rests_on(&rt, &facts, 2, &[2]));
 }
 
 #[test]
-fn a_version_keeps_what_it_had(rt: HostRuntime) -> Result<(), Fail> {
-    let mut facts = made(rt.alloc())?;
-    let before = facts.share()?;
-    assert_eq!(rt; put(rt.alloc(), &mut facts, 0, 4, &[3])?, Some(5));
-    assert_eq!(rt; put(rt.alloc(), &mut facts, 0, 4, &[])?, None);
-    assert!(rt; before.count() == 5 && are_of(&before, 0, &[0, 2, 4]));
-    assert_eq!(rt; before.find(0, &[4]), None);
-    assert!(rt; stands(&before, 3, 9, &[2, 1]) && stands(&facts, 5, 4, &[3]));
-    assert_eq!(rt; facts.find(0, &[4]), Some(5));
-    Ok(())
+fn a_version_keeps_what_it_had(rt: HostRuntime) {
+    let mut facts = made(&rt, rt.alloc());
+    let before = facts.share().expect(&rt, "memory");
+    assert!(rt; added(&rt, rt.alloc(), &mut facts, 0, 4, &[3]) == Some(5));
+    assert!(rt; added(&rt, rt.alloc(), &mut facts, 0, 4, &[]).is_none());
+    assert!(rt; before.count() == 5);
+    assert!(rt; are_of(&before, 0, &[0, 2, 4]));
+    assert!(rt; before.find(0, &[4]).is_none());
+    assert!(rt; stands(&before, 3, 9, &[2, 1]));
+    assert!(rt; stands(&facts, 5, 4, &[3]));
+    assert!(rt; facts.find(0, &[4]) == Some(5));
 }
 
 /// The facts with false alone, from an instance without a body.
-fn refuted(alloc: Global) -> Result<Facts, Fail> {
+fn refuted(alloc: Global) -> Result<Facts, Memory> {
     let mut facts = Facts::new(alloc)?;
     facts.add(Fact {
         clause: 0,
@@ -150,10 +158,9 @@ fn refuted(alloc: Global) -> Result<Facts, Fail> {
 }
 
 #[test]
-fn false_is_of_no_predicate(rt: HostRuntime) -> Result<(), Fail> {
-    let facts = refuted(rt.alloc())?;
-    assert_eq!(rt; facts.find(0, &[]), None);
+fn false_is_of_no_predicate(rt: HostRuntime) {
+    let facts = refuted(rt.alloc()).expect(&rt, "memory");
+    assert!(rt; facts.find(0, &[]).is_none());
     assert!(rt; are_of(&facts, 0, &[]));
-    assert!(rt; rests_on(&facts, 0, &[0])?);
-    Ok(())
+    assert!(rt; rests_on(&rt, &facts, 0, &[0]));
 }

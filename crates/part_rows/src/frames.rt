@@ -4,42 +4,44 @@ use cube_forms::{Cube, Lemma, negate};
 use lemma_frames::Frames;
 use lin_atoms::{Lin, Lit};
 use std::alloc::Global;
-use std::test::Fail;
+use std::process::Abort;
 
-fn other_than(alloc: Global, value: u32) -> Result<Lemma, Fail> {
-    let mut terms = Vec::new(alloc);
-    terms.push((0, 1))?;
-    let mut lits = Vec::new(alloc);
-    lits.push(Lit::Eq(Lin::new(terms, -(value as i128))?))?;
-    let cube = Cube::new(alloc, lits)?;
-    Ok(negate(alloc, &cube)?)
+/// That the one argument is this value.
+fn equation(rt: &impl Abort, alloc: Global, value: u32) -> Lit {
+    let terms = Vec::from_array(alloc, [(0, 1)]).expect(rt, "memory");
+    Lit::Eq(Lin::new(terms, -i128::from(value)).expect(rt, "a form"))
+}
+
+fn other_than(rt: &impl Abort, alloc: Global, value: u32) -> Lemma {
+    let lits = Vec::from_array(alloc, [equation(rt, alloc, value)]).expect(rt, "memory");
+    let cube = Cube::new(alloc, lits).expect(rt, "a cube");
+    negate(alloc, &cube).expect(rt, "memory")
 }
 
 /// Adds a lemma, and answers its number.
-fn put(alloc: Global, frames: &mut Frames, pred: u32, level: u32) -> Result<Option<u32>, Fail> {
+fn put(rt: &impl Abort, alloc: Global, frames: &mut Frames, pred: u32, level: u32) -> Option<u32> {
     let count = frames.count();
     if count >= 1000 || pred as usize >= frames.preds() {
-        return Ok(None);
+        return None;
     }
-    let lemma = other_than(alloc, count)?;
-    Ok(Some(frames.add(pred, lemma, level)?))
+    let lemma = other_than(rt, alloc, count);
+    Some(frames.add(pred, lemma, level).expect(rt, "memory"))
 }
 
 /// Frames of two predicates with these lemmas, each a predicate and a level.
-fn made(alloc: Global, lemmas: &[(u32, u32)]) -> Result<Frames, Fail> {
-    let mut frames = Frames::new(alloc, 2)?;
+fn made(rt: &impl Abort, alloc: Global, lemmas: &[(u32, u32)]) -> Frames {
+    let mut frames = Frames::new(alloc, 2).expect(rt, "memory");
     for (pred, level) in lemmas {
-        put(alloc, &mut frames, *pred, *level)?;
+        put(rt, alloc, &mut frames, *pred, *level);
     }
-    Ok(frames)
+    frames
 }
 
 /// Raises a lemma.
-fn raise(frames: &mut Frames, id: u32) -> Result<(), Fail> {
+fn raise(rt: &impl Abort, frames: &mut Frames, id: u32) {
     if id < frames.count() && frames.level_of(id) < u32::MAX {
-        frames.lift(id)?;
+        frames.lift(id).expect(rt, "memory");
     }
-    Ok(())
 }
 
 /// Whether `upper` lends these numbers.
@@ -48,11 +50,11 @@ fn lends(frames: &Frames, pred: u32, level: u32, wanted: &[u32]) -> bool {
 }
 
 /// Whether `at_level` answers these numbers.
-fn lists(frames: &Frames, pred: u32, level: u32, wanted: &[u32]) -> Result<bool, Fail> {
+fn lists(rt: &impl Abort, frames: &Frames, pred: u32, level: u32, wanted: &[u32]) -> bool {
     if pred as usize >= frames.preds() {
-        return Ok(false);
+        return false;
     }
-    Ok(frames.at_level(pred, level)?.as_slice() == wanted)
+    frames.at_level(pred, level).expect(rt, "memory").as_slice() == wanted
 }
 
 /// Whether a lemma is there, has this predicate and level, and denies its own number alone.
@@ -65,8 +67,9 @@ fn stands(frames: &Frames, id: u32, pred: u32, level: u32) -> bool {
 }
 
 #[test]
-fn a_lemma_that_rises_comes_to_its_place(rt: HostRuntime) -> Result<(), Fail> {
-    let mut frames = made(rt.alloc(), &[(0, 1), (0, 1), (1, 1), (0, 3), (0, 1)])?;
+fn a_lemma_that_rises_comes_to_its_place(rt: HostRuntime) {
+    let lemmas = [(0, 1), (0, 1), (1, 1), (0, 3), (0, 1)];
+    let mut frames = made(&rt, rt.alloc(), &lemmas);
     assert!(rt; lends(&frames, 0, 1, &[3, 0, 1, 4]));
     for (id, wanted) in [
         (4, [3, 4, 0, 1]),
@@ -75,18 +78,17 @@ fn a_lemma_that_rises_comes_to_its_place(rt: HostRuntime) -> Result<(), Fail> {
         (0, [3, 0, 1, 4]),
         (4, [3, 4, 0, 1]),
     ] {
-        raise(&mut frames, id)?;
+        raise(&rt, &mut frames, id);
         assert!(rt; lends(&frames, 0, 1, &wanted), "{id}");
     }
     assert!(rt; lends(&frames, 0, 3, &[3, 4]));
-    assert!(rt; lists(&frames, 0, 3, &[3, 4])?);
+    assert!(rt; lists(&rt, &frames, 0, 3, &[3, 4]));
     assert!(rt; lends(&frames, 1, 2, &[2]));
-    Ok(())
 }
 
 #[test]
-fn a_level_is_bare_where_no_lemma_has_exactly_it(rt: HostRuntime) -> Result<(), Fail> {
-    let frames = made(rt.alloc(), &[(1, 1), (0, 4)])?;
+fn a_level_is_bare_where_no_lemma_has_exactly_it(rt: HostRuntime) {
+    let frames = made(&rt, rt.alloc(), &[(1, 1), (0, 4)]);
     for (level, bare) in [
         (0, true),
         (1, false),
@@ -95,28 +97,26 @@ fn a_level_is_bare_where_no_lemma_has_exactly_it(rt: HostRuntime) -> Result<(), 
         (4, false),
         (5, true),
     ] {
-        assert_eq!(rt; frames.level_is_bare(level), bare, "{level}");
+        assert!(rt; frames.level_is_bare(level) == bare, "{level}");
     }
-    Ok(())
 }
 
 #[test]
-fn levels_go_up_to_the_greatest(rt: HostRuntime) -> Result<(), Fail> {
-    let mut frames = made(rt.alloc(), &[(0, u32::MAX - 2), (0, u32::MAX - 1)])?;
-    raise(&mut frames, 0)?;
+fn levels_go_up_to_the_greatest(rt: HostRuntime) {
+    let mut frames = made(&rt, rt.alloc(), &[(0, u32::MAX - 2), (0, u32::MAX - 1)]);
+    raise(&rt, &mut frames, 0);
     assert!(rt; lends(&frames, 0, u32::MAX - 1, &[0, 1]));
     assert!(rt; lends(&frames, 0, u32::MAX, &[]));
-    Ok(())
 }
 
 #[test]
-fn a_version_keeps_what_it_had(rt: HostRuntime) -> Result<(), Fail> {
-    let mut frames = made(rt.alloc(), &[(0, 1)])?;
-    let before = frames.share()?;
-    raise(&mut frames, 0)?;
-    assert_eq!(rt; put(rt.alloc(), &mut frames, 0, 1)?, Some(1));
+fn a_version_keeps_what_it_had(rt: HostRuntime) {
+    let mut frames = made(&rt, rt.alloc(), &[(0, 1)]);
+    let before = frames.share().expect(&rt, "memory");
+    raise(&rt, &mut frames, 0);
+    assert!(rt; put(&rt, rt.alloc(), &mut frames, 0, 1) == Some(1));
     assert!(rt; stands(&before, 0, 0, 1) && before.count() == 1);
     assert!(rt; lends(&before, 0, 1, &[0]));
-    assert!(rt; stands(&frames, 0, 0, 2) && stands(&frames, 1, 0, 1));
-    Ok(())
+    assert!(rt; stands(&frames, 0, 0, 2));
+    assert!(rt; stands(&frames, 1, 0, 1));
 }

@@ -1,18 +1,21 @@
 //! Small trees that were closed by hand.
 
-use base::Memory;
-use cube_forms::{Cube, Lemma, Tuple, negate};
+use cube_forms::{Cube, Tuple, negate};
 use lin_atoms::{Lin, Lit};
 use obligation_tree::{Cause, Obligation, Tree};
 use std::alloc::Global;
-use std::test::Fail;
+use std::process::Abort;
+
+/// That the value at place 0 is this one.
+fn equation(rt: &impl Abort, alloc: Global, value: i64) -> Lit {
+    let terms = Vec::from_array(alloc, [(0, 1)]).expect(rt, "memory");
+    Lit::Eq(Lin::new(terms, -i128::from(value)).expect(rt, "a form"))
+}
 
 /// The cube of one value at place 0.
-fn only(alloc: Global, value: i64) -> Result<Cube, Fail> {
-    let terms = Vec::from_slice(alloc, &[(0, 1)])?;
-    let mut lits = Vec::new(alloc);
-    lits.push(Lit::Eq(Lin::new(terms, -i128::from(value))?))?;
-    Ok(Cube::new(alloc, lits)?)
+fn only(rt: &impl Abort, alloc: Global, value: i64) -> Cube {
+    let lits = Vec::from_array(alloc, [equation(rt, alloc, value)]).expect(rt, "memory");
+    Cube::new(alloc, lits).expect(rt, "a cube")
 }
 
 /// What is done to a tree.
@@ -32,118 +35,123 @@ enum Step {
 
 /// Adds an obligation, if its parent is live.
 fn ask(
+    rt: &impl Abort,
     alloc: Global,
     tree: &mut Tree,
     parent: u32,
     pred: u32,
     level: u32,
     value: i64,
-) -> Result<(), Fail> {
+) {
     let obligation = Obligation {
         pred: Some(pred),
         level,
-        cube: only(alloc, value)?,
-        point: Tuple::from_slice(alloc, &[value])?,
+        cube: only(rt, alloc, value),
+        point: Tuple::from_slice(alloc, &[value]).expect(rt, "memory"),
         parent,
         clause: 0,
         atom: 0,
     };
     let count = tree.count();
     if parent < count && count < 1000 && tree.is_live(parent) {
-        tree.add(obligation)?;
+        tree.add(obligation).expect(rt, "memory");
     }
-    Ok(())
+}
+
+fn close(rt: &impl Abort, tree: &mut Tree, cause: Cause, entry: u64) {
+    tree.close_by(cause, entry).expect(rt, "memory");
 }
 
 /// Closes by the lemma that excludes one value.
 fn deny(
+    rt: &impl Abort,
     alloc: Global,
     tree: &mut Tree,
     pred: u32,
     level: u32,
     value: i64,
     entry: u64,
-) -> Result<(), Fail> {
-    let lemma: Lemma = negate(alloc, &only(alloc, value)?)?;
+) {
+    let lemma = negate(alloc, &only(rt, alloc, value)).expect(rt, "memory");
     let cause = Cause::Lemma {
         pred,
         level,
         lemma: &lemma,
     };
-    tree.close_by(cause, entry)?;
-    Ok(())
+    close(rt, tree, cause, entry);
 }
 
 /// Closes by a fact.
-fn find(tree: &mut Tree, pred: Option<u32>, tuple: &[i64], entry: u64) -> Result<(), Memory> {
-    tree.close_by(Cause::Fact { pred, tuple }, entry)
+fn find(rt: &impl Abort, tree: &mut Tree, pred: Option<u32>, tuple: &[i64], entry: u64) {
+    close(rt, tree, Cause::Fact { pred, tuple }, entry);
 }
 
-fn take(alloc: Global, tree: &mut Tree, step: Step, entry: u64) -> Result<(), Fail> {
+fn take(rt: &impl Abort, alloc: Global, tree: &mut Tree, step: Step, entry: u64) {
     match step {
-        Step::Ask(parent, pred, level, value) => ask(alloc, tree, parent, pred, level, value),
-        Step::Deny(pred, level, value) => deny(alloc, tree, pred, level, value, entry),
-        Step::Find(pred, value) => Ok(find(tree, Some(pred), &[value], entry)?),
-        Step::End => Ok(find(tree, None, &[], entry)?),
-        Step::Raise(level) => Ok(tree.close_by(Cause::Raise { level }, entry)?),
+        Step::Ask(parent, pred, level, value) => ask(rt, alloc, tree, parent, pred, level, value),
+        Step::Deny(pred, level, value) => deny(rt, alloc, tree, pred, level, value, entry),
+        Step::Find(pred, value) => find(rt, tree, Some(pred), &[value], entry),
+        Step::End => find(rt, tree, None, &[], entry),
+        Step::Raise(level) => close(rt, tree, Cause::Raise { level }, entry),
     }
 }
 
 /// Takes the steps with the entries 1, 2, ..
-fn take_all(alloc: Global, tree: &mut Tree, steps: &[Step]) -> Result<(), Fail> {
-    let mut entry = 0;
+fn take_all(rt: &impl Abort, alloc: Global, tree: &mut Tree, steps: &[Step]) {
+    let mut entry: u64 = 0;
     for step in steps {
-        if entry < 1000 {
-            entry += 1;
-        }
-        take(alloc, tree, *step, entry)?;
+        entry = entry.saturating_add(1);
+        take(rt, alloc, tree, *step, entry);
     }
-    Ok(())
 }
 
 /// Which entry closed each obligation; 0 stands for none.
-fn entries(alloc: Global, tree: &Tree) -> Result<Vec<u64>, Memory> {
+fn entries(rt: &impl Abort, alloc: Global, tree: &Tree) -> Vec<u64> {
     let mut all = Vec::new(alloc);
     for id in 0..tree.count() {
-        all.push(tree.closed_by(id).unwrap_or(0))?;
+        all.push(tree.closed_by(id).unwrap_or(0))
+            .expect(rt, "memory");
     }
-    Ok(all)
+    all
 }
 
-/// Whether these are the entries, the leaves, and the root's level, and a live child is told of the
-/// root where it isn't the one leaf.
+fn has_entries(rt: &impl Abort, alloc: Global, tree: &Tree, closed: &[u64]) -> bool {
+    entries(rt, alloc, tree).as_slice() == closed
+}
+
+fn has_leaves(rt: &impl Abort, tree: &Tree, leaves: &[u32]) -> bool {
+    let listed = tree.leaves().expect(rt, "memory");
+    listed.as_slice() == leaves && tree.live_leaves() == leaves
+}
+
+/// Whether this is the root's level, and a live child is told of the root where it isn't the one
+/// leaf.
+fn has_root(tree: &Tree, level: u32) -> bool {
+    tree.is_tree();
+    tree.obligation(0).level == level && tree.has_live_child(0) == (tree.live().len() > 1)
+}
+
+/// Whether these are the entries, the leaves, and the root's level.
 fn stands(
+    rt: &impl Abort,
     alloc: Global,
     tree: &Tree,
     closed: &[u64],
     leaves: &[u32],
     level: u32,
-) -> Result<bool, Memory> {
-    tree.is_tree();
-    let all = entries(alloc, tree)?;
-    let listed = tree.leaves()?;
-    Ok(
-        all.as_slice() == closed
-            && listed.as_slice() == leaves
-            && tree.live_leaves() == leaves
-            && tree.obligation(0).level == level
-            && tree.has_live_child(0) == (tree.live().len() > 1),
-    )
+) -> bool {
+    has_entries(rt, alloc, tree, closed) && has_leaves(rt, tree, leaves) && has_root(tree, level)
 }
 
 #[test]
-fn the_lists_follow_a_short_run(rt: HostRuntime) -> Result<(), Fail> {
-    let mut tree = Tree::new(rt.alloc())?;
-    take_all(
-        rt.alloc(),
-        &mut tree,
-        &[Step::Raise(2), Step::Ask(0, 0, 1, 3)],
-    )?;
-    let before = tree.share()?;
-    take_all(rt.alloc(), &mut tree, &[Step::Deny(0, 1, 3)])?;
-    assert!(rt; stands(rt.alloc(), &tree, &[0, 1], &[0], 2)?);
-    assert!(rt; stands(rt.alloc(), &before, &[0, 0], &[1], 2)?);
-    Ok(())
+fn the_lists_follow_a_short_run(rt: HostRuntime) {
+    let mut tree = Tree::new(rt.alloc()).expect(&rt, "memory");
+    let steps = [Step::Raise(2), Step::Ask(0, 0, 1, 3)];
+    take_all(&rt, rt.alloc(), &mut tree, &steps);
+    let before = tree.share().expect(&rt, "memory");
+    take_all(&rt, rt.alloc(), &mut tree, &[Step::Deny(0, 1, 3)]);
+    assert!(rt; stands(&rt, rt.alloc(), &tree, &[0, 1], &[0], 2));
+    assert!(rt; stands(&rt, rt.alloc(), &before, &[0, 0], &[1], 2));
 }
 
 /// 1 and 5 hang under the root, 2 and 3 under 1, and 4 under 3.
@@ -155,54 +163,53 @@ const GROWN: [Step; 5] = [
     Step::Ask(0, 0, 3, 5),
 ];
 
-/// What the steps leave of the tree above: entries, leaves, and the root's level.
-fn leave(
-    alloc: Global,
-    steps: &[Step],
-    closed: &[u64],
-    leaves: &[u32],
-    level: u32,
-) -> Result<bool, Fail> {
-    let mut tree = Tree::new(alloc)?;
-    take_all(alloc, &mut tree, &GROWN)?;
-    take_all(alloc, &mut tree, steps)?;
-    Ok(stands(alloc, &tree, closed, leaves, level)?)
+/// That tree after these steps.
+fn grown(rt: &impl Abort, alloc: Global, steps: &[Step]) -> Tree {
+    let mut tree = Tree::new(alloc).expect(rt, "memory");
+    take_all(rt, alloc, &mut tree, &GROWN);
+    take_all(rt, alloc, &mut tree, steps);
+    tree
 }
 
 #[test]
-fn what_hangs_under_a_closed_one_is_closed_with_it(rt: HostRuntime) -> Result<(), Fail> {
+fn what_hangs_under_a_closed_one_is_closed_with_it(rt: HostRuntime) {
     // another predicate has the value, and then a lower level
     let steps = [
         Step::Deny(0, 9, 3),
         Step::Deny(0, 2, 1),
         Step::Deny(1, 2, 3),
     ];
-    assert!(rt; leave(rt.alloc(), &steps, &[0, 0, 0, 3, 3, 0], &[2, 5], 1)?);
+    let tree = grown(&rt, rt.alloc(), &steps);
+    assert!(rt; stands(&rt, rt.alloc(), &tree, &[0, 0, 0, 3, 3, 0], &[2, 5], 1));
     let steps = [Step::Find(1, 2), Step::Raise(4), Step::End];
-    assert!(rt; leave(rt.alloc(), &steps, &[3, 2, 1, 2, 2, 2], &[], 4)?);
-    Ok(())
+    let tree = grown(&rt, rt.alloc(), &steps);
+    assert!(rt; stands(&rt, rt.alloc(), &tree, &[3, 2, 1, 2, 2, 2], &[], 4));
 }
 
-/// What the tree above tells of claims, each by its worker and obligation; obligation 9 stands for
-/// a release.
-fn claims(alloc: Global, asked: &[(u32, u32)]) -> Result<Vec<bool>, Fail> {
-    let mut tree = Tree::new(alloc)?;
-    take_all(alloc, &mut tree, &GROWN)?;
+/// Asks for an obligation for a worker, and adds what is told; obligation 9 stands for a release.
+fn claim(rt: &impl Abort, tree: &mut Tree, told: &mut Vec<bool>, worker: u32, id: u32) {
+    if worker == 0 || worker > 64 {
+        return;
+    }
+    if id < tree.count() {
+        told.push(tree.claim(id, worker)).expect(rt, "memory");
+    } else {
+        tree.release(worker);
+    }
+}
+
+/// What the tree above tells of claims, each by its worker and obligation.
+fn claims(rt: &impl Abort, alloc: Global, asked: &[(u32, u32)]) -> Vec<bool> {
+    let mut tree = grown(rt, alloc, &[]);
     let mut told = Vec::new(alloc);
     for (worker, id) in asked {
-        if 0 < *worker && *worker <= 64 {
-            if *id < tree.count() {
-                told.push(tree.claim(*id, *worker))?;
-            } else {
-                tree.release(*worker);
-            }
-        }
+        claim(rt, &mut tree, &mut told, *worker, *id);
     }
-    Ok(told)
+    told
 }
 
 #[test]
-fn a_worker_claims_what_no_other_holds(rt: HostRuntime) -> Result<(), Fail> {
+fn a_worker_claims_what_no_other_holds(rt: HostRuntime) {
     let asked = [
         (1, 2),
         (64, 2),
@@ -214,31 +221,25 @@ fn a_worker_claims_what_no_other_holds(rt: HostRuntime) -> Result<(), Fail> {
         (2, 2),
         (64, 4),
     ];
-    let told = claims(rt.alloc(), &asked)?;
+    let told = claims(&rt, rt.alloc(), &asked);
     let wanted = [true, false, true, true, true, false, true, false];
-    assert_eq!(rt; told.as_slice(), wanted.as_slice());
-    Ok(())
+    assert!(rt; told.as_slice() == wanted.as_slice());
 }
 
-/// Which obligations are stalled after one is marked.
-fn stalled(alloc: Global, at: u32) -> Result<Vec<u32>, Fail> {
-    let mut tree = Tree::new(alloc)?;
-    take_all(alloc, &mut tree, &GROWN)?;
-    if at < tree.count() {
-        tree.stall(at)?;
-    }
-    let mut marked = Vec::new(alloc);
+/// Whether the one at this number alone is marked as stalled.
+fn is_marked(tree: &Tree, at: u32) -> bool {
     for id in 0..tree.count() {
-        if tree.is_stalled(id) {
-            marked.push(id)?;
+        if tree.is_stalled(id) != (id == at) {
+            return false;
         }
     }
-    Ok(marked)
+    at < tree.count()
 }
 
 #[test]
-fn stalling_marks_one_obligation(rt: HostRuntime) -> Result<(), Fail> {
-    let marked = stalled(rt.alloc(), 4)?;
-    assert_eq!(rt; marked.as_slice(), [4].as_slice());
-    Ok(())
+fn stalling_marks_one_obligation(rt: HostRuntime) {
+    let mut tree = grown(&rt, rt.alloc(), &[]);
+    assert!(rt; tree.count() > 4);
+    tree.stall(4).expect(&rt, "memory");
+    assert!(rt; is_marked(&tree, 4));
 }

@@ -1,9 +1,9 @@
 //! Coordinates by hand, where their numerators and floors begin to have no room, and between integers.
 
-use crate::runs::{Found, between, of_forms, solved};
+use crate::solving::{Found, between, of_forms, solved};
 use int_rows::Tableau;
 use std::alloc::Global;
-use std::test::Fail;
+use std::process::Abort;
 
 /// 2^63 - 1, 2^64 - 1 and 2^63.
 const ENTRY: i64 = i64::MAX;
@@ -32,22 +32,23 @@ fn fix(t: &mut Tableau, basic: usize, values: [i128; 5]) {
 /// What is answered for the tableau of one form, whose basic column may have two bounds, and each
 /// other one has its value. The form's slack is column 4.
 fn found(
+    rt: &impl Abort,
     alloc: Global,
     row: [i64; 4],
     basic: usize,
     values: [i128; 5],
     bounds: Option<(i128, i128)>,
-) -> Result<Found, Fail> {
+) -> Found {
     let rows = [row];
-    let mut t = of_forms(alloc, &rows)?;
-    if basic < 4 && !enter(&mut t, basic) {
-        return Ok(Found::Wrong);
+    let mut t = of_forms(rt, alloc, &rows);
+    if basic < 4 {
+        assert!(rt; enter(&mut t, basic));
     }
     fix(&mut t, basic, values);
     if let Some((lower, upper)) = bounds {
         between(&mut t, basic, lower, upper);
     }
-    Ok(solved(alloc, &mut t, &rows))
+    solved(alloc, &mut t, &rows)
 }
 
 /// Where numerators have no room. A vertex at such values of the first column is refused for its floor.
@@ -63,12 +64,12 @@ const NUMERATORS: [([i64; 4], usize, i128, u32); 6] = [
 ];
 
 #[test]
-fn numerators_are_wide_from_two_to_the_127_on_in_lowest_terms(rt: HostRuntime) -> Result<(), Fail> {
+fn numerators_are_wide_from_two_to_the_127_on_in_lowest_terms(rt: HostRuntime) {
     for (row, basic, third, wide) in NUMERATORS {
-        let found = found(rt.alloc(), row, basic, [VALUE, VALUE, third, 0, 0], None)?;
+        let values = [VALUE, VALUE, third, 0, 0];
+        let found = found(&rt, rt.alloc(), row, basic, values, None);
         assert!(rt; found == Found::WideCoordinate(wide));
     }
-    Ok(())
 }
 
 /// Values of the second column, where the first is it over the form's first number, or its negative.
@@ -85,12 +86,12 @@ const FLOORS: [(i64, i64, i128, Found); 8] = [
 ];
 
 #[test]
-fn floors_are_wide_from_two_to_the_63_on(rt: HostRuntime) -> Result<(), Fail> {
+fn floors_are_wide_from_two_to_the_63_on(rt: HostRuntime) {
     for (own, other, value, wanted) in FLOORS {
-        let found = found(rt.alloc(), [own, other, 0, 0], 0, [0, value, 0, 0, 0], None)?;
+        let values = [0, value, 0, 0, 0];
+        let found = found(&rt, rt.alloc(), [own, other, 0, 0], 0, values, None);
         assert!(rt; found == wanted);
     }
-    Ok(())
 }
 
 /// Bounds of x where 3x is the value.
@@ -105,11 +106,10 @@ const BOUNDS: [(i128, i128, i128, Found); 7] = [
 ];
 
 #[test]
-fn values_are_compared_with_integers(rt: HostRuntime) -> Result<(), Fail> {
+fn values_are_compared_with_integers(rt: HostRuntime) {
     for (value, lower, upper, wanted) in BOUNDS {
-        let bounds = Some((lower, upper));
-        let found = found(rt.alloc(), [3, -1, 0, 0], 0, [7, value, 0, 0, 0], bounds)?;
+        let (values, bounds) = ([7, value, 0, 0, 0], Some((lower, upper)));
+        let found = found(&rt, rt.alloc(), [3, -1, 0, 0], 0, values, bounds);
         assert!(rt; found == wanted);
     }
-    Ok(())
 }

@@ -10,3 +10,5 @@ mod examined;
 mod nodes;
 #[cfg(test)]
 mod runs;
+#[cfg(test)]
+mod solving;

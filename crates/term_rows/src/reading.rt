@@ -1,15 +1,13 @@
 //! Texts with their trees, written by hand from the rules. A leaf is shown by the first letter of
 //! its kind and its offsets, a list by its items and its offsets, and then the stop.
 
-ghost use Rattle.std.specs.Prelude.{◌<◌, ◌^◌, length};
-
 use base::{Copied, Memory, Same};
 use sexp_read::{
     LeafKind, Next, Reader, TextStop, Tree, Trees, leaf_bytes, numeral_value, read_commands,
     symbol_bytes,
 };
 use std::alloc::Global;
-use std::test::Fail;
+use std::process::Abort;
 
 fn letter(kind: LeafKind) -> char {
     match kind {
@@ -22,54 +20,73 @@ fn letter(kind: LeafKind) -> char {
     }
 }
 
+fn put_leaf(
+    alloc: Global,
+    kind: LeafKind,
+    start: u32,
+    end: u32,
+    shown: &mut String,
+) -> Result<(), Memory> {
+    let kind = letter(kind);
+    let leaf = format!(in alloc; "{kind}{start}-{end}")?;
+    Ok(shown.push_str(leaf.as_str())?)
+}
+
+fn put_end(alloc: Global, start: u32, end: u32, shown: &mut String) -> Result<(), Memory> {
+    let offsets = format!(in alloc; "){start}-{end}")?;
+    Ok(shown.push_str(offsets.as_str())?)
+}
+
+/// What stands in front of the tree of that place in a list.
+fn before(place: usize) -> &'static str {
+    if place > 0 { " " } else { "" }
+}
+
 #[cycle(show)]
 fn show(alloc: Global, tree: &Tree, shown: &mut String) -> Result<(), Memory> {
     match tree {
-        Tree::Leaf { kind, start, end } => {
-            let kind = letter(*kind);
-            shown.push_str(&format!(in alloc; "{kind}{start}-{end}")?)?;
-        }
+        Tree::Leaf { kind, start, end } => put_leaf(alloc, *kind, *start, *end, shown),
         Tree::List { items, start, end } => {
             shown.push_str("(")?;
             show_all(alloc, items.as_slice(), shown)?;
-            shown.push_str(&format!(in alloc; "){start}-{end}")?)?;
+            put_end(alloc, *start, *end, shown)
         }
     }
-    Ok(())
 }
 
 #[cycle(show)]
 fn show_all(alloc: Global, trees: &[Tree], shown: &mut String) -> Result<(), Memory> {
-    for (i, tree) in trees.iter().enumerate() {
-        if i > 0 {
-            shown.push_str(" ")?;
-        }
+    for (place, tree) in trees.iter().enumerate() {
+        shown.push_str(before(place))?;
         show(alloc, tree, shown)?;
     }
     Ok(())
 }
 
-fn shown(alloc: Global, read: &Trees) -> Result<String, Memory> {
-    let mut shown = String::new(alloc);
-    show_all(alloc, read.trees.as_slice(), &mut shown)?;
-    match read.stop {
-        None => {}
-        Some(TextStop::BadByte { offset }) => {
-            shown.push_str(&format!(in alloc; " bad {offset}")?)?
-        }
-        Some(TextStop::Unclosed { offset }) => {
-            shown.push_str(&format!(in alloc; " unclosed {offset}")?)?
-        }
-        Some(TextStop::Deep { offset }) => shown.push_str(&format!(in alloc; " deep {offset}")?)?,
-    }
-    Ok(shown)
+fn shown_stop(rt: &impl Abort, alloc: Global, stop: Option<TextStop>) -> String {
+    let shown = match stop {
+        None => format!(in alloc; ""),
+        Some(TextStop::BadByte { offset }) => format!(in alloc; " bad {offset}"),
+        Some(TextStop::Unclosed { offset }) => format!(in alloc; " unclosed {offset}"),
+        Some(TextStop::Deep { offset }) => format!(in alloc; " deep {offset}"),
+    };
+    shown.expect(rt, "memory")
 }
 
-fn reading(alloc: Global, text: &[u8]) -> Result<String, Memory>
-    requires { length text.now < 2 ^ 32 }
-{
-    let read = read_commands(alloc, text)?;
-    shown(alloc, &read)
+fn shown(rt: &impl Abort, alloc: Global, read: &Trees) -> String {
+    let mut shown = String::new(alloc);
+    show_all(alloc, read.trees.as_slice(), &mut shown).expect(rt, "memory");
+    let stop = shown_stop(rt, alloc, read.stop);
+    shown.push_str(stop.as_str()).expect(rt, "memory");
+    shown
+}
+
+/// Asserts how a text is read.
+fn check(rt: &impl Abort, alloc: Global, shows: &str, text: &[u8], expected: &str) {
+    assert!(rt; text.len() < 10000, "{shows}");
+    let read = read_commands(alloc, text).expect(rt, "memory");
+    let found = shown(rt, alloc, &read);
+    assert_eq!(rt; found.as_str(), expected, "{shows}");
 }
 
 /// What a case shows, its text and its reading.
@@ -137,151 +154,215 @@ const RULES: &str = "\
     a closed list in an open one§((a) b§ unclosed 0¶\
     ";
 
+/// The parts of a case.
+pub(crate) fn parts(case: &str) -> Option<(&str, &str, &str)> {
+    let mut parts = case.split('§');
+    match (parts.next(), parts.next(), parts.next()) {
+        (Some(shows), Some(text), Some(expected)) => Some((shows, text, expected)),
+        _ => None,
+    }
+}
+
 #[test]
-fn each_rule_reads_as_it_says(rt: HostRuntime) -> Result<(), Fail> {
+fn each_rule_reads_as_it_says(rt: HostRuntime) {
     let mut tried: usize = 0;
     for case in RULES.split('¶') {
-        let mut parts = case.split('§');
-        let (Some(shows), Some(text), Some(expected)) = (parts.next(), parts.next(), parts.next())
-        else {
-            break;
-        };
-        let bytes = text.as_bytes();
-        assert!(rt; bytes.len() < 1000, "{shows}");
-        let found = reading(rt.alloc(), bytes)?;
-        assert_eq!(rt; found.as_str(), expected, "{shows}");
-        tried = tried.saturating_add(1);
+        if let Some((shows, text, expected)) = parts(case) {
+            check(&rt, rt.alloc(), shows, text.as_bytes(), expected);
+            tried = tried.saturating_add(1);
+        }
     }
-    assert_eq!(rt; tried, 61);
-    Ok(())
+    assert!(rt; tried == 61);
+}
+
+/// How a text of one byte is read.
+fn reading_of_byte(byte: u8) -> &'static str {
+    if b"abcdefghijklmnopqrstuvwxyzABCDEFGHIJKLMNOPQRSTUVWXYZ~!@$%^&*_-+=<>.?/".contains(&byte) {
+        return "s0-1";
+    }
+    if b"0123456789".contains(&byte) {
+        return "n0-1";
+    }
+    if b"\t\n\r ;".contains(&byte) {
+        return "";
+    }
+    if b"(|\"".contains(&byte) {
+        return " unclosed 0";
+    }
+    " bad 0"
+}
+
+fn check_byte(rt: &impl Abort, alloc: Global, byte: u8) {
+    let shows = format!(in alloc; "{byte}").expect(rt, "memory");
+    check(rt, alloc, shows.as_str(), &[byte], reading_of_byte(byte));
 }
 
 #[test]
-fn each_byte_is_a_text(rt: HostRuntime) -> Result<(), Fail> {
-    let symbols = b"abcdefghijklmnopqrstuvwxyzABCDEFGHIJKLMNOPQRSTUVWXYZ~!@$%^&*_-+=<>.?/";
+fn each_byte_is_a_text(rt: HostRuntime) {
     for byte in 0..=255u8 {
-        let expected = if symbols.contains(&byte) {
-            "s0-1"
-        } else if b"0123456789".contains(&byte) {
-            "n0-1"
-        } else if b"\t\n\r ;".contains(&byte) {
-            ""
-        } else if b"(|\"".contains(&byte) {
-            " unclosed 0"
-        } else {
-            " bad 0"
-        };
-        let text = [byte];
-        let found = reading(rt.alloc(), &text)?;
-        assert_eq!(rt; found.as_str(), expected, "{byte}");
+        check_byte(&rt, rt.alloc(), byte);
     }
-    Ok(())
 }
 
 #[test]
-fn bytes_above_127_stand_in_comments_and_quotes_alone(rt: HostRuntime) -> Result<(), Fail> {
+fn bytes_above_127_stand_in_comments_and_quotes_alone(rt: HostRuntime) {
     let text = b";\xff\n|\xff| \"\x80\" a\xc3";
-    let found = reading(rt.alloc(), text)?;
-    assert_eq!(rt; found.as_str(), "q3-6 t7-10 s11-12 bad 12");
-    Ok(())
+    check(
+        &rt,
+        rt.alloc(),
+        "bytes above 127",
+        text,
+        "q3-6 t7-10 s11-12 bad 12",
+    );
 }
 
-#[test]
-fn a_reader_goes_on_where_a_tree_ended(rt: HostRuntime) -> Result<(), Fail> {
+/// How the tree at an offset is shown, and where it ends.
+fn tree_at(
+    rt: &impl Abort,
+    alloc: Global,
+    reader: &mut Reader,
+    text: &[u8],
+    at: usize,
+) -> (String, usize) {
+    assert!(rt; at <= text.len() && text.len() < 10000);
+    let mut found = String::new(alloc);
+    match reader.read(text, at).expect(rt, "memory") {
+        Next::Tree { tree, end } => {
+            show(alloc, &tree, &mut found).expect(rt, "memory");
+            (found, end)
+        }
+        Next::Stop(_) => (found, text.len()),
+    }
+}
+
+fn check_tree(
+    rt: &impl Abort,
+    alloc: Global,
+    reader: &mut Reader,
+    at: usize,
+    expected: &str,
+    behind: usize,
+) {
+    let (found, end) = tree_at(rt, alloc, reader, b"a (b) )", at);
+    assert!(rt; found.as_str() == expected && end == behind, "{expected}");
+}
+
+fn check_stop(rt: &impl Abort, reader: &mut Reader, at: usize, offset: u32) {
     let text = b"a (b) )";
-    let mut reader = Reader::new(rt.alloc());
-    let mut at: usize = 0;
-    for (expected, behind) in [("s0-1", 1), ("(s3-4)2-5", 5)] {
-        assert!(rt; at <= text.len());
-        let Next::Tree { tree, end } = reader.read(text, at)? else {
-            return Err("no tree".into());
-        };
-        let mut found = String::new(rt.alloc());
-        show(rt.alloc(), &tree, &mut found)?;
-        assert_eq!(rt; found.as_str(), expected);
-        assert_eq!(rt; end, behind);
-        at = end;
+    assert!(rt; at <= text.len());
+    match reader.read(text, at).expect(rt, "memory") {
+        Next::Stop(stop) => assert!(rt; stop.equals(&Some(TextStop::BadByte { offset }))),
+        Next::Tree { .. } => assert!(rt; false, "a tree"),
     }
-    for _ in 0..2 {
-        assert!(rt; at <= text.len());
-        let Next::Stop(stop) = reader.read(text, at)? else {
-            return Err("a tree".into());
-        };
-        assert!(rt; stop.equals(&Some(TextStop::BadByte { offset: 6 })));
-    }
-    Ok(())
-}
-
-fn repeated(alloc: Global, front: &[u8], byte: u8, count: usize) -> Result<Vec<u8>, Memory> {
-    let mut text = Vec::from_slice(alloc, front)?;
-    for _ in 0..count {
-        text.push(byte)?;
-    }
-    Ok(text)
 }
 
 #[test]
-fn two_thousand_lists_may_be_open(rt: HostRuntime) -> Result<(), Fail> {
-    let alloc = rt.alloc();
-    let table = [
+fn a_reader_goes_on_where_a_tree_ended(rt: HostRuntime) {
+    let mut reader = Reader::new(rt.alloc());
+    check_tree(&rt, rt.alloc(), &mut reader, 0, "s0-1", 1);
+    check_tree(&rt, rt.alloc(), &mut reader, 1, "(s3-4)2-5", 5);
+    check_stop(&rt, &mut reader, 5, 6);
+    check_stop(&rt, &mut reader, 5, 6);
+}
+
+/// A text with so many of one byte behind it.
+fn repeated(rt: &impl Abort, alloc: Global, front: &str, byte: u8, count: usize) -> Vec<u8> {
+    let mut text = Vec::from_slice(alloc, front.as_bytes()).expect(rt, "memory");
+    for _ in 0..count {
+        text.push(byte).expect(rt, "memory");
+    }
+    text
+}
+
+fn check_open(
+    rt: &impl Abort,
+    alloc: Global,
+    shows: &str,
+    front: &str,
+    count: usize,
+    expected: &str,
+) {
+    let text = repeated(rt, alloc, front, b'(', count);
+    check(rt, alloc, shows, text.as_slice(), expected);
+}
+
+#[test]
+fn two_thousand_lists_may_be_open(rt: HostRuntime) {
+    for (shows, front, count, expected) in [
         ("2,000 open lists", "", 2000, " unclosed 0"),
         ("2,001 open lists", "", 2001, " deep 2000"),
         ("trees before them", "a () ", 2001, "s0-1 ()2-4 deep 2005"),
         ("many more", "", 5000, " deep 2000"),
-    ];
-    for (shows, front, count, expected) in table {
-        let text = repeated(alloc, front.as_bytes(), b'(', count)?;
-        assert!(rt; text.len() < 10000, "{shows}");
-        let found = reading(alloc, &text)?;
-        assert_eq!(rt; found.as_str(), expected, "{shows}");
+    ] {
+        check_open(&rt, rt.alloc(), shows, front, count, expected);
     }
-    Ok(())
 }
 
-#[test]
-fn the_deepest_tree_is_copied_compared_and_dropped(rt: HostRuntime) -> Result<(), Fail> {
-    let alloc = rt.alloc();
-    let mut text = repeated(alloc, b"", b'(', 2000)?;
+/// A text of 2,000 lists, each in the one before it, and then `(a)`.
+fn deepest(rt: &impl Abort, alloc: Global) -> Vec<u8> {
+    let mut text = repeated(rt, alloc, "", b'(', 2000);
     for _ in 0..2000 {
-        text.push(b')')?;
+        text.push(b')').expect(rt, "memory");
     }
-    text.extend_from_slice(b"(a)")?;
-    assert!(rt; text.len() < 10000);
-    let read = read_commands(alloc, &text)?;
-    assert_eq!(rt; read.trees.len(), 2);
-    assert!(rt; read.stop.equals(&None));
-    let copied = read.copy(alloc)?;
-    assert!(rt; copied.equals(&read));
-    Ok(())
+    text.extend_from_slice(b"(a)").expect(rt, "memory");
+    text
+}
+
+/// Whether a reading is whole, and equal to its copy.
+fn is_copied(rt: &impl Abort, alloc: Global, read: &Trees) -> bool {
+    let copied = read.copy(alloc).expect(rt, "memory");
+    read.stop.equals(&None) && copied.equals(read)
 }
 
 #[test]
-fn leaves_say_their_bytes_and_numbers(rt: HostRuntime) -> Result<(), Fail> {
+fn the_deepest_tree_is_copied_compared_and_dropped(rt: HostRuntime) {
+    let text = deepest(&rt, rt.alloc());
+    assert!(rt; text.len() < 10000);
+    let read = read_commands(rt.alloc(), text.as_slice()).expect(&rt, "memory");
+    assert!(rt; read.trees.len() == 2);
+    assert!(rt; is_copied(&rt, rt.alloc(), &read));
+}
+
+/// Asserts the bytes of a leaf, whether it is a symbol, and the number that it spells.
+fn check_leaf(
+    rt: &impl Abort,
+    text: &[u8],
+    tree: Option<&Tree>,
+    bytes: &str,
+    is_symbol: bool,
+    number: Option<u64>,
+) {
+    let tree = tree.expect(rt, "a tree");
+    let found = leaf_bytes(text, tree).expect(rt, "a leaf");
+    assert!(rt; found == bytes.as_bytes(), "bytes of {bytes}");
+    assert!(rt;
+        symbol_bytes(text, tree).is_some() == is_symbol,
+        "symbol at {bytes}"
+    );
+    assert!(rt; numeral_value(text, tree) == number, "number at {bytes}");
+}
+
+#[test]
+fn leaves_say_their_bytes_and_numbers(rt: HostRuntime) {
     let text = b"let |let| \"a\"\"b\" 42 9223372036854775807 9223372036854775808 :k 1.5 ()";
-    let read = read_commands(rt.alloc(), text)?;
-    let table: [(&[u8], bool, Option<u64>); 8] = [
-        (b"let", true, None),
-        (b"let", true, None),
-        (b"a\"\"b", false, None),
-        (b"42", false, Some(42)),
-        (b"9223372036854775807", false, Some(9223372036854775807)),
-        (b"9223372036854775808", false, None),
-        (b":k", false, None),
-        (b"1.5", false, None),
-    ];
-    assert_eq!(rt; read.trees.len(), 9);
-    for (i, (bytes, is_symbol, number)) in table.iter().enumerate() {
-        let tree = read.trees.get(i).ok_or("no tree")?;
-        let found = leaf_bytes(text, tree).ok_or("no leaf")?;
-        assert!(rt; found == *bytes, "bytes of tree {i}");
-        assert_eq!(rt;
-            symbol_bytes(text, tree).is_some(),
-            *is_symbol,
-            "symbol at tree {i}"
-        );
-        assert_eq!(rt; numeral_value(text, tree), *number, "number at tree {i}");
-    }
-    let list = read.trees.get(8).ok_or("no list")?;
+    let read = read_commands(rt.alloc(), text).expect(&rt, "memory");
+    assert!(rt; read.trees.len() == 9);
+    check_leaf(&rt, text, read.trees.get(0), "let", true, None);
+    check_leaf(&rt, text, read.trees.get(1), "let", true, None);
+    check_leaf(&rt, text, read.trees.get(2), "a\"\"b", false, None);
+    check_leaf(&rt, text, read.trees.get(3), "42", false, Some(42));
+    let (most, over) = ("9223372036854775807", "9223372036854775808");
+    check_leaf(
+        &rt,
+        text,
+        read.trees.get(4),
+        most,
+        false,
+        Some(9223372036854775807),
+    );
+    check_leaf(&rt, text, read.trees.get(5), over, false, None);
+    check_leaf(&rt, text, read.trees.get(6), ":k", false, None);
+    check_leaf(&rt, text, read.trees.get(7), "1.5", false, None);
+    let list = read.trees.get(8).expect(&rt, "a list");
     assert!(rt; leaf_bytes(text, list).is_none());
-    Ok(())
 }

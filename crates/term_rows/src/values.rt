@@ -25,6 +25,21 @@ fn worth(
     value(alloc, terms, id, env)
 }
 
+/// Whether a term has this value.
+fn has_value(
+    rt: &impl Abort,
+    alloc: Global,
+    terms: &Terms,
+    id: TermId,
+    env: &[Value],
+    expected: Value,
+) -> bool {
+    match worth(rt, alloc, terms, id, env) {
+        Ok(value) => value == expected,
+        Err(_) => false,
+    }
+}
+
 /// The operator at variables that have these values.
 fn at_values(
     rt: &impl Abort,
@@ -57,18 +72,14 @@ fn at_values(
 
 fn gives(rt: &impl Abort, alloc: Global, op: OpKind, values: &[Value], expected: Value) {
     match at_values(rt, alloc, op, values) {
-        Ok(value) => assert!(rt; value == expected, "{op:?} of {values:?} is {value:?}"),
-        Err(_) => assert!(rt; false, "{op:?} of {values:?} has no value"),
+        Ok(value) => assert!(rt; value == expected, "{op:?} is {value:?} for {expected:?}"),
+        Err(_) => rt.panic("no value"),
     }
 }
 
-fn truths(rt: &impl Abort, alloc: Global, op: OpKind, values: &[bool], expected: bool) {
-    let mut args = Vec::new(alloc);
-    for value in values {
-        args.push(Value::Bool(*value)).expect(rt, "memory");
-    }
-    gives(rt, alloc, op, args.as_slice(), Value::Bool(expected));
-}
+const TRUE: Value = Value::Bool(true);
+
+const FALSE: Value = Value::Bool(false);
 
 fn integers(rt: &impl Abort, alloc: Global, values: &[i128]) -> Vec<Value> {
     let mut args = Vec::new(alloc);
@@ -91,33 +102,27 @@ fn computes(rt: &impl Abort, alloc: Global, op: OpKind, values: &[i128], expecte
 #[test]
 fn truth_values_are_those_of_the_theory_core(rt: HostRuntime) {
     let alloc = rt.alloc();
-    truths(&rt, alloc, OpKind::Not, &[true], false);
-    truths(&rt, alloc, OpKind::Not, &[false], true);
-    truths(&rt, alloc, OpKind::And, &[true, true, true], true);
-    truths(&rt, alloc, OpKind::And, &[true, true, false], false);
-    truths(&rt, alloc, OpKind::And, &[false], false);
-    truths(&rt, alloc, OpKind::Or, &[false, false, true], true);
-    truths(&rt, alloc, OpKind::Or, &[false, false], false);
-    truths(&rt, alloc, OpKind::Xor, &[true, true], false);
-    truths(&rt, alloc, OpKind::Xor, &[true, true, true], true);
-    truths(&rt, alloc, OpKind::Xor, &[true, false, true, false], false);
-    truths(&rt, alloc, OpKind::Implies, &[true, false], false);
-    truths(&rt, alloc, OpKind::Implies, &[false, false], true);
-    truths(&rt, alloc, OpKind::Implies, &[false, true, false], true);
-    truths(&rt, alloc, OpKind::Implies, &[true, true, false], false);
-    truths(&rt, alloc, OpKind::Eq, &[false, false, false], true);
-    truths(&rt, alloc, OpKind::Eq, &[false, false, true], false);
-    truths(&rt, alloc, OpKind::Distinct, &[true, false], true);
-    truths(&rt, alloc, OpKind::Distinct, &[true, false, true], false);
+    gives(&rt, alloc, OpKind::Not, &[TRUE], FALSE);
+    gives(&rt, alloc, OpKind::Not, &[FALSE], TRUE);
+    gives(&rt, alloc, OpKind::And, &[TRUE, TRUE, TRUE], TRUE);
+    gives(&rt, alloc, OpKind::And, &[TRUE, TRUE, FALSE], FALSE);
+    gives(&rt, alloc, OpKind::And, &[FALSE], FALSE);
+    gives(&rt, alloc, OpKind::Or, &[FALSE, FALSE, TRUE], TRUE);
+    gives(&rt, alloc, OpKind::Or, &[FALSE, FALSE], FALSE);
+    gives(&rt, alloc, OpKind::Xor, &[TRUE, TRUE], FALSE);
+    gives(&rt, alloc, OpKind::Xor, &[TRUE, TRUE, TRUE], TRUE);
+    gives(&rt, alloc, OpKind::Xor, &[TRUE, FALSE, TRUE, FALSE], FALSE);
+    gives(&rt, alloc, OpKind::Implies, &[TRUE, FALSE], FALSE);
+    gives(&rt, alloc, OpKind::Implies, &[FALSE, FALSE], TRUE);
+    gives(&rt, alloc, OpKind::Implies, &[FALSE, TRUE, FALSE], TRUE);
+    gives(&rt, alloc, OpKind::Implies, &[TRUE, TRUE, FALSE], FALSE);
+    gives(&rt, alloc, OpKind::Eq, &[FALSE, FALSE, FALSE], TRUE);
+    gives(&rt, alloc, OpKind::Eq, &[FALSE, FALSE, TRUE], FALSE);
+    gives(&rt, alloc, OpKind::Distinct, &[TRUE, FALSE], TRUE);
+    gives(&rt, alloc, OpKind::Distinct, &[TRUE, FALSE, TRUE], FALSE);
     let (one, two) = (Value::Int(1), Value::Int(2));
-    gives(&rt, alloc, OpKind::Ite, &[Value::Bool(true), one, two], one);
-    gives(
-        &rt,
-        alloc,
-        OpKind::Ite,
-        &[Value::Bool(false), one, two],
-        two,
-    );
+    gives(&rt, alloc, OpKind::Ite, &[TRUE, one, two], one);
+    gives(&rt, alloc, OpKind::Ite, &[FALSE, one, two], two);
 }
 
 #[test]
@@ -162,12 +167,9 @@ fn is_wide(rt: &impl Abort, alloc: Global, op: OpKind, values: &[i128]) {
     let args = integers(rt, alloc, values);
     match at_values(rt, alloc, op, args.as_slice()) {
         Err(ValueStop::ValueWide { term }) => {
-            assert!(rt;
-                term.0 as usize == values.len(),
-                "{op:?} of {values:?} stops at {term:?}"
-            )
+            assert!(rt; term.0 as usize == values.len(), "{op:?} stops at {term:?}")
         }
-        _ => assert!(rt; false, "{op:?} of {values:?} is not too wide"),
+        _ => rt.panic("a value that is not too wide"),
     }
 }
 
@@ -201,10 +203,7 @@ fn shared_bindings_are_evaluated_once(rt: HostRuntime) {
         let right = put(&rt, alloc, &mut terms, Node::LetVar { bound: sum });
         sum = apply(&rt, alloc, &mut terms, OpKind::Add, &[left, right]);
     }
-    match worth(&rt, alloc, &terms, sum, &[]) {
-        Ok(value) => assert!(rt; value == Value::Int(1 << 100)),
-        Err(_) => assert!(rt; false, "no value"),
-    }
+    assert!(rt; has_value(&rt, alloc, &terms, sum, &[], Value::Int(1 << 100)));
 }
 
 #[test]
@@ -227,9 +226,10 @@ fn let_binds_and_divisibility_counts_every_sign(rt: HostRuntime) {
     let body = divisible;
     let id = put(&rt, alloc, &mut terms, Node::Let { bound, body });
     for (n, expected) in [(-6, true), (-5, false), (0, true), (4, false), (9, true)] {
-        match worth(&rt, alloc, &terms, id, &[Value::Int(n)]) {
-            Ok(value) => assert!(rt; value == Value::Bool(expected), "{n}"),
-            Err(_) => assert!(rt; false, "no value at {n}"),
-        }
+        let expected = Value::Bool(expected);
+        assert!(rt;
+            has_value(&rt, alloc, &terms, id, &[Value::Int(n)], expected),
+            "{n}"
+        );
     }
 }

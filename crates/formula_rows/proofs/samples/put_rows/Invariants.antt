@@ -1,5 +1,5 @@
 use Rattle.std.proofs.Common.{◌≡◌, ◌++◌, map, drop}
-use Rattle.formula_rows.specs.Samples.{made_of}
+use Rattle.formula_rows.specs.machinery.Samples.{made_of}
 use Rattle.formula_rows.proofs.samples.put_rows.Given as goal
 
 -- those so far stand before those of the rows to come

@@ -2,10 +2,10 @@ use Rattle.std.proofs.Common.{sym, arith}
 use Rattle.term_check.proofs.LightLemmas.{first_light}
 use Rattle.term_rows.proofs.spelling.formula.Goals as goal
 
-pub check_formula-requires : goal.check_formula-requires
-check_formula-requires c =
+pub formula_of-requires : goal.formula_of-requires
+formula_of-requires g c =
     let read = c.in_ok-read.read in
     let look = c.in-Some.ensures.lookup in
     let light = first_light c.args.text.now read.trees c.as_slice.result.now read.stop c.in-Some.tree.now c.in_ok-read.ensures c.as_slice.ensures (sym look.0) look.1 in
     let fits = c.requires in
-    record { weight = omega (arith, light, fits) }
+    omega (arith, light, fits)
