@@ -1,7 +1,8 @@
-"""Runs `chc solve` and `z3` on one script, and prints seconds, peaks of memory and their ratio.
+"""Runs `chc solve` and `z3` on one script, and prints seconds, peaks of memory and the ratio of the times.
 
-For each program the best of its runs counts: seconds by the clock from start to end, and the peak of
-the memory that the system gave it."""
+For each program the best of its runs counts: seconds of processor time, its own and the system's for it,
+which other work on the machine hardly changes; seconds by the clock; and the peak of the memory that the
+system gave it. Ratios are those of processor time."""
 
 import os
 import shutil
@@ -9,32 +10,54 @@ import subprocess
 import sys
 import tempfile
 import time
+from typing import NamedTuple, Optional
 
 TOP = os.path.dirname(os.path.dirname(os.path.abspath(__file__)))
 
 
+class Measured(NamedTuple):
+    """The seconds of processor time and the peak memory in bytes of chc on one script, and the seconds of
+    z3 where it is installed."""
+
+    seconds: float
+    peak: int
+    theirs: Optional[float]
+
+
+class Ran(NamedTuple):
+    """One run: seconds of processor time and by the clock, the peak memory in bytes, status and output."""
+
+    seconds: float
+    clock: float
+    peak: int
+    status: int
+    output: bytes
+
+
 def run(words, path):
-    """The seconds, the peak memory in bytes, the status and the output of one run on the script."""
+    """Runs these words on the script."""
     with open(path, "rb") as script, tempfile.TemporaryFile() as out:
         begun = time.perf_counter()
         child = subprocess.Popen(words, stdin=script, stdout=out)
         _, status, usage = os.wait4(child.pid, 0)
-        seconds = time.perf_counter() - begun
+        clock = time.perf_counter() - begun
         child.returncode = os.waitstatus_to_exitcode(status)
         out.seek(0)
-        return seconds, usage.ru_maxrss * 1024, child.returncode, out.read()
+        seconds = usage.ru_utime + usage.ru_stime
+        return Ran(seconds, clock, usage.ru_maxrss * 1024, child.returncode, out.read())
 
 
 def measure(name, words, path, runs):
     """The least seconds and the greatest peak of some runs, each of which must answer sat."""
     results = [run(words, path) for _ in range(runs)]
-    for _, _, status, output in results:
-        if status != 0 or output.split(b"\n", 1)[0] != b"sat":
-            sys.exit(f"{name} ended with status {status} and {output[:200]!r}")
-    seconds = min(result[0] for result in results)
-    peak = max(result[1] for result in results)
-    print(f"{name:4} {seconds:9.3f} s {peak / 2**20:9.1f} MiB")
-    return seconds
+    for result in results:
+        if result.status != 0 or result.output.split(b"\n", 1)[0] != b"sat":
+            sys.exit(f"{name} ended with status {result.status} and {result.output[:200]!r}")
+    seconds = min(result.seconds for result in results)
+    clock = min(result.clock for result in results)
+    peak = max(result.peak for result in results)
+    print(f"{name:4} {seconds:9.3f} s {peak / 2**20:9.1f} MiB ({clock:.3f} s by the clock)")
+    return seconds, peak
 
 
 def compare(path, runs):
@@ -42,9 +65,26 @@ def compare(path, runs):
     chc = os.path.join(TOP, "chc")
     # The first start may build the program, which is no part of what is measured.
     subprocess.run([chc, "solve"], stdin=subprocess.DEVNULL, stdout=subprocess.DEVNULL)
-    ours = measure("chc", [chc, "solve"], path, runs)
+    ours, peak = measure("chc", [chc, "solve"], path, runs)
     if shutil.which("z3") is None:
         print("z3 is not installed, so there is no ratio")
-        return
-    theirs = measure("z3", ["z3", "-in"], path, 1)
+        return Measured(ours, peak, None)
+    theirs, _ = measure("z3", ["z3", "-in"], path, 1)
     print(f"chc takes 1/{theirs / ours:.1f} of the time of z3")
+    return Measured(ours, peak, theirs)
+
+
+def judge(half, whole, part, most_bytes=None):
+    """Fails where chc takes more than this part of the time of z3 on the whole script, more than 2.5
+    times as long as on half of it, or more memory than this."""
+    faults = []
+    growth = whole.seconds / half.seconds
+    print(f"twice the script takes {growth:.2f} times as long")
+    if growth > 2.5:
+        faults.append("time does not grow with the script alone")
+    if whole.theirs is not None and whole.seconds > part * whole.theirs:
+        faults.append(f"chc takes more than {part:.2f} of the time of z3")
+    if most_bytes is not None and whole.peak > most_bytes:
+        faults.append(f"chc takes more than {most_bytes / 2**20:.0f} MiB")
+    if faults:
+        sys.exit("; ".join(faults))

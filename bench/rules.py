@@ -2,14 +2,17 @@
 """Measures `chc solve` on a script of 65,000 rules with ten variables each, against z3 where that is
 installed.
 
-Each rule is `(forall ((x0 Int) .. (x9 Int)) (=> (and (p x0 .. x9) (< x0 x1)) (p x1 .. x9 x0)))`. Half
-as many rules are measured too, and the ratio of the two times tells whether time grows with the script
-alone."""
+Each rule is `(forall ((x0 Int) .. (x9 Int)) (=> (and (p x0 .. x9) (< x0 x1)) (p x1 .. x9 x0)))`, and is
+made into a normal clause. Half as many rules are measured too, and the ratio of the two times tells
+whether time grows with the script alone.
+
+It fails where `chc` takes more than half of the time of z3, more than 1 GiB, or more than 2.5 times as
+long for twice the rules."""
 
 import argparse
 import tempfile
 
-from measure import compare
+from measure import compare, judge
 
 VARIABLES = 10
 
@@ -34,11 +37,13 @@ def main():
     words.add_argument("--rules", type=int, default=65_000, help="of the longer script")
     words.add_argument("--runs", type=int, default=3, help="of chc; z3 runs once")
     words = words.parse_args()
+    measured = []
     for rules in (words.rules // 2, words.rules):
         with tempfile.NamedTemporaryFile("w", encoding="ascii", suffix=".smt2") as file:
             length = write_script(file, rules)
             print(f"{rules} rules of {length} bytes over {VARIABLES} variables")
-            compare(file.name, words.runs)
+            measured.append(compare(file.name, words.runs))
+    judge(*measured, part=1 / 2, most_bytes=2**30)
 
 
 if __name__ == "__main__":

@@ -6,12 +6,16 @@ use chc_cli::chc_run;
 use outside_io::{StdSink, StdSource};
 use std::{fs, io};
 
-const SCRIPTS: [&str; 7] = [
+const SCRIPTS: [&str; 11] = [
     "counter.smt2",
     "pump.smt2",
     "facts.smt2",
     "two_machines.smt2",
     "query.smt2",
+    "halves.smt2",
+    "saturating.smt2",
+    "two_heads.smt2",
+    "too_wide.smt2",
     "wrong_sort.smt2",
     "no_check.smt2",
 ];
