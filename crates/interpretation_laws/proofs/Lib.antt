@@ -1,0 +1,4 @@
+pub mod EndLemmas
+pub mod FrameLemmas
+pub mod PlaceLemmas
+pub mod SolutionLemmas
