@@ -17,7 +17,7 @@ use Rattle.linear_terms.specs.Width.{text_parts}
 use Rattle.term_forms.specs.declared.stop.FormStop.{FormStop}
 use Rattle.term_forms.specs.declared.stop.FormStop.TheVariants.{Memory, Wide}
 use Rattle.term_forms.specs.Found.{Tells}
-use Rattle.term_forms.specs.machinery.Reading.{AreRead, TellsAll, and_then, each, formed, judged, last_form, node_reading, reading, told_reading}
+use Rattle.term_forms.specs.machinery.Reading.{AreRead, TellsAll, and_then, each, formed, is_leaf, judged, last_form, node_reading, reading, told_reading}
 
 pushed_below : (n : ℕ) (ids : List TermId) (id : TermId) → list_all (is_below n) ids ≡ true → nat_lt id.0 n ≡ true → list_all (is_below n) (ids ++ id ∷ []) ≡ true
 pushed_below n [] id below less = ap (λ (b : Bool). b && true) less
@@ -35,6 +35,17 @@ all_below n (Let bound body) below = let both = both_true (list_all (is_below n)
 all_below n (Forall first sorts body) below = ap (λ (b : Bool). b && true) below
 all_below n (Exists first sorts body) below = ap (λ (b : Bool). b && true) below
 all_below n _ below = refl
+
+-- a leaf has no parts
+pub leaf_parts : (node : Node) → is_leaf node ≡ true → text_parts node ≡ []
+leaf_parts (LetVar bound) leaf = absurd (cc)
+leaf_parts (Pred pred args) leaf = absurd (cc)
+leaf_parts (Op op args) leaf = absurd (cc)
+leaf_parts (Divisible by arg) leaf = absurd (cc)
+leaf_parts (Let bound body) leaf = absurd (cc)
+leaf_parts (Forall first sorts body) leaf = absurd (cc)
+leaf_parts (Exists first sorts body) leaf = absurd (cc)
+leaf_parts _ leaf = refl
 
 then_same : {A B : Type 0} (r : Result A ℕ) (f g : A → Result B ℕ) → ((a : A) → f a ≡ g a) → and_then r f ≡ and_then r g
 then_same (Ok a) f g same = same a

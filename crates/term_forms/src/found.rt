@@ -5,7 +5,7 @@ ghost use Rattle.term_tables.specs.machinery.Table.{constant_in};
 ghost use Rattle.term_forms.specs.Found.{AreFound, Tells, form_or_wide, naming_in};
 
 use crate::names::Names;
-use crate::reading::read_form;
+use crate::reading::read_part;
 use crate::stop::FormStop;
 use lin_atoms::Lin;
 use std::alloc::Global;
@@ -30,7 +30,7 @@ pub fn linear_form(
     ensures known { OnOk result (AreFound (constant_in constants.now) (naming_in names.now.own.items names.now.auxiliary) terms.now.nodes known.new) }
 {
     terms.is_arena();
-    read_form(alloc, terms, constants, names, known, id)
+    read_part(alloc, terms, constants, names, known, id)
 }
 
 /// Where no term was read yet.

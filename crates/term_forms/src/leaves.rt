@@ -7,6 +7,7 @@ ghost use Rattle.lin_atoms.specs.Algebra.{name_in};
 ghost use Rattle.linear_terms.specs.Linear.{auxiliary_form, variable_form};
 ghost use Rattle.linear_terms.specs.Width.{text_parts};
 ghost use Rattle.term_tables.specs.machinery.Table.{constant_in};
+ghost use Rattle.term_forms.specs.machinery.Reading.{is_leaf};
 
 use crate::names::Names;
 use base::Memory;
@@ -68,6 +69,19 @@ fn bound_and_body(alloc: Global, bound: &[TermId], body: TermId) -> Result<Vec<T
     let mut parts = Vec::from_slice(alloc, bound)?;
     parts.push(body)?;
     Ok(parts)
+}
+
+/// Whether the node has no parts. What is told of it costs no more than a look at what was kept.
+pub fn is_leaf(node: &Node) -> bool
+    ensures { result ≡ is_leaf node.now }
+{
+    match node {
+        Node::Num(_) => true,
+        Node::True => true,
+        Node::False => true,
+        Node::Var { .. } => true,
+        _ => false,
+    }
 }
 
 /// The parts of a node in the order of the text.

@@ -11,6 +11,6 @@ mod stop;
 
 pub use found::{linear_form, nothing_read};
 pub use laws::kept_constants_give_linear_forms;
-pub use leaves::{auxiliary_of, name_of, text_parts, variable_form};
+pub use leaves::{auxiliary_of, is_leaf, name_of, text_parts, variable_form};
 pub use names::Names;
 pub use stop::FormStop;

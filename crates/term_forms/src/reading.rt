@@ -9,7 +9,7 @@ ghost use Rattle.term_tables.specs.machinery.Table.{constant_in};
 ghost use Rattle.term_forms.specs.Found.{Tells, naming_in};
 ghost use Rattle.term_forms.specs.machinery.Reading.{AreRead, TellsAll, each, formed, judged, reading, told_reading};
 
-use crate::leaves::text_parts;
+use crate::leaves::{is_leaf, text_parts};
 use crate::names::Names;
 use crate::node_form::node_form;
 use crate::stop::FormStop;
@@ -66,7 +66,7 @@ fn put(forms: &mut Items<Lin>, form: Lin) -> Result<(), Memory>
 /// The linear form of the term, or the first of its subterms, parts before the whole, whose form is
 /// wide. What was read is kept, so that a term that a name is bound to is read once.
 #[cycle(read)]
-pub(crate) fn read_form(
+fn read_form(
     alloc: Global,
     terms: &Terms,
     constants: &ConstantTable,
@@ -96,6 +96,28 @@ pub(crate) fn read_form(
     }
 }
 
+/// The same of a part. The form of a term without parts is made, and not kept.
+#[cycle(read)]
+pub(crate) fn read_part(
+    alloc: Global,
+    terms: &Terms,
+    constants: &ConstantTable,
+    names: &Names,
+    known: &mut BTreeMap<u32, Lin>,
+    id: TermId,
+) -> Result<Lin, FormStop>
+    requires there { id.0 < length terms.now.nodes }
+    requires known { AreRead (constant_in constants.now) (naming_in names.now.own.items names.now.auxiliary) terms.now.nodes known.old }
+    ensures told { Tells (reading (constant_in constants.now) (naming_in names.now.own.items names.now.auxiliary) terms.now.nodes id.0) result }
+    ensures known { OnOk result (AreRead (constant_in constants.now) (naming_in names.now.own.items names.now.auxiliary) terms.now.nodes known.new) }
+{
+    let node = terms.node(id);
+    if is_leaf(node) {
+        return of_node(alloc, node, id, constants, names, &[]);
+    }
+    read_form(alloc, terms, constants, names, known, id)
+}
+
 /// The linear forms of some parts of the term of that number, in order.
 #[cycle(read)]
 fn read_forms(
@@ -115,7 +137,7 @@ fn read_forms(
 {
     let mut forms = Items::new(alloc);
     for id in ids {
-        match read_form(alloc, terms, constants, names, known, *id) {
+        match read_part(alloc, terms, constants, names, known, *id) {
             Ok(form) => put(&mut forms, form)?,
             Err(stop) => return Err(stop),
         }

@@ -1,6 +1,6 @@
 -- The walk for comparisons with a wide difference, by nodes and part by part.
 use Rattle.std.proofs.Common.{◌≡◌, ℕ, ◌+◌, ◌<◌, ◌≤◌, List, [], ◌∷◌, length, drop, get_or, Bool, true, ◌&&◌, inl, inr, refl, ap, sym, ◌∙◌, arith}
-use Rattle.std.specs.Prelude.{slice_get, Option, Some, None, ℤ, nat_lt, if◌then◌else◌}
+use Rattle.std.specs.Prelude.{slice_get, Option, Some, None, false, ℤ, nat_lt, if◌then◌else◌}
 use Rattle.std.specs.List.{list_all}
 use Rattle.std.specs.Ordering.{nat_cmp}
 use Rattle.std.specs.BTreeMap.{BTreeMap, get}
@@ -12,10 +12,13 @@ use Rattle.term_tree.specs.declared.node.Node.{Node}
 use Rattle.term_tree.specs.declared.node.Node.TheVariants.{LetVar, Pred, Op, Divisible, Let, Forall, Exists}
 use Rattle.term_tree.specs.Arena.{has_parts_below, is_below}
 use Rattle.term_tree.proofs.Public.{both_true}
+use Rattle.lin_atoms.specs.Linear.{Linear}
 use Rattle.linear_terms.specs.Linear.{Naming}
 use Rattle.linear_terms.specs.Width.{first_among, first_of_two, first_where, is_wide_relation, text_parts}
 use Rattle.term_forms.specs.Found.{form_by, is_wide}
+use Rattle.term_forms.specs.machinery.Reading.{is_leaf}
 use Rattle.term_forms.proofs.FoundLemmas.{first_at}
+use Rattle.term_forms.proofs.ReadingLemmas.{leaf_parts}
 use Rattle.term_widths.specs.Wide.{has_wide_sides}
 use Rattle.term_widths.specs.machinery.Seen.{AreClear, AreNarrowTerms, IsNarrowTerm}
 
@@ -83,6 +86,25 @@ seek_by_node constant naming nodes id node wide is below none told =
     seek_at constant naming nodes id node is below
     ∙ ap (λ (o : Option ℕ). first_of_two o (if is_wide_relation (form_by constant naming nodes) (Some node) then Some id else None)) none
     ∙ ap (λ (b : Bool). if b then Some id else None) (sym told)
+
+-- a leaf is no comparison
+leaf_compares : (linear : ℕ → Linear) (node : Node) → is_leaf node ≡ true → is_wide_relation linear (Some node) ≡ false
+leaf_compares linear (LetVar bound) leaf = refl
+leaf_compares linear (Pred pred args) leaf = refl
+leaf_compares linear (Op op args) leaf = absurd (cc)
+leaf_compares linear (Divisible by arg) leaf = refl
+leaf_compares linear (Let bound body) leaf = refl
+leaf_compares linear (Forall first sorts body) leaf = refl
+leaf_compares linear (Exists first sorts body) leaf = refl
+leaf_compares linear _ leaf = refl
+
+-- nothing is found in a leaf
+pub leaf_clear : (constant : ℕ → Option ℤ) (naming : Naming) (nodes : List Node) (id : ℕ) (node : Node) → slice_get nodes id ≡ Some node → has_parts_below id node ≡ true
+    → is_leaf node ≡ true → first_where (has_wide_sides constant naming nodes) nodes id ≡ None
+leaf_clear constant naming nodes id node is below leaf =
+    seek_by_node constant naming nodes id node false is below
+    (ap (first_among (first_where (has_wide_sides constant naming nodes) nodes)) (leaf_parts node leaf))
+    (sym (leaf_compares (form_by constant naming nodes) node leaf))
 
 less_there : (k n m : ℕ) → n ≤ m → nat_lt k n ≡ true → nat_lt k m ≡ true
 less_there k n m h less = grind (arith, nat_tests)

@@ -17,7 +17,7 @@ use base::Memory;
 use lin_atoms::Lin;
 use std::alloc::Global;
 use std::collections::BTreeMap;
-use term_forms::{Names, text_parts};
+use term_forms::{Names, is_leaf, text_parts};
 use term_tables::ConstantTable;
 use term_tree::{TermId, Terms};
 
@@ -108,6 +108,32 @@ pub(crate) fn seek(
     }
 }
 
+/// The same in a part. A term without parts is no comparison, and isn't kept.
+#[cycle(seek)]
+fn seek_part(
+    alloc: Global,
+    terms: &Terms,
+    constants: &ConstantTable,
+    names: &Names,
+    known: &mut BTreeMap<u32, Lin>,
+    seen: &mut BTreeMap<u32, bool>,
+    id: TermId,
+) -> Result<Option<TermId>, Memory>
+    requires there { id.0 < length terms.now.nodes }
+    requires narrow { IsNarrowTerm (constant_in constants.now) (naming_in names.now.own.items names.now.auxiliary) terms.now.nodes id.0 }
+    requires known { AreFound (constant_in constants.now) (naming_in names.now.own.items names.now.auxiliary) terms.now.nodes known.old }
+    requires seen { AreClear (constant_in constants.now) (naming_in names.now.own.items names.now.auxiliary) terms.now.nodes seen.old }
+    ensures told { IfOk result (λ found. numbered found ≡ first_where (has_wide_sides (constant_in constants.now) (naming_in names.now.own.items names.now.auxiliary) terms.now.nodes) terms.now.nodes id.0) }
+    ensures known { OnOk result (AreFound (constant_in constants.now) (naming_in names.now.own.items names.now.auxiliary) terms.now.nodes known.new) }
+    ensures seen { OnOk result (AreClear (constant_in constants.now) (naming_in names.now.own.items names.now.auxiliary) terms.now.nodes seen.new) }
+{
+    let node = terms.node(id);
+    if is_leaf(node) {
+        return Ok(None);
+    }
+    seek(alloc, terms, constants, names, known, seen, id)
+}
+
 /// The same in some parts of the term of that number, in order.
 #[cycle(seek)]
 fn seek_all(
@@ -130,7 +156,7 @@ fn seek_all(
     ensures seen { OnOk result (AreClear (constant_in constants.now) (naming_in names.now.own.items names.now.auxiliary) terms.now.nodes seen.new) }
 {
     for id in ids {
-        let found = seek(alloc, terms, constants, names, known, seen, *id)?;
+        let found = seek_part(alloc, terms, constants, names, known, seen, *id)?;
         if found.is_some() {
             return Ok(found);
         }

@@ -1,10 +1,10 @@
 -- A term's linear form, or the first of its subterms that is wide, as the code finds them.
-use Rattle.std.specs.Prelude.{◌≡◌, ℕ, List, [], ◌∷◌, ◌++◌, map, Option, Some, Result, Ok, Err, ℤ, if◌then◌else◌}
+use Rattle.std.specs.Prelude.{◌≡◌, ℕ, List, [], ◌∷◌, ◌++◌, map, Option, Some, Result, Ok, Err, Bool, true, false, ℤ, if◌then◌else◌}
 use Rattle.std.specs.Ordering.{nat_cmp}
 use Rattle.std.specs.BTreeMap.{BTreeMap, get}
 use Rattle.term_tree.specs.declared.node.TermId.{TermId}
 use Rattle.term_tree.specs.declared.node.Node.{Node}
-use Rattle.term_tree.specs.declared.node.Node.TheVariants.{Num, Var, LetVar, Op, Let}
+use Rattle.term_tree.specs.declared.node.Node.TheVariants.{Num, True, False, Var, LetVar, Op, Let}
 use Rattle.term_tree.specs.Fold.{told_of}
 use Rattle.lin_atoms.specs.Linear.{Linear, of_constant}
 use Rattle.linear_terms.specs.Linear.{Naming, auxiliary_form, is_narrow, operation_form, variable_form, zero_form}
@@ -28,6 +28,14 @@ abbrev pub last_form : List Linear → Linear
 last_form [] = zero_form
 last_form (form ∷ []) = form
 last_form (form ∷ next ∷ forms) = last_form (next ∷ forms)
+
+-- the node has no parts
+abbrev pub is_leaf : Node → Bool
+is_leaf (Num n) = true
+is_leaf True = true
+is_leaf False = true
+is_leaf (Var binder sort) = true
+is_leaf _ = false
 
 -- the form of a node over those of its parts
 abbrev pub formed : (ℕ → Option ℤ) → Naming → Node → ℕ → List Linear → Linear

@@ -1,4 +1,4 @@
-use Rattle.std.proofs.Common.{◌≡◌, List, [], ap, ◌∙◌, subst}
+use Rattle.std.proofs.Common.{◌≡◌, List, [], ap, sym, ◌∙◌, subst}
 use Rattle.std.specs.Prelude.{Some, Ok, Err}
 use Rattle.term_tree.specs.declared.node.TermId.{TermId}
 use Rattle.lin_atoms.specs.Linear.{Linear}
@@ -6,7 +6,7 @@ use Rattle.linear_terms.specs.Width.{text_parts}
 use Rattle.term_tables.specs.machinery.Table.{constant_in}
 use Rattle.term_forms.specs.Found.{Tells, naming_in}
 use Rattle.term_forms.specs.machinery.Reading.{TellsAll, each, formed, judged, reading, told_reading}
-use Rattle.term_forms.proofs.ReadingLemmas.{kept_more, part_stops, parts_tell}
+use Rattle.term_forms.proofs.ReadingLemmas.{kept_more, leaf_parts, part_stops, parts_tell}
 use Rattle.term_forms.proofs.reading.+read.Goals as goal
 
 pub read_form-returns-in-Err-clause-told : goal.read_form-returns-in-Err-clause-told
@@ -56,3 +56,12 @@ read_form-returns-clause-known t c =
     (subst (λ (forms : List Linear). Tells (judged id (formed constant naming node id forms)) (Ok c.in-Ok-of_node.form)) c.as_slice-in-Ok.ensures c.in-Ok-of_node.ensures) in
     kept_more constant naming nodes c.read_forms.new.known c.keep.new.known id c.in-Ok-of_node.form c.in-Ok.ensures.known read
     (c.in_ok-keep-in-Ok-of_node.ensures.here ∙ ap (λ (form : Linear). Some form) c.in_ok-copy-in-Ok-of_node.ensures) c.in_ok-keep-in-Ok-of_node.ensures.others
+
+pub read_part-returns-then-is_leaf-clause-told : goal.read_part-returns-then-is_leaf-clause-told
+read_part-returns-then-is_leaf-clause-told t c =
+    let constant = constant_in c.args.constants.now in
+    let naming = naming_in c.args.names.now.own.items c.args.names.now.auxiliary in
+    let nodes = c.args.terms.now.nodes in
+    let node = c.node-node.result.now in
+    parts_tell constant naming nodes c.args.id.0 node c.node-node.ensures.is c.node-node.ensures.below [] c.of_node.result
+    (ap (each (told_reading constant naming nodes) []) (leaf_parts node (sym c.is_leaf.ensures ∙ c.if-is_leaf.true))) c.of_node.ensures

@@ -8,10 +8,13 @@ use Rattle.term_forms.specs.machinery.Reading.{AreRead, each, told_reading}
 use Rattle.term_forms.proofs.reading.+read.Given as goal
 
 abbrev pub decreases-read_form : goal.decreases-read_form
-decreases-read_form l = 2 * l.id.0 + 1
+decreases-read_form l = 3 * l.id.0 + 1
+
+abbrev pub decreases-read_part : goal.decreases-read_part
+decreases-read_part l = 3 * l.id.0 + 2
 
 abbrev pub decreases-read_forms : goal.decreases-read_forms
-decreases-read_forms l = 2 * l.above.0
+decreases-read_forms l = 3 * l.above.0
 
 abbrev pub invariant-read_forms-loop-id : goal.invariant-read_forms-loop-id
 invariant-read_forms-loop-id l = record {

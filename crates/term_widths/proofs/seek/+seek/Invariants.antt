@@ -10,10 +10,13 @@ use Rattle.term_widths.specs.machinery.Seen.{AreClear, AreNarrowTerms}
 use Rattle.term_widths.proofs.seek.+seek.Given as goal
 
 abbrev pub decreases-seek : goal.decreases-seek
-decreases-seek l = 2 * l.id.0 + 1
+decreases-seek l = 3 * l.id.0 + 1
+
+abbrev pub decreases-seek_part : goal.decreases-seek_part
+decreases-seek_part l = 3 * l.id.0 + 2
 
 abbrev pub decreases-seek_all : goal.decreases-seek_all
-decreases-seek_all l = 2 * l.above.0
+decreases-seek_all l = 3 * l.above.0
 
 -- the parts to come decide
 abbrev pub invariant-seek_all-loop-id : goal.invariant-seek_all-loop-id
