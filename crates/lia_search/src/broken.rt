@@ -1,6 +1,6 @@
 //! What a point breaks.
 
-ghost use Rattle.std.specs.Prelude.{◌≡◌, ◌<◌, length, IfSome, IsNone, true};
+ghost use Rattle.std.specs.Prelude.{◌≡◌, ◌<◌, length, take, slice_get, option_map, Some, IfSome, IsNone, false, true};
 ghost use Rattle.std.specs.List.{list_all, list_any};
 ghost use Rattle.lin_atoms.specs.Truth.{lit_truth, truth};
 ghost use Rattle.lia_search.specs.machinery.Opened.{left_lits};
@@ -24,6 +24,8 @@ fn any_holds(parts: &[Form], point: &[i64]) -> bool
 /// The first of the literals that is false at the point.
 pub(crate) fn first_literal(left_out: &[LeftOut], point: &[i64]) -> Option<usize>
     ensures within { IfSome result (λ at. at < length left_out.now) }
+    ensures broken { IfSome result (λ at. option_map (λ one. lit_truth point.now one.lit) (slice_get left_out.now at) ≡ Some false) }
+    ensures before { IfSome result (λ at. list_all (lit_truth point.now) (left_lits (take at left_out.now)) ≡ true) }
     ensures none { IsNone result → list_all (lit_truth point.now) (left_lits left_out.now) ≡ true }
 {
     for (at, one) in left_out.iter().enumerate() {
@@ -37,6 +39,8 @@ pub(crate) fn first_literal(left_out: &[LeftOut], point: &[i64]) -> Option<usize
 /// The first of the disjunctions that is false at the point.
 pub(crate) fn first_disjunction(cases: &[Items<Form>], point: &[i64]) -> Option<usize>
     ensures within { IfSome result (λ at. at < length cases.now) }
+    ensures broken { IfSome result (λ at. option_map (list_any (truth point.now)) (slice_get cases.now at) ≡ Some false) }
+    ensures before { IfSome result (λ at. list_all (list_any (truth point.now)) (take at cases.now) ≡ true) }
     ensures none { IsNone result → list_all (list_any (truth point.now)) cases.now ≡ true }
 {
     for (at, parts) in cases.iter().enumerate() {
