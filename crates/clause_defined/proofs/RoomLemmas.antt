@@ -30,7 +30,8 @@ use Rattle.term_widths.specs.machinery.Apart.{AreAlike, AreNoVariables, is_varia
 use Rattle.term_widths.proofs.ConstantLemmas.{judged_same}
 use Rattle.term_widths.proofs.PositionLemmas.{position_is}
 use Rattle.term_widths.proofs.RenamingLemmas.{alike_judge}
-use Rattle.term_formulas.specs.Written.{HasRoom, IsFresh, formula_by, place_forms_by}
+use Rattle.term_formulas.specs.Written.{HasRoom, formula_by, place_forms_by}
+use Rattle.term_formulas.specs.machinery.Fresh.{IsFresh}
 use Rattle.term_formulas.specs.machinery.Parts.{ArePlaces, is_shaped}
 use Rattle.term_formulas.proofs.RoomLemmas.{room_part}
 use Rattle.clause_normal.specs.Normal.{place_forms}

@@ -32,7 +32,8 @@ use Rattle.term_tables.specs.machinery.Table.{AreConstants, AreSorts, constant_i
 use Rattle.term_tables.proofs.ConstantLemmas.{constants_are}
 use Rattle.term_widths.specs.Wide.{first_wide_by}
 use Rattle.term_widths.specs.machinery.Apart.{AreNoVariables, AreOwnBelow, is_variable_there, placed_naming}
-use Rattle.term_formulas.specs.Written.{HasRoom, IsFresh, place_forms_by}
+use Rattle.term_formulas.specs.Written.{HasRoom, place_forms_by}
+use Rattle.term_formulas.specs.machinery.Fresh.{IsFresh}
 use Rattle.term_formulas.specs.machinery.Parts.{ArePlaces, is_shaped}
 use Rattle.clause_form.specs.declared.clause.Clause.{Clause}
 use Rattle.clause_form.specs.System.{most_variables}

@@ -16,7 +16,8 @@ use Rattle.term_tables.specs.machinery.Table.{AreConstants, constant_in}
 use Rattle.term_tables.proofs.ConstantLemmas.{constants_are}
 use Rattle.term_widths.specs.Wide.{first_wide_by}
 use Rattle.term_widths.specs.machinery.Apart.{Occurs}
-use Rattle.term_formulas.specs.Written.{HasRoom, IsFresh}
+use Rattle.term_formulas.specs.Written.{HasRoom}
+use Rattle.term_formulas.specs.machinery.Fresh.{IsFresh}
 use Rattle.term_forms.specs.Found.{naming_in}
 use Rattle.term_formulas.specs.machinery.Parts.{ArePlaces, is_shaped}
 use Rattle.formula_rows.specs.machinery.Samples.{AreGiven, row_terms}

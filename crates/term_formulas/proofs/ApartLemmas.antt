@@ -21,7 +21,8 @@ use Rattle.term_forms.proofs.LegalLemmas.{forms_same}
 use Rattle.term_widths.specs.Wide.{has_wide_sides}
 use Rattle.term_widths.proofs.RenamingLemmas.{only_names}
 use Rattle.term_widths.proofs.SeekLemmas.{none_first, none_second}
-use Rattle.term_formulas.specs.Written.{HasRoom, IsFresh}
+use Rattle.term_formulas.specs.Written.{HasRoom}
+use Rattle.term_formulas.specs.machinery.Fresh.{IsFresh}
 use Rattle.term_formulas.specs.machinery.Parts.{IsApart, IsMadeOf, is_unit_node}
 use Rattle.term_formulas.proofs.RoomLemmas.{fails, or_right, room_part, through}
 

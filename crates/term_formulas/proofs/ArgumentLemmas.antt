@@ -16,7 +16,8 @@ use Rattle.linear_terms.specs.Linear.{Naming, less}
 use Rattle.linear_terms.specs.Text.{Sorting, are_truths}
 use Rattle.linear_terms.specs.Formula.{Reading, comparison, denied, eq, implied, is_distinct, neighbours, operation, related, sides}
 use Rattle.linear_terms.specs.Place.{integer_place}
-use Rattle.term_formulas.specs.Written.{HasRoom, IsFresh, place_form_by, place_forms_by}
+use Rattle.term_formulas.specs.Written.{HasRoom, place_form_by, place_forms_by}
+use Rattle.term_formulas.specs.machinery.Fresh.{IsFresh}
 use Rattle.term_formulas.specs.machinery.Parts.{ArePlaces, HaveRoom, each, is_shaped, is_unit_node}
 
 pub room_more : (constant : ℕ → Option ℤ) (naming : Naming) (nodes : List Node) (above : ℕ) (ids : List TermId) (i : ℕ) (d : TermId) → i < length ids → HaveRoom constant naming nodes above (drop i ids)

@@ -11,7 +11,6 @@ use Rattle.linear_terms.specs.Place.{integer_place, truth_place}
 use Rattle.term_forms.specs.declared.names.Names.{Names}
 use Rattle.term_forms.specs.Found.{form_by, naming_in}
 use Rattle.term_widths.specs.Wide.{first_wide_by}
-use Rattle.term_widths.specs.machinery.Apart.{Occurs}
 
 abbrev pub naming_by : Names → Naming
 naming_by names = naming_in names.own.items names.auxiliary
@@ -46,8 +45,3 @@ pub record HasRoom (constant : ℕ → Option ℤ) (naming : Naming) (nodes : Li
   pub linear : EverySubterm (is_linear (constant_of nodes)) nodes id
   pub short : EverySubterm (has_short_constants (constant_of nodes)) nodes id
   pub constants : (q : ℕ) → IsSubterm nodes id q → q < length nodes → constant q ≡ constant_of nodes q
-
--- the variable stands for no other thing than the term's value, if for anything
-pub record IsFresh (nodes : List Node) (naming : Naming) (v id : ℕ) : Type 0 where
-  pub alone : (other : ℕ) → naming.auxiliary other ≡ Some v → other ≡ id
-  pub apart : (binder : ℕ) → Occurs nodes id binder → naming.own binder ≡ v → ⊥

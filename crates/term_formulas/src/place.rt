@@ -9,7 +9,8 @@ ghost use Rattle.linear_terms.specs.Place.{abs_place, choice_place, integer_plac
 ghost use Rattle.lin_atoms.specs.Linear.{is_short};
 ghost use Rattle.term_tables.specs.machinery.Table.{constant_in, sort_in};
 ghost use Rattle.term_forms.specs.Found.{AreFound, form_by};
-ghost use Rattle.term_formulas.specs.Written.{HasRoom, IsFresh, naming_by, place_form_by, place_forms_by, value_by};
+ghost use Rattle.term_formulas.specs.Written.{HasRoom, naming_by, place_form_by, place_forms_by, value_by};
+ghost use Rattle.term_formulas.specs.machinery.Fresh.{IsFresh};
 ghost use Rattle.term_formulas.specs.machinery.Parts.{ArePlaces, IsApart, IsMadeOf, is_shaped, is_unit_node};
 
 use crate::bits::bit_of;

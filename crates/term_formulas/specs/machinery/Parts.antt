@@ -14,7 +14,8 @@ use Rattle.linear_terms.specs.Linear.{Naming, is_narrow, variable_form}
 use Rattle.linear_terms.specs.Width.{is_wide_relation}
 use Rattle.term_forms.specs.Found.{form_by}
 use Rattle.term_widths.specs.machinery.Seen.{AreNarrowTerms}
-use Rattle.term_formulas.specs.Written.{HasRoom, IsFresh}
+use Rattle.term_formulas.specs.Written.{HasRoom}
+use Rattle.term_formulas.specs.machinery.Fresh.{IsFresh}
 
 -- of each of these terms
 abbrev pub each : (ℕ → Bool → Form) → Bool → List TermId → List Form
