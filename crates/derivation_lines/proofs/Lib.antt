@@ -1,0 +1,10 @@
+pub mod AddLemmas
+pub mod BackLemmas
+pub mod BehindLemmas
+pub mod DeriveLemmas
+pub mod LineLemmas
+pub mod PlaceLemmas
+pub mod PrintLemmas
+pub mod Public
+pub mod SayLemmas
+pub mod ShortLemmas

@@ -1,0 +1,4 @@
+pub mod Lines
+pub mod Claims
+pub mod Examples
+pub mod machinery
