@@ -1,0 +1,107 @@
+//! Longer runs on the clauses that count, in which the other rules are broken one after another, each
+//! by a step that breaks nothing before it.
+
+use crate::clauses::counting;
+use crate::turns::{Told, Turn, run};
+use chc_core::{Book, By, End};
+use std::alloc::Global;
+use std::process::Abort;
+
+/// Level 1: Open, Lemma and Stall.
+const LOW: [(Turn, Told); 14] = [
+    (Turn::Other(5, 0, 3), Told::Rule(1, By::Step)),
+    (Turn::Other(0, 1, 3), Told::Rule(2, By::Obligation(0))),
+    (Turn::Raise(false, 0, 0), Told::Taken(1)),
+    (Turn::Other(0, 1, 3), Told::Rule(3, By::Step)),
+    (Turn::Other(0, 0, 4), Told::Rule(3, By::Step)),
+    (Turn::Other(0, 0, 3), Told::Taken(2)),
+    (Turn::Stall(0, 3, 3), Told::Rule(51, By::Obligation(1))),
+    (Turn::Learn(1, 4, 1, 1), Told::Rule(14, By::Obligation(1))),
+    (Turn::Learn(1, 3, 1, 1), Told::Taken(3)),
+    (Turn::Other(1, 0, 3), Told::Rule(1, By::Entry(3))),
+    (Turn::Other(0, 0, 3), Told::Rule(5, By::Lemma(0))),
+    (Turn::Stall(1, 3, 3), Told::Rule(50, By::Entry(3))),
+    (Turn::Stall(0, 3, 4), Told::Rule(52, By::Step)),
+    (Turn::Stall(0, 4, 4), Told::Rule(53, By::Clause(2))),
+];
+
+fn hand_in_low(rt: &impl Abort, alloc: Global, book: &mut Book) {
+    run(rt, alloc, book, &LOW);
+}
+
+/// Level 2: an Open below another, a Lemma over another, a Lift, reasons against a Lift.
+const HIGH: [(Turn, Told); 19] = [
+    (Turn::Raise(true, 0, 0), Told::Taken(4)),
+    (Turn::Other(0, 0, 3), Told::Taken(5)),
+    (Turn::Below(2, false), Told::Rule(9, By::Lemma(0))),
+    (Turn::Below(2, true), Told::Taken(6)),
+    (Turn::Below(2, true), Told::Rule(7, By::Obligation(3))),
+    (Turn::Learn(2, 3, 2, 2), Told::Rule(12, By::Clause(1))),
+    (Turn::Learn(2, 3, 2, 1), Told::Rule(11, By::Clause(1))),
+    (Turn::Learn(3, 2, 1, 1), Told::Taken(7)),
+    (Turn::Lift(0, 2, 3), Told::Rule(30, By::Lemma(0))),
+    (Turn::Learn(2, 3, 2, 2), Told::Taken(8)),
+    (Turn::Raise(true, 0, 0), Told::Rule(42, By::Lemma(0))),
+    (Turn::Raise(true, 3, 2), Told::Rule(43, By::Lemma(1))),
+    (Turn::Lift(1, 1, 2), Told::Rule(33, By::Clause(1))),
+    (Turn::Lift(0, 1, 3), Told::Taken(9)),
+    (Turn::Lift(0, 2, 3), Told::Rule(31, By::Level(2))),
+    (Turn::Lift(1, 1, 3), Told::Rule(32, By::Clause(0))),
+    (Turn::Raise(true, 2, 2), Told::Rule(42, By::Step)),
+    (Turn::Unknown(2, 5), Told::Rule(44, By::Lemma(1))),
+    (Turn::Raise(true, 2, 0), Told::Taken(10)),
+];
+
+fn hand_in_high(rt: &impl Abort, alloc: Global, book: &mut Book) {
+    run(rt, alloc, book, &HIGH);
+}
+
+#[test]
+fn each_rule_is_told(rt: HostRuntime) {
+    let mut book = counting(&rt, rt.alloc(), 50_000);
+    hand_in_low(&rt, rt.alloc(), &mut book);
+    hand_in_high(&rt, rt.alloc(), &mut book);
+    assert!(rt; book.level() == 3);
+    assert!(rt; book.units() == 10);
+}
+
+/// Facts, up to the obligation that holds the last.
+const FACTS: [(Turn, Told); 5] = [
+    (Turn::Raise(false, 0, 0), Told::Taken(1)),
+    (Turn::Other(0, 0, 3), Told::Taken(2)),
+    (Turn::Next(Some(1), 2, 0), Told::Rule(20, By::Step)),
+    (Turn::Zero(Some(7)), Told::Rule(22, By::Step)),
+    (Turn::Zero(Some(0)), Told::Rule(23, By::Obligation(0))),
+];
+
+fn hand_in_facts(rt: &impl Abort, alloc: Global, book: &mut Book) {
+    run(rt, alloc, book, &FACTS);
+}
+
+#[test]
+fn facts_have_their_rules(rt: HostRuntime) {
+    let mut book = counting(&rt, rt.alloc(), 50_000);
+    hand_in_facts(&rt, rt.alloc(), &mut book);
+}
+
+/// A root that is stalled, and then the book.
+const STALLS: [(Turn, Told); 6] = [
+    (Turn::Raise(false, 0, 0), Told::Taken(1)),
+    (Turn::Other(0, 0, 3), Told::Taken(2)),
+    (Turn::Learn(1, 3, 1, 1), Told::Taken(3)),
+    (Turn::Stall(0, 3, 3), Told::Taken(4)),
+    (Turn::Stall(0, 3, 3), Told::Ended(End::Stalled)),
+    (Turn::Raise(true, 0, 0), Told::Ended(End::Stalled)),
+];
+
+fn hand_in_stalls(rt: &impl Abort, alloc: Global, book: &mut Book) {
+    run(rt, alloc, book, &STALLS);
+}
+
+#[test]
+fn a_stalled_root_ends_the_book(rt: HostRuntime) {
+    let mut book = counting(&rt, rt.alloc(), 50_000);
+    hand_in_stalls(&rt, rt.alloc(), &mut book);
+    assert!(rt; book.units() == 3);
+    assert!(rt; book.length() == 4);
+}

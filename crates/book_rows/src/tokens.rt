@@ -1,0 +1,272 @@
+//! What the steps of the runs are made of: lemmas, instances, proofs, and evidence.
+
+ghost use Rattle.std.specs.Prelude.{◌≡◌, ◌∷◌, [], true};
+ghost use Rattle.lin_atoms.specs.declared.form.Form.TheVariants.{Lit as Literal};
+ghost use Rattle.lin_atoms.specs.declared.form.Form.TheViews.{And, Or};
+ghost use Rattle.chc_tokens.specs.Tokens.{IsNoLift, IsShown, is_seen};
+
+use crate::clauses::{is, lin, next, values};
+use base::Items;
+use chc_tokens::{
+    Goal, NoLift, Seen, Shown, Used, Why, are_short, checked_query_of, has_head, has_values,
+    no_lift, seen, shown,
+};
+use clause_form::System;
+use cube_forms::{Cube, Lemma, negate};
+use farkas_proof::{Evidence, GaveUp, Refutation, check};
+use lin_atoms::{Form, Lit};
+use std::alloc::Global;
+use std::process::Abort;
+
+/// The cube of one value.
+pub(crate) fn only(rt: &impl Abort, alloc: Global, value: i64) -> Cube {
+    let lits = Vec::from_array(alloc, [is(rt, alloc, 0, value)]).expect(rt, "memory");
+    Cube::new(alloc, lits).expect(rt, "a cube")
+}
+
+/// 'Not this value'.
+pub(crate) fn not(rt: &impl Abort, alloc: Global, value: i64) -> Lemma {
+    let cube = only(rt, alloc, value);
+    negate(alloc, &cube).expect(rt, "memory")
+}
+
+/// 'Not this value' on the body atom.
+pub(crate) fn used(rt: &impl Abort, alloc: Global, value: i64) -> Vec<Used> {
+    let lemma = not(rt, alloc, value);
+    Vec::from_array(alloc, [Used { atom: 0, lemma }]).expect(rt, "memory")
+}
+
+/// The instance of a clause at the values of its variables.
+pub(crate) fn instance(
+    rt: &impl Abort,
+    alloc: Global,
+    sys: &System,
+    clause: u32,
+    values: &[i64],
+) -> Seen
+    ensures { is_seen sys.now result ≡ true }
+{
+    let point = Vec::from_slice(alloc, values).expect(rt, "memory");
+    assert!(rt;
+        has_values(sys, clause, point.as_slice()),
+        "other variables"
+    );
+    assert!(rt; are_short(point.as_slice()), "a value of -2^63");
+    seen(sys, clause, point).expect(rt, "an instance")
+}
+
+// proofs
+
+fn leaf(rt: &impl Abort, alloc: Global, multipliers: &[(u32, i64)]) -> Refutation {
+    Refutation::Leaf {
+        multipliers: Items::from_slice(alloc, multipliers).expect(rt, "memory"),
+    }
+}
+
+/// By the cases of the first disjunction, each with a leaf.
+fn by_cases(
+    rt: &impl Abort,
+    alloc: Global,
+    first: &[(u32, i64)],
+    second: &[(u32, i64)],
+) -> Refutation {
+    let mut subs = Items::new(alloc);
+    subs.push(leaf(rt, alloc, first)).expect(rt, "memory");
+    subs.push(leaf(rt, alloc, second)).expect(rt, "memory");
+    Refutation::Cases { which: 0, subs }
+}
+
+/// The token of a query of the clause, with this refutation.
+fn token(
+    rt: &impl Abort,
+    alloc: Global,
+    sys: &System,
+    clause: u32,
+    goal: Goal,
+    used: Vec<Used>,
+    proof: &Refutation,
+) -> Shown
+    ensures { IsShown sys.now result }
+{
+    let found = checked_query_of(alloc, sys, clause, &goal, used.as_slice()).expect(rt, "memory");
+    let form = found.expect(rt, "a query");
+    let proof = check(alloc, &form, proof).expect(rt, "a proof");
+    shown(alloc, sys, clause, goal, used, proof).expect(rt, "the query's proof")
+}
+
+/// Through the first clause the head, 0, isn't this value, which is above 0.
+pub(crate) fn through_first(rt: &impl Abort, alloc: Global, sys: &System, value: i64) -> Shown
+    ensures { IsShown sys.now result }
+{
+    let proof = leaf(rt, alloc, &[(0, 1), (1, -1)]);
+    let goal = Goal::Holds(not(rt, alloc, value));
+    token(rt, alloc, sys, 0, goal, Vec::new(alloc), &proof)
+}
+
+/// Through the second clause the head isn't this value where the body isn't one less.
+pub(crate) fn through_second(rt: &impl Abort, alloc: Global, sys: &System, value: i64) -> Shown
+    ensures { IsShown sys.now result }
+{
+    let below = [(0, -1), (1, -1), (2, 1)];
+    let above = [(0, 1), (1, 1), (2, 1)];
+    let proof = by_cases(rt, alloc, &below, &above);
+    let used = used(rt, alloc, value.wrapping_sub(1));
+    let goal = Goal::Holds(not(rt, alloc, value));
+    token(rt, alloc, sys, 1, goal, used, &proof)
+}
+
+/// Through the last clause, where the body isn't 3.
+pub(crate) fn through_last(rt: &impl Abort, alloc: Global, sys: &System) -> Shown
+    ensures { IsShown sys.now result }
+{
+    let proof = by_cases(rt, alloc, &[(0, -1), (1, 1)], &[(0, 1), (1, 1)]);
+    let used = used(rt, alloc, 3);
+    token(rt, alloc, sys, 2, Goal::Query, used, &proof)
+}
+
+/// That the lemma is broken by an instance of the second clause.
+fn broken_by(rt: &impl Abort, alloc: Global, sys: &System, lemma: Lemma, point: &[i64]) -> NoLift
+    ensures { IsNoLift sys.now result }
+{
+    assert!(rt; has_head(sys, 1, &lemma), "no head");
+    let point = Vec::from_slice(alloc, point).expect(rt, "memory");
+    assert!(rt; has_values(sys, 1, point.as_slice()), "other variables");
+    assert!(rt; are_short(point.as_slice()), "a value of -2^63");
+    match seen(sys, 1, point) {
+        Ok(seen) => no_lift(alloc, sys, lemma, Why::Broken(seen)).expect(rt, "broken"),
+        Err(_) => rt.panic("no instance"),
+    }
+}
+
+/// 'Not this value' is broken by the step from the value before it.
+pub(crate) fn broken(rt: &impl Abort, alloc: Global, sys: &System, value: i64) -> NoLift
+    ensures { IsNoLift sys.now result }
+{
+    let lemma = not(rt, alloc, value);
+    broken_by(rt, alloc, sys, lemma, &[value.wrapping_sub(1), value])
+}
+
+// evidence: a form with a disjunction may be split at once
+
+fn alone(rt: &impl Abort, alloc: Global, only: Form) -> Form
+    ensures { result ≡ And (only ∷ []) }
+{
+    let parts = Vec::from_array(alloc, [only]).expect(rt, "memory");
+    Form::And(Items::from_vec(parts))
+}
+
+fn both(rt: &impl Abort, alloc: Global, first: Form, second: Form) -> Form
+    ensures { result ≡ And (first ∷ second ∷ []) }
+{
+    let parts = Vec::from_array(alloc, [first, second]).expect(rt, "memory");
+    Form::And(Items::from_vec(parts))
+}
+
+fn either(rt: &impl Abort, alloc: Global, first: Lit, second: Lit) -> Form
+    ensures { result ≡ Or (Literal first ∷ Literal second ∷ []) }
+{
+    let parts = Vec::from_array(alloc, [Form::Lit(first), Form::Lit(second)]).expect(rt, "memory");
+    Form::Or(Items::from_vec(parts))
+}
+
+/// x0 is less than the value.
+fn less(rt: &impl Abort, alloc: Global, value: i64) -> Lit {
+    Lit::Le(lin(rt, alloc, &[(0, 1)], 1 - i128::from(value)))
+}
+
+/// x0 is more than the value.
+fn more(rt: &impl Abort, alloc: Global, value: i64) -> Lit {
+    Lit::Le(lin(rt, alloc, &[(0, -1)], i128::from(value) + 1))
+}
+
+/// That the form of one literal and a disjunction was given up.
+fn one_given_up(rt: &impl Abort, alloc: Global, guard: Lit, less: Lit, more: Lit) -> GaveUp {
+    let base = alone(rt, alloc, Form::Lit(guard));
+    let other = either(rt, alloc, less, more);
+    let form = both(rt, alloc, base, other);
+    GaveUp::keep(form, Evidence::Nodes { nodes: 1 })
+}
+
+/// That the form of two literals and a disjunction was given up.
+fn two_given_up(
+    rt: &impl Abort,
+    alloc: Global,
+    guard: Lit,
+    head: Lit,
+    less: Lit,
+    more: Lit,
+) -> GaveUp {
+    let base = both(rt, alloc, Form::Lit(guard), Form::Lit(head));
+    let other = either(rt, alloc, less, more);
+    let form = both(rt, alloc, base, other);
+    GaveUp::keep(form, Evidence::Nodes { nodes: 1 })
+}
+
+/// That the form of a disjunction and a literal was given up.
+fn either_given_up(rt: &impl Abort, alloc: Global, guard: Items<Form>, head: Lit) -> GaveUp {
+    let base = both(rt, alloc, Form::Or(guard), Form::Lit(head));
+    let form = alone(rt, alloc, base);
+    GaveUp::keep(form, Evidence::Nodes { nodes: 1 })
+}
+
+/// That the query of the last clause under 'not this value' was given up.
+pub(crate) fn query_given_up(rt: &impl Abort, alloc: Global, value: i64) -> GaveUp {
+    let guard = is(rt, alloc, 0, 3);
+    let (less, more) = (less(rt, alloc, value), more(rt, alloc, value));
+    one_given_up(rt, alloc, guard, less, more)
+}
+
+/// That the query of the second clause whose head is this value, under 'not the other', was given up.
+fn lemma_given_up(rt: &impl Abort, alloc: Global, value: i64, other: i64) -> GaveUp {
+    let (guard, head) = (next(rt, alloc), is(rt, alloc, 1, value));
+    let (less, more) = (less(rt, alloc, other), more(rt, alloc, other));
+    two_given_up(rt, alloc, guard, head, less, more)
+}
+
+/// That the query whether 0 or 7 is this value was given up.
+pub(crate) fn choice_given_up(rt: &impl Abort, alloc: Global, value: i64) -> GaveUp {
+    let guard = values(rt, alloc, &[0, 7]);
+    either_given_up(rt, alloc, guard, is(rt, alloc, 0, value))
+}
+
+/// That it isn't known whether the goal's lemma can be lifted, by evidence of a query of the second
+/// clause.
+fn unknown_by(
+    rt: &impl Abort,
+    alloc: Global,
+    sys: &System,
+    goal: Goal,
+    used: Items<Used>,
+    evidence: GaveUp,
+) -> NoLift
+    ensures { IsNoLift sys.now result }
+{
+    let found = checked_query_of(alloc, sys, 1, &goal, used.as_slice()).expect(rt, "memory");
+    match (goal, found) {
+        (Goal::Holds(lemma), Some(_)) => {
+            let why = Why::Unknown {
+                clause: 1,
+                used,
+                evidence,
+            };
+            no_lift(alloc, sys, lemma, why).expect(rt, "the query's evidence")
+        }
+        _ => rt.panic("no query"),
+    }
+}
+
+/// That it isn't known whether 'not this value' can be lifted under 'not the other'.
+pub(crate) fn unknown(
+    rt: &impl Abort,
+    alloc: Global,
+    sys: &System,
+    value: i64,
+    other: i64,
+) -> NoLift
+    ensures { IsNoLift sys.now result }
+{
+    let evidence = lemma_given_up(rt, alloc, value, other);
+    let goal = Goal::Holds(not(rt, alloc, value));
+    let used = Items::from_vec(used(rt, alloc, other));
+    unknown_by(rt, alloc, sys, goal, used, evidence)
+}
