@@ -13,6 +13,6 @@ mod same;
 pub use areas::{is_area, knows};
 pub use framed::{body_shut_out, frame_has};
 pub use instances::{atom_at, body_at, head_at, is_head};
-pub use literals::{form_has_room, have_room, same_cube};
+pub use literals::{cover, form_has_room, have_room, is_among, same_cube};
 pub use places::{is_wide, point_cube, projected_cube};
 pub use same::{same_form, same_lemma, same_lit, same_tuple};

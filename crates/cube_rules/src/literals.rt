@@ -67,7 +67,7 @@ fn all_have_room(forms: &[Form])
 }
 
 /// Whether the literal is one of these.
-pub(crate) fn is_among(lits: &[Lit], lit: &Lit) -> bool
+pub fn is_among(lits: &[Lit], lit: &Lit) -> bool
     ensures { result ≡ is_among lits.now lit.now }
 {
     for one in lits {
@@ -120,7 +120,7 @@ pub fn same_cube(lits: &[Lit], others: &[Lit]) -> bool
 /// Whether the literals cover the form: it is true, one of them, a conjunction of which they cover
 /// each part, or a disjunction of which they cover some part.
 #[cycle(cover)]
-pub(crate) fn cover(lits: &[Lit], form: &Form) -> bool
+pub fn cover(lits: &[Lit], form: &Form) -> bool
     ensures { result ≡ cover lits.now form.now }
 {
     match form {

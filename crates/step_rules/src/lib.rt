@@ -31,6 +31,7 @@ pub use lemma_part::LemmaPart;
 pub use lent::Lent;
 pub use lift_part::LiftPart;
 pub use open_part::OpenPart;
+pub use open_rules::has_fact_in;
 pub use raise_part::RaisePart;
 pub use stall_part::StallPart;
 pub use step::Step;

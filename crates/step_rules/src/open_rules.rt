@@ -118,7 +118,7 @@ fn fact_in(facts: &Facts, pred: u32, cube: &[Lit]) -> Option<u32>
 }
 
 /// Whether a recorded fact of the predicate lies in the cube.
-fn has_fact_in(facts: &Facts, pred: u32, cube: &[Lit]) -> bool
+pub fn has_fact_in(facts: &Facts, pred: u32, cube: &[Lit]) -> bool
     ensures { result ≡ has_fact_in (facts_of facts.now) pred cube.now }
 {
     fact_in(facts, pred, cube).is_some()
