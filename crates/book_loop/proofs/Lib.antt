@@ -1,0 +1,3 @@
+pub mod JobLemmas
+pub mod StepLemmas
+pub mod SystemLemmas

@@ -1,0 +1,10 @@
+//! The search of one worker over a book (Hoder and Bjorner, "Generalized property directed
+//! reachability"): turn after turn serves an obligation, until the book has ended.
+#![tactic(auto)]
+
+mod choosing;
+mod laws;
+mod running;
+
+pub use laws::systems_of_scripts_can_be_run;
+pub use running::{begin, search};
