@@ -1,83 +1,66 @@
--- What is answered to the trees of a text.
-use Rattle.std.proofs.Common.{◌≡◌, ℕ, ◌<◌, ◌≤◌, ◌^◌, List, length, true, ap, sym, subst, ◌∙◌, arith}
-use Rattle.std.specs.Prelude.{Option, Some, None, Ok, Err}
-use Rattle.sexp_read.specs.declared.tree.Tree.{Tree}
-use Rattle.sexp_read.specs.declared.tree.TextStop.{TextStop}
-use Rattle.sexp_read.specs.Trees.{IsReading}
-use Rattle.term_tree.specs.Arena.{IsArena}
+-- What is told of a checked text is told of its bytes.
+use Rattle.std.proofs.Common.{◌≡◌, ℕ, ◌≤◌, ◌^◌, List, length, ap, sym, refl, ◌∙◌}
+use Rattle.std.specs.Prelude.{Option, Some, None, Result, Ok, Err}
 use Rattle.std.specs.List.{AllByRecursion}
-use Rattle.term_tree.specs.declared.script.Script.{Script}
+use Rattle.term_tree.specs.Arena.{IsArena}
 use Rattle.term_tree.specs.declared.refusal.Refusal.{Refusal}
 use Rattle.term_tree.specs.declared.refusal.Checked.{Checked}
-use Rattle.sort_check.specs.Commands.{Command}
-use Rattle.sort_check.specs.Checked.{IsChecked, IsCheckedText}
+use Rattle.sort_check.specs.Checked.{IsCheckedText}
 use Rattle.sort_check.specs.Properties.{IsLegalAssertion, IsWithinLimits}
-use Rattle.sort_check.specs.Scripts.{Outcome, IsScript, IsScriptOf}
+use Rattle.sort_check.specs.Scripts.{Outcome}
 use Rattle.horn_shape.specs.Clause.{IsLegalScript}
-use Rattle.clause_form.specs.System.{Clauses, is_system}
-use Rattle.chc_cli.specs.Clauses.{IsInputRefused, headed_system}
+use Rattle.clause_form.specs.System.{Clauses}
+use Rattle.clause_form.specs.declared.clause.Clause.{Clause}
+use Rattle.clause_normal.specs.Reading.{all_clauses, system_reading, unless_stopped}
+use Rattle.chc_core.specs.Contents.{Contents}
+use Rattle.solve_words.specs.declared.limits.Limits.{Limits}
 use Rattle.chc_cli.specs.Clauses.IsInputRefused.{illegal}
-use Rattle.answer_text.specs.declared.answer.Answer.TheVariants.{Sat}
-use Rattle.answer_text.specs.Printable.{IsPrintable, IsAnswerText}
-use Rattle.chc_cli.specs.declared.headed.Headed.TheVariants.{All}
-use Rattle.chc_cli.specs.Headline.{IsSatAnswer}
-use Rattle.chc_cli.specs.machinery.Headed.{IsHeaded}
-use Rattle.chc_cli.specs.machinery.Model.{true_definitions}
-use Rattle.chc_cli.proofs.ModelLemmas.{printable, solves}
-
--- the refusal that is found is that of the text
-pub stopped : (text : List ℕ) (checked : Checked) (refusal : Refusal) → length text ≤ 2 ^ 24 → IsArena checked.script.terms.nodes → IsCheckedText text checked → headed_system checked ≡ Err refusal
-    → IsInputRefused text refusal
-stopped text checked refusal short arena h is = illegal checked short arena h is
-
--- where there is none, the text is a script
-pub finished : (text : List ℕ) (trees : List Tree) (stop : Option TextStop) (checked : Checked) → length text ≤ 2 ^ 24 → IsReading text trees stop → checked.stop ≡ None
-    → (h : IsChecked text trees stop checked) → IsScript text h.commands
-finished text trees stop checked short reading is h = record {
-  short = short;
-  trees = trees;
-  stop = stop;
-  reading = reading;
-  legal = h.outcome_is ∙ ap (λ (r : Option Refusal). let o : Outcome = record { commands = h.commands; refusal = r } in o) is;
-}
+use Rattle.chc_cli.specs.Headline.{IsBookFor}
+use Rattle.chc_cli.specs.declared.answer.Answer.{Answer}
+use Rattle.chc_cli.specs.declared.answer.Answer.TheVariants.{Answered, Refused, Unfinished}
+use Rattle.chc_cli.specs.machinery.Answers.{IsAnswerTo, IsSearchedBook, IsToldOf}
 
 -- the script of a text is legal
 pub legal_script : (checked : Checked) → AllByRecursion (IsLegalAssertion checked.script) checked.script.asserts → IsWithinLimits checked.script → IsLegalScript checked.script
 legal_script checked legal within = record { asserts = legal; few_asserts = within.asserts; few_preds = within.preds; few_args = within.args }
 
--- and the definitions solve it
-pub answered : (text : List ℕ) (commands : List Command) (script : Script) (system : Clauses) (printed : List ℕ) → IsArena script.terms.nodes → IsScript text commands → IsScriptOf commands script
-    → IsLegalScript script → is_system system ≡ true → headed_system (record { script = script; stop = None }) ≡ Ok system
-    → (IsPrintable script.preds (Sat (true_definitions 0 script.preds)) → IsAnswerText script.preds (Sat (true_definitions 0 script.preds)) printed)
-    → IsSatAnswer text printed
-answered text commands script system printed arena is_script spelled legal kept read prints = record {
-  commands = commands;
-  script = script;
-  system = system;
-  definitions = true_definitions 0 script.preds;
-  is_script = is_script;
-  spelled = spelled;
-  arena = arena;
-  clauses = read;
-  solution = solves script system arena legal kept read;
-  answer = prints (printable script.preds);
-}
+-- a text that has a system isn't refused
+not_stopped : (checked : Checked) (sys : Clauses) → system_reading checked ≡ Ok sys → checked.stop ≡ None
+not_stopped checked sys h = by checked.stop (all_clauses checked.script 0 checked.script.asserts) h
+  where
+    by : (stop : Option Refusal) (read : Result (List Clause) Refusal) → unless_stopped stop checked.script read ≡ Ok sys → stop ≡ None
+    by None read made = refl
+    by (Some stop) (Err refusal) made = absurd (cc)
+    by (Some stop) (Ok clauses) made = absurd (cc)
 
--- what is read of a text without a refusal is read of its script
-whole_reading : (checked : Checked) (script : Script) (system : Clauses) → script ≡ checked.script → checked.stop ≡ None → headed_system checked ≡ Ok system
-    → headed_system (record { script = script; stop = None }) ≡ Ok system
-whole_reading checked script system same none read =
-    ap (λ (s : Script). headed_system (record { script = s; stop = None })) same ∙ sym (ap (λ (o : Option Refusal). headed_system (record { script = checked.script; stop = o })) none) ∙ read
+-- so it is a script, and its book is one of that script
+module _ (limits : Limits) (bytes : List ℕ) (checked : Checked) (short : length bytes ≤ 2 ^ 24) (text : IsCheckedText bytes checked) where
+  book_for : (b : Contents) → IsSearchedBook limits checked b → IsBookFor limits bytes b
+  book_for b found =
+      let none = not_stopped checked b.system found.of.system in
+      record {
+        commands = text.3.commands;
+        script = checked.script;
+        is_script = record {
+          short = short;
+          trees = text.0;
+          stop = text.1;
+          reading = text.2;
+          legal = text.3.outcome_is ∙ ap (λ (r : Option Refusal). let o : Outcome = record { commands = text.3.commands; refusal = r } in o) none;
+        };
+        spelled = text.3.script;
+        of = record {
+          arena = found.of.arena;
+          legal = found.of.legal;
+          system = sym (ap (λ (o : Option Refusal). system_reading (record { script = checked.script; stop = o })) none) ∙ found.of.system;
+        };
+        given = found.given;
+        own = found.own;
+        level = found.level;
+      }
 
--- the answer to a text all of whose clauses have heads
-pub answered_all : (text : List ℕ) (trees : List Tree) (stop : Option TextStop) (checked : Checked) (script : Script) (printed : List ℕ) → length text ≤ 2 ^ 24 → IsReading text trees stop → IsChecked text trees stop checked
-    → IsArena checked.script.terms.nodes → IsLegalScript checked.script → IsHeaded checked (All script)
-    → (IsPrintable script.preds (Sat (true_definitions 0 script.preds)) → IsAnswerText script.preds (Sat (true_definitions 0 script.preds)) printed)
-    → IsSatAnswer text printed
-answered_all text trees stop checked script printed short reading h arena legal headed prints =
-    let same = headed.0 in
-    answered text h.commands script headed.2 printed (subst (λ (s : Script). IsArena s.terms.nodes) (sym same) arena) (finished text trees stop checked short reading headed.1 h)
-    (subst (IsScriptOf h.commands) (sym same) h.script) (subst IsLegalScript (sym same) legal) headed.3 (whole_reading checked script headed.2 same headed.1 headed.4) prints
-
-pub few_predicates : (checked : Checked) (script : Script) → IsHeaded checked (All script) → IsLegalScript checked.script → length script.preds < 2 ^ 32
-few_predicates checked script headed legal = let few = legal.few_preds in omega (arith, few, ap (λ (s : Script). length s.preds) headed.0)
+  pub told : IsArena checked.script.terms.nodes → (answer : Answer) → IsToldOf limits checked answer → IsAnswerTo limits bytes answer
+  unfolding book_for
+  told arena (Refused refusal line) h = (illegal checked short arena text h.0, h.1)
+  told arena (Answered book printed) h = record { book = book_for book h.0; ended_by = h.1; ended = h.2; answer = h.3 }
+  told arena (Unfinished book) h = book_for book h

@@ -1,13 +1,2 @@
 pub mod AnswerLemmas
-pub mod DeclaredLemmas
-pub mod FormedLemmas
-pub mod FormulaLemmas
-pub mod HeadedLemmas
-pub mod ModelLemmas
-pub mod NameLemmas
-pub mod PartnerLemmas
 pub mod PlanLemmas
-pub mod QueryLemmas
-pub mod ReadBackLemmas
-pub mod SameLemmas
-pub mod SymbolLemmas

@@ -1,44 +1,53 @@
 -- What the program's top call promises.
-use Rattle.std.specs.Prelude.{◌≡◌, ℕ, ◌<◌, List, [], ◌∷◌, length, take, drop, map, Bool, IfSome, codes, true, false, ◌≢◌, Some, None, Result, Ok, Err}
+use Rattle.std.specs.Prelude.{◌≡◌, ℕ, ◌<◌, List, [], ◌++◌, length, take, IfSome, codes, ◌≢◌, Some, None}
 use Rattle.std.specs.declared.option.Option.{Option}
-use Rattle.std.specs.Str.{bytes_eq}
 use Rattle.base.specs.Limits.{most_bytes}
 use Rattle.outside_io.specs.Bytes.{Appends}
 use Rattle.outside_io.specs.Counts.{counted}
 use Rattle.outside_io.specs.declared.turn.Turn.{Turn}
 use Rattle.outside_io.specs.declared.turn.Turn.TheVariants.{End}
 use Rattle.term_tree.specs.declared.script.Script.{Script}
-use Rattle.term_tree.specs.declared.definition.Definition.{Definition}
 use Rattle.term_tree.specs.declared.refusal.Refusal.{Refusal}
 use Rattle.term_tree.specs.declared.refusal.Kind.TheVariants.{TooLong}
-use Rattle.term_tree.specs.Arena.{IsArena}
-use Rattle.term_tree.specs.Solution.{IsSolution}
 use Rattle.sort_check.specs.Commands.{Command}
 use Rattle.sort_check.specs.Scripts.{IsScript, IsScriptOf}
-use Rattle.clause_form.specs.System.{Clauses}
-use Rattle.answer_text.specs.declared.answer.Answer.TheVariants.{Sat}
-use Rattle.answer_text.specs.Lines.{error_text, usage_text, memory_text}
-use Rattle.answer_text.specs.Printable.{IsAnswerText}
-use Rattle.chc_cli.specs.Clauses.{IsInputRefused, headed_system}
+use Rattle.book_rules.specs.declared.end.End.{End as BookEnd}
+use Rattle.book_rules.specs.Legal.{end}
+use Rattle.book_rules.specs.Walks.{AllOf}
+use Rattle.chc_core.specs.Contents.{Contents}
+use Rattle.chc_core.specs.Views.{state_of}
+use Rattle.book_loop.specs.Runs.{IsOwn}
+use Rattle.book_answers.specs.Answers.{HasNoLowFalse, HasText, IsBookOf}
+use Rattle.answer_text.specs.declared.answer.UnknownCause.TheVariants.{NoMemory}
+use Rattle.answer_text.specs.Lines.{error_text, level_text, memory_text, usage_text}
+use Rattle.solve_words.specs.Words.{limits_of}
+use Rattle.solve_words.specs.declared.limits.Limits.{Limits}
+use Rattle.chc_cli.specs.Clauses.{IsInputRefused}
 
--- the words after the program's name are `solve` alone
-abbrev pub is_solve : List (List ℕ) → Bool
-is_solve (word ∷ []) = bytes_eq word (codes "solve")
-is_solve _ = false
-
--- the bytes are a script, its assertions are clauses with heads, and the text is the printed form of definitions under which
--- every assertion is true
-pub record IsSatAnswer (bytes : List ℕ) (text : List ℕ) : Type 0 where
+-- a book over the clauses of the script that the bytes spell, which was given these units, in whose journal evidence that counts
+-- inner nodes counts so many, and no derivation of false is as low as its closed level
+pub record IsBookFor (limits : Limits) (bytes : List ℕ) (b : Contents) : Type 0 where
   pub commands : List Command
   pub script : Script
-  pub system : Clauses
-  pub definitions : List Definition
   pub is_script : IsScript bytes commands
   pub spelled : IsScriptOf commands script
-  pub arena : IsArena script.terms.nodes
-  pub clauses : headed_system (record { script = script; stop = None }) ≡ Ok system
-  pub solution : IsSolution script definitions
-  pub answer : IsAnswerText script.preds (Sat definitions) text
+  pub of : IsBookOf (record { script = script; stop = None }) b
+  pub given : b.given ≡ limits.units
+  pub own : AllOf (IsOwn limits.nodes) b.journal
+  pub level : HasNoLowFalse script b.level
+
+-- such a book that has ended, and its answer: a derivation at an unsat end, definitions at a sat end, else the closed level and
+-- the cause
+pub record IsAnswered (limits : Limits) (bytes : List ℕ) (b : Contents) (text : List ℕ) : Type 0 where
+  pub book : IsBookFor limits bytes b
+  pub ended_by : BookEnd
+  pub ended : end (state_of b) ≡ Some ended_by
+  pub answer : HasText book.script b ended_by text
+
+-- where memory is wanted: the closed level, if there is a book
+abbrev pub wanting_text : Option Contents → List ℕ
+wanting_text None = memory_text
+wanting_text (Some b) = codes "unknown\n" ++ level_text b.level NoMemory
 
 -- The refusal is that of the bytes left in the source: of those that were read, where the source's count of ends rose, and
 -- that they are too many, where it didn't.
@@ -57,24 +66,29 @@ abbrev pub EndsOnce : ℕ → ℕ → Turn → Type 0
 EndsOnce old new last = new ≢ old → (new ≡ counted old) × (last ≡ End)
 
 -- the text that the call was to write: its kinds are told apart by the status that it was to end with
-pub data IsMeant (words : List (List ℕ)) (left : Option (List ℕ)) (old new : ℕ) (read text : List ℕ) : Type 0 where
-  sat : is_solve words ≡ true → IsSatAnswer read text → IfSome left (λ bytes. read ≡ bytes) → IsMeant words left old new read text
-  error : (refusal : Refusal) → is_solve words ≡ true → RefusesInput left old new read refusal → text ≡ error_text refusal → IsMeant words left old new read text
-  usage : is_solve words ≡ false → read ≡ [] → text ≡ usage_text → IsMeant words left old new read text
-  memory : is_solve words ≡ true → text ≡ memory_text → IsMeant words left old new read text
+pub data IsMeant (words : List (List ℕ)) (left : Option (List ℕ)) (old new : ℕ) (read : List ℕ) (book : Option Contents) (text : List ℕ) : Type 0 where
+  answer : (limits : Limits) (b : Contents) → limits_of words ≡ Some limits → book ≡ Some b → IsAnswered limits read b text → IfSome left (λ bytes. read ≡ bytes)
+      → IsMeant words left old new read book text
+  error : (refusal : Refusal) (limits : Limits) → limits_of words ≡ Some limits → RefusesInput left old new read refusal → text ≡ error_text refusal → IsMeant words left old new read book text
+  usage : limits_of words ≡ None → read ≡ [] → text ≡ usage_text → IsMeant words left old new read book text
+  memory : (limits : Limits) → limits_of words ≡ Some limits → text ≡ wanting_text book → IsMeant words left old new read book text
 
 -- status 4: a prefix of the text that was meant is held, and not all of it
-pub record WritesPart (words : List (List ℕ)) (left : Option (List ℕ)) (ends after : ℕ) (read : List ℕ) (old new : Option (List ℕ)) : Type 0 where
+pub record WritesPart (words : List (List ℕ)) (left : Option (List ℕ)) (ends after : ℕ) (read : List ℕ) (book : Option Contents) (old new : Option (List ℕ)) : Type 0 where
   pub text : List ℕ
-  pub meant : IsMeant words left ends after read text
+  pub meant : IsMeant words left ends after read book text
   pub count : ℕ
   pub part : count < length text
   pub held : Appends (take count text) old new
 
--- status 0: the sink holds the answer behind what it held
-pub record Answers (read : List ℕ) (old new : Option (List ℕ)) : Type 0 where
+-- status 0: the sink holds the answer of the book's end behind what it held
+pub record Answers (words : List (List ℕ)) (read : List ℕ) (book : Option Contents) (old new : Option (List ℕ)) : Type 0 where
+  pub limits : Limits
+  pub words_are : limits_of words ≡ Some limits
+  pub b : Contents
+  pub book_is : book ≡ Some b
   pub text : List ℕ
-  pub answer : IsSatAnswer read text
+  pub answer : IsAnswered limits read b text
   pub held : Appends text old new
 
 -- status 1: it holds the line of the refusal

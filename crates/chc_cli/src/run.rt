@@ -1,18 +1,22 @@
-ghost use Rattle.std.specs.Prelude.{◌≡◌, ◌≢◌, ◌≤◌, ◌↔◌, [], map, true, false, IfSome, IsSome};
+ghost use Rattle.std.specs.Prelude.{◌≡◌, ◌≢◌, ◌≤◌, ◌↔◌, [], map, None, Some, IfSome, IsSome};
 ghost use Rattle.std.specs.String.{string_bytes};
 ghost use Rattle.outside_io.specs.Bytes.{Appends};
 ghost use Rattle.outside_io.specs.Counts.{counted};
 ghost use Rattle.outside_io.specs.declared.turn.Turn.TheVariants.{Fault};
 ghost use Rattle.term_tree.specs.declared.refusal.Refusal.{Refusal};
 ghost use Rattle.sort_check.specs.Scripts.{IsRefused};
+ghost use Rattle.solve_words.specs.Words.{limits_of};
+ghost use Rattle.solve_words.specs.declared.limits.Limits.{Limits};
 ghost use Rattle.chc_cli.specs.Clauses.{HasNoSystem, IsUnrefused};
-ghost use Rattle.chc_cli.specs.Headline.{is_solve, Answers, Refuses, ReadsInput, WritesPart, EndsOnce};
-ghost use Rattle.answer_text.specs.Lines.{usage_text, memory_text};
+ghost use Rattle.chc_cli.specs.Headline.{Answers, EndsOnce, IsBookFor, ReadsInput, Refuses, WritesPart, wanting_text};
+ghost use Rattle.answer_text.specs.Lines.{usage_text};
 
+use crate::lines::unfinished_lines;
 use crate::plan::{Plan, plan_for};
-use crate::words::is_solve;
 use answer_text::{memory_line, usage_line};
+use chc_core::Book;
 use outside_io::{Sink, Source, write_all};
+use solve_words::limits_of;
 use sort_check::no_script_is_refused;
 use std::alloc::Global;
 use term_tree::Refusal;
@@ -34,6 +38,8 @@ pub struct Report {
     pub read: Vec<u8>,
     /// The refusal, exactly under status 1.
     pub refusal: Option<Refusal>,
+    /// The book of the script's clauses, wherever one was opened: under status 0 at its end.
+    pub book: Option<Book>,
 }
 
 /// The program: it carries out the words after the program's name over what the source gives, and
@@ -48,8 +54,8 @@ pub fn chc_run<S: Source, K: Sink>(
 ) -> Report
     ensures statuses { result.status ≤ 5 }
 
-    // 0: the text that the sink holds now is a sat answer: definitions under which every assertion of the script that the bytes read spell is true. All of its assertions are clauses with heads.
-    ensures answered { result.status ≡ 0 → Answers result.read.items (K.held sink.old) (K.held sink.new) }
+    // 0: the book over the clauses of the script that the bytes read spell has ended, and the text that the sink holds now is the answer of its end: a derivation of false by the script's assertions, definitions under which each of them is true, or the closed level and the cause.
+    ensures answered { result.status ≡ 0 → Answers (map string_bytes words.now) result.read.items result.book (K.held sink.old) (K.held sink.new) }
     ensures answers_all { result.status ≡ 0 → IfSome (S.left source.old) (λ bytes. result.read.items ≡ bytes) }
 
     // 1: it is the line of the one refusal of the bytes.
@@ -57,16 +63,21 @@ pub fn chc_run<S: Source, K: Sink>(
     ensures refuses_all { IfSome result.refusal (ReadsInput (S.left source.old) result.read.items) }
     ensures refusal { IsSome result.refusal ↔ (result.status ≡ 1) }
 
-    // Both exactly: of bytes that have no refusal none is told, and bytes that are no script, or have no system of clauses with heads, are not answered.
+    // Both exactly: of bytes that have no refusal none is told, and bytes that are no script, or have no system of clauses, are not answered.
     ensures answers_scripts { IfSome (S.left source.old) (λ bytes. IsUnrefused bytes → result.status ≢ 1) }
     ensures refuses_others { IfSome (S.left source.old) (λ bytes. (refusal : Refusal) → IsRefused bytes refusal → result.status ≢ 0) }
-    ensures refuses_queries { IfSome (S.left source.old) (λ bytes. HasNoSystem bytes → result.status ≢ 0) }
+    ensures refuses_shapes { IfSome (S.left source.old) (λ bytes. HasNoSystem bytes → result.status ≢ 0) }
 
-    // 2: other words than `solve` are answered so, and nothing is read for them.
+    // Whatever the status: the book is one of the script that the bytes read spell, within the limits of the words, and no derivation of false is as low as its closed level.
+    ensures book { IfSome result.book (λ b. (limits : Limits) → limits_of (map string_bytes words.now) ≡ Some limits → IsBookFor limits result.read.items b) }
+    ensures unopened { IsSome result.refusal → result.book ≡ None }
+
+    // 2: words that are no call of `solve` are answered so, and nothing is read for them.
     ensures usage { result.status ≡ 2 → Appends usage_text (K.held sink.old) (K.held sink.new) }
-    ensures solves { is_solve (map string_bytes words.now) ≡ true → result.status ≢ 2 }
-    ensures other_words { is_solve (map string_bytes words.now) ≡ false → result.status ≢ 4 → result.status ≡ 2 }
-    ensures unread { is_solve (map string_bytes words.now) ≡ false → S.turns source.new ≡ S.turns source.old }
+    ensures solves { IsSome (limits_of (map string_bytes words.now)) → result.status ≢ 2 }
+    ensures other_words { limits_of (map string_bytes words.now) ≡ None → result.status ≢ 4 → result.status ≡ 2 }
+    ensures unread { limits_of (map string_bytes words.now) ≡ None → S.turns source.new ≡ S.turns source.old }
+    ensures other_book { limits_of (map string_bytes words.now) ≡ None → result.book ≡ None }
     ensures other_read { result.status ≡ 2 → result.read.items ≡ [] }
 
     // 3: exactly where the source has failed, and then nothing is written.
@@ -81,31 +92,29 @@ pub fn chc_run<S: Source, K: Sink>(
     ensures sink_faults { result.status ≢ 4 → K.faults sink.new ≡ K.faults sink.old }
     ensures write_fault { result.status ≡ 4 → K.faults sink.new ≡ counted (K.faults sink.old) }
     ensures stops_writing { result.status ≡ 4 → K.last sink.new ≡ Fault }
-    ensures writes_part { result.status ≡ 4 → WritesPart (map string_bytes words.now) (S.left source.old) (S.ends source.old) (S.ends source.new) result.read.items (K.held sink.old) (K.held sink.new) }
+    ensures writes_part { result.status ≡ 4 → WritesPart (map string_bytes words.now) (S.left source.old) (S.ends source.old) (S.ends source.new) result.read.items result.book (K.held sink.old) (K.held sink.new) }
 
-    // 5: want of memory.
-    ensures memory { result.status ≡ 5 → Appends memory_text (K.held sink.old) (K.held sink.new) }
+    // 5: want of memory: the closed level of the book, where there is one.
+    ensures memory { result.status ≡ 5 → Appends (wanting_text result.book) (K.held sink.old) (K.held sink.new) }
 
     // Whatever the status: nothing is asked of the source after its end, and the report keeps all that was read up to it, and nothing of an input whose end wasn't met.
     ensures ends { EndsOnce (S.ends source.old) (S.ends source.new) (S.last source.new) }
     ensures reads_all { S.ends source.new ≢ S.ends source.old → IfSome (S.left source.old) (λ bytes. result.read.items ≡ bytes) }
     ensures reads_none { S.ends source.new ≢ counted (S.ends source.old) → result.read.items ≡ [] }
 {
-    if !is_solve(words) {
-        let status = match write_all(sink, usage_line()) {
-            Ok(()) => 2,
-            Err(_) => 4,
-        };
-        let read = Vec::new(alloc);
-        return Report {
-            status,
-            read,
-            refusal: None,
-        };
-    }
+    let limits = match limits_of(words) {
+        Some(limits) => limits,
+        None => {
+            let status = match write_all(sink, usage_line()) {
+                Ok(()) => 2,
+                Err(_) => 4,
+            };
+            return report_of(alloc, status);
+        }
+    };
     no_script_is_refused();
-    match plan_for(alloc, source) {
-        Plan::Answered { read, text } => {
+    match plan_for(alloc, source, limits) {
+        Plan::Answered { read, book, text } => {
             let status = match write_all(sink, text.as_slice()) {
                 Ok(()) => 0,
                 Err(_) => 4,
@@ -114,6 +123,21 @@ pub fn chc_run<S: Source, K: Sink>(
                 status,
                 read,
                 refusal: None,
+                book: Some(book),
+            }
+        }
+        Plan::Unfinished { read, book } => {
+            let mut front = [0; 72];
+            let length = unfinished_lines(book.level(), &mut front);
+            let status = match write_all(sink, &front[..length]) {
+                Ok(()) => 5,
+                Err(_) => 4,
+            };
+            Report {
+                status,
+                read,
+                refusal: None,
+                book: Some(book),
             }
         }
         Plan::Refused {
@@ -125,11 +149,13 @@ pub fn chc_run<S: Source, K: Sink>(
                 status: 1,
                 read,
                 refusal: Some(refusal),
+                book: None,
             },
             Err(_) => Report {
                 status: 4,
                 read,
                 refusal: None,
+                book: None,
             },
         },
         Plan::Overlong { refusal, line } => {
@@ -139,19 +165,17 @@ pub fn chc_run<S: Source, K: Sink>(
                     status: 1,
                     read,
                     refusal: Some(refusal),
+                    book: None,
                 },
                 Err(_) => Report {
                     status: 4,
                     read,
                     refusal: None,
+                    book: None,
                 },
             }
         }
-        Plan::ReadFault => Report {
-            status: 3,
-            read: Vec::new(alloc),
-            refusal: None,
-        },
+        Plan::ReadFault => report_of(alloc, 3),
         Plan::OutOfMemory { read } => {
             let status = match write_all(sink, memory_line()) {
                 Ok(()) => 5,
@@ -161,7 +185,23 @@ pub fn chc_run<S: Source, K: Sink>(
                 status,
                 read,
                 refusal: None,
+                book: None,
             }
         }
+    }
+}
+
+/// A report of this status alone.
+fn report_of(alloc: Global, status: u8) -> Report
+    ensures status { result.status ≡ status }
+    ensures read { result.read.items ≡ [] }
+    ensures refusal { result.refusal ≡ None }
+    ensures book { result.book ≡ None }
+{
+    Report {
+        status,
+        read: Vec::new(alloc),
+        refusal: None,
+        book: None,
     }
 }

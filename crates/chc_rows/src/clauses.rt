@@ -22,16 +22,15 @@ const REFUSED: &str = "\
 
 /// The order of refusals of several commands.
 const ORDER: &str = "\
-    a query before an assertion that is no clause§P§(assert (not (p 1)))(assert (or (p 1) (p 2)))(check-sat)§kind 19 Unbuilt at byte 42 after 2 commands¶\
+    a query before an assertion that is no clause§P§(assert (not (p 1)))(assert (or (p 1) (p 2)))(check-sat)§kind 16 NotHorn at byte 80 after 3 commands¶\
     an assertion that is no clause before a query§P§(assert (or (p 1) (p 2)))(assert (not (p 1)))(check-sat)§kind 16 NotHorn at byte 60 after 2 commands¶\
     a width before a query§P§(assert (forall ((x Int)) (p (+ (* 9223372036854775807 x) x))))(assert false)(check-sat)§kind 15 TooWide at byte 71 after 2 commands¶\
-    a query before a width§P§(assert false)(assert (forall ((x Int)) (p (+ (* 9223372036854775807 x) x))))(check-sat)§kind 19 Unbuilt at byte 42 after 2 commands¶\
-    a query before an unknown symbol§P§(assert (p 0))(assert (not (p 1)))(assert zz)(check-sat)§kind 19 Unbuilt at byte 56 after 3 commands¶\
+    a query before a width§P§(assert false)(assert (forall ((x Int)) (p (+ (* 9223372036854775807 x) x))))(check-sat)§kind 15 TooWide at byte 85 after 3 commands¶\
+    a query before an unknown symbol§P§(assert (p 0))(assert (not (p 1)))(assert zz)(check-sat)§kind 10 UnknownSymbol at byte 84 after 4 commands¶\
     an unknown symbol before a query§P§(assert zz)(assert (not (p 1)))(check-sat)§kind 10 UnknownSymbol at byte 50 after 2 commands¶\
-    a query in a script without its question§P§(assert (not (p 1)))§kind 19 Unbuilt at byte 42 after 2 commands¶\
-    a query before a fault of the text§H§(assert true)#§kind 19 Unbuilt at byte 16 after 1 commands¶\
+    a query in a script without its question§P§(assert (not (p 1)))§kind 18 NoCheckSat at byte 62 after 3 commands¶\
+    a query before a fault of the text§H§(assert true)#§kind 2 BadByte at byte 29 after 2 commands¶\
     an assertion that is no clause before a fault of the text§P§(assert (or (p 1) (p 2)))#§kind 16 NotHorn at byte 60 after 2 commands¶\
-    the second of two queries is not told§P§(assert (p 0))(assert false)(assert true)(check-sat)§kind 19 Unbuilt at byte 56 after 3 commands¶\
     a term's fault before its shape§H§(assert (not zz))(check-sat)§kind 10 UnknownSymbol at byte 29 after 1 commands¶\
     an assertion behind the question before its shape§P§(check-sat)(assert (or (p 1) (p 2)))§kind 6 Order at byte 53 after 3 commands";
 
@@ -53,7 +52,7 @@ fn assertions_that_are_no_clauses_are_refused_at_their_place(rt: HostRuntime) {
 
 #[test]
 fn the_first_command_that_is_refused_is_told(rt: HostRuntime) {
-    assert!(rt; check_table(&rt, rt.alloc(), ORDER, 1) == 12);
+    assert!(rt; check_table(&rt, rt.alloc(), ORDER, 1) == 11);
 }
 
 #[test]

@@ -21,6 +21,8 @@ mod runs;
 #[cfg(test)]
 mod scripts;
 #[cfg(test)]
+mod searches;
+#[cfg(test)]
 mod trees;
 #[cfg(test)]
 mod usage;

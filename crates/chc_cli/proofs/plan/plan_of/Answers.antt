@@ -1,8 +1,10 @@
-use Rattle.std.proofs.Common.{refl}
-use Rattle.chc_cli.proofs.PlanLemmas.{answer_refuses}
+use Rattle.std.proofs.Common.{◌≡◌, ℕ, List, refl, subst}
+use Rattle.answer_text.specs.Lines.{error_text}
+use Rattle.chc_cli.specs.Clauses.{IsInputRefused}
 use Rattle.chc_cli.proofs.plan.plan_of.Goals as goal
 
-pub returns-in-Some-clause-plan : goal.returns-in-Some-clause-plan
-returns-in-Some-clause-plan c =
-    let both = answer_refuses c.args.read.items c.as_slice.result.now c.in-Ok.answer c.in-Some.refusal c.as_slice.ensures.value c.in-Some.is c.in-Ok.ensures in
+pub returns-in-Ok-Refused-clause-plan : goal.returns-in-Ok-Refused-clause-plan
+returns-in-Ok-Refused-clause-plan c =
+    let arm = c.in-Ok-Refused in
+    let both = subst (λ (bytes : List ℕ). IsInputRefused bytes arm.refusal × (arm.line.items ≡ error_text arm.refusal)) c.as_slice.ensures.value (rw arm.field-0-is at arm.ensures) in
     (both.0, refl, both.1)

@@ -1,64 +1,106 @@
-use Rattle.std.proofs.Common.{ap, arith, rules, length}
-use Rattle.chc_cli.specs.Headline.IsMeant.{error}
-use Rattle.chc_cli.proofs.PlanLemmas.{answered_only, answered_system, refused_only, input_of, refused_read, refused_long}
+use Rattle.std.proofs.Common.{◌++◌, ℕ, ap, arith, refl, sym, ◌∙◌}
+use Rattle.std.specs.Prelude.{Some, None, codes}
+use Rattle.answer_text.specs.Lines.{error_text, level_text}
+use Rattle.answer_text.specs.declared.answer.UnknownCause.TheVariants.{NoMemory}
+use Rattle.chc_cli.specs.Headline.{wanting_text}
+use Rattle.chc_cli.specs.Headline.IsMeant.{answer, error, memory}
+use Rattle.chc_cli.proofs.PlanLemmas.{answered_only, answered_system, appended, refused_read, refused_long, written_part}
+use Rattle.chc_cli.proofs.run.chc_run.Goals.{in-Ok-write_all, in-Err-write_all, in-Ok-write_all-2, in-Err-write_all-2, in-Ok-write_all-5, in-Err-write_all-5}
 use Rattle.chc_cli.proofs.run.chc_run.Goals as goal
 
 pub returns-in-Answered-clause-refuses_others : goal.returns-in-Answered-clause-refuses_others
 returns-in-Answered-clause-refuses_others g c =
     let plan = c.in-Answered.ensures.plan in
-    answered_only c.no_script_is_refused.ensures (g.S.Source.left c.args.source.now) c.in-Answered.read.items c.in-Answered.text.items _ plan.0 plan.1
+    answered_only c.no_script_is_refused.ensures c.in-Some.limits (g.S.Source.left c.args.source.now) c.in-Answered.read.items c.in-Answered.book _ plan.0.book plan.1
 
-pub returns-in-Answered-clause-refuses_queries : goal.returns-in-Answered-clause-refuses_queries
-returns-in-Answered-clause-refuses_queries g c =
+pub returns-in-Answered-clause-refuses_shapes : goal.returns-in-Answered-clause-refuses_shapes
+returns-in-Answered-clause-refuses_shapes g c =
     let plan = c.in-Answered.ensures.plan in
-    answered_system (g.S.Source.left c.args.source.now) c.in-Answered.read.items c.in-Answered.text.items _ plan.0 plan.1
+    answered_system c.in-Some.limits (g.S.Source.left c.args.source.now) c.in-Answered.read.items c.in-Answered.book _ plan.0.book plan.1
 
-pub returns-in-Ok-write_all-2-clause-answers_scripts : goal.returns-in-Ok-write_all-2-clause-answers_scripts
-returns-in-Ok-write_all-2-clause-answers_scripts g c =
-    let plan = c.in-Refused.ensures.plan in
-    let left = g.S.Source.left c.args.source.now in
-    refused_only left c.in-Refused.refusal 1 (input_of left c.in-Refused.read.items c.in-Refused.refusal plan.1 plan.0)
+pub returns-in-Answered-clause-writes_part : goal.returns-in-Answered-clause-writes_part
+returns-in-Answered-clause-writes_part g c = λ four.
+    let plan = c.in-Answered.ensures.plan in
+    let meant = answer c.in-Some.limits c.in-Answered.book (sym c.limits_of.ensures.is ∙ c.in-Some.is) refl plan.0 plan.1 in
+    elim c.match-write_all-2.branch [
+      | in-Ok-write_all w ↦ absurd (omega (arith, w.status-is, four))
+      | in-Err-write_all w ↦
+          let part = w.in-Err-write_all.ensures.err in
+          written_part _ _ _ _ _ _ _ _ c.in-Answered.text.items c.as_slice.result.now meant c.as_slice.ensures.value part.0 part.1 part.2
+    ]
 
-pub returns-in-Ok-write_all-2-clause-refused : goal.returns-in-Ok-write_all-2-clause-refused
-returns-in-Ok-write_all-2-clause-refused g c =
-    let plan = c.in-Refused.ensures.plan in
-    let held = rw c.as_slice-in-Refused.ensures.value at c.in-Ok-write_all-2.ensures.ok in
-    record { refused = refused_read _ _ _ c.in-Refused.read.items c.in-Refused.refusal plan.0 plan.1 c.in-Refused.ensures.unended; held = rw plan.2 at held }
+pub returns-in-Unfinished-clause-writes_part : goal.returns-in-Unfinished-clause-writes_part
+returns-in-Unfinished-clause-writes_part g c = λ four.
+    let meant = memory c.in-Some.limits (sym c.limits_of.ensures.is ∙ c.in-Some.is) refl in
+    let same = c.unfinished_lines-length.ensures.text ∙ ap (λ (l : ℕ). codes "unknown\n" ++ level_text l NoMemory) c.level.ensures.is in
+    elim c.match-write_all-3.branch [
+      | in-Ok-write_all-2 w ↦ absurd (omega (arith, w.status-is, four))
+      | in-Err-write_all-2 w ↦
+          let part = w.in-Err-write_all-2.ensures.err in
+          written_part _ _ _ _ _ _ _ _ (wanting_text (Some c.in-Unfinished.book)) _ meant same part.0 part.1 part.2
+    ]
 
-pub returns-in-Refused-clause-writes_part : goal.returns-in-Refused-clause-writes_part
-returns-in-Refused-clause-writes_part g c =
-    let plan = c.in-Refused.ensures.plan in
-    let part = c.in-Err-write_all-2.ensures.err in
-    let same = c.as_slice-in-Refused.ensures.value in
-    let held = rw same at part.2 in
-    λ status. record {
-      text = c.in-Refused.line.items;
-      meant = error c.in-Refused.refusal (search rules) (refused_read _ _ _ c.in-Refused.read.items c.in-Refused.refusal plan.0 plan.1 c.in-Refused.ensures.unended) plan.2;
-      count = part.0;
-      part = omega (arith, part.1, ap length same);
-      held = held;
-    }
-
-pub returns-in-Ok-write_all-3-clause-answers_scripts : goal.returns-in-Ok-write_all-3-clause-answers_scripts
-returns-in-Ok-write_all-3-clause-answers_scripts g c =
-    refused_only (g.S.Source.left c.args.source.now) c.in-Overlong.refusal 1 c.in-Overlong.ensures.plan.1
+pub returns-in-Unfinished-clause-memory : goal.returns-in-Unfinished-clause-memory
+returns-in-Unfinished-clause-memory g c = λ five.
+    let same = c.unfinished_lines-length.ensures.text ∙ ap (λ (l : ℕ). codes "unknown\n" ++ level_text l NoMemory) c.level.ensures.is in
+    elim c.match-write_all-3.branch [
+      | in-Ok-write_all-2 w ↦ appended (wanting_text (Some c.in-Unfinished.book)) _ (g.K.Sink.held c.args.sink.now) (g.K.Sink.held c.write_all-in-Unfinished.new.sink)
+          same w.in-Ok-write_all-2.ensures.ok
+      | in-Err-write_all-2 w ↦ absurd (omega (arith, w.status-is, five))
+    ]
 
 pub returns-in-Ok-write_all-3-clause-refused : goal.returns-in-Ok-write_all-3-clause-refused
 returns-in-Ok-write_all-3-clause-refused g c =
+    let plan = c.in-Refused.ensures.plan in
+    let left = g.S.Source.left c.args.source.now in
+    let old = g.S.Source.ends c.args.source.now in
+    let new = g.S.Source.ends c.plan_for.new.source in
+    record {
+      refused = refused_read left old new c.in-Refused.read.items c.in-Refused.refusal plan.0 plan.1 c.in-Refused.ensures.unended;
+      held = appended (error_text c.in-Refused.refusal) c.as_slice-in-Refused.result.now (g.K.Sink.held c.args.sink.now) (g.K.Sink.held c.write_all-in-Refused.new.sink)
+          (c.as_slice-in-Refused.ensures.value ∙ plan.2) c.in-Ok-write_all-3.ensures.ok;
+    }
+
+pub returns-in-Refused-clause-writes_part : goal.returns-in-Refused-clause-writes_part
+returns-in-Refused-clause-writes_part g c = λ four.
+    let plan = c.in-Refused.ensures.plan in
+    let left = g.S.Source.left c.args.source.now in
+    let old = g.S.Source.ends c.args.source.now in
+    let new = g.S.Source.ends c.plan_for.new.source in
+    let refused = refused_read left old new c.in-Refused.read.items c.in-Refused.refusal plan.0 plan.1 c.in-Refused.ensures.unended in
+    let meant = error c.in-Refused.refusal c.in-Some.limits (sym c.limits_of.ensures.is ∙ c.in-Some.is) refused refl in
+    let part = c.in-Err-write_all-3.ensures.err in
+    written_part _ _ _ _ _ _ _ _ (error_text c.in-Refused.refusal) c.as_slice-in-Refused.result.now meant (c.as_slice-in-Refused.ensures.value ∙ plan.2) part.0 part.1 part.2
+
+pub returns-in-Ok-write_all-4-clause-refused : goal.returns-in-Ok-write_all-4-clause-refused
+returns-in-Ok-write_all-4-clause-refused g c =
     let plan = c.in-Overlong.ensures.plan in
-    let held = rw c.as_slice-in-Overlong.ensures.value at c.in-Ok-write_all-3.ensures.ok in
-    record { refused = refused_long _ _ _ _ c.in-Overlong.refusal plan.0 plan.1 c.in-Overlong.ensures.ended; held = rw plan.2 at held }
+    let left = g.S.Source.left c.args.source.now in
+    let old = g.S.Source.ends c.args.source.now in
+    let new = g.S.Source.ends c.plan_for.new.source in
+    record {
+      refused = refused_long left old new _ c.in-Overlong.refusal plan.0 plan.1 c.in-Overlong.ensures.ended;
+      held = appended (error_text c.in-Overlong.refusal) c.as_slice-in-Overlong.result.now (g.K.Sink.held c.args.sink.now) (g.K.Sink.held c.write_all-in-Overlong.new.sink)
+          (c.as_slice-in-Overlong.ensures.value ∙ plan.2) c.in-Ok-write_all-4.ensures.ok;
+    }
 
 pub returns-in-Overlong-clause-writes_part : goal.returns-in-Overlong-clause-writes_part
-returns-in-Overlong-clause-writes_part g c =
+returns-in-Overlong-clause-writes_part g c = λ four.
     let plan = c.in-Overlong.ensures.plan in
-    let part = c.in-Err-write_all-3.ensures.err in
-    let same = c.as_slice-in-Overlong.ensures.value in
-    let held = rw same at part.2 in
-    λ status. record {
-      text = c.in-Overlong.line.items;
-      meant = error c.in-Overlong.refusal (search rules) (refused_long _ _ _ _ c.in-Overlong.refusal plan.0 plan.1 c.in-Overlong.ensures.ended) plan.2;
-      count = part.0;
-      part = omega (arith, part.1, ap length same);
-      held = held;
-    }
+    let left = g.S.Source.left c.args.source.now in
+    let old = g.S.Source.ends c.args.source.now in
+    let new = g.S.Source.ends c.plan_for.new.source in
+    let refused = refused_long left old new _ c.in-Overlong.refusal plan.0 plan.1 c.in-Overlong.ensures.ended in
+    let meant = error c.in-Overlong.refusal c.in-Some.limits (sym c.limits_of.ensures.is ∙ c.in-Some.is) refused refl in
+    let part = c.in-Err-write_all-4.ensures.err in
+    written_part _ _ _ _ _ _ _ _ (error_text c.in-Overlong.refusal) c.as_slice-in-Overlong.result.now meant (c.as_slice-in-Overlong.ensures.value ∙ plan.2) part.0 part.1 part.2
+
+pub returns-clause-writes_part : goal.returns-clause-writes_part
+returns-clause-writes_part g c = λ four.
+    let meant = memory c.in-Some.limits (sym c.limits_of.ensures.is ∙ c.in-Some.is) refl in
+    elim c.match-write_all-6.branch [
+      | in-Ok-write_all-5 w ↦ absurd (omega (arith, w.status-is, four))
+      | in-Err-write_all-5 w ↦
+          let part = w.in-Err-write_all-5.ensures.err in
+          written_part _ _ _ _ _ _ _ _ (wanting_text None) c.memory_line.result.now meant c.memory_line.ensures part.0 part.1 part.2
+    ]

@@ -1,0 +1,7 @@
+pub mod DeclaredLemmas
+pub mod FormedLemmas
+pub mod FormulaLemmas
+pub mod NameLemmas
+pub mod PartnerLemmas
+pub mod ReadBackLemmas
+pub mod SymbolLemmas

@@ -1,0 +1,10 @@
+//! What the printed answers to a script are: a text that spells definitions under which every
+//! assertion is true, or a derivation of false by the assertions, and reads back as no other.
+#![tactic(auto)]
+
+mod laws;
+
+pub use laws::{
+    printed_models_are_solutions, sat_answers_are_read_back, scripts_have_names,
+    unsat_answers_are_read_back,
+};

@@ -1,5 +1,0 @@
-use Rattle.chc_cli.proofs.DeclaredLemmas.{names_law}
-use Rattle.chc_cli.proofs.laws.scripts_have_names.Goals as goal
-
-pub returns : goal.returns
-returns c = names_law

@@ -1,0 +1,49 @@
+//! Scripts with queries, by the words of the call: the status is 0, and the output is told.
+
+use crate::cases::four;
+use crate::runs::{check_ran, run};
+use std::alloc::Global;
+use std::process::Abort;
+
+/// What a case shows, the words behind `solve`, the script, and its output.
+const CASES: [&str; 11] = [
+    "no clause at all§§(set-logic HORN)(check-sat)§sat\n(\n)\n",
+    "a counter that reaches 3§§(set-logic HORN)\n(declare-fun p (Int) Bool)\n(assert (p 0))\n(assert (forall ((x Int)) (=> (p x) (p (+ x 1)))))\n(assert (not (p 3)))\n(check-sat)\n§unsat\n(derivation\n(step 1 1 () () (p 0))\n(step 2 2 (0) (1) (p 1))\n(step 3 2 (1) (2) (p 2))\n(step 4 2 (2) (3) (p 3))\n(step 5 3 () (4) false)\n)\n",
+    "no unit§--units 0§(set-logic HORN)(declare-fun p (Int) Bool)(assert (p 0))(assert (forall ((x Int)) (=> (p x) (p (+ x 1)))))(assert (not (p 3)))(check-sat)§unknown\n; level 0 units 0\n",
+    "one unit, a raise§--units 1§(set-logic HORN)(declare-fun p (Int) Bool)(assert (p 0))(assert (forall ((x Int)) (=> (p x) (p (+ x 1)))))(assert (not (p 3)))(check-sat)§unknown\n; level 1 units 1\n",
+    "a row without room§§(set-logic HORN)(assert (forall ((x Int) (y Int)) (=> (and (= (+ (* 4611686018427387905 x) y) 3) (= (+ x (* 4611686018427387905 y)) 5)) false)))(check-sat)§unknown\n; level 0 stalled\n",
+    "rounding refutes what branches alone don't§--nodes 5§(set-logic HORN)(assert (forall ((x Int) (y Int)) (=> (and (<= 1 (- (* 3 x) (* 3 y))) (<= (- (* 3 x) (* 3 y)) 2)) false)))(check-sat)§sat\n(\n)\n",
+    "false itself§§(set-logic HORN)(assert false)(check-sat)§unsat\n(derivation\n(step 1 1 () () false)\n)\n",
+    "false itself, with one unit§--units 1§(set-logic HORN)(assert false)(check-sat)§unsat\n(derivation\n(step 1 1 () () false)\n)\n",
+    "a predicate without clauses§§(set-logic HORN)(declare-fun p (Int) Bool)(assert (forall ((x Int)) (=> (p x) false)))(check-sat)§sat\n(\n(define-fun p ((x0 Int)) Bool false)\n)\n",
+    "Bool arguments, and none§§(set-logic HORN)(declare-fun q () Bool)(declare-fun r (Bool Int) Bool)(assert q)(assert (=> q (r true (- 2))))(assert (forall ((b Bool) (x Int)) (=> (and (r b x) b (< x 0)) false)))(check-sat)§unsat\n(derivation\n(step 1 1 () () q)\n(step 2 2 () (1) (r true (- 2)))\n(step 3 3 (true (- 2)) (2) false)\n)\n",
+    "a division of a negative number§§(set-logic HORN)(assert (not (and (= (mod (- 7) 2) 1) (= (div (- 7) 2) (- 4)))))(check-sat)§unsat\n(derivation\n(step 1 1 () () false)\n)\n",
+];
+
+/// The words of a case: `solve`, and those behind it.
+fn words_of<'a>(rt: &impl Abort, alloc: Global, options: &'a str) -> Vec<&'a str> {
+    let mut words = Vec::new(alloc);
+    words.push("solve").expect(rt, "memory");
+    for word in options.split(' ') {
+        if !word.is_empty() {
+            words.push(word).expect(rt, "memory");
+        }
+    }
+    words
+}
+
+fn check_case(rt: &impl Abort, alloc: Global, case: &str) {
+    if let Some((shows, options, script, output)) = four(case) {
+        let words = words_of(rt, alloc, options);
+        let ran = run(rt, alloc, words.as_slice(), script.as_bytes());
+        check_ran(rt, shows, &ran, 0, output.as_bytes());
+    }
+}
+
+#[test]
+fn scripts_with_queries_are_answered(rt: HostRuntime) {
+    for case in CASES {
+        assert!(&rt; four(case).is_some(), "four parts: {case}");
+        check_case(&rt, rt.alloc(), case);
+    }
+}
