@@ -4,26 +4,41 @@
 
 use chc_cli::chc_run;
 use outside_io::{StdSink, StdSource};
+use std::alloc::Global;
 use std::{fs, io};
 
-const SCRIPTS: [&str; 11] = [
-    "counter.smt2",
-    "pump.smt2",
-    "facts.smt2",
-    "two_machines.smt2",
-    "query.smt2",
-    "halves.smt2",
-    "saturating.smt2",
-    "two_heads.smt2",
-    "too_wide.smt2",
-    "wrong_sort.smt2",
-    "no_check.smt2",
+/// Each script with the options that its run is given.
+const SCRIPTS: [(&str, &str); 12] = [
+    ("counter.smt2", ""),
+    ("pump.smt2", ""),
+    ("facts.smt2", ""),
+    ("two_machines.smt2", ""),
+    ("query.smt2", ""),
+    ("query.smt2", "--units 1"),
+    ("halves.smt2", ""),
+    ("saturating.smt2", "--units 0"),
+    ("two_heads.smt2", ""),
+    ("too_wide.smt2", ""),
+    ("wrong_sort.smt2", ""),
+    ("no_check.smt2", ""),
 ];
 
-fn solve(rt: &HostRuntime, script: &str) -> io::Result<()> {
-    println!(rt; "$ ./chc solve < examples/{script}")?;
-    let mut words = Vec::new(rt.alloc());
-    words.push(String::from_str(rt.alloc(), "solve")?)?;
+/// The words of a call with these options.
+fn called(alloc: Global, options: &str) -> io::Result<Vec<String>> {
+    let mut words = Vec::new(alloc);
+    words.push(String::from_str(alloc, "solve")?)?;
+    for word in options.split(' ') {
+        if !word.is_empty() {
+            words.push(String::from_str(alloc, word)?)?;
+        }
+    }
+    Ok(words)
+}
+
+fn solve(rt: &HostRuntime, script: &str, options: &str) -> io::Result<()> {
+    let space = if options.is_empty() { "" } else { " " };
+    println!(rt; "$ ./chc solve{space}{options} < examples/{script}")?;
+    let words = called(rt.alloc(), options)?;
     let mut source = StdSource::new(fs::open(rt, script)?);
     let mut sink = StdSink::new(rt.stdout());
     let report = chc_run(rt.alloc(), words.as_slice(), &mut source, &mut sink);
@@ -31,8 +46,8 @@ fn solve(rt: &HostRuntime, script: &str) -> io::Result<()> {
 }
 
 fn main(rt: HostRuntime) -> io::Result<()> {
-    for script in SCRIPTS {
-        solve(&rt, script)?;
+    for (script, options) in SCRIPTS {
+        solve(&rt, script, options)?;
     }
     Ok(())
 }
