@@ -1,0 +1,9 @@
+pub mod BoolLemmas
+pub mod UseLemmas
+pub mod FormLemmas
+pub mod AskLemmas
+pub mod ChoiceLemmas
+pub mod LoopLemmas
+pub mod AnswerLemmas
+pub mod GatheredLemmas
+pub mod Public

@@ -1,0 +1,4 @@
+pub mod Kept
+pub mod Uses
+pub mod Answers
+pub mod machinery

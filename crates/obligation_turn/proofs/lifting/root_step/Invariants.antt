@@ -1,0 +1,6 @@
+use Rattle.obligation_turn.specs.machinery.Lifts.{AreKept}
+use Rattle.obligation_turn.proofs.lifting.root_step.Given as goal
+
+-- as far as it has come
+abbrev pub invariant-loop-id : goal.invariant-loop-id
+invariant-loop-id l = AreKept l.lent l.nodes l.id l.kept

@@ -1,0 +1,92 @@
+-- On which books and obligations a turn is asked, and what it answers (Hoder and Bjorner, "Generalized property directed
+-- reachability", section 3; Komuravelli, Gurfinkel and Chaki, "SMT-based model checking for recursive programs", section 4).
+use Rattle.std.specs.Prelude.{◌≡◌, ◌<◌, ◌-◌, ℕ, [], Some, None, length, slice_get, true, false}
+use Rattle.farkas_proof.specs.KeptEvidence.{given_evidence}
+use Rattle.clause_form.specs.declared.clause.Clause.{Clause}
+use Rattle.lia_search.specs.Decides.{CountsTo}
+use Rattle.lemma_frames.specs.declared.framed.Framed.{Framed as KeptLemma}
+use Rattle.obligation_tree.specs.declared.node.Node.{Node}
+use Rattle.obligation_tree.specs.Nodes.{has_live_child, is_live_at, is_stalled_in, node_at, obligation_in}
+use Rattle.chc_tokens.specs.Kept.{kept_why, seen_clause, seen_point}
+use Rattle.chc_tokens.specs.declared.why.Why.{Why}
+use Rattle.chc_tokens.specs.declared.why.Why.TheVariants.{Broken, Unknown}
+use Rattle.book_rules.specs.Areas.{is_wide}
+use Rattle.book_rules.specs.Frames.{AreRefuted}
+use Rattle.book_rules.specs.Instances.{instances}
+use Rattle.book_rules.specs.Kept.{AreRecorded, IsOrdered}
+use Rattle.book_rules.specs.Legal.{end}
+use Rattle.book_rules.specs.Places.{has_places}
+use Rattle.book_rules.specs.Rules.{broken}
+use Rattle.book_rules.specs.Walks.{AllOf}
+use Rattle.area_literals.specs.Areas.{IsAreaOf}
+use Rattle.clause_queries.specs.Answers.{AreFew}
+use Rattle.step_rules.specs.Standing.{IsStanding, Standing, state_of}
+use Rattle.step_rules.specs.Taken.{AreProjected, IsMadeFor, step_of}
+use Rattle.step_rules.specs.Views.{facts_of, lemmas_of}
+use Rattle.step_rules.specs.declared.step.Step.{Step}
+use Rattle.step_rules.specs.declared.step.Step.TheVariants.{OpenStep, LemmaStep, FactStep, LiftStep, RaiseStep, StallStep}
+
+-- every cube in the book has coefficients below 2 ^ 54 in magnitude
+pub record IsNarrow (b : Standing) : Type 0 where
+  pub lemmas : AllOf (λ (f : KeptLemma). is_wide f.lemma ≡ false) b.frames.lemmas
+  pub obligations : AllOf (λ (n : Node). is_wide (obligation_in n).cube ≡ false) b.tree.nodes
+
+-- a book that hasn't ended
+pub record GoesOn (b : Standing) : Type 0 where
+  pub few : AreFew b.system
+  pub standing : IsStanding b
+  pub ordered : IsOrdered (state_of b)
+  pub recorded : AreRecorded b.system [] (facts_of b.facts)
+  pub goes_on : end (state_of b) ≡ None
+  pub narrow : IsNarrow b
+
+-- a live obligation without live children that isn't stalled
+pub record IsOpenLeaf (b : Standing) (job : ℕ) : Type 0 where
+  pub there : job < length b.tree.nodes
+  pub live : is_live_at b.tree.nodes job ≡ true
+  pub leaf : has_live_child b.tree.nodes job ≡ false
+  pub unmarked : is_stalled_in (node_at b.tree.nodes job) ≡ false
+
+abbrev pub WhyCounts : ℕ → Why → Type 0
+WhyCounts nodes (Broken seen) = Unit {0}
+WhyCounts nodes (Unknown clause used evidence) = CountsTo nodes (given_evidence evidence)
+
+-- where evidence counts inner nodes, it counts so many
+abbrev pub StepCounts : ℕ → Step → Type 0
+StepCounts nodes (OpenStep o) = Unit {0}
+StepCounts nodes (LemmaStep l) = Unit {0}
+StepCounts nodes (FactStep f) = Unit {0}
+StepCounts nodes (LiftStep l) = Unit {0}
+StepCounts nodes (RaiseStep r) = AllOf (λ k. WhyCounts nodes (kept_why k)) r.kept
+StepCounts nodes (StallStep t) = CountsTo nodes (given_evidence t.evidence)
+
+-- a cube that the step adds to the book is narrow, too
+abbrev pub StepIsNarrow : Step → Type 0
+StepIsNarrow (OpenStep o) = is_wide o.cube ≡ false
+StepIsNarrow (LemmaStep l) = is_wide l.lemma ≡ false
+StepIsNarrow (FactStep f) = Unit {0}
+StepIsNarrow (LiftStep l) = Unit {0}
+StepIsNarrow (RaiseStep r) = Unit {0}
+StepIsNarrow (StallStep t) = Unit {0}
+
+-- the step is for the obligation. In the area of an Open the guard's literals come first, then those of the obligation's cube, then those of the lemmas.
+-- A Lift or a Raise is for the root, where no instance of false has its body in F(N)
+abbrev pub Serves : Standing → ℕ → Step → Type 0
+Serves b job (OpenStep o) =
+    (o.parent ≡ job) × (clause : Clause) × (slice_get b.system.clauses (seen_clause o.seen) ≡ Some clause)
+    × IsAreaOf clause (obligation_in (node_at b.tree.nodes job)).cube (lemmas_of b.frames.lemmas) ((obligation_in (node_at b.tree.nodes job)).level - 1) (seen_point o.seen) (o.area).lits
+Serves b job (LemmaStep l) = l.target ≡ job
+Serves b job (FactStep f) = f.target ≡ Some job
+Serves b job (LiftStep l) = ((obligation_in (node_at b.tree.nodes job)).pred ≡ None) × AreRefuted (instances b.system) (lemmas_of b.frames.lemmas) b.level
+Serves b job (RaiseStep r) = ((obligation_in (node_at b.tree.nodes job)).pred ≡ None) × AreRefuted (instances b.system) (lemmas_of b.frames.lemmas) b.level
+Serves b job (StallStep t) = t.target ≡ job
+
+-- a step that the book takes: it breaks no rule, its tokens were made for the book's system, and its cubes are over their predicates
+pub record IsTurn (b : Standing) (job nodes : ℕ) (step : Step) : Type 0 where
+  pub unbroken : broken b.system (state_of b) (step_of step) ≡ None
+  pub made : IsMadeFor b.system step
+  pub places : has_places b.system (step_of step) ≡ true
+  pub projected : AreProjected step
+  pub counts : StepCounts nodes step
+  pub narrow : StepIsNarrow step
+  pub serves : Serves b job step
