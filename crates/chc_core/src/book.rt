@@ -7,18 +7,18 @@ ghost use Rattle.book_rules.specs.declared.end.End.TheVariants.{Sat, Spent as Un
 ghost use Rattle.book_rules.specs.Effects.{after};
 ghost use Rattle.book_rules.specs.Frames.{AreGood, IsSolution};
 ghost use Rattle.book_rules.specs.Instances.{IsDerivable, instances};
-ghost use Rattle.book_rules.specs.Kept.{AreDerivable, AreDistinct, AreInRange, ArePlaced, AreRecorded, IsFalse, IsSound};
+ghost use Rattle.book_rules.specs.Kept.{AreDerivable, AreDistinct, AreInRange, ArePlaced, AreRecorded, IsFalse, IsOrdered, IsSound};
 ghost use Rattle.book_rules.specs.Legal.{AreLegal, IsLegal, end, replay};
 ghost use Rattle.book_rules.specs.Rules.{broken};
 ghost use Rattle.book_rules.specs.State.{opening};
 ghost use Rattle.chc_core.specs.Openings.{most_units, opening_of};
-ghost use Rattle.step_rules.specs.Standing.{IsNumbered};
+ghost use Rattle.step_rules.specs.Standing.{IsNumbered, IsStanding};
 ghost use Rattle.book_rules.specs.Places.{AreOver, has_places};
 ghost use Rattle.book_rules.specs.Rooted.{IsRooted};
 ghost use Rattle.book_rules.specs.Values.{AreShort};
 ghost use Rattle.chc_core.specs.Views.{steps_of};
 ghost use Rattle.step_rules.specs.Taken.{AreProjected, IsMadeFor, step_of};
-ghost use Rattle.chc_core.specs.Views.{state_of};
+ghost use Rattle.chc_core.specs.Views.{standing_of, state_of};
 ghost use Rattle.chc_core.specs.machinery.Books.{IsBook};
 ghost use Rattle.chc_core.specs.machinery.Making.{CanTake, or_old, with_made};
 
@@ -37,7 +37,7 @@ use lemma_frames::Frames;
 use obligation_tree::Tree;
 use std::alloc::Global;
 use std::marker::Model;
-use step_rules::{Step, broken_step};
+use step_rules::{Lent, Step, broken_step};
 
 /// A system of clauses with lemmas, facts, obligations, and the journal of the legal steps that led
 /// to them. Only `commit` changes what the rules speak of.
@@ -296,6 +296,15 @@ impl Book {
         ensures numbered { IsNumbered self.now.system }
     {
         let _level = self.parts.level;
+    }
+
+    /// What the rules of a step read.
+    pub fn lend(&self) -> Lent
+        ensures is { result ≡ standing_of self.now }
+        ensures standing { IsStanding (standing_of self.now) }
+        ensures ordered { IsOrdered (state_of self.now) }
+    {
+        self.parts.lend()
     }
 
     /// The book as it is now. It shares what the book keeps, so it costs a count for each 64 items

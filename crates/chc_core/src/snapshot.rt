@@ -2,15 +2,15 @@ ghost use Rattle.std.specs.Prelude.{◌≡◌, ◌≤◌, ◌+◌, ◌-◌, ℕ,
 ghost use Rattle.book_rules.specs.declared.end.End.TheVariants.{Sat, Unsat};
 ghost use Rattle.book_rules.specs.Frames.{AreGood, IsSolution};
 ghost use Rattle.book_rules.specs.Instances.{IsDerivable, instances};
-ghost use Rattle.book_rules.specs.Kept.{AreDerivable, AreDistinct, AreInRange, ArePlaced, AreRecorded, IsFalse, IsSound};
+ghost use Rattle.book_rules.specs.Kept.{AreDerivable, AreDistinct, AreInRange, ArePlaced, AreRecorded, IsFalse, IsOrdered, IsSound};
 ghost use Rattle.book_rules.specs.Legal.{AreLegal, end, replay};
 ghost use Rattle.chc_core.specs.Openings.{opening_of};
-ghost use Rattle.step_rules.specs.Standing.{IsNumbered};
+ghost use Rattle.step_rules.specs.Standing.{IsNumbered, IsStanding};
 ghost use Rattle.book_rules.specs.Places.{AreOver};
 ghost use Rattle.book_rules.specs.Rooted.{IsRooted};
 ghost use Rattle.book_rules.specs.Values.{AreShort};
 ghost use Rattle.chc_core.specs.Views.{steps_of};
-ghost use Rattle.chc_core.specs.Views.{state_of};
+ghost use Rattle.chc_core.specs.Views.{standing_of, state_of};
 
 use crate::book::Book;
 use crate::entry::Entry;
@@ -20,6 +20,7 @@ use derivations::Facts;
 use lemma_frames::Frames;
 use obligation_tree::Tree;
 use std::marker::Model;
+use step_rules::Lent;
 
 /// A book as it was at one moment, with the claims of then. It can be read as the book can, and
 /// doesn't change.
@@ -119,6 +120,15 @@ impl Snapshot {
         ensures count { length result.now.nodes ≤ self.now.spent + 1 }
     {
         self.book.tree()
+    }
+
+    /// What the rules of a step read.
+    pub fn lend(&self) -> Lent
+        ensures is { result ≡ standing_of self.now }
+        ensures standing { IsStanding (standing_of self.now) }
+        ensures ordered { IsOrdered (state_of self.now) }
+    {
+        self.book.lend()
     }
 
     /// The clauses.
