@@ -1,0 +1,5 @@
+pub mod PartLemmas
+pub mod BoundLemmas
+pub mod LearnLemmas
+pub mod MetLemmas
+pub mod PassLemmas

@@ -1,0 +1,2 @@
+pub mod Generals
+pub mod machinery
