@@ -12,8 +12,8 @@ use Rattle.book_rules.specs.Places.{is_over, places_of}
 use Rattle.book_rules.specs.Walks.{has}
 use Rattle.step_rules.specs.Standing.{Standing}
 use Rattle.step_rules.specs.declared.lemma_part.LemmaPart.{LemmaPart}
-use Rattle.lemma_general.specs.Generals.{IsAgainst, IsForSame, IsLearnt, IsLeast, IsPart, bounds_of, without}
-use Rattle.lemma_general.specs.machinery.Passes.{AreMet, IsCubeOf, IsPassed, IsTaken}
+use Rattle.lemma_general.specs.Generals.{IsAgainst, IsForSame, IsGeneralised, IsLearnt, IsLeast, IsPart, IsRaised, bounds_of, without}
+use Rattle.lemma_general.specs.machinery.Passes.{AreMet, IsCubeOf, IsPassed, IsRaisedOnce, IsTaken}
 use Rattle.lemma_general.specs.declared.breaking.Breaking.{Breaking}
 use Rattle.lemma_general.proofs.BoundLemmas.{bounds-below, bounds-narrow}
 use Rattle.lemma_general.proofs.LearnLemmas.{placed}
@@ -114,3 +114,70 @@ passed b nodes at first part met false past on =
     let least = on.least refl in
     let long : length first.lemma ≤ at = subst (λ (p : LemmaPart). length p.lemma ≤ at) least.0 past in
     (least.0, λ i less. least.1 i (omega (arith, long, less)))
+
+-- between two passes
+
+pub record IsBetween (b : Standing) (nodes : ℕ) (given part : LemmaPart) (met : List Breaking) (going : Bool) : Type 0 where
+  pub learnt : IsLearnt b part
+  pub same : IsForSame given part
+  pub part : IsPart part.lemma (bounds_of given.lemma) ⊎ (IsAgainst b given.pred (given.level - 1) nodes (bounds_of given.lemma) × IsPart part.lemma given.lemma)
+  pub met : AreMet b part met
+  pub least : going ≡ false → IsLeast b part.pred (part.level - 1) nodes part.lemma
+
+pub between-first : (b : Standing) (nodes : ℕ) (given part : LemmaPart) (met : List Breaking) → IsLearnt b part → IsForSame given part
+    → ((part.lemma ≡ bounds_of given.lemma) ⊎ (IsAgainst b given.pred (given.level - 1) nodes (bounds_of given.lemma) × (part ≡ given))) → AreMet b part met → IsBetween b nodes given part met true
+between-first b nodes given part met learnt same how all = record {
+  learnt = learnt;
+  same = same;
+  part = by how;
+  met = all;
+  least = λ h. absurd (true≢false h);
+}
+  where
+    by : (part.lemma ≡ bounds_of given.lemma) ⊎ (IsAgainst b given.pred (given.level - 1) nodes (bounds_of given.lemma) × (part ≡ given))
+        → IsPart part.lemma (bounds_of given.lemma) ⊎ (IsAgainst b given.pred (given.level - 1) nodes (bounds_of given.lemma) × IsPart part.lemma given.lemma)
+    by (inl is) = inl (subst (λ (c : List Lit). IsPart part.lemma c) is (part-self part.lemma))
+    by (inr is) = inr (is.0, subst (λ (p : LemmaPart). IsPart part.lemma p.lemma) is.1 (part-self part.lemma))
+
+pub between-next : (b : Standing) (nodes : ℕ) (given part new : LemmaPart) (met more : List Breaking) (going : Bool) → IsBetween b nodes given part met true → IsPassed b nodes part new going → AreMet b new more → IsBetween b nodes given new more going
+between-next b nodes given part new met more true on passed all = record {
+  learnt = passed.0;
+  same = same-trans given part new on.same passed.1;
+  part = by on.part;
+  met = all;
+  least = λ h. absurd (true≢false h);
+}
+  where
+    by : IsPart part.lemma (bounds_of given.lemma) ⊎ (IsAgainst b given.pred (given.level - 1) nodes (bounds_of given.lemma) × IsPart part.lemma given.lemma)
+        → IsPart new.lemma (bounds_of given.lemma) ⊎ (IsAgainst b given.pred (given.level - 1) nodes (bounds_of given.lemma) × IsPart new.lemma given.lemma)
+    by (inl is) = inl (part-trans new.lemma part.lemma (bounds_of given.lemma) passed.2 is)
+    by (inr is) = inr (is.0, part-trans new.lemma part.lemma given.lemma passed.2 is.1)
+between-next b nodes given part new met more false on passed all =
+    subst (λ (p : LemmaPart). AreMet b p more → IsBetween b nodes given p more false) (sym passed.0) (λ its. record { learnt = on.learnt; same = on.same; part = on.part; met = its; least = λ h. passed.1 }) all
+
+pub between-done : (b : Standing) (nodes : ℕ) (given part : LemmaPart) (met : List Breaking) → IsBetween b nodes given part met false → IsGeneralised b nodes given part
+between-done b nodes given part met on = record { learnt = on.learnt; same = on.same; part = on.part; least = on.least refl }
+
+-- a lemma that rises
+
+pub record IsRising (b : Standing) (nodes : ℕ) (given part : LemmaPart) (going : Bool) : Type 0 where
+  pub learnt : IsLearnt b part
+  pub target : part.target ≡ given.target
+  pub pred : part.pred ≡ given.pred
+  pub lemma : part.lemma ≡ given.lemma
+  pub level : given.level ≤ part.level
+  pub highest : going ≡ false → (part.level ≡ b.level) ⊎ IsAgainst b part.pred part.level nodes part.lemma
+
+pub rising-first : (b : Standing) (nodes : ℕ) (part : LemmaPart) → IsLearnt b part → IsRising b nodes part part true
+rising-first b nodes part learnt = record { learnt = learnt; target = refl; pred = refl; lemma = refl; level = omega arith; highest = λ h. absurd (true≢false h) }
+
+pub rising-next : (b : Standing) (nodes : ℕ) (given part new : LemmaPart) (going : Bool) → IsRising b nodes given part true → IsRaisedOnce b nodes part new going → IsRising b nodes given new going
+rising-next b nodes given part new true on once =
+    let up = once.4 in
+    let from = on.level in
+    record { learnt = once.0; target = once.1 ∙ on.target; pred = once.2 ∙ on.pred; lemma = once.3 ∙ on.lemma; level = omega (arith, up, from); highest = λ h. absurd (true≢false h) }
+rising-next b nodes given part new false on once =
+    subst (λ (p : LemmaPart). IsRising b nodes given p false) (sym once.0) (record { learnt = on.learnt; target = on.target; pred = on.pred; lemma = on.lemma; level = on.level; highest = λ h. once.1 })
+
+pub risen : (b : Standing) (nodes : ℕ) (given part : LemmaPart) → IsRising b nodes given part false → IsRaised b nodes given part
+risen b nodes given part on = record { learnt = on.learnt; target = on.target; pred = on.pred; lemma = on.lemma; level = on.level; highest = on.highest refl }
