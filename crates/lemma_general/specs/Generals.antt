@@ -1,9 +1,10 @@
 -- What a lemma made more general is, and a lemma carried to a higher level (Bradley, "SAT-based model checking without unrolling",
 -- section 4, on literals that are dropped; Hoder and Bjorner, "Generalized property directed reachability", section 3, on levels).
-use Rattle.std.specs.Prelude.{◌≡◌, ◌<◌, ◌≤◌, ◌-◌, ◌+◌, ◌⊎◌, ◌++◌, ◌∷◌, [], ℕ, List, Option, Some, None, length, take, drop, true, false}
+use Rattle.std.specs.Prelude.{◌≡◌, ◌<◌, ◌≤◌, ◌-◌, ◌+◌, ◌⊎◌, ◌++◌, ◌∷◌, [], ℕ, ℤ, List, Option, Some, None, length, take, drop, true, false}
 use Rattle.lin_atoms.specs.Algebra.{negated}
 use Rattle.lin_atoms.specs.declared.lit.Lit.{Lit}
 use Rattle.lin_atoms.specs.declared.lit.Lit.TheVariants.{Le, Eq, Div, NDiv}
+use Rattle.cube_forms.specs.Cubes.{cube_holds}
 use Rattle.lemma_frames.specs.Frames.{lemma_of, level_of, pred_of}
 use Rattle.chc_tokens.specs.declared.goal.Goal.TheVariants.{Holds}
 use Rattle.chc_tokens.specs.declared.seeing.Seen.{Seen}
@@ -66,6 +67,12 @@ pub record IsGeneralised (b : Standing) (nodes : ℕ) (given made : LemmaPart) :
   pub same : IsForSame given made
   pub part : IsPart made.lemma (bounds_of given.lemma) ⊎ (IsAgainst b given.pred (given.level - 1) nodes (bounds_of given.lemma) × IsPart made.lemma given.lemma)
   pub least : IsLeast b made.pred (made.level - 1) nodes made.lemma
+
+-- a lemma for the same obligation whose cube holds each tuple that the given one holds
+pub record IsWidened (b : Standing) (given made : LemmaPart) : Type 0 where
+  pub learnt : IsLearnt b made
+  pub same : IsForSame given made
+  pub within : (tuple : List ℤ) → cube_holds tuple given.lemma ≡ true → cube_holds tuple made.lemma ≡ true
 
 -- the same lemma at the same or a higher level, and either at the book's or something stands against it there
 pub record IsRaised (b : Standing) (nodes : ℕ) (given made : LemmaPart) : Type 0 where

@@ -16,7 +16,7 @@ use step_rules::{LemmaPart, Lent};
 
 /// Takes the cube in place of the lemma's, where the frame below implies it. An instance that breaks
 /// it is kept.
-fn take(
+pub(crate) fn take(
     lent: &Lent,
     part: &mut LemmaPart,
     met: &mut Items<Breaking>,

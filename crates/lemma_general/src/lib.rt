@@ -10,7 +10,9 @@ mod dropping;
 mod lifting;
 mod raising;
 mod showing;
+mod summing;
 
 pub use dropping::generalise;
 pub use lifting::lift;
 pub use raising::raise;
+pub use summing::propose;

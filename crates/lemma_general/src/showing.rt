@@ -1,7 +1,6 @@
 //! What the frame below says of a lemma.
 
 ghost use Rattle.std.specs.Prelude.{◌<◌, IfOk};
-
 ghost use Rattle.obligation_turn.specs.Turns.{GoesOn};
 ghost use Rattle.lemma_general.specs.machinery.Passes.{IsCubeOf, IsFoundOf};
 

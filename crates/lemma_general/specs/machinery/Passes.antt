@@ -61,3 +61,8 @@ IsPassed b nodes old new false = (new ≡ old) × IsLeast b old.pred (old.level 
 abbrev pub IsRaisedOnce : Standing → ℕ → LemmaPart → LemmaPart → Bool → Type 0
 IsRaisedOnce b nodes old new true = IsLearnt b new × (new.target ≡ old.target) × (new.pred ≡ old.pred) × (new.lemma ≡ old.lemma) × (new.level ≡ old.level + 1) × (new.level ≤ b.level)
 IsRaisedOnce b nodes old new false = (new ≡ old) × ((old.level ≡ b.level) ⊎ IsAgainst b old.pred old.level nodes old.lemma)
+
+-- whether a wider cube was taken
+abbrev pub IsTried : Standing → LemmaPart → LemmaPart → Bool → Type 0
+IsTried b old new true = IsLearnt b new × IsForSame old new × IsWithin old.lemma new.lemma
+IsTried b old new false = new ≡ old
