@@ -1,0 +1,12 @@
+pub mod AddedLemmas
+pub mod AmongLemmas
+pub mod DefinitionLemmas
+pub mod FineLemmas
+pub mod KeptLemmas
+pub mod LawLemmas
+pub mod LoopLemmas
+pub mod MakingLemmas
+pub mod NameLemmas
+pub mod PrintLemmas
+pub mod Public
+pub mod ValueLemmas

@@ -1,0 +1,20 @@
+use Rattle.std.proofs.Common.{◌+◌, take, arith}
+use Rattle.std.specs.List.{sum_by}
+use Rattle.std.proofs.lemmas.List.Sums.{sum_by-take-le}
+use Rattle.interpretations.specs.Size.{literal_size}
+use Rattle.interpretations.specs.Terms.{IsLiteralOf}
+use Rattle.interpretations.proofs.LoopLemmas.{all-added, more-added, size-more}
+use Rattle.interpretations.proofs.conjunctions.literal_terms.Goals as goal
+
+pub loop-lit-preserved : goal.loop-lit-preserved
+loop-lit-preserved c =
+    let size = size-more literal_size c.args.cube.now c.loop-lit.lit-index c.lit-item.result c.loop-lit-test.true c.lit-item.is in
+    more-added (λ nodes lit k. IsLiteralOf nodes c.args.sorts.now lit k) (sum_by literal_size (take c.loop-lit.lit-index c.args.cube.now)) (literal_size c.lit-item.result)
+    (sum_by literal_size (take (c.loop-lit.lit-index + 1) c.args.cube.now)) c.args.terms.now.nodes c.loop-lit.terms.nodes c.literal.new.terms.nodes c.args.cube.now c.loop-lit.lit-index
+    c.loop-lit.parts.items c.push.new.items.items c.lit-item.result c.in_ok-part.part c.loop-lit-test.true c.lit-item.is c.in_ok-push.ensures (omega (arith, size)) c.loop-lit.invariant
+    c.in_ok-part.ensures.added
+
+pub returns-clause-added : goal.returns-clause-added
+returns-clause-added c =
+    all-added (λ nodes lit k. IsLiteralOf nodes c.args.sorts.now lit k) (sum_by literal_size (take c.loop-lit.lit-index c.args.cube.now)) (sum_by literal_size c.args.cube.now) c.args.terms.now.nodes
+    c.loop-lit.terms.nodes c.args.cube.now c.loop-lit.lit-index c.loop-lit.parts.items c.loop-lit-test.false (sum_by-take-le literal_size c.args.cube.now c.loop-lit.lit-index) c.loop-lit.invariant

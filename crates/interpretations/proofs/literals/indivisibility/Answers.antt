@@ -1,0 +1,14 @@
+use Rattle.std.proofs.Common.{[], ◌∷◌, List, subst}
+use Rattle.term_tree.specs.declared.node.TermId.{TermId}
+use Rattle.term_tree.specs.declared.node.OpKind.TheVariants.{Not}
+use Rattle.term_tree.specs.declared.node.Node.TheVariants.{Op}
+use Rattle.answer_text.specs.Lemmas.{IsNode}
+use Rattle.interpretations.specs.machinery.Added.{IsAdded}
+use Rattle.interpretations.proofs.MakingLemmas.{indivisibility-added}
+use Rattle.interpretations.proofs.literals.indivisibility.Goals as goal
+
+pub returns-clause-added : goal.returns-clause-added
+returns-clause-added c =
+    indivisibility-added c.args.sorts.now c.args.divisor c.args.lin.now c.args.terms.now.nodes c.divisibility.new.terms.nodes c.put.new.terms.nodes c.in_ok-denied.denied c.in_ok-id.id
+    c.in_ok-denied.ensures.added
+    (subst (λ (args : List TermId). IsAdded (λ nodes k. IsNode nodes k (Op Not args)) 1 c.divisibility.new.terms.nodes c.put.new.terms.nodes c.in_ok-id.id) c.in_ok-args.ensures c.in_ok-id.ensures.added)
