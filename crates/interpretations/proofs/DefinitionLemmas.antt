@@ -4,6 +4,7 @@ use Rattle.std.proofs.lemmas.List.{drop_all, drop_more}
 use Rattle.std.specs.Prelude.{slice_get, Some}
 use Rattle.std.specs.List.{enumerate_from, list_all}
 use Rattle.term_tree.specs.declared.node.TermId.{TermId}
+use Rattle.term_tree.specs.declared.sort.Sort.{Sort}
 use Rattle.term_tree.specs.declared.node.Node.{Node}
 use Rattle.term_tree.specs.declared.script.Name.{Name}
 use Rattle.term_tree.specs.declared.script.Pred.{Pred}
@@ -21,17 +22,19 @@ use Rattle.interpretations.specs.Terms.{IsDefiningTermOf}
 use Rattle.interpretations.specs.machinery.Added.{IsAdded}
 use Rattle.interpretations.proofs.AddedLemmas.{now}
 
-pub definition-made : (lemmas : List Framed) (k number : ℕ) (pred : Pred) (params : List Name) (cubes : List (List Lit)) (old : List Node) (terms : Arena) (body : TermId)
-    → map (λ name. name.bytes) params ≡ map (λ p. parameter_name p.0) (enumerate_from 0 pred.args) → AreKept lemmas number k cubes → IsArena terms.nodes
-    → IsAdded (λ nodes i. IsDefiningTermOf nodes pred.args cubes i) (term_size cubes) old terms.nodes body
+pub definition-made : (lemmas : List Framed) (k number : ℕ) (pred : Pred) (sorts : List Sort) (params : List Name) (cubes : List (List Lit)) (old : List Node) (terms : Arena) (body : TermId)
+    → sorts ≡ pred.args → map (λ name. name.bytes) params ≡ map (λ p. parameter_name p.0) (enumerate_from 0 sorts) → AreKept lemmas number k cubes → IsArena terms.nodes
+    → IsAdded (λ nodes i. IsDefiningTermOf nodes sorts cubes i) (term_size cubes) old terms.nodes body
     → IsDefinitionOf lemmas k number pred (record { pred = number; params = params; terms = terms; body = body })
-definition-made lemmas k number pred params cubes old terms body names kept arena added = record {
+definition-made lemmas k number pred sorts params cubes old terms body same names kept arena added = record {
   pred_is = refl;
-  names = names;
+  names = names ∙ ap (λ (ss : List Sort). map (λ p. parameter_name p.0) (enumerate_from 0 ss)) same;
   arena = arena;
   cubes = cubes;
   kept = kept;
-  term = now (λ (nodes : List Node). IsDefiningTermOf nodes pred.args cubes body) terms.nodes added.is;
+  term =
+      subst (λ (ss : List Sort). IsDefiningTermOf terms.nodes ss cubes body) same
+      (now (λ (nodes : List Node). IsDefiningTermOf nodes sorts cubes body) terms.nodes added.is);
 }
 
 pub definition-large : (lemmas : List Framed) (k number : ℕ) (cubes : List (List Lit)) (old : List Node) → old ≡ [] → AreKept lemmas number k cubes → 2 ^ 32 < length old + term_size cubes → IsTooLarge lemmas k

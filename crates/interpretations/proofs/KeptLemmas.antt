@@ -43,7 +43,7 @@ kept-end lemmas pred k numbers i cubes past frame all = record {
 
 -- tests of all cubes
 
-at-all : {X : Type 0} (test : X → Bool) (xs : List X) (k : ℕ) (x : X) → k < length xs → get_or xs k x ≡ x → list_all test xs ≡ true → test x ≡ true
+pub at-all : {X : Type 0} (test : X → Bool) (xs : List X) (k : ℕ) (x : X) → k < length xs → get_or xs k x ≡ x → list_all test xs ≡ true → test x ≡ true
 at-all test [] k x within is all = absurd (omega (arith, within))
 at-all test (y ∷ xs) zero x within is all = ap test (sym is) ∙ (both_true (test y) (list_all test xs) all).0
 at-all test (y ∷ xs) (suc k) x within is all = at-all test xs k x (omega (arith, within)) is (both_true (test y) (list_all test xs) all).1

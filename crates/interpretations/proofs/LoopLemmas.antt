@@ -42,6 +42,12 @@ module _ {X : Type 0} (R : List Node → X → TermId → Type 0) where
   all-added a b s t xs i ids past le added = subst (λ (ys : List X). AreAdded (Terms ys) b s t ids) (take_all i xs past)
       (record { grown = grown-weaker a b s t le added.grown; there = added.there; are = added.are })
 
+-- the item at a place is itself there, whatever stands for one that isn't
+pub item-same : {X : Type 0} (xs : List X) (i : ℕ) (other : X) → i < length xs → get_or xs i other ≡ get_or xs i (get_or xs i other)
+item-same [] i other within = absurd (omega (arith, within))
+item-same (x ∷ xs) zero other within = refl
+item-same (x ∷ xs) (suc i) other within = item-same xs i other (omega (arith, within))
+
 -- sizes
 
 pub size-more : {X : Type 0} (size : X → ℕ) (xs : List X) (i : ℕ) (x : X) → i < length xs → x ≡ get_or xs i x → sum_by size (take i xs) + size x ≡ sum_by size (take (i + 1) xs)
