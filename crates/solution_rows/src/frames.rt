@@ -1,6 +1,6 @@
 //! Frames and scripts made by hand.
 
-ghost use Rattle.std.specs.Prelude.{◌≡◌, ◌<◌, length, slice_get, Some, true, IsTrue};
+ghost use Rattle.std.specs.Prelude.{◌≡◌, ◌<◌, length, slice_get, Some, true};
 ghost use Rattle.term_tree.specs.declared.script.Pred.{Pred};
 ghost use Rattle.cube_forms.specs.Cubes.{cube_is_below};
 ghost use Rattle.lemma_frames.specs.Frames.{lemma_of, pred_of};
