@@ -1,4 +1,39 @@
+use Rattle.std.proofs.Common.{rules, ◌≡◌, ◌*◌, ◌∙◌, ℕ, List, length, sym, subst, true}
+use Rattle.std.specs.Prelude.{ℤ, pos}
+use Rattle.std.specs.List.{list_all}
+use Rattle.term_tree.specs.declared.node.TermId.{TermId}
+use Rattle.term_tree.specs.Arena.{is_below}
+use Rattle.answer_text.specs.Lemmas.{IsNumber, IsProduct}
+use Rattle.interpretations.specs.Terms.{Each}
+use Rattle.interpretations.specs.machinery.Added.{IsAdded}
+use Rattle.interpretations.proofs.AddedLemmas.{are-there-then, below-push}
+use Rattle.interpretations.proofs.MakingLemmas.{plain-added, products-as, shifted-added}
 use Rattle.interpretations.proofs.sums.shifted.Goals as goal
 
 pub sum-requires-2 : goal.sum-requires-2
-sum-requires-2 c = ?
+sum-requires-2 c =
+    let later = c.number.new.terms.nodes in
+    let there =
+        are-there-then (λ nodes ids. Each (IsProduct nodes c.args.sorts.now) c.terms.result.now ids) (7 * length c.terms.result.now) 2 c.args.terms.now.nodes c.products.new.terms.nodes later
+        c.in_ok-items.items.items c.in_ok-items.ensures.added c.in_ok-last.ensures.added.grown in
+    subst (λ (ids : List TermId). list_all (is_below (length later)) ids ≡ true) (sym c.in_ok-push.ensures)
+    (below-push (length later) c.in_ok-items.items.items c.in_ok-last.last there c.in_ok-last.ensures.added.there)
+
+pub returns-then-constant-0-clause-added : goal.returns-then-constant-0-clause-added
+returns-then-constant-0-clause-added c =
+    let items = c.in_ok-items.items.items in
+    let nought : c.constant.result ≡ pos 0 = search rules in
+    plain-added c.args.sorts.now c.args.lin.now c.terms.ensures.legal c.args.terms.now.nodes c.products.new.terms.nodes c.sum.new.terms.nodes items c.in_ok-id.id c.requires.short
+    (sym c.constant.ensures.is ∙ nought)
+    (products-as c.args.sorts.now c.terms.result.now c.args.lin.now.terms c.args.terms.now.nodes c.products.new.terms.nodes items c.terms.ensures.is c.in_ok-items.ensures.added)
+    c.in_ok-id.ensures.added
+
+pub returns-clause-added : goal.returns-clause-added
+returns-clause-added c =
+    let items = c.in_ok-items.items.items in
+    let last = c.in_ok-last.last in
+    let other : c.constant.result ≡ pos 0 → ⊥ = search rules in
+    shifted-added c.args.sorts.now c.args.lin.now c.terms.ensures.legal c.args.terms.now.nodes c.products.new.terms.nodes c.number.new.terms.nodes c.sum-2.new.terms.nodes items c.push.new.items.items
+    last c.in_ok-id-2.id c.requires.short (λ is. other (c.constant.ensures.is ∙ is)) c.in_ok-push.ensures
+    (products-as c.args.sorts.now c.terms.result.now c.args.lin.now.terms c.args.terms.now.nodes c.products.new.terms.nodes items c.terms.ensures.is c.in_ok-items.ensures.added)
+    (subst (λ (z : ℤ). IsAdded (λ nodes k. IsNumber nodes z k) 2 c.products.new.terms.nodes c.number.new.terms.nodes last) c.constant.ensures.is c.in_ok-last.ensures.added) c.in_ok-id-2.ensures.added
