@@ -80,9 +80,12 @@ lemma-shown : (nodes : List Node) (sorts : List Sort) (cube : List Lit) (id : Te
 lemma-shown nodes sorts [] id h = inl h
 lemma-shown nodes sorts (lit ∷ cube) id h =
     let conjunction = h.1 in
-    inr (h.0,
-    some-shown nodes (IsLiteralOf nodes sorts) (IsLiteral nodes sorts) lit cube conjunction.parts h.0 conjunction.each
-    (each-all (IsLiteralOf nodes sorts) (IsLiteral nodes sorts) (literal-shown nodes sorts) (lit ∷ cube) conjunction.parts conjunction.each) conjunction.joined, h.2)
+    inr (
+      h.0,
+      some-shown nodes (IsLiteralOf nodes sorts) (IsLiteral nodes sorts) lit cube conjunction.parts h.0 conjunction.each
+          (each-all (IsLiteralOf nodes sorts) (IsLiteral nodes sorts) (literal-shown nodes sorts) (lit ∷ cube) conjunction.parts conjunction.each) conjunction.joined,
+      h.2,
+    )
 
 pub term-shown : (nodes : List Node) (sorts : List Sort) (cubes : List (List Lit)) (id : TermId) → IsDefiningTermOf nodes sorts cubes id → IsDefiningTerm nodes sorts id
 term-shown nodes sorts cubes id h =

@@ -33,7 +33,7 @@ pub record IsShiftedOf (nodes : List Node) (sorts : List Sort) (lin : Linear) (i
   pub ordered : AreTerms 0 lin.terms
   pub products : AreProducts nodes sorts lin.terms items
   pub sum : ((lin.constant ≡ pos 0) × IsSum nodes items id)
-            ⊎ ((lin.constant ≡ pos 0 → ⊥) × ((k : TermId) × IsNumber nodes lin.constant k × IsSum nodes (items ++ k ∷ []) id))
+      ⊎ ((lin.constant ≡ pos 0 → ⊥) × ((k : TermId) × IsNumber nodes lin.constant k × IsSum nodes (items ++ k ∷ []) id))
 
 -- (<= sum number) and (= sum number), where the number is the constant with the other sign
 pub record IsComparisonOf (nodes : List Node) (sorts : List Sort) (op : OpKind) (lin : Linear) (id : TermId) : Type 0 where

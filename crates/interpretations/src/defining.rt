@@ -8,8 +8,8 @@ ghost use Rattle.answer_text.specs.Terms.{parameter_name};
 ghost use Rattle.interpretations.specs.Definitions.{AreDefinitionsOf, HavePlaces, IsDefinitionOf};
 ghost use Rattle.interpretations.specs.Size.{IsTooLarge};
 
-use crate::kept::kept_lemmas;
 use crate::conjunctions::defining_term;
+use crate::kept::kept_lemmas;
 use crate::stop::DefinitionStop;
 use answer_text::push_parameter_name;
 use base::{Items, Memory};

@@ -9,9 +9,9 @@ ghost use Rattle.interpretations.specs.Size.{literal_size};
 ghost use Rattle.interpretations.specs.Terms.{IsComparisonOf, IsDivisibilityOf, IsLiteralOf};
 ghost use Rattle.interpretations.specs.machinery.Added.{IsAdded};
 
-use crate::sums::{linear, number, shifted};
 use crate::nodes::{one, put, two};
 use crate::stop::DefinitionStop;
+use crate::sums::{linear, number, shifted};
 use lin_atoms::{Divisor, Lin, Lit};
 use std::alloc::Global;
 use term_tree::{Node, OpKind, Sort, TermId, Terms};

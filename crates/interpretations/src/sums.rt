@@ -34,11 +34,7 @@ pub(crate) fn number(alloc: Global, terms: &mut Terms, n: i128) -> Result<TermId
 }
 
 /// A Bool argument as an integer.
-fn bool_argument(
-    alloc: Global,
-    terms: &mut Terms,
-    binder: u32,
-) -> Result<TermId, DefinitionStop>
+fn bool_argument(alloc: Global, terms: &mut Terms, binder: u32) -> Result<TermId, DefinitionStop>
     ensures added { IfOk result (λ id. IsAdded (λ nodes k. IsArgument nodes binder (Some Sort.Bool) k) 4 terms.old.nodes terms.new.nodes id) }
     ensures full { IsErrOf result DefinitionStop.Full → 2 ^ 32 < length terms.old.nodes + 4 }
 {

@@ -62,7 +62,9 @@ fn lemma(rt: &impl Abort, alloc: Global, cube: &[Literal]) -> Lemma {
 fn put(rt: &impl Abort, alloc: Global, frames: &mut Frames, denial: Denial) {
     let lemma = lemma(rt, alloc, denial.cube);
     assert!(rt; frames.count() < 1000 && (denial.pred as usize) < frames.preds());
-    frames.add(denial.pred, lemma, denial.level).expect(rt, "memory");
+    frames
+        .add(denial.pred, lemma, denial.level)
+        .expect(rt, "memory");
 }
 
 /// Frames over so many predicates with these lemmas, numbered in order.
@@ -87,7 +89,9 @@ fn pred(rt: &impl Abort, alloc: Global, name: &[u8], sorts: &[Sort]) -> Pred {
 pub(crate) fn script_of(rt: &impl Abort, alloc: Global, preds: &[(&[u8], &[Sort])]) -> Script {
     let mut declared = Vec::new(alloc);
     for (name, sorts) in preds {
-        declared.push(pred(rt, alloc, name, sorts)).expect(rt, "memory");
+        declared
+            .push(pred(rt, alloc, name, sorts))
+            .expect(rt, "memory");
     }
     Script {
         preds: Items::from_vec(declared),

@@ -54,14 +54,28 @@ fn a_predicate_without_lemmas_is_true(rt: HostRuntime) {
 #[test]
 fn the_cube_without_literals_is_denied_by_false(rt: HostRuntime) {
     let text = b"sat\n(\n(define-fun p ((x0 Int)) Bool false)\n)\n";
-    expect(&rt, rt.alloc(), &[(b"p", &[Sort::Int])], &[denied(&[])], 1, text);
+    expect(
+        &rt,
+        rt.alloc(),
+        &[(b"p", &[Sort::Int])],
+        &[denied(&[])],
+        1,
+        text,
+    );
 }
 
 #[test]
 fn one_lemma_of_one_literal_is_its_denial(rt: HostRuntime) {
     let cube = [at_most_five(&[(0, 1)])];
     let text = b"sat\n(\n(define-fun p ((x0 Int)) Bool (not (<= x0 5)))\n)\n";
-    expect(&rt, rt.alloc(), &[(b"p", &[Sort::Int])], &[denied(&cube)], 1, text);
+    expect(
+        &rt,
+        rt.alloc(),
+        &[(b"p", &[Sort::Int])],
+        &[denied(&cube)],
+        1,
+        text,
+    );
 }
 
 #[test]
@@ -74,7 +88,14 @@ fn negative_numbers_stand_as_negations(rt: HostRuntime) {
     let text =
         b"sat\n(\n(define-fun p ((x0 Int) (x1 Int) (x2 Int)) Bool (not (<= (+ (* (- 2) x0) x1 (* (- 1) x2)) (- 3))))\n)\n";
     let sorts = [Sort::Int, Sort::Int, Sort::Int];
-    expect(&rt, rt.alloc(), &[(b"p", &sorts)], &[denied(&cube)], 1, text);
+    expect(
+        &rt,
+        rt.alloc(),
+        &[(b"p", &sorts)],
+        &[denied(&cube)],
+        1,
+        text,
+    );
 }
 
 #[test]
@@ -90,7 +111,14 @@ fn a_bool_argument_counts_as_1_or_0(rt: HostRuntime) {
     let text =
         b"sat\n(\n(define-fun p ((x0 Int) (x1 Bool)) Bool (not (and (<= (+ x0 (* 3 (ite x1 1 0))) 5) (= (ite x1 1 0) 1))))\n)\n";
     let sorts = [Sort::Int, Sort::Bool];
-    expect(&rt, rt.alloc(), &[(b"p", &sorts)], &[denied(&cube)], 1, text);
+    expect(
+        &rt,
+        rt.alloc(),
+        &[(b"p", &sorts)],
+        &[denied(&cube)],
+        1,
+        text,
+    );
 }
 
 #[test]
@@ -109,7 +137,14 @@ fn an_equation_has_its_constant_on_the_right(rt: HostRuntime) {
     ];
     let text =
         b"sat\n(\n(define-fun p ((x0 Int)) Bool (not (and (= (* 4 x0) 0) (= 0 (- 7)))))\n)\n";
-    expect(&rt, rt.alloc(), &[(b"p", &[Sort::Int])], &[denied(&cube)], 1, text);
+    expect(
+        &rt,
+        rt.alloc(),
+        &[(b"p", &[Sort::Int])],
+        &[denied(&cube)],
+        1,
+        text,
+    );
 }
 
 #[test]
@@ -139,7 +174,14 @@ fn a_divided_form_has_its_constant_as_last_item(rt: HostRuntime) {
     let text =
         b"sat\n(\n(define-fun p ((x0 Int) (x1 Int)) Bool (not (and ((_ divisible 3) (+ x0 2)) (not ((_ divisible 4) (+ x0 (* 2 x1) (- 1)))) ((_ divisible 2) x1) ((_ divisible 5) 6))))\n)\n";
     let sorts = [Sort::Int, Sort::Int];
-    expect(&rt, rt.alloc(), &[(b"p", &sorts)], &[denied(&cube)], 1, text);
+    expect(
+        &rt,
+        rt.alloc(),
+        &[(b"p", &sorts)],
+        &[denied(&cube)],
+        1,
+        text,
+    );
 }
 
 #[test]

@@ -14,8 +14,8 @@ pub sum-requires-2 : goal.sum-requires-2
 sum-requires-2 c =
     let later = c.number.new.terms.nodes in
     let there =
-        are-there-then (λ nodes ids. Each (IsProduct nodes c.args.sorts.now) c.terms.result.now ids) (7 * length c.terms.result.now) 2 c.args.terms.now.nodes c.products.new.terms.nodes later
-        c.in_ok-items.items.items c.in_ok-items.ensures.added c.in_ok-last.ensures.added.grown in
+    are-there-then (λ nodes ids. Each (IsProduct nodes c.args.sorts.now) c.terms.result.now ids) (7 * length c.terms.result.now) 2 c.args.terms.now.nodes c.products.new.terms.nodes later
+    c.in_ok-items.items.items c.in_ok-items.ensures.added c.in_ok-last.ensures.added.grown in
     subst (λ (ids : List TermId). list_all (is_below (length later)) ids ≡ true) (sym c.in_ok-push.ensures)
     (below-push (length later) c.in_ok-items.items.items c.in_ok-last.last there c.in_ok-last.ensures.added.there)
 
