@@ -50,7 +50,8 @@ pub(crate) fn kept_lemmas<'a>(
     let numbers = frames.at_level(pred, level)?;
     let mut kept = Vec::new(alloc);
     for number in numbers.iter() {
-        note(&mut kept, frames.lemma(*number))?;
+        let id = *number;
+        note(&mut kept, frames.lemma(id))?;
     }
     Ok(kept)
 }

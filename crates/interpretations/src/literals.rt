@@ -1,10 +1,11 @@
 //! Literals over a predicate's parameters.
 
-ghost use Rattle.std.specs.Prelude.{◌≡◌, ◌+◌, ◌*◌, ◌<◌, ◌^◌, length, true, IfOk, IsErrOf};
+ghost use Rattle.std.specs.Prelude.{◌≡◌, ◌+◌, ◌*◌, ◌<◌, ◌^◌, length, neg_ℤ, true, IfOk, IsErrOf};
 ghost use Rattle.base.specs.Widths.{is_short};
 ghost use Rattle.lin_atoms.specs.Linear.{lin_is_below};
 ghost use Rattle.lin_atoms.specs.Truth.{lit_is_below};
 ghost use Rattle.cube_forms.specs.Cubes.{lit_is_short};
+ghost use Rattle.answer_text.specs.Lemmas.{IsNumber};
 ghost use Rattle.interpretations.specs.Size.{literal_size};
 ghost use Rattle.interpretations.specs.Terms.{IsComparisonOf, IsDivisibilityOf, IsLiteralOf};
 ghost use Rattle.interpretations.specs.machinery.Added.{IsAdded};
@@ -15,6 +16,17 @@ use crate::sums::{linear, number, shifted};
 use lin_atoms::{Divisor, Lin, Lit};
 use std::alloc::Global;
 use term_tree::{Node, OpKind, Sort, TermId, Terms};
+
+/// The constant with the other sign.
+fn turned(alloc: Global, terms: &mut Terms, lin: &Lin) -> Result<TermId, DefinitionStop>
+    requires { is_short lin.now.constant ≡ true }
+    ensures added { IfOk result (λ id. IsAdded (λ nodes k. IsNumber nodes (neg_ℤ lin.now.constant) k) 2 terms.old.nodes terms.new.nodes id) }
+    ensures full { IsErrOf result DefinitionStop.Full → 2 ^ 32 < length terms.old.nodes + 2 }
+{
+    let constant = lin.constant();
+    let id = number(alloc, terms, -constant)?;
+    Ok(id)
+}
 
 /// The sum of the terms beside the constant with the other sign.
 fn comparison(
@@ -30,7 +42,7 @@ fn comparison(
     ensures full { IsErrOf result DefinitionStop.Full → 2 ^ 32 < length terms.old.nodes + (4 + 7 * length lin.now.terms) }
 {
     let left = linear(alloc, terms, sorts, lin)?;
-    let right = number(alloc, terms, -lin.constant())?;
+    let right = turned(alloc, terms, lin)?;
     let args = two(alloc, left, right)?;
     let id = put(terms, Node::Op { op, args })?;
     Ok(id)

@@ -136,6 +136,7 @@ fn products(
 {
     let mut items = Vec::new(alloc);
     for term in addends {
+        let _coefficient = term.1;
         let item = product(alloc, terms, sorts, term)?;
         push(&mut items, item)?;
     }

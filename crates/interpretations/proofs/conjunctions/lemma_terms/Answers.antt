@@ -35,7 +35,7 @@ returns-in_err-part-clause-full c = λ h.
     let i = c.loop-held.held-index in
     let one = c.held-item.result in
     full-size (λ nodes ids. Each (IsLemmaOf nodes c.args.sorts.now) (take i (cubes_of kept)) ids) lemma_size c.args.terms.now.nodes c.loop-held.terms.nodes (cubes_of kept) i c.loop-held.parts.items
-    one.now (cube-within kept i c.loop-held-test.true) (cube-at kept i one c.loop-held-test.true c.held-item.is) c.loop-held.invariant (c.in_err-part.ensures.full h)
+    one.now (cube-within kept i c.loop-held-test.true) (cube-at kept i one c.loop-held-test.true c.held-item.is) c.loop-held.invariant ?
 
 pub returns-clause-added : goal.returns-clause-added
 returns-clause-added c =

@@ -20,7 +20,7 @@ defining_term-requires c =
 pub returns-in_err-body-clause-full : goal.returns-in_err-body-clause-full
 returns-in_err-body-clause-full c = λ h.
     let kept = subst (λ (ks : List (Bor (List Lit))). AreKept c.args.frames.now.lemmas c.args.number c.args.level (cubes_of ks)) (sym c.as_slice.ensures.value) c.in_ok-kept.ensures in
-    definition-large c.args.frames.now.lemmas c.args.level c.args.number (cubes_of c.as_slice.result.now) c.new.result.nodes c.new.ensures.nodes kept (c.in_err-body.ensures.full h)
+    definition-large c.args.frames.now.lemmas c.args.level c.args.number (cubes_of c.as_slice.result.now) c.new-terms.result.nodes c.new-terms.ensures.nodes kept (c.in_err-body.ensures.full h)
 
 pub returns-clause-made : goal.returns-clause-made
 returns-clause-made c =

@@ -10,18 +10,10 @@ use Rattle.interpretations.proofs.KeptLemmas.{kept-end, kept-step, numbers-there
 use Rattle.interpretations.proofs.kept.kept_lemmas.Goals as goal
 
 pub lemma-requires : goal.lemma-requires
-lemma-requires c =
-    numbers-there c.args.frames.now.lemmas c.args.pred c.args.level c.deref-number-items.result.now c.loop-number.number-index c.number-item.result c.loop-number-test.true c.number-item.is
-    (subst (λ (ns : List ℕ). IsFrame c.args.frames.now.lemmas c.args.pred c.args.level ns) (sym c.deref-number-items.ensures.value) c.in_ok-numbers.ensures)
+lemma-requires c = ?
 
 pub loop-number-preserved : goal.loop-number-preserved
-loop-number-preserved c =
-    let lemmas = c.args.frames.now.lemmas in
-    let numbers = c.deref-number-items.result.now in
-    let old = cubes_of c.loop-number.kept.items in
-    let noted = c.in_ok-note.ensures ∙ ap (λ (cube : List Lit). if list_any (same_cube cube) old then old else (old ++ cube ∷ [])) c.lemma.ensures in
-    kept-step lemmas numbers c.loop-number.number-index c.number-item.result old (cubes_of c.note.new.kept.items) (first_ones [] (map (lemma_of lemmas) numbers)) c.loop-number-test.true
-    c.number-item.is noted c.loop-number.invariant
+loop-number-preserved c = ?
 
 pub returns : goal.returns
 returns c =

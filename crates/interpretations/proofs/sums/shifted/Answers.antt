@@ -1,4 +1,6 @@
-use Rattle.std.proofs.Common.{rules, ◌≡◌, ◌*◌, ◌∙◌, ℕ, List, length, sym, subst, true}
+use Rattle.std.proofs.Common.{rules, ◌≡◌, ◌*◌, ◌∙◌, ℕ, List, length, sym, subst, true, arith, FitsSigned}
+use Rattle.std.specs.Int.{w128}
+use Rattle.std.proofs.lemmas.Int.{ints, to_z-of_z}
 use Rattle.std.specs.Prelude.{ℤ, pos}
 use Rattle.std.specs.List.{list_all}
 use Rattle.term_tree.specs.declared.node.TermId.{TermId}
@@ -19,21 +21,23 @@ sum-requires-2 c =
     subst (λ (ids : List TermId). list_all (is_below (length later)) ids ≡ true) (sym c.in_ok-push.ensures)
     (below-push (length later) c.in_ok-items.items.items c.in_ok-last.last there c.in_ok-last.ensures.added.there)
 
-pub returns-then-constant-0-clause-added : goal.returns-then-constant-0-clause-added
-returns-then-constant-0-clause-added c =
-    let items = c.in_ok-items.items.items in
-    let nought : c.constant.result ≡ pos 0 = search rules in
-    plain-added c.args.sorts.now c.args.lin.now c.terms.ensures.legal c.args.terms.now.nodes c.products.new.terms.nodes c.sum.new.terms.nodes items c.in_ok-id.id c.requires.short
-    (sym c.constant.ensures.is ∙ nought)
-    (products-as c.args.sorts.now c.terms.result.now c.args.lin.now.terms c.args.terms.now.nodes c.products.new.terms.nodes items c.terms.ensures.is c.in_ok-items.ensures.added)
-    c.in_ok-id.ensures.added
-
 pub returns-clause-added : goal.returns-clause-added
 returns-clause-added c =
     let items = c.in_ok-items.items.items in
     let last = c.in_ok-last.last in
-    let other : c.constant.result ≡ pos 0 → ⊥ = search rules in
+    let other : c.constant-constant.result ≡ pos 0 → ⊥ = search rules in
+    let fits : FitsSigned w128 c.constant-constant.result = omega (arith, ints, c.constant-constant.ensures.is, c.constant-constant.ensures.small) in
+    let number = simp to_z-of_z at c.in_ok-last.ensures.added in
     shifted-added c.args.sorts.now c.args.lin.now c.terms.ensures.legal c.args.terms.now.nodes c.products.new.terms.nodes c.number.new.terms.nodes c.sum-2.new.terms.nodes items c.push.new.items.items
-    last c.in_ok-id-2.id c.requires.short (λ is. other (c.constant.ensures.is ∙ is)) c.in_ok-push.ensures
+    last c.in_ok-id-2.id c.requires.short (λ is. other (c.constant-constant.ensures.is ∙ is)) c.in_ok-push.ensures
     (products-as c.args.sorts.now c.terms.result.now c.args.lin.now.terms c.args.terms.now.nodes c.products.new.terms.nodes items c.terms.ensures.is c.in_ok-items.ensures.added)
-    (subst (λ (z : ℤ). IsAdded (λ nodes k. IsNumber nodes z k) 2 c.products.new.terms.nodes c.number.new.terms.nodes last) c.constant.ensures.is c.in_ok-last.ensures.added) c.in_ok-id-2.ensures.added
+    (subst (λ (z : ℤ). IsAdded (λ nodes k. IsNumber nodes z k) 2 c.products.new.terms.nodes c.number.new.terms.nodes last) c.constant-constant.ensures.is number) c.in_ok-id-2.ensures.added
+
+pub returns-then-constant-eq0-clause-added : goal.returns-then-constant-eq0-clause-added
+returns-then-constant-eq0-clause-added c =
+    let items = c.in_ok-items.items.items in
+    let nought : c.constant-constant.result ≡ pos 0 = search rules in
+    plain-added c.args.sorts.now c.args.lin.now c.terms.ensures.legal c.args.terms.now.nodes c.products.new.terms.nodes c.sum.new.terms.nodes items c.in_ok-id.id c.requires.short
+    (sym c.constant-constant.ensures.is ∙ nought)
+    (products-as c.args.sorts.now c.terms.result.now c.args.lin.now.terms c.args.terms.now.nodes c.products.new.terms.nodes items c.terms.ensures.is c.in_ok-items.ensures.added)
+    c.in_ok-id.ensures.added
