@@ -1,6 +1,6 @@
 //! The definitions of the predicates.
 
-ghost use Rattle.std.specs.Prelude.{◌≡◌, ◌<◌, ◌^◌, [], length, map, true, IfOk, IsErrOf, ℕ};
+ghost use Rattle.std.specs.Prelude.{◌≡◌, ◌<◌, ◌^◌, ◌++◌, [], ◌∷◌, length, map, true, IfOk, IsErrOf, OnOk, ℕ};
 ghost use Rattle.std.specs.List.{enumerate_from};
 ghost use Rattle.cube_forms.specs.Cubes.{cube_is_below};
 ghost use Rattle.lemma_frames.specs.Frames.{IsInFrame, lemma_of};
@@ -66,6 +66,14 @@ fn definition(
     })
 }
 
+/// One definition more.
+fn add(definitions: &mut Vec<Definition>, one: Definition) -> Result<(), Memory>
+    ensures { OnOk result (definitions.new.items ≡ definitions.old.items ++ one ∷ []) }
+{
+    definitions.push(one)?;
+    Ok(())
+}
+
 /// One definition for each predicate, in the order of declaration: its parameters are `x0`, `x1` and
 /// so on, and its term is made of the lemmas of this level or more on it, as they are printed. At
 /// the level of a sat end they are a solution. `Full` comes only where the lemmas on some predicate
@@ -85,7 +93,7 @@ pub fn definitions(
     let mut definitions = Vec::new(alloc);
     for (number, pred) in preds.iter().enumerate() {
         let one = definition(alloc, frames, level, number as u32, pred)?;
-        definitions.push(one).map_err(Memory::from)?;
+        add(&mut definitions, one)?;
     }
     Ok(Items::from_vec(definitions))
 }

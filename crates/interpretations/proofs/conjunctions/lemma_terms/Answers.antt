@@ -1,8 +1,10 @@
-use Rattle.std.proofs.Common.{◌+◌, take, sym, arith, length}
+use Rattle.std.proofs.Common.{rules, ◌+◌, take, sym, arith, length}
 use Rattle.std.specs.List.{sum_by}
+use Rattle.std.specs.Prelude.{IsErrOf}
 use Rattle.std.proofs.lemmas.List.Sums.{sum_by-take-le}
 use Rattle.cube_forms.specs.Cubes.{cube_is_below}
 use Rattle.interpretations.specs.Size.{lemma_size}
+use Rattle.interpretations.specs.declared.stop.DefinitionStop.TheVariants.{Full}
 use Rattle.interpretations.specs.Terms.{Each, IsLemmaOf}
 use Rattle.interpretations.specs.machinery.Cubes.{cubes_of}
 use Rattle.interpretations.proofs.AmongLemmas.{cube-at, cube-within, cubes-past}
@@ -34,8 +36,9 @@ returns-in_err-part-clause-full c = λ h.
     let kept = c.args.kept.now in
     let i = c.loop-held.held-index in
     let one = c.held-item.result in
+    let told : IsErrOf c.denial.result Full = search rules in
     full-size (λ nodes ids. Each (IsLemmaOf nodes c.args.sorts.now) (take i (cubes_of kept)) ids) lemma_size c.args.terms.now.nodes c.loop-held.terms.nodes (cubes_of kept) i c.loop-held.parts.items
-    one.now (cube-within kept i c.loop-held-test.true) (cube-at kept i one c.loop-held-test.true c.held-item.is) c.loop-held.invariant ?
+    one.now (cube-within kept i c.loop-held-test.true) (cube-at kept i one c.loop-held-test.true c.held-item.is) c.loop-held.invariant (c.denial.ensures.full told)
 
 pub returns-clause-added : goal.returns-clause-added
 returns-clause-added c =

@@ -1,9 +1,11 @@
-use Rattle.std.proofs.Common.{◌≡◌, List, length, true, sym, subst}
+use Rattle.std.proofs.Common.{rules, ◌≡◌, List, length, true, sym, subst}
+use Rattle.std.specs.Prelude.{IsErrOf}
 use Rattle.std.specs.List.{list_all}
 use Rattle.std.proofs.Common.{Bor}
 use Rattle.term_tree.specs.declared.sort.Sort.{Sort}
 use Rattle.lin_atoms.specs.declared.lit.Lit.{Lit}
 use Rattle.cube_forms.specs.Cubes.{cube_is_below}
+use Rattle.interpretations.specs.declared.stop.DefinitionStop.TheVariants.{Full}
 use Rattle.interpretations.specs.Kept.{AreKept}
 use Rattle.interpretations.specs.machinery.Cubes.{cubes_of}
 use Rattle.interpretations.proofs.DefinitionLemmas.{definition-large, definition-made}
@@ -20,7 +22,8 @@ defining_term-requires c =
 pub returns-in_err-body-clause-full : goal.returns-in_err-body-clause-full
 returns-in_err-body-clause-full c = λ h.
     let kept = subst (λ (ks : List (Bor (List Lit))). AreKept c.args.frames.now.lemmas c.args.number c.args.level (cubes_of ks)) (sym c.as_slice.ensures.value) c.in_ok-kept.ensures in
-    definition-large c.args.frames.now.lemmas c.args.level c.args.number (cubes_of c.as_slice.result.now) c.new-terms.result.nodes c.new-terms.ensures.nodes kept (c.in_err-body.ensures.full h)
+    let told : IsErrOf c.defining_term.result Full = search rules in
+    definition-large c.args.frames.now.lemmas c.args.level c.args.number (cubes_of c.as_slice.result.now) c.new-terms.result.nodes c.new-terms.ensures.nodes kept (c.defining_term.ensures.full told)
 
 pub returns-clause-made : goal.returns-clause-made
 returns-clause-made c =
