@@ -1,12 +1,11 @@
 -- The terms of lemmas are formulas over the parameters.
 use Rattle.std.proofs.lemmas.Int.{ints}
-use Rattle.std.proofs.Common.{◌≡◌, ℕ, zero, suc, ◌+◌, ◌<◌, List, [], ◌∷◌, ◌++◌, length, map, Bool, true, false, ◌&&◌, ◌||◌, ◌==◌, refl, ap, sym, ◌∙◌, subst, arith, inl, inr}
-use Rattle.std.specs.Prelude.{ℤ, pos, negsuc, neg_ℤ, nat_abs, ◌*ℤ◌, ◌^◌, int_lt, nat_lt, nat_le, slice_get, Option, Some, None, option_map, ◌⊎◌}
+use Rattle.std.proofs.Common.{◌≡◌, ℕ, suc, ◌+◌, ◌<◌, List, [], ◌∷◌, ◌++◌, length, map, Bool, true, false, ◌&&◌, ◌||◌, ◌==◌, refl, ap, sym, ◌∙◌, subst, arith, inl, inr}
+use Rattle.std.specs.Prelude.{ℤ, pos, negsuc, neg_ℤ, nat_abs, ◌*ℤ◌, ◌^◌, int_lt, nat_le, slice_get, Option, Some, None, option_map, ◌⊎◌}
 use Rattle.std.specs.List.{AllByRecursion, list_all}
 use Rattle.std.proofs.lemmas.Bool.Decides.{nat_tests}
 use Rattle.term_tree.specs.declared.sort.Sort.{Sort}
 use Rattle.term_tree.specs.declared.sort.Sort.TheVariants.{Int as IntSort, Bool as BoolSort}
-use Rattle.term_tree.specs.declared.script.Pred.{Pred as Declared}
 use Rattle.term_tree.specs.declared.node.TermId.{TermId}
 use Rattle.term_tree.specs.declared.node.OpKind.{OpKind}
 use Rattle.term_tree.specs.declared.node.OpKind.TheVariants.{Not, And, Add, Ite, Mul, Sub, Eq, Le}
@@ -15,10 +14,10 @@ use Rattle.term_tree.specs.declared.node.Node.TheVariants.{Num, True, False, Var
 use Rattle.term_tree.specs.Arena.{IsArena}
 use Rattle.term_tree.specs.Constants.{all_constant, applied, constant_of, constants_among, has_short_constants, is_linear, is_short, is_short_constant, node_constant}
 use Rattle.term_tree.specs.Width.{prefix_results}
-use Rattle.term_tree.specs.Legal.{IsLegal, carried, is_scoped, is_there, next_variable, node_is_scoped, node_numbers, numbers_through, parameters}
+use Rattle.term_tree.specs.Legal.{carried, is_scoped, is_there, next_variable, node_is_scoped, node_numbers, numbers_through, parameters}
 use Rattle.term_tree.specs.Solution.{IsFormula, has_short_divisor}
 use Rattle.term_tree.specs.Sorts.{has_sort, node_sort, operation_sort, same_sort, sort_if, sort_of}
-use Rattle.term_tree.specs.Subterms.{EverySubterm, IsPlain, is_among, is_part, is_plain}
+use Rattle.term_tree.specs.Subterms.{EverySubterm, is_among, is_plain}
 use Rattle.term_tree.proofs.Public.{arena_below, both_true, constant_at, numbered_at, scoped_at, sort_at}
 use Rattle.term_check.proofs.NodeLemmas.{every_by_parts}
 use Rattle.lin_atoms.specs.Linear.{Linear}

@@ -1,17 +1,15 @@
 -- The lemmas that are kept: those of the frame, each cube once.
-use Rattle.std.proofs.Common.{◌≡◌, ℕ, zero, suc, ◌+◌, ◌<◌, List, [], ◌∷◌, ◌++◌, length, drop, map, get_or, Bool, true, false, ◌&&◌, ◌||◌, refl, ap, sym, ◌∙◌, subst, append_assoc, append-nil, ◌≤◌, arith}
+use Rattle.std.proofs.Common.{◌≡◌, ℕ, zero, suc, ◌+◌, ◌<◌, List, [], ◌∷◌, ◌++◌, length, drop, map, get_or, Bool, true, false, ◌&&◌, ◌||◌, refl, ap, sym, ◌∙◌, append_assoc, append-nil, ◌≤◌, arith}
 use Rattle.std.proofs.lemmas.List.{drop_all, drop_more}
-use Rattle.std.specs.Prelude.{if◌then◌else◌, slice_get, Some}
+use Rattle.std.specs.Prelude.{if◌then◌else◌}
 use Rattle.std.specs.List.{Contains, list_all, list_any}
 use Rattle.lin_atoms.specs.declared.lit.Lit.{Lit}
-use Rattle.term_tree.specs.declared.script.Pred.{Pred}
 use Rattle.term_tree.proofs.Public.{both_true}
 use Rattle.cube_forms.specs.Cubes.{cube_is_below}
-use Rattle.lemma_frames.specs.Frames.{IsFrame, IsInFrame, lemma_of, pred_of}
+use Rattle.lemma_frames.specs.Frames.{IsFrame, IsInFrame, lemma_of}
 use Rattle.lemma_frames.specs.declared.framed.Framed.{Framed}
 use Rattle.book_rules.specs.Same.{same_cube}
 use Rattle.book_rules.proofs.Public.{cubes_equal}
-use Rattle.interpretations.specs.Definitions.{HavePlaces}
 use Rattle.interpretations.specs.Kept.{AreKept, first_ones}
 
 -- one more number

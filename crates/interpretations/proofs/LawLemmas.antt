@@ -1,6 +1,6 @@
 -- Definitions that are made of lemmas are formulas, and true in the frame.
 use Rattle.std.proofs.Common.{◌≡◌, ℕ, ◌+◌, ◌<◌, List, [], ◌∷◌, map, Bool, true, false, refl, ap, sym, ◌∙◌}
-use Rattle.std.specs.Prelude.{not, ◌↔◌}
+use Rattle.std.specs.Prelude.{not}
 use Rattle.std.specs.List.{list_all}
 use Rattle.term_tree.specs.declared.definition.Definition.{Definition}
 use Rattle.term_tree.specs.declared.scalar.Value.{Value}
@@ -13,7 +13,7 @@ use Rattle.term_tree.specs.Value.{environment_of, value_of}
 use Rattle.lin_atoms.specs.declared.lit.Lit.{Lit}
 use Rattle.linear_terms.specs.Meeting.{number}
 use Rattle.cube_forms.specs.Cubes.{cube_holds}
-use Rattle.lemma_frames.specs.Frames.{FrameHolds, IsInFrame, lemma_of}
+use Rattle.lemma_frames.specs.Frames.{FrameHolds, lemma_of}
 use Rattle.lemma_frames.specs.declared.framed.Framed.{Framed}
 use Rattle.interpretations.specs.Definitions.{AreDefinitionsOf, IsDefinitionOf}
 use Rattle.interpretations.proofs.FineLemmas.{term-formula}

@@ -1,6 +1,6 @@
 -- What a definition is made of is printed.
-use Rattle.std.proofs.Common.{◌≡◌, ℕ, zero, suc, ◌+◌, ◌≤◌, List, [], ◌∷◌, ◌++◌, length, map, refl, ap, sym, ◌∙◌, subst, arith, inl, inr}
-use Rattle.std.specs.Prelude.{◌⊎◌, neg_ℤ, slice_get, Option, Some, None}
+use Rattle.std.proofs.Common.{◌≡◌, ℕ, suc, ◌+◌, ◌≤◌, List, [], ◌∷◌, length, map, refl, ap, sym, ◌∙◌, subst, arith, inl, inr}
+use Rattle.std.specs.Prelude.{◌⊎◌, neg_ℤ, slice_get, Some}
 use Rattle.std.specs.List.{AllByRecursion, enumerate_from}
 use Rattle.std.proofs.lemmas.List.{length-map}
 use Rattle.std.proofs.lemmas.List.FromFn.{length-enumerate_from}
@@ -18,11 +18,11 @@ use Rattle.lin_atoms.specs.declared.lit.Lit.{Lit}
 use Rattle.lin_atoms.specs.declared.lit.Lit.TheVariants.{Le as AtMost, Eq as Equal, Div, NDiv}
 use Rattle.lemma_frames.specs.declared.framed.Framed.{Framed}
 use Rattle.term_check.specs.Spelling.{sorts_in, sorts_of}
-use Rattle.answer_text.specs.Lemmas.{IsComparison, IsCube, IsDefiningTerm, IsDivisibility, IsLemma, IsLiteral, IsNode}
+use Rattle.answer_text.specs.Lemmas.{IsComparison, IsDefiningTerm, IsDivisibility, IsLemma, IsLiteral, IsNode}
 use Rattle.answer_text.specs.Printable.{IsMadeOfLemmas}
 use Rattle.answer_text.specs.Terms.{parameter_name}
-use Rattle.interpretations.specs.Definitions.{AreDefinitionsOf, IsDefinitionOf}
-use Rattle.interpretations.specs.Terms.{Each, IsComparisonOf, IsConjunctionOf, IsDefiningTermOf, IsDivisibilityOf, IsJoined, IsLemmaOf, IsLiteralOf}
+use Rattle.interpretations.specs.Definitions.{AreDefinitionsOf}
+use Rattle.interpretations.specs.Terms.{Each, IsComparisonOf, IsDefiningTermOf, IsDivisibilityOf, IsJoined, IsLemmaOf, IsLiteralOf}
 
 comparison-shown : (nodes : List Node) (sorts : List Sort) (op : OpKind) (lin : Linear) (id : TermId) → IsComparisonOf nodes sorts op lin id → IsComparison nodes sorts op id
 comparison-shown nodes sorts op lin id h = record {

@@ -1,6 +1,6 @@
 -- What the terms of lemmas are worth where the parameters have values.
 use Rattle.std.proofs.lemmas.Int.{ints}
-use Rattle.std.proofs.Common.{◌≡◌, ℕ, zero, suc, ◌+◌, ◌<◌, List, [], ◌∷◌, ◌++◌, length, map, fold, Bool, true, false, ◌&&◌, refl, ap, sym, ◌∙◌, subst, arith, inl, inr}
+use Rattle.std.proofs.Common.{◌≡◌, ℕ, zero, suc, ◌+◌, ◌<◌, List, [], ◌∷◌, ◌++◌, map, fold, Bool, true, false, ◌&&◌, refl, ap, sym, ◌∙◌, arith, inl, inr}
 use Rattle.std.specs.Prelude.{ℤ, pos, negsuc, neg_ℤ, nat_abs, ◌+ℤ◌, ◌*ℤ◌, int_le, int_lt, not, ◌==◌, slice_get, slice_index_or, Option, Some, None, ◌⊎◌, ◌-ℤ◌}
 use Rattle.std.specs.List.{list_all}
 use Rattle.std.specs.Ordering.{int_eq}
@@ -13,7 +13,7 @@ use Rattle.term_tree.specs.declared.node.Node.TheVariants.{Num, True, False, Var
 use Rattle.term_tree.specs.declared.scalar.Value.{Value}
 use Rattle.term_tree.specs.declared.scalar.Value.TheVariants.{Int, Bool as Truth}
 use Rattle.term_tree.specs.Arena.{IsArena}
-use Rattle.term_tree.specs.Operators.{at_most, choice_of, divides, integer, result_of, same_value, sum_of, truth}
+use Rattle.term_tree.specs.Operators.{choice_of, divides, integer, result_of, sum_of, truth}
 use Rattle.term_tree.specs.Truth.{HaveSorts}
 use Rattle.term_tree.specs.Value.{environment_of, node_worth, value_of}
 use Rattle.term_tree.proofs.Public.{arena_below, value_at}
@@ -27,7 +27,7 @@ use Rattle.cube_forms.specs.Cubes.{cube_holds}
 use Rattle.linear_terms.specs.Meeting.{number, truth_number}
 use Rattle.linear_terms.proofs.RelationLemmas.{divides_is, gap_is}
 use Rattle.answer_text.specs.Lemmas.{AreProducts, IsArgument, IsNode, IsNumber, IsProduct, IsSum}
-use Rattle.interpretations.specs.Terms.{Each, IsComparisonOf, IsConjunctionOf, IsDefiningTermOf, IsDivisibilityOf, IsJoined, IsLemmaOf, IsLiteralOf}
+use Rattle.interpretations.specs.Terms.{Each, IsConjunctionOf, IsDefiningTermOf, IsDivisibilityOf, IsJoined, IsLemmaOf, IsLiteralOf}
 
 -- the values of the arguments
 

@@ -5,7 +5,6 @@ use Rattle.term_tree.specs.declared.script.Pred.{Pred}
 use Rattle.term_tree.specs.declared.definition.Definition.{Definition}
 use Rattle.term_tree.specs.Arena.{IsArena}
 use Rattle.lin_atoms.specs.declared.lit.Lit.{Lit}
-use Rattle.lin_atoms.specs.Denial.{linear_of}
 use Rattle.cube_forms.specs.Cubes.{cube_is_below}
 use Rattle.lemma_frames.specs.Frames.{lemma_of, pred_of}
 use Rattle.lemma_frames.specs.declared.framed.Framed.{Framed}

@@ -1,4 +1,4 @@
-use Rattle.std.proofs.Common.{rules, [], ◌∷◌, List, subst}
+use Rattle.std.proofs.Common.{rules, List, subst}
 use Rattle.std.specs.List.{sum_by}
 use Rattle.term_tree.specs.declared.node.TermId.{TermId}
 use Rattle.term_tree.specs.declared.node.OpKind.TheVariants.{Not}

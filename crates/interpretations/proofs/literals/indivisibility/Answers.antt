@@ -1,4 +1,4 @@
-use Rattle.std.proofs.Common.{[], ◌∷◌, List, subst}
+use Rattle.std.proofs.Common.{List, subst}
 use Rattle.term_tree.specs.declared.node.TermId.{TermId}
 use Rattle.term_tree.specs.declared.node.OpKind.TheVariants.{Not}
 use Rattle.term_tree.specs.declared.node.Node.TheVariants.{Op}

@@ -1,4 +1,4 @@
-use Rattle.std.proofs.Common.{rules, FitsSigned, w64, [], ◌∷◌, List, subst}
+use Rattle.std.proofs.Common.{rules, FitsSigned, w64, List, subst}
 use Rattle.std.proofs.lemmas.Int.{to_z-of_z}
 use Rattle.term_tree.specs.declared.node.TermId.{TermId}
 use Rattle.term_tree.specs.declared.node.OpKind.TheVariants.{Mul}
