@@ -1,10 +1,11 @@
-use Rattle.std.proofs.Common.{◌≡◌, ◌∙◌, ◌≤◌, length, sym, arith}
+use Rattle.std.proofs.Common.{rules, ◌≡◌, ◌≤◌, length, true, arith}
 use Rattle.solution_rows.proofs.PlaceLemmas.{places-end, places-more}
 use Rattle.solution_rows.proofs.frames.have_places.Goals as goal
 
 pub loop-id-preserved : goal.loop-id-preserved
 loop-id-preserved c =
-    places-more c.args.preds.now c.args.frames.now.lemmas c.loop-id.id (c.has_places.ensures c.if-has_places.true) c.loop-id.invariant
+    let yes : c.has_places.result ≡ true = search rules in
+    places-more c.args.preds.now c.args.frames.now.lemmas c.loop-id.id (c.has_places.ensures yes) c.loop-id.invariant
 
 pub returns : goal.returns
 returns c = λ h.
