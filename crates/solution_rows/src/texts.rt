@@ -3,9 +3,10 @@
 use crate::frames::{Denial, Literal, Relation, frames_of, have_places, script_of};
 use answer_text::{Answer, write_answer};
 use interpretations::definitions;
+use lemma_frames::Frames;
 use std::alloc::Global;
 use std::process::Abort;
-use term_tree::Sort;
+use term_tree::{Script, Sort};
 
 /// Compares the printed definitions at a level with a text.
 fn expect(
@@ -19,12 +20,23 @@ fn expect(
     assert!(rt; preds.len() < 1000);
     let script = script_of(rt, alloc, preds);
     let frames = frames_of(rt, alloc, preds.len() as u32, denials);
+    let printed = text_at(rt, alloc, &script, &frames, level);
+    assert!(rt; printed.as_slice() == text);
+}
+
+/// The printed definitions at a level.
+fn text_at(
+    rt: &impl Abort,
+    alloc: Global,
+    script: &Script,
+    frames: &Frames,
+    level: u32,
+) -> Vec<u8> {
     let declared = script.preds.as_slice();
     assert!(rt; declared.len() == frames.preds() && declared.len() < 1000);
-    assert!(rt; have_places(declared, &frames));
-    let made = definitions(alloc, declared, &frames, level).expect(rt, "definitions");
-    let printed = write_answer(alloc, &script, &Answer::Sat(made)).expect(rt, "memory");
-    assert!(rt; printed.as_slice() == text);
+    assert!(rt; have_places(declared, frames));
+    let made = definitions(alloc, declared, frames, level).expect(rt, "definitions");
+    write_answer(alloc, script, &Answer::Sat(made)).expect(rt, "memory")
 }
 
 /// The form less 5 is at most 0.
