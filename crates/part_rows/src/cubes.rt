@@ -27,7 +27,9 @@ fn one(
     Cube::new(alloc, lits)
 }
 
-fn is_wide(made: &Result<Cube, CubeStop>) -> bool {
+/// Whether the numbers of an equation of one variable are too wide for a cube.
+fn is_wide(rt: &impl Abort, alloc: Global, coefficient: i64, constant: i128) -> bool {
+    let made = one(rt, alloc, &[(0, coefficient)], constant);
     matches!(made, Err(CubeStop::Wide))
 }
 
@@ -41,8 +43,8 @@ fn a_number_of_2_to_the_63_is_in_no_cube(rt: HostRuntime) {
         (MOST, 0, false),
         (-MOST, 0, false),
     ] {
-        let made = one(&rt, rt.alloc(), &[(0, coefficient)], constant);
-        assert!(rt; is_wide(&made) == wanted, "{constant} and {coefficient}");
+        let wide = is_wide(&rt, rt.alloc(), coefficient, constant);
+        assert!(rt; wide == wanted, "{constant} and {coefficient}");
     }
 }
 

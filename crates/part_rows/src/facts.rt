@@ -3,7 +3,8 @@
 ghost use Rattle.std.specs.Prelude.{◌≡◌, ◌<◌, length, true};
 ghost use Rattle.std.specs.List.{All};
 
-use base::{Items, Memory};
+use crate::checks::check_at;
+use base::Items;
 use cube_forms::Tuple;
 use derivations::{Fact, Facts};
 use std::alloc::Global;
@@ -22,33 +23,6 @@ fn are_there(facts: &Facts, premises: &[u32]) -> bool
 }
 
 /// Adds a fact that isn't there, and answers its number.
-fn put(
-    alloc: Global,
-    facts: &mut Facts,
-    pred: u32,
-    value: i64,
-    premises: &[u32],
-) -> Result<Option<u32>, Memory> {
-    if facts.count() >= 1000 || !are_there(facts, premises) {
-        return Ok(None);
-    }
-    let values = [value];
-    match facts.find(pred, &values) {
-        Some(_) => Ok(None),
-        None => {
-            let fact = Fact {
-                clause: 0,
-                point: Items::from_slice(alloc, &values)?,
-                premises: Items::from_slice(alloc, premises)?,
-                pred: Some(pred),
-                tuple: Tuple::from_slice(alloc, &values)?,
-            };
-            Ok(Some(facts.add(fact)?))
-        }
-    }
-}
-
-/// The same where memory is ample.
 fn added(
     rt: &impl Abort,
     alloc: Global,
@@ -57,7 +31,23 @@ fn added(
     value: i64,
     premises: &[u32],
 ) -> Option<u32> {
-    put(alloc, facts, pred, value, premises).expect(rt, "memory")
+    if facts.count() >= 1000 || !are_there(facts, premises) {
+        return None;
+    }
+    let values = [value];
+    match facts.find(pred, &values) {
+        Some(_) => None,
+        None => {
+            let fact = Fact {
+                clause: 0,
+                point: Items::from_slice(alloc, &values).expect(rt, "memory"),
+                premises: Items::from_slice(alloc, premises).expect(rt, "memory"),
+                pred: Some(pred),
+                tuple: Tuple::from_slice(alloc, &values).expect(rt, "memory"),
+            };
+            Some(facts.add(fact).expect(rt, "memory"))
+        }
+    }
 }
 
 /// Facts 0 to 4: p(5), q(5) from 0, p(3), q(9) from 2 and 1, and p(-7) from 2.
@@ -98,6 +88,12 @@ fn stands(facts: &Facts, id: u32, value: i64, premises: &[u32]) -> bool {
     fact.tuple.as_slice() == [value].as_slice() && fact.premises.as_slice() == premises
 }
 
+/// Asserts which fact has this one value.
+fn check_found(rt: &impl Abort, facts: &Facts, pred: u32, value: i64, wanted: Option<u32>) {
+    let found = facts.find(pred, &[value]);
+    assert!(rt; found == wanted, "{pred} {value}");
+}
+
 #[test]
 fn a_tuple_is_found_with_its_predicate(rt: HostRuntime) {
     let facts = made(&rt, rt.alloc());
@@ -111,7 +107,7 @@ fn a_tuple_is_found_with_its_predicate(rt: HostRuntime) {
         (0, 4, None),
         (2, 5, None),
     ] {
-        assert!(rt; facts.find(pred, &[value]) == wanted, "{pred} {value}");
+        check_found(&rt, &facts, pred, value, wanted);
     }
     assert!(rt; facts.find(0, &[]).is_none());
     assert!(rt; are_of(&facts, 0, &[0, 2, 4]));
@@ -123,7 +119,7 @@ fn a_tuple_is_found_with_its_predicate(rt: HostRuntime) {
 fn a_fact_rests_on_its_premises(rt: HostRuntime) {
     let facts = made(&rt, rt.alloc());
     for (id, wanted) in [(0, 1), (1, 2), (2, 1), (3, 3), (4, 2)] {
-        assert!(rt; has_height(&facts, id, wanted), "{id}");
+        check_at(&rt, id, has_height(&facts, id, wanted));
     }
     assert!(rt; rests_on(&rt, &facts, 3, &[0, 1, 2, 3]));
     assert!(rt; rests_on(&rt, &facts, 4, &[2, 4]));
@@ -145,21 +141,22 @@ fn a_version_keeps_what_it_had(rt: HostRuntime) {
 }
 
 /// The facts with false alone, from an instance without a body.
-fn refuted(alloc: Global) -> Result<Facts, Memory> {
-    let mut facts = Facts::new(alloc)?;
-    facts.add(Fact {
+fn refuted(rt: &impl Abort, alloc: Global) -> Facts {
+    let mut facts = Facts::new(alloc).expect(rt, "memory");
+    let fact = Fact {
         clause: 0,
         point: Items::new(alloc),
         premises: Items::new(alloc),
         pred: None,
-        tuple: Tuple::from_slice(alloc, &[])?,
-    })?;
-    Ok(facts)
+        tuple: Tuple::from_slice(alloc, &[]).expect(rt, "memory"),
+    };
+    facts.add(fact).expect(rt, "memory");
+    facts
 }
 
 #[test]
 fn false_is_of_no_predicate(rt: HostRuntime) {
-    let facts = refuted(rt.alloc()).expect(&rt, "memory");
+    let facts = refuted(&rt, rt.alloc());
     assert!(rt; facts.find(0, &[]).is_none());
     assert!(rt; are_of(&facts, 0, &[]));
     assert!(rt; rests_on(&rt, &facts, 0, &[0]));

@@ -1,5 +1,6 @@
 //! Frames worked out by hand. Lemma n says that the one argument isn't n.
 
+use crate::checks::check_at;
 use cube_forms::{Cube, Lemma, negate};
 use lemma_frames::Frames;
 use lin_atoms::{Lin, Lit};
@@ -79,7 +80,7 @@ fn a_lemma_that_rises_comes_to_its_place(rt: HostRuntime) {
         (4, [3, 4, 0, 1]),
     ] {
         raise(&rt, &mut frames, id);
-        assert!(rt; lends(&frames, 0, 1, &wanted), "{id}");
+        check_at(&rt, id, lends(&frames, 0, 1, &wanted));
     }
     assert!(rt; lends(&frames, 0, 3, &[3, 4]));
     assert!(rt; lists(&rt, &frames, 0, 3, &[3, 4]));
@@ -97,7 +98,7 @@ fn a_level_is_bare_where_no_lemma_has_exactly_it(rt: HostRuntime) {
         (4, false),
         (5, true),
     ] {
-        assert!(rt; frames.level_is_bare(level) == bare, "{level}");
+        check_at(&rt, level, frames.level_is_bare(level) == bare);
     }
 }
 

@@ -1,5 +1,6 @@
 //! Tables across the ends of their blocks, with versions that are taken in between.
 
+use crate::checks::check_at;
 use cube_forms::Table;
 use std::alloc::Global;
 use std::process::Abort;
@@ -63,7 +64,7 @@ fn versions(rt: &impl Abort, alloc: Global, table: &mut Table<Row>) -> Vec<Table
     let mut versions = Vec::new(alloc);
     for count in COUNTS {
         fill(rt, alloc, table, count);
-        assert!(rt; is_filled(table, count), "{count} rows");
+        check_at(rt, count, is_filled(table, count));
         versions
             .push(table.share().expect(rt, "memory"))
             .expect(rt, "memory");
@@ -81,7 +82,7 @@ fn versions_on_the_ends_of_blocks_stay_as_they_were(rt: HostRuntime) {
         put(&rt, rt.alloc(), &mut table, at, 9999);
     }
     for (version, count) in versions.iter().zip(COUNTS) {
-        assert!(rt; is_filled(version, count), "the version of {count} rows");
+        check_at(&rt, count, is_filled(version, count));
     }
 }
 
@@ -101,7 +102,7 @@ fn a_write_reaches_its_own_place_of_its_own_version(rt: HostRuntime) {
         (129, Some(129), Some(2000)),
         (130, None, None),
     ] {
-        assert!(rt; value_at(&table, at) == here, "at {at}");
-        assert!(rt; value_at(&other, at) == there, "at {at} of the other");
+        check_at(&rt, at, value_at(&table, at) == here);
+        check_at(&rt, at, value_at(&other, at) == there);
     }
 }
