@@ -3,9 +3,10 @@
 ghost use Rattle.formula_rows.specs.machinery.Samples.{AreGiven};
 
 use crate::samples::{Given, all_given};
-use crate::shown::shown;
+use crate::shown::{add, add_form, add_id, check_same};
 use crate::written::written;
 use std::alloc::Global;
+use std::process::Abort;
 use std::test::Fail;
 use term_tree::{Sort, TermId};
 
@@ -46,32 +47,49 @@ const FORMULAS: &str = "\
 42: and(or(le +1u+0)(le -1b+1))(or(le -1u+1)(le -1c+1)) | and(or(le +1u+0)(le +1b+0))(or(le -1u+1)(le +1c+0))
 ";
 
-fn line(alloc: Global, given: &Given, id: u32) -> Result<String, Fail>
+/// Puts the form that holds where the term is true, or where it is false, behind the text.
+fn add_written(
+    rt: &impl Abort,
+    alloc: Global,
+    text: &mut String,
+    given: &Given,
+    id: u32,
+    sign: bool,
+)
     requires given { AreGiven given.now.terms.nodes given.now.constants given.now.names.own.items given.now.names.auxiliary }
 {
-    let yes = shown(alloc, &written(alloc, given, id, true)?)?;
-    let no = shown(alloc, &written(alloc, given, id, false)?)?;
-    Ok(format!(in alloc; "{id}: {yes} | {no}\n")?)
+    match written(alloc, given, id, sign) {
+        Ok(form) => add_form(rt, alloc, text, &form),
+        Err(_) => rt.panic("no form"),
+    }
 }
 
-fn lines(alloc: Global, given: &Given) -> Result<String, Fail>
+fn add_line(rt: &impl Abort, alloc: Global, text: &mut String, given: &Given, id: u32)
+    requires given { AreGiven given.now.terms.nodes given.now.constants given.now.names.own.items given.now.names.auxiliary }
+{
+    add_id(rt, alloc, text, id);
+    add_written(rt, alloc, text, given, id, true);
+    add(rt, text, " | ");
+    add_written(rt, alloc, text, given, id, false);
+    add(rt, text, "\n");
+}
+
+fn lines(rt: &impl Abort, alloc: Global, given: &Given) -> String
     requires given { AreGiven given.now.terms.nodes given.now.constants given.now.names.own.items given.now.names.auxiliary }
 {
     let mut lines = String::new(alloc);
     for id in 0..46u32 {
         if given.sorts.sort(TermId(id)) == Some(Sort::Bool) {
-            let line = line(alloc, given, id)?;
-            lines.push_str(&line)?;
+            add_line(rt, alloc, &mut lines, given, id);
         }
     }
-    Ok(lines)
+    lines
 }
 
 #[test]
 fn each_bool_term_has_the_forms_of_its_kind(rt: HostRuntime) -> Result<(), Fail> {
-    let alloc = rt.alloc();
-    let given = all_given(alloc)?;
-    let lines = lines(alloc, &given)?;
-    assert!(rt; lines.as_str() == FORMULAS, "{lines}");
+    let given = all_given(rt.alloc())?;
+    let lines = lines(&rt, rt.alloc(), &given);
+    check_same(&rt, lines.as_str(), FORMULAS);
     Ok(())
 }
