@@ -1,6 +1,7 @@
 //! Variables, atoms and heads in the order of the text.
 
 use crate::guards::clause_of_text;
+use crate::texts::{check_same, parts};
 use clause_form::{Atom, Clause};
 use std::alloc::Global;
 use std::process::Abort;
@@ -32,64 +33,60 @@ fn letter(sort: Sort) -> &'static str {
     }
 }
 
-fn sorts_told(rt: &impl Abort, alloc: Global, sorts: &[Sort]) -> String {
-    let mut text = String::new(alloc);
+fn add(rt: &impl Abort, text: &mut String, part: &str) {
+    text.push_str(part).expect(rt, "memory");
+}
+
+fn add_sorts(rt: &impl Abort, text: &mut String, sorts: &[Sort]) {
     for sort in sorts {
-        text.push_str(letter(*sort)).expect(rt, "memory");
+        add(rt, text, letter(*sort));
     }
-    text.push_str(":").expect(rt, "memory");
-    text
 }
 
-fn atom_told(rt: &impl Abort, alloc: Global, atom: &Atom) -> String {
-    let mut text = String::from_str(alloc, name(atom.pred)).expect(rt, "memory");
+fn add_variable(rt: &impl Abort, alloc: Global, text: &mut String, variable: u32) {
+    let one = format!(in alloc; " {variable}").expect(rt, "memory");
+    add(rt, text, one.as_str());
+}
+
+fn add_atom(rt: &impl Abort, alloc: Global, text: &mut String, atom: &Atom) {
+    add(rt, text, name(atom.pred));
     for variable in atom.args.as_slice() {
-        let one = format!(in alloc; " {variable}").expect(rt, "memory");
-        text.push_str(one.as_str()).expect(rt, "memory");
+        add_variable(rt, alloc, text, *variable);
     }
-    text
 }
 
-/// The atoms behind the sorts, with commas between them.
-fn body_told(rt: &impl Abort, alloc: Global, clause: &Clause) -> String {
-    let mut text = sorts_told(rt, alloc, clause.sorts.as_slice());
+/// The atoms, with commas between them.
+fn add_atoms(rt: &impl Abort, alloc: Global, text: &mut String, atoms: &[Atom]) {
     let mut between = " ";
-    for atom in clause.atoms.as_slice() {
-        let one = atom_told(rt, alloc, atom);
-        text.push_str(between).expect(rt, "memory");
-        text.push_str(one.as_str()).expect(rt, "memory");
+    for atom in atoms {
+        add(rt, text, between);
+        add_atom(rt, alloc, text, atom);
         between = ", ";
     }
-    text
 }
 
-fn head_told(rt: &impl Abort, alloc: Global, head: &Option<Atom>) -> String {
+fn add_head(rt: &impl Abort, alloc: Global, text: &mut String, head: &Option<Atom>) {
     match head {
-        None => String::from_str(alloc, "false").expect(rt, "memory"),
-        Some(atom) => atom_told(rt, alloc, atom),
+        None => add(rt, text, "false"),
+        Some(atom) => add_atom(rt, alloc, text, atom),
     }
 }
 
 fn clause_told(rt: &impl Abort, alloc: Global, clause: &Clause) -> String {
-    let body = body_told(rt, alloc, clause);
-    let head = head_told(rt, alloc, &clause.head);
-    format!(in alloc; "{body} -> {head}").expect(rt, "memory")
+    let mut text = String::new(alloc);
+    add_sorts(rt, &mut text, clause.sorts.as_slice());
+    add(rt, &mut text, ":");
+    add_atoms(rt, alloc, &mut text, clause.atoms.as_slice());
+    add(rt, &mut text, " -> ");
+    add_head(rt, alloc, &mut text, &clause.head);
+    text
 }
 
 /// Asserts that the text's first clause is told so.
 fn check(rt: &impl Abort, alloc: Global, shows: &str, text: &str, awaited: &str) {
     let made = clause_of_text(rt, alloc, text);
     let told = clause_told(rt, alloc, &made);
-    assert_eq!(rt; told.as_str(), awaited, "{shows}");
-}
-
-/// The parts of a case.
-fn parts(case: &str) -> Option<(&str, &str, &str)> {
-    let mut parts = case.split('§');
-    match (parts.next(), parts.next(), parts.next()) {
-        (Some(shows), Some(asserts), Some(awaited)) => Some((shows, asserts, awaited)),
-        _ => None,
-    }
+    check_same(rt, shows, told.as_str(), awaited);
 }
 
 /// Checks each case of the table, and answers how many there are.

@@ -1,7 +1,7 @@
 //! Guards of many parts, and many names: nothing is expanded.
 
 use crate::guards::clause_of_text;
-use crate::texts::check;
+use crate::texts::{check, check_that};
 use lin_atoms::Form;
 use std::alloc::Global;
 use std::process::Abort;
@@ -27,7 +27,7 @@ fn check_parts(rt: &impl Abort, alloc: Global, begins: &str, ends: &str) {
     repeat(rt, &mut text, " (<= x 7)", 60_000);
     text.push_str(ends).expect(rt, "memory");
     let made = clause_of_text(rt, alloc, text.as_str());
-    assert!(rt; parts_of(&made.guard) == 60_000, "{begins}");
+    check_that(rt, parts_of(&made.guard) == 60_000, "parts", begins);
 }
 
 #[test]

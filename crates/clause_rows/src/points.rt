@@ -1,6 +1,7 @@
 //! Guards of one variable, and its only value at their points.
 
 use crate::guards::clause_of_text;
+use crate::texts::check_that;
 use lin_atoms::{Form, holds};
 use std::alloc::Global;
 use std::process::Abort;
@@ -24,8 +25,9 @@ fn only_value(guard: &Form) -> Option<i64> {
 fn check(rt: &impl Abort, alloc: Global, argument: &str, awaited: i64) {
     let text = format!(in alloc; "(assert (p {argument}))").expect(rt, "memory");
     let made = clause_of_text(rt, alloc, text.as_str());
-    assert!(rt; made.sorts.len() == 1, "{argument}");
-    assert!(rt; only_value(&made.guard) == Some(awaited), "{argument}");
+    check_that(rt, made.sorts.len() == 1, "variables", argument);
+    let value = only_value(&made.guard);
+    check_that(rt, value == Some(awaited), "value", argument);
 }
 
 #[test]

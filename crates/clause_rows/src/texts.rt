@@ -75,12 +75,41 @@ fn whole(rt: &impl Abort, alloc: Global, rest: &str) -> String {
     format!(in alloc; "{BEGINS}{rest}(check-sat)").expect(rt, "memory")
 }
 
+/// Asserts that what was found is right.
+pub fn check_that(rt: &impl Abort, right: bool, shows: &str, found: &str) {
+    assert!(rt; right, "{shows}: {found}");
+}
+
+/// Asserts that what was found is what was awaited.
+pub fn check_same(rt: &impl Abort, shows: &str, found: &str, awaited: &str) {
+    check_that(rt, found == awaited, shows, found);
+}
+
 /// Asserts what is told of the text behind the beginning.
 pub fn check(rt: &impl Abort, alloc: Global, shows: &str, rest: &str, awaited: &str) {
     let text = whole(rt, alloc, rest);
-    assert!(rt; text.len() < 1 << 24, "{shows}");
+    assert!(rt; text.len() < 1 << 24);
     let found = told(rt, alloc, text.as_bytes());
-    assert_eq!(rt; found.as_str(), awaited, "{shows}");
+    check_same(rt, shows, found.as_str(), awaited);
+}
+
+/// The parts of a case.
+pub fn parts(case: &str) -> Option<(&str, &str, &str)> {
+    let (shows, rest) = case.split_once('§')?;
+    let (asserts, awaited) = rest.split_once('§')?;
+    Some((shows, asserts, awaited))
+}
+
+/// Checks each case of a table, and answers how many there are.
+pub fn check_table(rt: &impl Abort, alloc: Global, table: &str) -> usize {
+    let mut tried: usize = 0;
+    for case in table.split('¶') {
+        if let Some((shows, asserts, awaited)) = parts(case) {
+            check(rt, alloc, shows, asserts, awaited);
+            tried = tried.saturating_add(1);
+        }
+    }
+    tried
 }
 
 /// The script of the text behind the beginning.

@@ -2,7 +2,7 @@
 //! guard has one extension where the guards of the assertion are true, and else none, and arguments
 //! have the values of their terms.
 
-use crate::texts::script_of;
+use crate::texts::{check_that, script_of};
 use clause_form::{Atom, Clause, System};
 use clause_normal::read_clauses;
 use horn_shape::{AtomUse, HornClause, HornStop, clause_of, has_assertion};
@@ -249,7 +249,7 @@ fn script_agrees(rt: &impl Abort, alloc: Global, checked: &Checked, system: &Sys
 }
 
 /// The same of the assertion of a text.
-pub fn text_agrees(rt: &impl Abort, alloc: Global, term: &str) -> bool {
+fn text_agrees(rt: &impl Abort, alloc: Global, term: &str) -> bool {
     let text = format!(in alloc; "(assert {term})").expect(rt, "memory");
     let checked = script_of(rt, alloc, text.as_str());
     let system = read_clauses(alloc, &checked).expect(rt, "clauses");
@@ -257,24 +257,25 @@ pub fn text_agrees(rt: &impl Abort, alloc: Global, term: &str) -> bool {
 }
 
 /// The parts of a case.
-pub fn parts(case: &str) -> Option<(&str, &str)> {
-    let mut parts = case.split('§');
-    match (parts.next(), parts.next()) {
-        (Some(shows), Some(term)) => Some((shows, term)),
-        _ => None,
+fn parts(case: &str) -> Option<(&str, &str)> {
+    case.split_once('§')
+}
+
+/// Checks each case of a table, and answers how many there are.
+pub fn check_points(rt: &impl Abort, alloc: Global, table: &str) -> usize {
+    let mut tried: usize = 0;
+    for case in table.split('¶') {
+        if let Some((shows, term)) = parts(case) {
+            check_that(rt, text_agrees(rt, alloc, term), shows, term);
+            tried = tried.saturating_add(1);
+        }
     }
+    tried
 }
 
 #[test]
 fn points_of_guards_are_instances(rt: HostRuntime) {
-    let mut tried: usize = 0;
-    for case in CASES.split('¶') {
-        if let Some((shows, term)) = parts(case) {
-            assert!(rt; text_agrees(&rt, rt.alloc(), term), "{shows}");
-            tried = tried.saturating_add(1);
-        }
-    }
-    assert!(rt; tried == 16);
+    assert!(rt; check_points(&rt, rt.alloc(), CASES) == 16);
 }
 
 /// The quotient and the remainder of -7 by 2, as the only points.
