@@ -12,6 +12,7 @@ use horn_shape::{HornClause, HornStop, clause_of, has_assertion};
 use lin_atoms::Form;
 use sort_check::{assertions_are_legal, check_text, scripts_are_within_limits};
 use std::alloc::Global;
+use std::process::Abort;
 use term_tree::{Checked, Script};
 
 /// The script of a text, up to the first command that is illegal by itself.
@@ -55,9 +56,49 @@ fn clause_with_room(alloc: Global, script: &Script) -> Result<Option<HornClause>
     }
 }
 
+/// The formula of a clause under the definition by a term; nothing where that defines nothing.
+fn formula_of_clause(
+    rt: &impl Abort,
+    alloc: Global,
+    script: &Script,
+    clause: &HornClause,
+    term: &[u8],
+) -> Result<Option<(Form, u32)>, NormalStop>
+    requires legal { IsLegalScript script.now }
+    requires clause { IsClauseOf script.now clause.now.assertion clause.now }
+    requires room { first_without_room script.now clause.now ≡ None }
+    requires term { length term.now < 2 ^ 31 }
+{
+    let defined = definition_of(alloc, script, term).expect(rt, "memory");
+    let Some(definition) = defined else {
+        return Ok(None);
+    };
+    let defs = [definition];
+    let made = with_definitions(alloc, script, clause, &defs)?;
+    Ok(Some(made))
+}
+
+/// The same of a script's first assertion.
+fn formula_in(
+    rt: &impl Abort,
+    alloc: Global,
+    script: &Script,
+    term: &[u8],
+) -> Result<Option<(Form, u32)>, NormalStop>
+    requires legal { IsLegalScript script.now }
+    requires term { length term.now < 2 ^ 31 }
+{
+    let found = clause_with_room(alloc, script)?;
+    let Some(clause) = found else {
+        return Ok(None);
+    };
+    formula_of_clause(rt, alloc, script, &clause, term)
+}
+
 /// The formula of the first assertion of a text with one predicate under the definition by the term of
 /// another text, and its number of variables; nothing where the texts are others.
 pub fn formula_under(
+    rt: &impl Abort,
     alloc: Global,
     text: &[u8],
     term: &[u8],
@@ -65,17 +106,6 @@ pub fn formula_under(
     requires text { length text.now < 2 ^ 32 }
     requires term { length term.now < 2 ^ 31 }
 {
-    let checked = checked(alloc, text)?;
-    let script = &checked.script;
-    let found = clause_with_room(alloc, script)?;
-    let Some(clause) = found else {
-        return Ok(None);
-    };
-    let defined = definition_of(alloc, script, term)?;
-    let Some(definition) = defined else {
-        return Ok(None);
-    };
-    let defs = [definition];
-    let made = with_definitions(alloc, script, &clause, &defs)?;
-    Ok(Some(made))
+    let checked = checked(alloc, text).expect(rt, "memory");
+    formula_in(rt, alloc, &checked.script, term)
 }
