@@ -2,18 +2,14 @@
 
 /// The three parts of a case.
 pub fn three(case: &str) -> Option<(&str, &str, &str)> {
-    let mut parts = case.split('§');
-    match (parts.next(), parts.next(), parts.next()) {
-        (Some(shows), Some(text), Some(told)) => Some((shows, text, told)),
-        _ => None,
-    }
+    let (shows, rest) = case.split_once('§')?;
+    let (text, told) = rest.split_once('§')?;
+    Some((shows, text, told))
 }
 
 /// The four parts of a case, whose text is told by its beginning and its rest.
 pub fn four(case: &str) -> Option<(&str, &str, &str, &str)> {
-    let mut parts = case.split('§');
-    match (parts.next(), parts.next(), parts.next(), parts.next()) {
-        (Some(shows), Some(begins), Some(rest), Some(told)) => Some((shows, begins, rest, told)),
-        _ => None,
-    }
+    let (shows, texts) = case.split_once('§')?;
+    let (begins, rest, told) = three(texts)?;
+    Some((shows, begins, rest, told))
 }

@@ -11,7 +11,7 @@ fn a_source_that_fails_is_status_3_and_nothing_is_written(rt: HostRuntime) {
     let script = b"(set-logic HORN)(declare-fun p (Int) Bool)(assert (p 0))(check-sat)";
     let run = run_over(&rt, rt.alloc(), &["solve"], script, &ends);
     check_ran(&rt, "a source that fails", &run, 3, b"");
-    assert!(rt; run.report.read.is_empty(), "no bytes count as read");
+    assert!(rt; run.report.read.is_empty());
 }
 
 #[test]
@@ -25,10 +25,7 @@ fn a_sink_that_fails_is_status_4_and_holds_a_prefix(rt: HostRuntime) {
     let script = b"(set-logic HORN)(check-sat)".as_slice();
     let run = run_over(&rt, rt.alloc(), &["solve"], script, &ends);
     check_ran(&rt, "a sink that fails", &run, 4, b"sat");
-    assert!(rt;
-        run.report.read.as_slice() == script,
-        "what was read is kept"
-    );
+    assert!(rt; run.report.read.as_slice() == script);
 }
 
 /// Ends whose sink takes six bytes and then fails.
@@ -43,10 +40,7 @@ const SHORT: Ends = Ends {
 fn a_refusal_or_usage_that_cannot_be_written_is_status_4(rt: HostRuntime) {
     let refused = run_over(&rt, rt.alloc(), &["solve"], b"", &SHORT);
     check_ran(&rt, "a refusal without room", &refused, 4, b"(error");
-    assert!(rt;
-        refused.report.refusal.is_none(),
-        "a refusal is told under status 1 alone"
-    );
+    assert!(rt; refused.report.refusal.is_none());
     let usage = run_over(&rt, rt.alloc(), &["gen"], b"", &SHORT);
     check_ran(&rt, "usage without room", &usage, 4, b"usage:");
 }

@@ -1,6 +1,6 @@
 //! Texts at the limits of what is read, and one past each.
 
-use crate::runs::{Ends, run_over};
+use crate::runs::{Ends, check_began, error_line, run_over};
 use std::alloc::Global;
 use std::process::Abort;
 
@@ -13,11 +13,7 @@ fn check_start(rt: &impl Abort, alloc: Global, shows: &str, text: &[u8], status:
         sink_fails: None,
     };
     let run = run_over(rt, alloc, &["solve"], text, &ends);
-    assert!(rt; run.report.status == status, "status of {shows}");
-    assert!(rt;
-        run.held.as_slice().starts_with(start.as_bytes()),
-        "output of {shows}"
-    );
+    check_began(rt, shows, &run, status, start);
 }
 
 /// Runs a text, and asserts that its script is answered.
@@ -27,7 +23,7 @@ fn check_sat(rt: &impl Abort, alloc: Global, shows: &str, text: String) {
 
 /// Runs a text, and asserts that it is refused so.
 fn check_refusal(rt: &impl Abort, alloc: Global, shows: &str, text: &[u8], told: &str) {
-    let line = format!(in alloc; "(error \"{told}\")\n").expect(rt, "memory");
+    let line = error_line(rt, alloc, told);
     check_start(rt, alloc, shows, text, 1, line.as_str());
 }
 

@@ -1,6 +1,6 @@
 //! The whole program as `main` calls it: from the words that the system gives to the status.
 
-use crate::runs::{Ran, held_by, owned};
+use crate::runs::{Ran, check_began, check_that, held_by, owned};
 use chc_cli::chc_main;
 use outside_io::{MemSink, MemSource};
 use std::alloc::Global;
@@ -21,15 +21,9 @@ fn run_main(rt: &impl Abort, alloc: Global, args: io::Result<Args>) -> Ran {
 /// Runs the program, and asserts its status and how its output begins.
 fn check_main(rt: &impl Abort, alloc: Global, args: io::Result<Args>, status: u8, start: &str) {
     let run = run_main(rt, alloc, args);
-    assert!(rt; run.report.status == status, "status {status}");
-    assert!(rt;
-        run.held.as_slice().starts_with(start.as_bytes()),
-        "the output of status {status}"
-    );
-    assert!(rt;
-        run.report.read.is_empty() == (status != 0),
-        "what was read under status {status}"
-    );
+    check_began(rt, start, &run, status, start);
+    let unread = run.report.read.is_empty();
+    check_that(rt, "bytes read", start, unread == (status != 0));
 }
 
 fn check_words(rt: &impl Abort, alloc: Global, words: &[&str], status: u8, start: &str) {

@@ -2,7 +2,7 @@
 //! of the rules could take in another way, most of all.
 
 use crate::cases::four;
-use crate::runs::{check_ran, run};
+use crate::runs::{answer, check_ran, error_line, run};
 use std::alloc::Global;
 use std::process::Abort;
 
@@ -156,9 +156,9 @@ fn text_of(rt: &impl Abort, alloc: Global, begins: &str, rest: &str) -> String {
 /// The output of that status with what is told.
 fn output_of(rt: &impl Abort, alloc: Global, status: u8, told: &str) -> String {
     if status == 0 {
-        format!(in alloc; "sat\n(\n{told})\n").expect(rt, "memory")
+        answer(rt, alloc, told)
     } else {
-        format!(in alloc; "(error \"{told}\")\n").expect(rt, "memory")
+        error_line(rt, alloc, told)
     }
 }
 

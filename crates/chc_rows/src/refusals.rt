@@ -1,5 +1,5 @@
 use crate::cases::three;
-use crate::runs::{check_ran, run};
+use crate::runs::{check_ran, check_read, error_line, run};
 use std::alloc::Global;
 use std::process::Abort;
 
@@ -90,10 +90,9 @@ const NAMES: &str = "\
 /// Runs a text, and asserts that it is refused so.
 fn check_refusal(rt: &impl Abort, alloc: Global, shows: &str, text: &[u8], expected: &str) {
     let run = run(rt, alloc, &["solve"], text);
-    let line = format!(in alloc; "(error \"{expected}\")\n").expect(rt, "memory");
+    let line = error_line(rt, alloc, expected);
     check_ran(rt, shows, &run, 1, line.as_bytes());
-    assert!(rt; run.report.read.as_slice() == text, "bytes read of {shows}");
-    assert!(rt; run.report.refusal.is_some(), "refusal of {shows}");
+    check_read(rt, shows, &run, text, true);
 }
 
 /// Checks each case of a table, and answers how many there are.

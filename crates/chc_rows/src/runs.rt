@@ -73,8 +73,37 @@ pub fn run(rt: &impl Abort, alloc: Global, words: &[&str], input: &[u8]) -> Ran 
     run_over(rt, alloc, words, input, &ends)
 }
 
+/// Asserts what is told of a case.
+pub fn check_that(rt: &impl Abort, told: &str, shows: &str, right: bool) {
+    assert!(rt; right, "{told} of {shows}");
+}
+
 /// Asserts the status of a run, and its output.
 pub fn check_ran(rt: &impl Abort, shows: &str, run: &Ran, status: u8, output: &[u8]) {
-    assert!(rt; run.report.status == status, "status of {shows}");
-    assert_eq!(rt; run.held.as_slice(), output, "output of {shows}");
+    check_that(rt, "status", shows, run.report.status == status);
+    check_that(rt, "output", shows, run.held.as_slice() == output);
+}
+
+/// Asserts the status of a run, and how its output begins.
+pub fn check_began(rt: &impl Abort, shows: &str, run: &Ran, status: u8, start: &str) {
+    check_that(rt, "status", shows, run.report.status == status);
+    let begins = run.held.as_slice().starts_with(start.as_bytes());
+    check_that(rt, "beginning of the output", shows, begins);
+}
+
+/// Asserts which bytes a run has read, and whether it refuses them.
+pub fn check_read(rt: &impl Abort, shows: &str, run: &Ran, read: &[u8], is_refused: bool) {
+    check_that(rt, "bytes read", shows, run.report.read.as_slice() == read);
+    let refuses = run.report.refusal.is_some();
+    check_that(rt, "refusal", shows, refuses == is_refused);
+}
+
+/// The line that tells a refusal.
+pub fn error_line(rt: &impl Abort, alloc: Global, told: &str) -> String {
+    format!(in alloc; "(error \"{told}\")\n").expect(rt, "memory")
+}
+
+/// An answer with these definitions.
+pub fn answer(rt: &impl Abort, alloc: Global, definitions: &str) -> String {
+    format!(in alloc; "sat\n(\n{definitions})\n").expect(rt, "memory")
 }

@@ -1,5 +1,5 @@
 use crate::cases::three;
-use crate::runs::{check_ran, run};
+use crate::runs::{answer, check_ran, check_read, run};
 use std::alloc::Global;
 use std::process::Abort;
 
@@ -23,13 +23,9 @@ const SAT: &str = "\
 /// Runs a script, and asserts that it is answered with these definitions.
 fn check_sat(rt: &impl Abort, alloc: Global, shows: &str, script: &str, definitions: &str) {
     let run = run(rt, alloc, &["solve"], script.as_bytes());
-    let answer = format!(in alloc; "sat\n(\n{definitions})\n").expect(rt, "memory");
+    let answer = answer(rt, alloc, definitions);
     check_ran(rt, shows, &run, 0, answer.as_bytes());
-    assert!(rt;
-        run.report.read.as_slice() == script.as_bytes(),
-        "bytes read of {shows}"
-    );
-    assert!(rt; run.report.refusal.is_none(), "refusal of {shows}");
+    check_read(rt, shows, &run, script.as_bytes(), false);
 }
 
 #[test]

@@ -3,6 +3,7 @@
 ghost use Rattle.std.specs.Prelude.{◌<◌, ◌^◌, length};
 
 use crate::cases::three;
+use crate::runs::check_that;
 use sexp_read::read_commands;
 use sort_check::check_script;
 use std::alloc::Global;
@@ -16,6 +17,15 @@ const TEXTS: &str = "\
     a fault of the text behind legal commands§(set-logic HORN)(declare-const q Bool)(assert q)#§1 1 kind 2 at byte 48 after 3 commands¶\
     no question§(set-logic HORN)§0 0 kind 18 at byte 16 after 1 commands";
 
+fn counted(rt: &impl Abort, alloc: Global, preds: usize, asserts: usize) -> String {
+    format!(in alloc; "{preds} {asserts}").expect(rt, "memory")
+}
+
+fn refused(rt: &impl Abort, alloc: Global, kind: u8, offset: u64, command: u32) -> String {
+    let told = format!(in alloc; " kind {kind} at byte {offset} after {command} commands");
+    told.expect(rt, "memory")
+}
+
 /// How many predicates and assertions the text has, and its refusal.
 fn told(rt: &impl Abort, alloc: Global, text: &[u8]) -> String
     requires { length text.now < 2 ^ 32 }
@@ -24,22 +34,19 @@ fn told(rt: &impl Abort, alloc: Global, text: &[u8]) -> String
     let checked = check_script(alloc, text, &trees).expect(rt, "memory");
     let preds = checked.script.preds.len();
     let asserts = checked.script.asserts.len();
-    match &checked.stop {
-        None => format!(in alloc; "{preds} {asserts}").expect(rt, "memory"),
-        Some(refusal) => {
-            let (kind, offset, command) = (refusal.kind.number(), refusal.offset, refusal.command);
-            let told = format!(in alloc;
-                "{preds} {asserts} kind {kind} at byte {offset} after {command} commands"
-            );
-            told.expect(rt, "memory")
-        }
+    let mut told = counted(rt, alloc, preds, asserts);
+    if let Some(refusal) = &checked.stop {
+        let (kind, offset, command) = (refusal.kind.number(), refusal.offset, refusal.command);
+        let refused = refused(rt, alloc, kind, offset, command);
+        told.push_str(refused.as_str()).expect(rt, "memory");
     }
+    told
 }
 
 fn check(rt: &impl Abort, alloc: Global, shows: &str, text: &[u8], expected: &str) {
-    assert!(rt; text.len() < 1000, "{shows}");
+    assert!(rt; text.len() < 1000);
     let found = told(rt, alloc, text);
-    assert_eq!(rt; found.as_str(), expected, "{shows}");
+    check_that(rt, found.as_str(), shows, found.as_str() == expected);
 }
 
 #[test]
