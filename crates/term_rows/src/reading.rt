@@ -1,7 +1,7 @@
 //! Texts with their trees, written by hand from the rules. A leaf is shown by the first letter of
 //! its kind and its offsets, a list by its items and its offsets, and then the stop.
 
-use base::{Copied, Memory, Same};
+use base::{Copied, Same};
 use sexp_read::{
     LeafKind, Next, Reader, TextStop, Tree, Trees, leaf_bytes, numeral_value, read_commands,
     symbol_bytes,
@@ -20,21 +20,24 @@ fn letter(kind: LeafKind) -> char {
     }
 }
 
-fn put_leaf(
-    alloc: Global,
-    kind: LeafKind,
-    start: u32,
-    end: u32,
-    shown: &mut String,
-) -> Result<(), Memory> {
-    let kind = letter(kind);
-    let leaf = format!(in alloc; "{kind}{start}-{end}")?;
-    Ok(shown.push_str(leaf.as_str())?)
+pub(crate) fn add(rt: &impl Abort, shown: &mut String, part: &str) {
+    shown.push_str(part).expect(rt, "memory");
 }
 
-fn put_end(alloc: Global, start: u32, end: u32, shown: &mut String) -> Result<(), Memory> {
-    let offsets = format!(in alloc; "){start}-{end}")?;
-    Ok(shown.push_str(offsets.as_str())?)
+/// Asserts that what was found is right.
+pub(crate) fn check_that(rt: &impl Abort, right: bool, shows: &str, found: &str) {
+    assert!(rt; right, "{shows}: {found}");
+}
+
+/// Asserts that what was found is what was expected.
+pub(crate) fn check_same(rt: &impl Abort, shows: &str, found: &str, expected: &str) {
+    check_that(rt, found == expected, shows, found);
+}
+
+/// A letter, and offsets.
+fn put(rt: &impl Abort, alloc: Global, kind: char, start: u32, end: u32, shown: &mut String) {
+    let part = format!(in alloc; "{kind}{start}-{end}").expect(rt, "memory");
+    add(rt, shown, part.as_str());
 }
 
 /// What stands in front of the tree of that place in a list.
@@ -43,24 +46,23 @@ fn before(place: usize) -> &'static str {
 }
 
 #[cycle(show)]
-fn show(alloc: Global, tree: &Tree, shown: &mut String) -> Result<(), Memory> {
+fn show(rt: &impl Abort, alloc: Global, tree: &Tree, shown: &mut String) {
     match tree {
-        Tree::Leaf { kind, start, end } => put_leaf(alloc, *kind, *start, *end, shown),
+        Tree::Leaf { kind, start, end } => put(rt, alloc, letter(*kind), *start, *end, shown),
         Tree::List { items, start, end } => {
-            shown.push_str("(")?;
-            show_all(alloc, items.as_slice(), shown)?;
-            put_end(alloc, *start, *end, shown)
+            add(rt, shown, "(");
+            show_all(rt, alloc, items.as_slice(), shown);
+            put(rt, alloc, ')', *start, *end, shown);
         }
     }
 }
 
 #[cycle(show)]
-fn show_all(alloc: Global, trees: &[Tree], shown: &mut String) -> Result<(), Memory> {
+fn show_all(rt: &impl Abort, alloc: Global, trees: &[Tree], shown: &mut String) {
     for (place, tree) in trees.iter().enumerate() {
-        shown.push_str(before(place))?;
-        show(alloc, tree, shown)?;
+        add(rt, shown, before(place));
+        show(rt, alloc, tree, shown);
     }
-    Ok(())
 }
 
 fn shown_stop(rt: &impl Abort, alloc: Global, stop: Option<TextStop>) -> String {
@@ -75,18 +77,18 @@ fn shown_stop(rt: &impl Abort, alloc: Global, stop: Option<TextStop>) -> String 
 
 fn shown(rt: &impl Abort, alloc: Global, read: &Trees) -> String {
     let mut shown = String::new(alloc);
-    show_all(alloc, read.trees.as_slice(), &mut shown).expect(rt, "memory");
+    show_all(rt, alloc, read.trees.as_slice(), &mut shown);
     let stop = shown_stop(rt, alloc, read.stop);
-    shown.push_str(stop.as_str()).expect(rt, "memory");
+    add(rt, &mut shown, stop.as_str());
     shown
 }
 
 /// Asserts how a text is read.
 fn check(rt: &impl Abort, alloc: Global, shows: &str, text: &[u8], expected: &str) {
-    assert!(rt; text.len() < 10000, "{shows}");
+    assert!(rt; text.len() < 10000);
     let read = read_commands(alloc, text).expect(rt, "memory");
     let found = shown(rt, alloc, &read);
-    assert_eq!(rt; found.as_str(), expected, "{shows}");
+    check_same(rt, shows, found.as_str(), expected);
 }
 
 /// What a case shows, its text and its reading.
@@ -156,11 +158,9 @@ const RULES: &str = "\
 
 /// The parts of a case.
 pub(crate) fn parts(case: &str) -> Option<(&str, &str, &str)> {
-    let mut parts = case.split('§');
-    match (parts.next(), parts.next(), parts.next()) {
-        (Some(shows), Some(text), Some(expected)) => Some((shows, text, expected)),
-        _ => None,
-    }
+    let (shows, rest) = case.split_once('§')?;
+    let (text, expected) = rest.split_once('§')?;
+    Some((shows, text, expected))
 }
 
 #[test]
@@ -216,61 +216,50 @@ fn bytes_above_127_stand_in_comments_and_quotes_alone(rt: HostRuntime) {
     );
 }
 
-/// How the tree at an offset is shown, and where it ends.
-fn tree_at(
-    rt: &impl Abort,
-    alloc: Global,
-    reader: &mut Reader,
-    text: &[u8],
-    at: usize,
-) -> (String, usize) {
+fn shown_tree(rt: &impl Abort, alloc: Global, tree: &Tree, end: usize) -> String {
+    let mut shown = format!(in alloc; "{end} ").expect(rt, "memory");
+    show(rt, alloc, tree, &mut shown);
+    shown
+}
+
+/// Where a tree ends, and the tree, or the stop.
+fn shown_next(rt: &impl Abort, alloc: Global, next: &Next) -> String {
+    match next {
+        Next::Tree { tree, end } => shown_tree(rt, alloc, tree, *end),
+        Next::Stop(stop) => shown_stop(rt, alloc, *stop),
+    }
+}
+
+fn next(rt: &impl Abort, reader: &mut Reader, text: &[u8], at: usize) -> Next {
     assert!(rt; at <= text.len() && text.len() < 10000);
-    let mut found = String::new(alloc);
-    match reader.read(text, at).expect(rt, "memory") {
-        Next::Tree { tree, end } => {
-            show(alloc, &tree, &mut found).expect(rt, "memory");
-            (found, end)
-        }
-        Next::Stop(_) => (found, text.len()),
-    }
+    reader.read(text, at).expect(rt, "memory")
 }
 
-fn check_tree(
-    rt: &impl Abort,
-    alloc: Global,
-    reader: &mut Reader,
-    at: usize,
-    expected: &str,
-    behind: usize,
-) {
-    let (found, end) = tree_at(rt, alloc, reader, b"a (b) )", at);
-    assert!(rt; found.as_str() == expected && end == behind, "{expected}");
-}
-
-fn check_stop(rt: &impl Abort, reader: &mut Reader, at: usize, offset: u32) {
-    let text = b"a (b) )";
-    assert!(rt; at <= text.len());
-    match reader.read(text, at).expect(rt, "memory") {
-        Next::Stop(stop) => assert!(rt; stop.equals(&Some(TextStop::BadByte { offset }))),
-        Next::Tree { .. } => assert!(rt; false, "a tree"),
-    }
+/// Asserts what a text goes on with at an offset.
+fn check_next(rt: &impl Abort, alloc: Global, reader: &mut Reader, at: usize, expected: &str) {
+    let next = next(rt, reader, b"a (b) )", at);
+    let found = shown_next(rt, alloc, &next);
+    check_same(rt, "what comes next", found.as_str(), expected);
 }
 
 #[test]
 fn a_reader_goes_on_where_a_tree_ended(rt: HostRuntime) {
     let mut reader = Reader::new(rt.alloc());
-    check_tree(&rt, rt.alloc(), &mut reader, 0, "s0-1", 1);
-    check_tree(&rt, rt.alloc(), &mut reader, 1, "(s3-4)2-5", 5);
-    check_stop(&rt, &mut reader, 5, 6);
-    check_stop(&rt, &mut reader, 5, 6);
+    for (at, expected) in [
+        (0, "1 s0-1"),
+        (1, "5 (s3-4)2-5"),
+        (5, " bad 6"),
+        (5, " bad 6"),
+    ] {
+        check_next(&rt, rt.alloc(), &mut reader, at, expected);
+    }
 }
 
 /// A text with so many of one byte behind it.
 fn repeated(rt: &impl Abort, alloc: Global, front: &str, byte: u8, count: usize) -> Vec<u8> {
     let mut text = Vec::from_slice(alloc, front.as_bytes()).expect(rt, "memory");
-    for _ in 0..count {
-        text.push(byte).expect(rt, "memory");
-    }
+    let long = text.len().saturating_add(count);
+    text.resize(long, byte).expect(rt, "memory");
     text
 }
 
@@ -301,9 +290,7 @@ fn two_thousand_lists_may_be_open(rt: HostRuntime) {
 /// A text of 2,000 lists, each in the one before it, and then `(a)`.
 fn deepest(rt: &impl Abort, alloc: Global) -> Vec<u8> {
     let mut text = repeated(rt, alloc, "", b'(', 2000);
-    for _ in 0..2000 {
-        text.push(b')').expect(rt, "memory");
-    }
+    text.resize(4000, b')').expect(rt, "memory");
     text.extend_from_slice(b"(a)").expect(rt, "memory");
     text
 }
@@ -314,13 +301,17 @@ fn is_copied(rt: &impl Abort, alloc: Global, read: &Trees) -> bool {
     read.stop.equals(&None) && copied.equals(read)
 }
 
+/// Asserts that a text of two trees is read whole, and is equal to its copy.
+fn check_copied(rt: &impl Abort, alloc: Global, text: &[u8]) {
+    assert!(rt; text.len() < 10000);
+    let read = read_commands(alloc, text).expect(rt, "memory");
+    assert!(rt; read.trees.len() == 2 && is_copied(rt, alloc, &read));
+}
+
 #[test]
 fn the_deepest_tree_is_copied_compared_and_dropped(rt: HostRuntime) {
     let text = deepest(&rt, rt.alloc());
-    assert!(rt; text.len() < 10000);
-    let read = read_commands(rt.alloc(), text.as_slice()).expect(&rt, "memory");
-    assert!(rt; read.trees.len() == 2);
-    assert!(rt; is_copied(&rt, rt.alloc(), &read));
+    check_copied(&rt, rt.alloc(), text.as_slice());
 }
 
 /// Asserts the bytes of a leaf, whether it is a symbol, and the number that it spells.
@@ -334,35 +325,40 @@ fn check_leaf(
 ) {
     let tree = tree.expect(rt, "a tree");
     let found = leaf_bytes(text, tree).expect(rt, "a leaf");
-    assert!(rt; found == bytes.as_bytes(), "bytes of {bytes}");
-    assert!(rt;
-        symbol_bytes(text, tree).is_some() == is_symbol,
-        "symbol at {bytes}"
-    );
-    assert!(rt; numeral_value(text, tree) == number, "number at {bytes}");
+    check_that(rt, found == bytes.as_bytes(), "bytes", bytes);
+    let named = symbol_bytes(text, tree).is_some();
+    check_that(rt, named == is_symbol, "a symbol", bytes);
+    check_that(rt, numeral_value(text, tree) == number, "a number", bytes);
+}
+
+fn check_words(rt: &impl Abort, text: &[u8], trees: &[Tree]) {
+    check_leaf(rt, text, trees.get(0), "let", true, None);
+    check_leaf(rt, text, trees.get(1), "let", true, None);
+    check_leaf(rt, text, trees.get(2), "a\"\"b", false, None);
+    check_leaf(rt, text, trees.get(6), ":k", false, None);
+    check_leaf(rt, text, trees.get(7), "1.5", false, None);
+}
+
+fn check_numbers(rt: &impl Abort, text: &[u8], trees: &[Tree]) {
+    let (most, over) = ("9223372036854775807", "9223372036854775808");
+    let number = Some(9223372036854775807);
+    check_leaf(rt, text, trees.get(3), "42", false, Some(42));
+    check_leaf(rt, text, trees.get(4), most, false, number);
+    check_leaf(rt, text, trees.get(5), over, false, None);
+}
+
+/// Asserts that the last of nine trees is a list, which has no bytes of a leaf.
+fn check_list(rt: &impl Abort, text: &[u8], trees: &[Tree]) {
+    assert!(rt; trees.len() == 9);
+    let list = trees.get(8).expect(rt, "a list");
+    assert!(rt; leaf_bytes(text, list).is_none());
 }
 
 #[test]
 fn leaves_say_their_bytes_and_numbers(rt: HostRuntime) {
     let text = b"let |let| \"a\"\"b\" 42 9223372036854775807 9223372036854775808 :k 1.5 ()";
     let read = read_commands(rt.alloc(), text).expect(&rt, "memory");
-    assert!(rt; read.trees.len() == 9);
-    check_leaf(&rt, text, read.trees.get(0), "let", true, None);
-    check_leaf(&rt, text, read.trees.get(1), "let", true, None);
-    check_leaf(&rt, text, read.trees.get(2), "a\"\"b", false, None);
-    check_leaf(&rt, text, read.trees.get(3), "42", false, Some(42));
-    let (most, over) = ("9223372036854775807", "9223372036854775808");
-    check_leaf(
-        &rt,
-        text,
-        read.trees.get(4),
-        most,
-        false,
-        Some(9223372036854775807),
-    );
-    check_leaf(&rt, text, read.trees.get(5), over, false, None);
-    check_leaf(&rt, text, read.trees.get(6), ":k", false, None);
-    check_leaf(&rt, text, read.trees.get(7), "1.5", false, None);
-    let list = read.trees.get(8).expect(&rt, "a list");
-    assert!(rt; leaf_bytes(text, list).is_none());
+    check_words(&rt, text, read.trees.as_slice());
+    check_numbers(&rt, text, read.trees.as_slice());
+    check_list(&rt, text, read.trees.as_slice());
 }

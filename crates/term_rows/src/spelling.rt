@@ -5,7 +5,7 @@
 ghost use Rattle.std.specs.Prelude.{◌+◌, ◌<◌, ◌^◌, length};
 ghost use Rattle.term_check.specs.machinery.Weight.{weight};
 
-use crate::reading::parts;
+use crate::reading::{add, check_same, check_that, parts};
 use base::{Items, Memory};
 use sexp_read::{Tree, read_commands};
 use std::alloc::Global;
@@ -15,90 +15,80 @@ use term_check::{
 };
 use term_tree::{Name, Node, OpKind, Pred, Sort, TermId, Terms};
 
-fn add(rt: &impl Abort, shown: &mut String, part: &str) {
-    shown.push_str(part).expect(rt, "memory");
-}
-
-fn add_number(rt: &impl Abort, alloc: Global, shown: &mut String, number: u32) {
-    let part = format!(in alloc; ",{number}").expect(rt, "memory");
+/// Adds a word with a number behind it.
+fn put(rt: &impl Abort, alloc: Global, shown: &mut String, word: &str, number: i128) {
+    let part = format!(in alloc; "{word}{number}").expect(rt, "memory");
     add(rt, shown, part.as_str());
 }
 
-fn shown_ids(rt: &impl Abort, alloc: Global, ids: &[TermId]) -> String {
-    let mut shown = String::new(alloc);
+fn put_id(rt: &impl Abort, alloc: Global, shown: &mut String, word: &str, id: TermId) {
+    put(rt, alloc, shown, word, i128::from(id.0));
+}
+
+fn put_ids(rt: &impl Abort, alloc: Global, shown: &mut String, ids: &[TermId]) {
     for id in ids {
-        add_number(rt, alloc, &mut shown, id.0);
+        put_id(rt, alloc, shown, ",", *id);
     }
-    shown
 }
 
-/// A word, and the numbers of parts behind it.
-fn with_parts(rt: &impl Abort, alloc: Global, word: &str, ids: &[TermId]) -> String {
-    let ids = shown_ids(rt, alloc, ids);
-    format!(in alloc; "{word}{ids}").expect(rt, "memory")
-}
-
-fn shown_pred(rt: &impl Abort, alloc: Global, pred: u32, args: &[TermId]) -> String {
-    let word = format!(in alloc; "p{pred}").expect(rt, "memory");
-    with_parts(rt, alloc, word.as_str(), args)
-}
-
-fn shown_op(rt: &impl Abort, alloc: Global, op: OpKind, args: &[TermId]) -> String {
+fn put_op(rt: &impl Abort, alloc: Global, shown: &mut String, op: OpKind) {
     let word = format!(in alloc; "{op:?}").expect(rt, "memory");
-    with_parts(rt, alloc, word.as_str(), args)
+    add(rt, shown, word.as_str());
 }
 
-fn shown_let(rt: &impl Abort, alloc: Global, bound: &[TermId], body: TermId) -> String {
-    let (ids, number) = (with_parts(rt, alloc, "let", bound), body.0);
-    format!(in alloc; "{ids}:{number}").expect(rt, "memory")
+/// Adds a variable by its sort and number.
+fn put_var(rt: &impl Abort, alloc: Global, shown: &mut String, binder: u32, sort: Sort) {
+    let word = match sort {
+        Sort::Int => "x",
+        Sort::Bool => "b",
+    };
+    put(rt, alloc, shown, word, i128::from(binder));
 }
 
-fn shown_binder(
+/// Adds a binder with its first variable, how many it has, and its body.
+fn put_binder(
     rt: &impl Abort,
     alloc: Global,
+    shown: &mut String,
     word: &str,
     first: u32,
     count: usize,
     body: TermId,
-) -> String {
-    let number = body.0;
-    format!(in alloc; "{word}{first}+{count}:{number}").expect(rt, "memory")
+) {
+    put(rt, alloc, shown, word, i128::from(first));
+    put(rt, alloc, shown, "+", count as i128);
+    put_id(rt, alloc, shown, ":", body);
 }
 
-fn shown_var(rt: &impl Abort, alloc: Global, binder: u32, sort: Sort) -> String {
-    let shown = match sort {
-        Sort::Int => format!(in alloc; "x{binder}"),
-        Sort::Bool => format!(in alloc; "b{binder}"),
-    };
-    shown.expect(rt, "memory")
-}
-
-fn shown_divisible(rt: &impl Abort, alloc: Global, by: i64, arg: TermId) -> String {
-    let number = arg.0;
-    format!(in alloc; "{by}|{number}").expect(rt, "memory")
-}
-
-fn shown_name(rt: &impl Abort, alloc: Global, bound: TermId) -> String {
-    let number = bound.0;
-    format!(in alloc; "={number}").expect(rt, "memory")
-}
-
-fn shown_node(rt: &impl Abort, alloc: Global, node: &Node) -> String {
+fn put_node(rt: &impl Abort, alloc: Global, shown: &mut String, node: &Node) {
     match node {
-        Node::Num(value) => format!(in alloc; "{value}").expect(rt, "memory"),
-        Node::True => String::from_str(alloc, "t").expect(rt, "memory"),
-        Node::False => String::from_str(alloc, "f").expect(rt, "memory"),
-        Node::Var { binder, sort } => shown_var(rt, alloc, *binder, *sort),
-        Node::LetVar { bound } => shown_name(rt, alloc, *bound),
-        Node::Pred { pred, args } => shown_pred(rt, alloc, *pred, args.as_slice()),
-        Node::Op { op, args } => shown_op(rt, alloc, *op, args.as_slice()),
-        Node::Divisible { by, arg } => shown_divisible(rt, alloc, *by, *arg),
-        Node::Let { bound, body } => shown_let(rt, alloc, bound.as_slice(), *body),
+        Node::Num(value) => put(rt, alloc, shown, "", i128::from(*value)),
+        Node::True => add(rt, shown, "t"),
+        Node::False => add(rt, shown, "f"),
+        Node::Var { binder, sort } => put_var(rt, alloc, shown, *binder, *sort),
+        Node::LetVar { bound } => put_id(rt, alloc, shown, "=", *bound),
+        Node::Pred { pred, args } => {
+            put(rt, alloc, shown, "p", i128::from(*pred));
+            put_ids(rt, alloc, shown, args.as_slice());
+        }
+        Node::Op { op, args } => {
+            put_op(rt, alloc, shown, *op);
+            put_ids(rt, alloc, shown, args.as_slice());
+        }
+        Node::Divisible { by, arg } => {
+            put(rt, alloc, shown, "", i128::from(*by));
+            put_id(rt, alloc, shown, "|", *arg);
+        }
+        Node::Let { bound, body } => {
+            add(rt, shown, "let");
+            put_ids(rt, alloc, shown, bound.as_slice());
+            put_id(rt, alloc, shown, ":", *body);
+        }
         Node::Forall { first, sorts, body } => {
-            shown_binder(rt, alloc, "all", *first, sorts.len(), *body)
+            put_binder(rt, alloc, shown, "all", *first, sorts.len(), *body)
         }
         Node::Exists { first, sorts, body } => {
-            shown_binder(rt, alloc, "any", *first, sorts.len(), *body)
+            put_binder(rt, alloc, shown, "any", *first, sorts.len(), *body)
         }
     }
 }
@@ -106,8 +96,7 @@ fn shown_node(rt: &impl Abort, alloc: Global, node: &Node) -> String {
 /// Adds the node of that number, where there is one.
 fn add_node(rt: &impl Abort, alloc: Global, shown: &mut String, terms: &Terms, id: u32) {
     if (id as usize) < terms.len() {
-        let node = shown_node(rt, alloc, terms.node(TermId(id)));
-        add(rt, shown, node.as_str());
+        put_node(rt, alloc, shown, terms.node(TermId(id)));
         add(rt, shown, " ");
     }
 }
@@ -188,6 +177,11 @@ fn read(
     }
 }
 
+/// Whether this begins with what is expected, or is all of it.
+fn agrees(found: &str, expected: &str, whole: bool) -> bool {
+    found.starts_with(expected) && (!whole || found == expected)
+}
+
 /// Asserts how what the first tree of the text gives begins, or all of it.
 fn check(
     rt: &impl Abort,
@@ -198,12 +192,10 @@ fn check(
     expected: &str,
     whole: bool,
 ) {
-    assert!(rt; text.len() < 100000, "{shows}");
+    assert!(rt; text.len() < 100000);
     let found = read(rt, alloc, text, signature).expect(rt, "memory");
-    if whole {
-        assert_eq!(rt; found.as_str(), expected, "{shows}");
-    }
-    assert!(rt; found.as_str().starts_with(expected), "{shows}");
+    let agrees = agrees(found.as_str(), expected, whole);
+    check_that(rt, agrees, shows, found.as_str());
 }
 
 /// What a case shows, its text and what it gives.
@@ -382,6 +374,10 @@ fn binders_may_be_deep(rt: HostRuntime) {
     );
 }
 
+fn shown_offset(rt: &impl Abort, alloc: Global, offset: u64) -> String {
+    format!(in alloc; "{offset}").expect(rt, "memory")
+}
+
 /// The formula of a tree over an integer x and a truth value y, or where its fault stands.
 fn formula_of(rt: &impl Abort, alloc: Global, text: &[u8], tree: &Tree) -> Result<String, Memory>
     requires { 2 + weight tree.now < 2 ^ 32 }
@@ -390,7 +386,7 @@ fn formula_of(rt: &impl Abort, alloc: Global, text: &[u8], tree: &Tree) -> Resul
     let params = [(x, Sort::Int), (y, Sort::Bool)];
     match check_formula(alloc, text, tree, &params) {
         Ok((terms, _)) => Ok(shown_nodes(rt, alloc, &terms)),
-        Err(FormulaStop::Bad { offset }) => Ok(format!(in alloc; "{offset}")?),
+        Err(FormulaStop::Bad { offset }) => Ok(shown_offset(rt, alloc, offset)),
         Err(FormulaStop::Memory) => Err(Memory),
     }
 }
@@ -408,9 +404,9 @@ fn formula(rt: &impl Abort, alloc: Global, text: &[u8]) -> Result<String, Memory
 }
 
 fn check_parameters(rt: &impl Abort, alloc: Global, shows: &str, text: &[u8], expected: &str) {
-    assert!(rt; text.len() < 1000, "{shows}");
+    assert!(rt; text.len() < 1000);
     let found = formula(rt, alloc, text).expect(rt, "memory");
-    assert!(rt; found.as_str() == expected, "{shows}");
+    check_same(rt, shows, found.as_str(), expected);
 }
 
 #[test]
