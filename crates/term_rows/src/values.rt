@@ -72,7 +72,7 @@ fn at_values(
 
 fn gives(rt: &impl Abort, alloc: Global, op: OpKind, values: &[Value], expected: Value) {
     match at_values(rt, alloc, op, values) {
-        Ok(value) => assert!(rt; value == expected, "{op:?} is {value:?} for {expected:?}"),
+        Ok(value) => assert!(rt; value == expected, "{op:?}"),
         Err(_) => rt.panic("no value"),
     }
 }
