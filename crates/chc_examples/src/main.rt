@@ -8,13 +8,14 @@ use std::alloc::Global;
 use std::{fs, io};
 
 /// Each script with the options that its run is given.
-const SCRIPTS: [(&str, &str); 12] = [
+const SCRIPTS: [(&str, &str); 13] = [
     ("counter.smt2", ""),
     ("pump.smt2", ""),
     ("facts.smt2", ""),
     ("two_machines.smt2", ""),
     ("query.smt2", ""),
     ("query.smt2", "--units 1"),
+    ("bounded.smt2", ""),
     ("halves.smt2", ""),
     ("saturating.smt2", "--units 0"),
     ("two_heads.smt2", ""),
