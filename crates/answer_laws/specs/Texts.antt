@@ -6,9 +6,7 @@ use Rattle.term_tree.specs.Arena.{IsArena}
 use Rattle.term_tree.specs.Solution.{IsSolution}
 use Rattle.sort_check.specs.Commands.{Command}
 use Rattle.sort_check.specs.Scripts.{IsScript, IsScriptOf}
-use Rattle.derivation_lines.specs.Claims.{DeriveFalse}
-use Rattle.answer_text.specs.declared.answer.Line.{Line}
-use Rattle.answer_text.specs.declared.answer.Answer.TheVariants.{Sat, Unsat}
+use Rattle.answer_text.specs.declared.answer.Answer.TheVariants.{Sat}
 use Rattle.answer_text.specs.Printable.{IsAnswerText}
 
 -- the bytes are a script, and the text is the printed form of definitions under which every assertion is true
@@ -21,14 +19,3 @@ pub record IsSatAnswer (bytes : List ℕ) (text : List ℕ) : Type 0 where
   pub arena : IsArena script.terms.nodes
   pub solution : IsSolution script definitions
   pub answer : IsAnswerText script.preds (Sat definitions) text
-
--- the bytes are a script, and the text is the printed form of a derivation of false by its assertions
-pub record IsUnsatAnswer (bytes : List ℕ) (text : List ℕ) : Type 0 where
-  pub commands : List Command
-  pub script : Script
-  pub lines : List Line
-  pub is_script : IsScript bytes commands
-  pub spelled : IsScriptOf commands script
-  pub arena : IsArena script.terms.nodes
-  pub derivation : DeriveFalse script lines
-  pub answer : IsAnswerText script.preds (Unsat lines) text
