@@ -1,0 +1,6 @@
+pub mod PartLemmas
+pub mod BoundLemmas
+pub mod LearnLemmas
+pub mod MetLemmas
+pub mod AskLemmas
+pub mod PassLemmas

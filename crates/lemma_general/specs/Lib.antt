@@ -1,0 +1,3 @@
+pub mod Generals
+pub mod Tries
+pub mod machinery

@@ -1,0 +1,51 @@
+-- How literals are dropped.
+use Rattle.std.specs.Prelude.{◌≡◌, ◌<◌, ◌≤◌, ◌-◌, ◌+◌, ◌⊎◌, ℕ, ℤ, List, Bool, true, false, Some, length}
+use Rattle.lin_atoms.specs.declared.lit.Lit.{Lit}
+use Rattle.cube_forms.specs.Cubes.{cube_holds}
+use Rattle.chc_tokens.specs.declared.goal.Goal.TheVariants.{Holds}
+use Rattle.chc_tokens.specs.declared.refuting.Shown.{Shown}
+use Rattle.book_rules.specs.Areas.{is_wide}
+use Rattle.book_rules.specs.Places.{is_over}
+use Rattle.book_rules.specs.Walks.{AllOf}
+use Rattle.clause_queries.specs.Answers.{AreProofs, IsFound}
+use Rattle.clause_queries.specs.declared.finding.Found.{Found}
+use Rattle.step_rules.specs.Standing.{Standing}
+use Rattle.step_rules.specs.declared.lemma_part.LemmaPart.{LemmaPart}
+use Rattle.lemma_general.specs.Generals.{IsAgainst, IsForSame, IsLearnt, IsLeast, IsPart}
+use Rattle.lemma_general.specs.Tries.{IsMet}
+use Rattle.lemma_general.specs.declared.breaking.Breaking.{Breaking}
+
+-- a cube of which a lemma may be asked
+pub record IsCubeOf (b : Standing) (pred : ℕ) (cube : List Lit) : Type 0 where
+  pub over : is_over b.system.preds pred cube ≡ true
+  pub narrow : is_wide cube ≡ false
+
+-- each tuple in the first cube is in the second
+abbrev pub IsWithin : List Lit → List Lit → Type 0
+IsWithin cube wider = (tuple : List ℤ) → cube_holds tuple cube ≡ true → cube_holds tuple wider ≡ true
+
+-- what is found of a cube under F(k)
+abbrev pub IsFoundOf : Standing → ℕ → List Lit → ℕ → ℕ → Found → Type 0
+IsFoundOf b pred cube k nodes found = IsFound b.system b.frames.lemmas (Some pred) (Holds cube) k nodes found
+
+abbrev pub AreProofsOf : Standing → ℕ → List Lit → ℕ → List Shown → Type 0
+AreProofsOf b pred cube k proofs = AreProofs b.system b.frames.lemmas (Some pred) (Holds cube) k proofs
+
+-- instances that were met
+abbrev pub AreMet : Standing → LemmaPart → List Breaking → Type 0
+AreMet b part met = AllOf (IsMet b part.pred (part.level - 1)) met
+
+-- whether the cube was taken in place of the lemma's
+abbrev pub IsTaken : Standing → ℕ → List Lit → LemmaPart → LemmaPart → Bool → Type 0
+IsTaken b nodes cube old new true = IsLearnt b new × IsForSame old new × (new.lemma ≡ cube)
+IsTaken b nodes cube old new false = (new ≡ old) × IsAgainst b old.pred (old.level - 1) nodes cube
+
+-- whether a pass dropped literals
+abbrev pub IsPassed : Standing → ℕ → LemmaPart → LemmaPart → Bool → Type 0
+IsPassed b nodes old new true = IsLearnt b new × IsForSame old new × IsPart new.lemma old.lemma × (length new.lemma < length old.lemma)
+IsPassed b nodes old new false = (new ≡ old) × IsLeast b old.pred (old.level - 1) nodes old.lemma
+
+-- whether a lemma was taken to the next level
+abbrev pub IsRaisedOnce : Standing → ℕ → LemmaPart → LemmaPart → Bool → Type 0
+IsRaisedOnce b nodes old new true = IsLearnt b new × (new.target ≡ old.target) × (new.pred ≡ old.pred) × (new.lemma ≡ old.lemma) × (new.level ≡ old.level + 1) × (new.level ≤ b.level)
+IsRaisedOnce b nodes old new false = (new ≡ old) × ((old.level ≡ b.level) ⊎ IsAgainst b old.pred old.level nodes old.lemma)

@@ -1,0 +1,18 @@
+//! Lemmas made more general: literals of a cube are dropped and its level is raised as long as the frame
+//! below still implies the lemma, and lemmas are lifted (Bradley, "SAT-based model checking without
+//! unrolling", section 4; Hoder and Bjorner, "Generalized property directed reachability").
+#![tactic(auto)]
+
+mod bounds;
+mod breaking;
+mod cubes;
+mod dropping;
+mod lifting;
+mod raising;
+mod showing;
+mod trying;
+
+pub use dropping::generalise;
+pub use lifting::lift;
+pub use raising::raise;
+pub use trying::Tries;

@@ -1,0 +1,32 @@
+//! What the frame below says of a lemma.
+
+ghost use Rattle.std.specs.Prelude.{◌<◌, IfOk};
+ghost use Rattle.obligation_turn.specs.Turns.{GoesOn};
+ghost use Rattle.lemma_general.specs.machinery.Passes.{IsCubeOf, IsFoundOf};
+
+use base::Memory;
+use chc_tokens::Goal;
+use clause_queries::{Found, ask_all};
+use cube_forms::{Cube, negate};
+use step_rules::Lent;
+
+/// Asks whether the frame of level k implies that no tuple of the predicate lies in the cube.
+pub(crate) fn ask(lent: &Lent, pred: u32, cube: &Cube, k: u32, nodes: u32) -> Result<Found, Memory>
+    requires goes_on { GoesOn lent.now }
+    requires cube { IsCubeOf lent.now pred cube.now }
+    requires some { 0 < nodes }
+    ensures { IfOk result (IsFoundOf lent.now pred cube.now k nodes) }
+{
+    let lemma = negate(lent.alloc, cube)?;
+    let goal = Goal::Holds(lemma);
+    let found = ask_all(
+        lent.alloc,
+        lent.system,
+        lent.frames,
+        Some(pred),
+        &goal,
+        k,
+        nodes,
+    )?;
+    Ok(found)
+}
