@@ -4,7 +4,7 @@ use Rattle.std.specs.Prelude.{ℤ, Option, option_map, slice_get, ◌==◌}
 use Rattle.std.specs.List.{list_all, list_any}
 use mathlib.Core.Bool.{true≢false}
 use Rattle.lin_atoms.specs.declared.lit.Lit.{Lit}
-use Rattle.clause_form.specs.System.{is_clause, is_head_of}
+use Rattle.clause_form.specs.System.{is_clause}
 use Rattle.clause_form.specs.declared.atom.Atom.{Atom}
 use Rattle.clause_form.specs.declared.clause.Clause.{Clause}
 use Rattle.clause_form.proofs.Public.{keeps}
@@ -22,7 +22,8 @@ use Rattle.clause_queries.specs.Kept.{is_kept}
 use Rattle.clause_queries.specs.Uses.{is_asked, uses}
 use Rattle.clause_queries.proofs.Public.{has-goal, number_is}
 use Rattle.step_rules.specs.Standing.{Standing}
-use Rattle.lemma_general.specs.machinery.Passes.{IsCubeOf, IsMet}
+use Rattle.lemma_general.specs.Tries.{IsMet}
+use Rattle.lemma_general.specs.machinery.Passes.{IsCubeOf}
 use Rattle.lemma_general.specs.declared.breaking.Breaking.{Breaking}
 
 pub fits-of : (b : Standing) (pred : ℕ) (cube : List Lit) → IsCubeOf b pred cube → GoalFits b.system.preds (Some pred) (Holds cube)
@@ -39,7 +40,7 @@ met-hit b pred k cube met is kept one held =
         there = (one.at).there;
         number = refl;
         seen_is = one.seen_is;
-        placed = has-goal b.system.preds (length clause.sorts) (Some pred) (Holds cube) clause (fits-of b pred cube is) kept headed one.legal;
+        placed = has-goal b.system.preds (length clause.sorts) (Some pred) (Holds cube) clause (fits-of b pred cube is) kept headed (keeps b.system.preds clause one.legal).head;
         head = ap (λ h. meets (Holds cube) h) one.head ∙ ap not held;
         body = one.body;
       };
@@ -70,7 +71,6 @@ pub hit-met : (b : Standing) (pred k p : ℕ) (cube : List Lit) (seen : Seen) (t
 hit-met b pred k p cube seen tuple clause there legal hit head =
     let point = seen_point seen in
     let fs = b.frames.lemmas in
-    let its = keeps b.system.preds clause legal in
     let first : (hit.at).clause ≡ clause = (let both = sym (hit.at).there ∙ there in cc) in
     let second : (hit.instance).clause ≡ (hit.at).clause = (let both = sym (hit.instance).there ∙ (hit.at).there in cc) in
     let headed = (both_true (is_head (Some pred) ((hit.at).clause).head) _ (hit.at).asked).0 in
@@ -78,7 +78,7 @@ hit-met b pred k p cube seen tuple clause there legal hit head =
     record {
       at = hit.at;
       seen_is = (hit.instance).seen_is;
-      legal = ap (λ (c : Clause). is_head_of b.system.preds (length c.sorts) c.head) first ∙ its.head;
+      legal = ap (is_clause b.system.preds) first ∙ legal;
       head = ap (head_at point) first ∙ head ∙ ap (λ (n : ℕ). Some (n, tuple)) own;
       body = subst (λ (c : Clause). list_all (is_passed point c) (uses k fs (hit.at).clause) ≡ true) second (hit.instance).body;
     }

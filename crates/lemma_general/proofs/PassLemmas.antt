@@ -2,6 +2,7 @@
 use Rattle.std.proofs.Common.{◌≡◌, ℕ, ◌+◌, ◌-◌, ◌<◌, ◌≤◌, List, Bool, true, false, inl, inr, cond, length, refl, ap, sym, ◌∙◌, subst, arith}
 use Rattle.std.specs.Prelude.{◌⊎◌, Option, Some, None, nat_abs, nat_le, ◌==◌, ◌^◌}
 use Rattle.std.specs.List.{list_all, list_any}
+use Rattle.std.proofs.lemmas.Bool.{eqb-true}
 use Rattle.std.proofs.lemmas.Bool.Decides.{nat_tests}
 use mathlib.Core.Bool.{true≢false}
 use Rattle.lin_atoms.specs.Denial.{linear_of}
@@ -17,7 +18,7 @@ use Rattle.lemma_general.specs.machinery.Passes.{AreMet, IsCubeOf, IsPassed, IsR
 use Rattle.lemma_general.specs.declared.breaking.Breaking.{Breaking}
 use Rattle.lemma_general.proofs.BoundLemmas.{bounds-below, bounds-narrow}
 use Rattle.lemma_general.proofs.LearnLemmas.{placed}
-use Rattle.lemma_general.proofs.PartLemmas.{part-all, part-none, part-self, part-trans, part-without, shorter}
+use Rattle.lemma_general.proofs.PartLemmas.{part-all, part-none, part-self, part-trans, part-within, part-without, shorter}
 
 -- cubes of which a lemma may be asked
 
@@ -51,13 +52,13 @@ same-trans a b c h k = record { target = k.target ∙ h.target; pred = k.pred �
 
 -- a pass that is under way at a place
 
-pub record IsPassing (b : Standing) (nodes at : ℕ) (first part : LemmaPart) (met : List Breaking) (dropped : Bool) : Type 0 where
-  pub learnt : IsLearnt b part
-  pub same : IsForSame first part
-  pub part : IsPart part.lemma first.lemma
-  pub met : AreMet b part met
-  pub fewer : dropped ≡ true → length part.lemma < length first.lemma
-  pub least : dropped ≡ false → (part ≡ first) × ((i : ℕ) → i < at → IsAgainst b first.pred (first.level - 1) nodes (without i first.lemma))
+pub record IsPassing (b : Standing) (nodes at : ℕ) (first now : LemmaPart) (seen : List Breaking) (dropped : Bool) : Type 0 where
+  pub learnt : IsLearnt b now
+  pub same : IsForSame first now
+  pub part : IsPart now.lemma first.lemma
+  pub met : AreMet b now seen
+  pub fewer : dropped ≡ true → length now.lemma < length first.lemma
+  pub least : dropped ≡ false → (now ≡ first) × ((i : ℕ) → i < at → IsAgainst b first.pred (first.level - 1) nodes (without i first.lemma))
 
 pub passing-first : (b : Standing) (nodes : ℕ) (first : LemmaPart) (met : List Breaking) → IsLearnt b first → AreMet b first met → IsPassing b nodes 0 first first met false
 passing-first b nodes first met learnt all = record {
@@ -104,12 +105,12 @@ passing-kept b nodes at first part new met more dropped on taken all =
     up-to i is before less = by (i == at) refl
       where
         by : (t : Bool) → (i == at) ≡ t → IsAgainst b first.pred (first.level - 1) nodes (without i first.lemma)
-        by true e = (let same : at ≡ i = grind (arith, nat_tests, e) in subst (λ (n : ℕ). IsAgainst b first.pred (first.level - 1) nodes (without n first.lemma)) same
+        by true e = (let same : at ≡ i = sym (eqb-true i at e) in subst (λ (n : ℕ). IsAgainst b first.pred (first.level - 1) nodes (without n first.lemma)) same
             (subst (λ (p : LemmaPart). IsAgainst b p.pred (p.level - 1) nodes (without at p.lemma)) is taken.1))
         by false e = (let lower : i < at = grind (arith, nat_tests, e, less) in before i lower)
 
 pub passed : (b : Standing) (nodes at : ℕ) (first part : LemmaPart) (met : List Breaking) (dropped : Bool) → length part.lemma ≤ at → IsPassing b nodes at first part met dropped → IsPassed b nodes first part dropped
-passed b nodes at first part met true past on = (on.learnt, (on.same, (on.part, on.fewer refl)))
+passed b nodes at first part met true past on = (on.learnt, on.same, on.part, on.fewer refl)
 passed b nodes at first part met false past on =
     let least = on.least refl in
     let long : length first.lemma ≤ at = subst (λ (p : LemmaPart). length p.lemma ≤ at) least.0 past in
@@ -117,12 +118,12 @@ passed b nodes at first part met false past on =
 
 -- between two passes
 
-pub record IsBetween (b : Standing) (nodes : ℕ) (given part : LemmaPart) (met : List Breaking) (going : Bool) : Type 0 where
-  pub learnt : IsLearnt b part
-  pub same : IsForSame given part
-  pub part : IsPart part.lemma (bounds_of given.lemma) ⊎ (IsAgainst b given.pred (given.level - 1) nodes (bounds_of given.lemma) × IsPart part.lemma given.lemma)
-  pub met : AreMet b part met
-  pub least : going ≡ false → IsLeast b part.pred (part.level - 1) nodes part.lemma
+pub record IsBetween (b : Standing) (nodes : ℕ) (given now : LemmaPart) (seen : List Breaking) (going : Bool) : Type 0 where
+  pub learnt : IsLearnt b now
+  pub same : IsForSame given now
+  pub part : IsPart now.lemma (bounds_of given.lemma) ⊎ (IsAgainst b given.pred (given.level - 1) nodes (bounds_of given.lemma) × IsPart now.lemma given.lemma)
+  pub met : AreMet b now seen
+  pub least : going ≡ false → IsLeast b now.pred (now.level - 1) nodes now.lemma
 
 pub between-first : (b : Standing) (nodes : ℕ) (given part : LemmaPart) (met : List Breaking) → IsLearnt b part → IsForSame given part
     → ((part.lemma ≡ bounds_of given.lemma) ⊎ (IsAgainst b given.pred (given.level - 1) nodes (bounds_of given.lemma) × (part ≡ given))) → AreMet b part met → IsBetween b nodes given part met true

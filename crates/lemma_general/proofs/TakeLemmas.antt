@@ -1,0 +1,94 @@
+-- A cube in a lemma's place, a lemma at the next level, and a lemma's lift, as the code has them in hand.
+use Rattle.std.proofs.Common.{◌≡◌, ℕ, ◌+◌, ◌-◌, ◌<◌, ◌≤◌, zero, suc, List, [], ◌∷◌, Bool, true, false, inl, inr, length, Some, refl, ap, sym, ◌∙◌, subst, arith}
+use Rattle.std.specs.Prelude.{ℤ, nat_le}
+use Rattle.std.specs.List.{list_any}
+use Rattle.std.proofs.lemmas.Bool.Decides.{nat_tests}
+use Rattle.lin_atoms.specs.declared.lit.Lit.{Lit}
+use Rattle.cube_forms.specs.Cubes.{cube_holds}
+use Rattle.lemma_frames.specs.Frames.{lemma_of, level_of, pred_of as pred_at}
+use Rattle.lemma_frames.specs.declared.framed.Framed.{Framed as KeptLemma}
+use Rattle.chc_tokens.specs.declared.goal.Goal.TheVariants.{Holds}
+use Rattle.chc_tokens.specs.declared.refuting.Shown.{Shown}
+use Rattle.chc_tokens.specs.declared.seeing.Seen.{Seen}
+use Rattle.book_rules.specs.Areas.{is_wide}
+use Rattle.book_rules.specs.Frames.{Framed}
+use Rattle.book_rules.specs.Places.{is_over}
+use Rattle.book_rules.specs.Walks.{AllOf}
+use Rattle.book_rules.proofs.ListLemmas.{all_of-at}
+use Rattle.cube_rules.specs.Views.{framed_at, lemmas_of}
+use Rattle.cube_rules.proofs.Public.{framed_of-at}
+use Rattle.clause_queries.specs.Answers.{IsHit, IsLost}
+use Rattle.clause_queries.specs.Kept.{is_kept}
+use Rattle.clause_queries.specs.declared.lost.Lost.{Lost}
+use Rattle.step_rules.specs.Standing.{Standing}
+use Rattle.step_rules.specs.declared.lemma_part.LemmaPart.{LemmaPart}
+use Rattle.obligation_turn.specs.Turns.{GoesOn}
+use Rattle.obligation_turn.proofs.LiftLemmas.{lifts}
+use Rattle.lemma_general.specs.Generals.{IsAgainst, IsForSame, IsLearnt, IsLiftOf}
+use Rattle.lemma_general.specs.Tries.{point_of}
+use Rattle.lemma_general.specs.machinery.Passes.{AreMet, AreProofsOf, IsCubeOf, IsRaisedOnce, IsTaken}
+use Rattle.lemma_general.specs.declared.breaking.Breaking.{Breaking}
+use Rattle.lemma_general.proofs.LearnLemmas.{held-at, placed, relearnt}
+use Rattle.lemma_general.proofs.MetLemmas.{any-hit}
+use Rattle.lemma_general.proofs.PassLemmas.{own-cube}
+
+le-of : (m n : ℕ) → nat_le m n ≡ true → m ≤ n
+le-of m n h = grind (arith, nat_tests, h)
+
+-- a cube that is taken, or isn't
+
+pub taken : (b : Standing) (nodes k : ℕ) (old : LemmaPart) (cube lemma : List Lit) (proofs : List Shown) → GoesOn b → IsLearnt b old → IsCubeOf b old.pred cube → cube_holds (point_of b old.target) cube ≡ true → lemma ≡ cube → k ≡ old.level - 1
+    → AreProofsOf b old.pred cube k proofs → IsTaken b nodes cube old (record { target = old.target; pred = old.pred; lemma = lemma; level = old.level; proofs = proofs }) true
+taken b nodes k old cube lemma proofs goes learnt is held same below are =
+    let top : old.level ≤ b.level = le-of old.level b.level (placed b old learnt).high in
+    let made = relearnt b old old.level cube proofs goes learnt (omega arith) top is held (subst (λ (m : ℕ). AreProofsOf b old.pred cube m proofs) below are) in
+    let kept : IsLearnt b (record { target = old.target; pred = old.pred; lemma = lemma; level = old.level; proofs = proofs }) =
+    subst (λ (c : List Lit). IsLearnt b (record { target = old.target; pred = old.pred; lemma = c; level = old.level; proofs = proofs })) (sym same) made in
+    (kept, record { target = refl; pred = refl; level = refl }, same)
+
+pub met-against : (b : Standing) (nodes : ℕ) (old : LemmaPart) (cube : List Lit) (met : List Breaking) → IsCubeOf b old.pred cube → is_kept cube ≡ true → AreMet b old met → list_any (λ (one : Breaking). cube_holds one.tuple cube) met ≡ true
+    → IsAgainst b old.pred (old.level - 1) nodes cube
+met-against b nodes old cube met is kept all h = inl (any-hit b old.pred (old.level - 1) cube met is kept all h)
+
+pub hit-against : (b : Standing) (pred k nodes : ℕ) (cube : List Lit) (seen : Seen) → IsHit b.system b.frames.lemmas (Some pred) (Holds cube) k seen → IsAgainst b pred k nodes cube
+hit-against b pred k nodes cube seen hit = inl (seen, hit)
+
+pub lost-against : (b : Standing) (pred k nodes : ℕ) (cube : List Lit) (lost : Lost) → IsLost b.system b.frames.lemmas (Some pred) (Holds cube) k nodes lost → IsAgainst b pred k nodes cube
+lost-against b pred k nodes cube lost is = inr (lost, is)
+
+-- the next level
+
+pub raised-once : (b : Standing) (nodes level : ℕ) (old : LemmaPart) (proofs : List Shown) → GoesOn b → IsLearnt b old → old.level < b.level → level ≡ old.level + 1 → AreProofsOf b old.pred old.lemma old.level proofs
+    → IsRaisedOnce b nodes old (record { target = old.target; pred = old.pred; lemma = old.lemma; level = level; proofs = proofs }) true
+raised-once b nodes level old proofs goes learnt below up are =
+    let same : old.level ≡ level - 1 = omega (arith, up) in
+    let from : old.level ≤ level = omega (arith, up) in
+    let to : level ≤ b.level = omega (arith, up, below) in
+    let held = held-at b old old.lemma learnt (λ tuple h. h) in
+    let made = relearnt b old level old.lemma proofs goes learnt from to (own-cube b old learnt) held (subst (λ (m : ℕ). AreProofsOf b old.pred old.lemma m proofs) same are) in
+    (made, refl, refl, refl, up, to)
+
+pub at-top : (b : Standing) (nodes : ℕ) (old : LemmaPart) → IsLearnt b old → b.level ≤ old.level → IsRaisedOnce b nodes old old false
+at-top b nodes old learnt high =
+    let top : old.level ≤ b.level = le-of old.level b.level (placed b old learnt).high in
+    (refl, inl (omega (arith, high, top)))
+
+pub not-raised : (b : Standing) (nodes : ℕ) (old : LemmaPart) → IsAgainst b old.pred old.level nodes old.lemma → IsRaisedOnce b nodes old old false
+not-raised b nodes old against = (refl, inr against)
+
+-- a lemma of the book
+
+narrow-at : (fs : List KeptLemma) (id : ℕ) → id < length fs → AllOf (λ (f : KeptLemma). is_wide f.lemma ≡ false) fs → is_wide (lemma_of fs id) ≡ false
+narrow-at [] id within all = absurd (omega arith)
+narrow-at (f ∷ fs) zero within all = all.0
+narrow-at (f ∷ fs) (suc id) within all = narrow-at fs id (omega arith) all.1
+
+pub kept-cube : (b : Standing) (id : ℕ) → GoesOn b → id < length b.frames.lemmas → IsCubeOf b (pred_at b.frames.lemmas id) (lemma_of b.frames.lemmas id)
+kept-cube b id goes within = record {
+  over = all_of-at (λ (e : Framed). is_over b.system.preds e.lemma.pred e.lemma.cube ≡ true) (lemmas_of b.frames.lemmas) id (framed_at b.frames.lemmas id) (framed_of-at b.frames.lemmas id within) ((goes.standing).over).lemmas;
+  narrow = narrow-at b.frames.lemmas id within (goes.narrow).lemmas;
+}
+
+pub lifted-of : (b : Standing) (id : ℕ) (proofs : List Shown) → GoesOn b → id < length b.frames.lemmas → level_of b.frames.lemmas id < b.level → AreProofsOf b (pred_at b.frames.lemmas id) (lemma_of b.frames.lemmas id) (level_of b.frames.lemmas id) proofs
+    → IsLiftOf b id (record { lemma = id; from = level_of b.frames.lemmas id; proofs = proofs })
+lifted-of b id proofs goes within below are = let legal = lifts b id proofs goes within below are in record { unbroken = legal.unbroken; made = legal.made; places = legal.places; lemma = refl }
