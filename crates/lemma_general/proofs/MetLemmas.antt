@@ -105,4 +105,4 @@ pub hit-headed : (a b : Standing) (pred k n : ℕ) (cube : List Lit) (seen : See
 hit-headed a b pred k n cube seen clause same hit is there none =
     let first : (hit.at).clause ≡ clause = (let both = sym (hit.at).there ∙ clause-lent a b seen n clause same is there in cc) in
     let headed = (both_true (is_head (Some pred) ((hit.at).clause).head) _ (hit.at).asked).0 in
-    true≢false (sym (ap (λ (c : Clause). is_head (Some pred) c.head) first ∙ ap (is_head (Some pred)) none) ∙ headed)
+    true≢false (sym headed ∙ ap (λ (c : Clause). is_head (Some pred) c.head) first ∙ ap (is_head (Some pred)) none)
