@@ -1,14 +1,13 @@
 -- The two bounds of an equation.
-use Rattle.std.proofs.Common.{◌≡◌, ℕ, ◌+◌, ◌<◌, zero, suc, length, take, get_or, List, [], ◌∷◌, ◌++◌, Bool, true, false, ◌&&◌, ◌||◌, not, refl, ap, ap₂, sym, ◌∙◌, subst, arith}
+use Rattle.std.proofs.Common.{◌≡◌, ℕ, ◌+◌, ◌<◌, zero, suc, length, take, get_or, List, [], ◌∷◌, ◌++◌, Bool, true, false, ◌&&◌, ◌||◌, refl, ap, ap₂, ◌∙◌, arith}
 use Rattle.std.specs.Prelude.{ℤ, pos, negsuc, neg_ℤ, nat_abs, nat_le, nat_lt, int_le, ◌==◌, ◌^◌}
 use Rattle.std.specs.List.{list_all, list_any}
 use Rattle.std.proofs.lemmas.Bool.{eqb-true}
 use Rattle.std.proofs.lemmas.List.{take_more}
-use mathlib.Core.Bool.{true≢false}
 use Rattle.base.specs.Widths.{is_short}
 use Rattle.lin_atoms.specs.Algebra.{negated, negated_terms}
 use Rattle.lin_atoms.specs.Denial.{linear_of}
-use Rattle.lin_atoms.specs.Linear.{are_short, value_at}
+use Rattle.lin_atoms.specs.Linear.{value_at}
 use Rattle.lin_atoms.specs.Linear.{Linear}
 use Rattle.lin_atoms.specs.Truth.{lit_is_below, lit_truth}
 use Rattle.lin_atoms.specs.declared.lit.Lit.{Lit}

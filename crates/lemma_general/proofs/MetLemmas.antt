@@ -1,6 +1,6 @@
 -- Instances that are kept, and cubes that hold their heads.
-use Rattle.std.proofs.Common.{◌≡◌, ℕ, ◌<◌, List, [], ◌∷◌, ◌++◌, Bool, true, false, ◌&&◌, ◌||◌, not, length, Some, None, refl, ap, ap₂, sym, ◌∙◌, subst}
-use Rattle.std.specs.Prelude.{ℤ, Option, option_map, slice_get, ◌==◌}
+use Rattle.std.proofs.Common.{◌≡◌, ℕ, ◌<◌, List, [], ◌∷◌, ◌++◌, Bool, true, false, ◌||◌, not, length, Some, None, refl, ap, ap₂, sym, ◌∙◌, subst}
+use Rattle.std.specs.Prelude.{ℤ, Option, option_map, slice_get}
 use Rattle.std.specs.List.{list_all, list_any}
 use Rattle.std.proofs.lemmas.Option.{slice_get_within}
 use mathlib.Core.Bool.{true≢false}
@@ -21,7 +21,7 @@ use Rattle.book_rules.proofs.ListLemmas.{all_of-push}
 use Rattle.cube_rules.proofs.Public.{both_true}
 use Rattle.clause_queries.specs.Answers.{GoalFits, IsHit}
 use Rattle.clause_queries.specs.Kept.{is_kept}
-use Rattle.clause_queries.specs.Uses.{is_asked, uses}
+use Rattle.clause_queries.specs.Uses.{uses}
 use Rattle.clause_queries.proofs.Public.{has-goal, number_is}
 use Rattle.step_rules.specs.Standing.{Standing}
 use Rattle.lemma_general.specs.Tries.{IsMet}

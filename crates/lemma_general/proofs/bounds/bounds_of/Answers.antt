@@ -1,4 +1,4 @@
-use Rattle.std.proofs.Common.{◌≡◌, List, ◌++◌, ◌∷◌, [], ◌∙◌, ap, sym, take}
+use Rattle.std.proofs.Common.{List, ◌++◌, ◌∷◌, [], ◌∙◌, ap, sym, take}
 use Rattle.lin_atoms.specs.declared.lit.Lit.{Lit}
 use Rattle.lemma_general.specs.Generals.{bounds_of}
 use Rattle.lemma_general.proofs.BoundLemmas.{bounds-next}

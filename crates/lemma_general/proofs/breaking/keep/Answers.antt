@@ -1,5 +1,5 @@
 use Rattle.std.proofs.Common.{◌-◌}
-use Rattle.lemma_general.proofs.MetLemmas.{hit-headed, hit-kept, hit-there}
+use Rattle.lemma_general.proofs.MetLemmas.{hit-kept, hit-there}
 use Rattle.lemma_general.proofs.breaking.keep.Goals as goal
 
 pub clause-clause-requires : goal.clause-clause-requires

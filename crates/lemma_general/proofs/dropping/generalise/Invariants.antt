@@ -1,4 +1,4 @@
-use Rattle.std.proofs.Common.{◌≡◌, ◌+◌, ℕ, cond, length, false}
+use Rattle.std.proofs.Common.{◌+◌, ℕ, cond, length}
 use Rattle.lemma_general.proofs.PassLemmas.{IsBetween}
 use Rattle.lemma_general.proofs.dropping.generalise.Given as goal
 

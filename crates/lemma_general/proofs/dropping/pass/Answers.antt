@@ -1,4 +1,4 @@
-use Rattle.std.proofs.Common.{◌<◌, ◌≤◌, ◌∙◌, Bool, List, length, subst}
+use Rattle.std.proofs.Common.{◌<◌, ◌≤◌, ◌∙◌, List, length, subst}
 use Rattle.lin_atoms.specs.declared.lit.Lit.{Lit}
 use Rattle.lemma_general.specs.Generals.{without}
 use Rattle.lemma_general.specs.machinery.Passes.{IsTaken}
