@@ -1,10 +1,7 @@
 -- What a book keeps over steps of its own.
-use Rattle.std.proofs.Common.{◌≡◌, ℕ, ◌+◌, ◌<◌, ◌≤◌, List, [], ◌∷◌, ◌++◌, map, length, Bool, true, false, refl, ap, sym, ◌∙◌, subst, arith}
+use Rattle.std.proofs.Common.{◌≡◌, ℕ, ◌+◌, ◌<◌, List, [], ◌∷◌, ◌++◌, map, length, false, refl, ap, sym, ◌∙◌, subst, arith}
 use Rattle.std.proofs.lemmas.List.{length_push}
 use Rattle.clause_form.specs.System.{Clauses}
-use Rattle.lemma_frames.specs.declared.framed.Framed.{Framed as KeptLemma}
-use Rattle.obligation_tree.specs.Nodes.{obligation_in}
-use Rattle.obligation_tree.specs.declared.node.Node.{Node}
 use Rattle.book_rules.specs.Areas.{is_wide}
 use Rattle.book_rules.specs.Effects.{after}
 use Rattle.book_rules.specs.Frames.{Framed}
@@ -13,7 +10,7 @@ use Rattle.book_rules.specs.Walks.{AllOf}
 use Rattle.book_rules.proofs.ListLemmas.{all_of-push}
 use Rattle.book_rules.proofs.StepLemmas.{ChildHas, LemmaHas, lemmas-after, steady-after}
 use Rattle.step_rules.specs.Taken.{step_of}
-use Rattle.step_rules.specs.Views.{framed_of, lemmas_of, obligation_of, obligations_of}
+use Rattle.step_rules.specs.Views.{framed_of, obligation_of}
 use Rattle.step_rules.specs.declared.step.Step.{Step}
 use Rattle.step_rules.specs.declared.step.Step.TheVariants.{OpenStep, LemmaStep, FactStep, LiftStep, RaiseStep, StallStep}
 use Rattle.chc_core.specs.Contents.{Contents}
@@ -21,7 +18,7 @@ use Rattle.chc_core.specs.Views.{standing_of, state_of}
 use Rattle.chc_core.specs.declared.entry.Entry.{Entry}
 use Rattle.obligation_turn.specs.Turns.{IsNarrow, StepCounts, StepIsNarrow}
 use Rattle.book_loop.specs.Runs.{IsOwn}
-use Rattle.book_loop.specs.machinery.Steps.{HasTaken, IsFurther}
+use Rattle.book_loop.specs.machinery.Steps.{IsFurther}
 
 -- narrow cubes
 
@@ -82,9 +79,6 @@ narrow-opening b units is = state_narrow b (subst IsNarrowState (sym is) (record
 pub further-none : (nodes : ℕ) (b : Contents) → IsFurther nodes b b
 further-none nodes b = record { system = refl; given = refl; narrow = λ h. h; own = λ h. h; longer = omega arith }
 
-pub further-same : (nodes : ℕ) (b c : Contents) → c ≡ b → IsFurther nodes b c
-further-same nodes b c same = subst (IsFurther nodes b) (sym same) (further-none nodes b)
-
 pub further-then : (nodes : ℕ) (b c d : Contents) → IsFurther nodes b c → IsFurther nodes c d → IsFurther nodes b d
 further-then nodes b c d first second =
     let one = first.longer in
@@ -114,11 +108,3 @@ further-step nodes b c step is system given journal counts narrow =
       own = λ h. subst (AllOf (IsOwn nodes)) (sym journal) (all_of-push (IsOwn nodes) b.journal entry h (record { worker = refl; counts = counts }));
       longer = omega (arith, more);
     }
-
--- of several steps some were taken where the first ones were
-pub taken-then : (nodes : ℕ) (b c d : Contents) (first : Bool) → HasTaken b c first → IsFurther nodes c d → length c.journal < length d.journal → HasTaken b d true
-taken-then nodes b c d true one far two = omega (arith, one, two)
-taken-then nodes b c d false same far two = subst (λ (x : Contents). length x.journal < length d.journal) same two
-
-pub taken-same : (b c d : Contents) (first : Bool) → HasTaken b c first → d ≡ c → HasTaken b d first
-taken-same b c d first one same = subst (λ (x : Contents). HasTaken b x first) (sym same) one

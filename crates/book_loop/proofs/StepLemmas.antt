@@ -1,22 +1,16 @@
 -- What a turn needs of the book, and what its steps have.
 use Rattle.std.proofs.Common.{◌≡◌, ℕ, zero, suc, ◌+◌, ◌<◌, ◌≤◌, List, [], ◌∷◌, length, None, Some, refl, sym, subst, arith}
 use Rattle.std.specs.Prelude.{Option, slice_get}
-use Rattle.std.specs.List.{list_all}
 use Rattle.std.proofs.lemmas.List.{length-map}
-use Rattle.clause_form.specs.System.{Clauses}
-use Rattle.chc_tokens.specs.declared.refuting.Shown.{Shown}
 use Rattle.book_rules.specs.Counts.{HasRoom}
 use Rattle.book_rules.specs.Kept.{AreRecorded, IsOrdered}
 use Rattle.book_rules.specs.Legal.{AreLegal, end, replay}
 use Rattle.book_rules.specs.LemmaRules.{rule_10, rule_11, rule_12, rule_13}
-use Rattle.book_rules.specs.Places.{is_over, shown_has_places}
 use Rattle.book_rules.specs.State.{Obligation, unless_live}
 use Rattle.book_rules.proofs.CountLemmas.{opening_room}
-use Rattle.book_rules.proofs.ListLemmas.{both_true}
 use Rattle.book_rules.proofs.SoundLemmas.{unbroken}
 use Rattle.step_rules.specs.Standing.{IsStanding, Standing, state_of as state_standing}
 use Rattle.step_rules.specs.Taken.{learn_of}
-use Rattle.step_rules.specs.Tokens.{all_shown}
 use Rattle.step_rules.specs.Views.{obligation_of, obligations_of}
 use Rattle.step_rules.specs.declared.lemma_part.LemmaPart.{LemmaPart}
 use Rattle.step_rules.specs.declared.lift_part.LiftPart.{LiftPart}
@@ -28,7 +22,7 @@ use Rattle.chc_core.specs.Views.{standing_of, state_of, steps_of}
 use Rattle.obligation_turn.specs.Turns.{GoesOn, IsNarrow, IsTurn}
 use Rattle.lemma_general.specs.Generals.{IsLearnt, IsLiftOf}
 use Rattle.book_loop.specs.Runs.{CanRun}
-use Rattle.book_loop.specs.machinery.Steps.{AreFor, IsOffered, IsTaken}
+use Rattle.book_loop.specs.machinery.Steps.{IsOffered, IsTaken}
 
 pub goes_on : (b : Contents) → CanRun b.system → IsStanding (standing_of b) → IsOrdered (state_of b) → AreRecorded b.system [] (state_of b).facts → end (state_of b) ≡ None
     → IsNarrow (standing_of b) → GoesOn (standing_of b)
@@ -50,16 +44,6 @@ taken-lift b id nodes part h = record { unbroken = h.unbroken; made = h.made; pl
 
 pub offered : (b : Standing) (nodes : ℕ) (step : Step) → IsTaken b nodes step → IsOffered b.system nodes step
 offered b nodes step h = record { made = h.made; places = h.places; counts = h.counts; narrow = h.narrow }
-
--- the proofs of a lemma, and a Lift with the same proofs
-
-pub proofs-for : (sys : Clauses) (nodes : ℕ) (part : LemmaPart) → IsOffered sys nodes (LemmaStep part) → AreFor sys part.proofs
-proofs-for sys nodes part h = record { made = h.made; places = (both_true (is_over sys.preds part.pred part.lemma) (list_all (shown_has_places sys) (all_shown part.proofs)) h.places).1 }
-
-pub offered-lift : (sys : Clauses) (nodes id from : ℕ) (given proofs : List Shown) → proofs ≡ given → AreFor sys given → IsOffered sys nodes (LiftStep (record { lemma = id; from = from; proofs = proofs }))
-offered-lift sys nodes id from given proofs same h =
-    let own = subst (AreFor sys) (sym same) h in
-    record { made = own.made; places = own.places; counts = tt; narrow = tt }
 
 -- an obligation for which a lemma is learnt
 
@@ -83,6 +67,10 @@ target-there b part h =
     let third = unbroken 12 (rule_12 b.system s l) _ second.1 in
     let fourth = unbroken 13 (rule_13 s l) _ third.1 in
     subst (λ (n : ℕ). part.target < n) (length-map b.tree.nodes obligation_of) (live-within (obligations_of b.tree.nodes) part.target fourth.0)
+
+-- over what is lent
+pub target-lent : (a b : Standing) (given part : LemmaPart) → a ≡ b → given ≡ part → IsLearnt b part → given.target < length a.tree.nodes
+target-lent a b given part same is h = subst (λ (x : Standing). given.target < length x.tree.nodes) (sym same) (subst (λ (p : LemmaPart). p.target < length b.tree.nodes) (sym is) (target-there b part h))
 
 -- entries
 

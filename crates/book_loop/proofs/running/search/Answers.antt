@@ -1,4 +1,4 @@
-use Rattle.std.proofs.Common.{◌+◌, sym, subst, arith}
+use Rattle.std.proofs.Common.{sym, subst, arith}
 use Rattle.book_loop.specs.Runs.{CanRun}
 use Rattle.book_loop.proofs.FurtherLemmas.{further-none, further-then}
 use Rattle.book_loop.proofs.running.search.Goals as goal

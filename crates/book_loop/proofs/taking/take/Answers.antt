@@ -1,4 +1,4 @@
-use Rattle.book_loop.proofs.FurtherLemmas.{further-same, further-step, grown}
+use Rattle.book_loop.proofs.FurtherLemmas.{further-step, grown}
 use Rattle.book_loop.proofs.taking.take.Goals as goal
 
 pub returns-in-Ok-clause-further : goal.returns-in-Ok-clause-further
