@@ -4,7 +4,11 @@
 
 mod choosing;
 mod laws;
+mod learning;
+mod lifting;
+mod older;
 mod running;
+mod taking;
 
 pub use laws::systems_of_scripts_can_be_run;
 pub use running::{begin, search};
