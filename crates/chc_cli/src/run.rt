@@ -54,7 +54,8 @@ pub fn chc_run<S: Source, K: Sink>(
 ) -> Report
     ensures statuses { result.status ≤ 5 }
 
-    // 0: the book over the clauses of the script that the bytes read spell has ended, and the text that the sink holds now is the answer of its end: a derivation of false by the script's assertions, definitions under which each of them is true, or the closed level and the cause.
+    // 0: the book over the clauses of the script that the bytes read spell has ended, and the sink holds the answer of its end: a derivation of false by the script's assertions,
+    // definitions under which each of them is true, or the closed level and the cause.
     ensures answered { result.status ≡ 0 → Answers (map string_bytes words.now) result.read.items result.book (K.held sink.old) (K.held sink.new) }
     ensures answers_all { result.status ≡ 0 → IfSome (S.left source.old) (λ bytes. result.read.items ≡ bytes) }
 
@@ -112,6 +113,7 @@ pub fn chc_run<S: Source, K: Sink>(
             return report_of(alloc, status);
         }
     };
+    // A law, which runs nothing: what is answered isn't refused by the rules of commands.
     no_script_is_refused();
     match plan_for(alloc, source, limits) {
         Plan::Answered { read, book, text } => {

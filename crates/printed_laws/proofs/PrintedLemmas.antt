@@ -28,7 +28,7 @@ use Rattle.answer_laws.specs.Texts.{IsSatAnswer}
 use Rattle.book_answers.specs.Answers.{HasText, IsAnswerAt}
 use Rattle.solve_words.specs.declared.limits.Limits.{Limits}
 use Rattle.chc_cli.specs.Headline.{Answers, IsAnswered, IsBookFor}
-use Rattle.printed_laws.specs.Printed.{IsPrinted, IsSolutionText, Says, Solves}
+use Rattle.printed_laws.specs.Printed.{IsPrinted, IsSolutionText, Says, IsSolvedBy}
 use Rattle.printed_laws.specs.Printed.Says.{sat, unsat, unknown}
 
 same_rest : (held text other : List ℕ) → held ++ text ≡ held ++ other → text ≡ other
@@ -68,7 +68,7 @@ unsat_line : (preds : List Pred) (lines : List Line) → answer_text preds (Unsa
 unsat_line preds lines = refl
 
 module _ (accepted : AcceptedLaw) (same : SameLaw) (solution : SolutionLaw) (spelled : SpelledLaw) (alone : AloneLaw) (not_bad : NotBadLaw) where
-  solves : (bytes text : List ℕ) → (h : IsSatAnswer bytes text) → (answer : Answer) → Spells h.script.preds text answer → Solves h.script answer
+  solves : (bytes text : List ℕ) → (h : IsSatAnswer bytes text) → (answer : Answer) → Spells h.script.preds text answer → IsSolvedBy h.script answer
   solves bytes text h (Sat definitions) spells = λ arenas. solution bytes text h definitions spells arenas
   solves bytes text h (Unsat lines) spells = absurd (same bytes text h (Unsat lines) spells)
   solves bytes text h (Unknown level cause) spells = absurd (same bytes text h (Unknown level cause) spells)
@@ -91,7 +91,7 @@ module _ (accepted : AcceptedLaw) (same : SameLaw) (solution : SolutionLaw) (spe
         }
       in
       sat (codes "(\n" ++ (flat_map (definition_text preds) definitions ++ codes ")\n")) (printed.spelled ∙ ap (answer_text preds) is ∙ sat_line preds definitions)
-      (record { accepted = accepted bytes text h; solves = solves bytes text h })
+      (record { accepted = accepted bytes text h; solved = solves bytes text h })
   says limits bytes b text book (UnsatEnd fact) answer (steps, are, is, derive) printed =
       let preds = book.script.preds in
       let lines = fact_lines b.system (facts_of b.facts) steps in

@@ -16,15 +16,15 @@ use Rattle.answer_text.specs.Read.{IsBad, Spells}
 use Rattle.book_answers.specs.Answers.{HasNoLowFalse}
 
 -- the answer is definitions that are a solution of the script, in arenas as every value of their type
-abbrev pub Solves : Script → Answer → Type 0
-Solves script (Sat definitions) = AllByRecursion (λ d. IsArena d.terms.nodes) definitions → IsSolution script definitions
-Solves script (Unsat lines) = ⊥
-Solves script (Unknown level cause) = ⊥
+abbrev pub IsSolvedBy : Script → Answer → Type 0
+IsSolvedBy script (Sat definitions) = AllByRecursion (λ d. IsArena d.terms.nodes) definitions → IsSolution script definitions
+IsSolvedBy script (Unsat lines) = ⊥
+IsSolvedBy script (Unknown level cause) = ⊥
 
 -- no reader of answers refuses the text, and whatever it is read as solves the script
 pub record IsSolutionText (script : Script) (text : List ℕ) : Type 0 where
   pub accepted : (offset : ℕ) → IsBad script.preds text offset → ⊥
-  pub solves : (answer : Answer) → Spells script.preds text answer → Solves script answer
+  pub solved : (answer : Answer) → Spells script.preds text answer → IsSolvedBy script answer
 
 -- no reader of answers refuses the text, and it is read as these lines and nothing else, which derive false by the script's assertions
 pub record IsDerivationText (script : Script) (text : List ℕ) : Type 0 where

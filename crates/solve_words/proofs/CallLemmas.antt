@@ -5,7 +5,7 @@ use Rattle.std.specs.Str.{bytes_eq}
 use Rattle.std.proofs.lemmas.Bool.Decides.{nat_tests}
 use Rattle.std.proofs.lemmas.Slice.Eq.{bytes_eq-Decides}
 use Rattle.base.specs.Numeral.{is_numeral, number_of}
-use Rattle.solve_words.specs.Properties.{AreRead}
+use Rattle.solve_words.specs.Properties.{AreLimitsOf}
 use Rattle.solve_words.specs.Words.{IsCall, IsOption, default_nodes, default_units, most_nodes, most_units}
 use Rattle.solve_words.specs.machinery.Reading.{at_least, at_most, limits_of, nodes_in, nodes_named, numeral_within, options_in, units_then, with_nodes}
 use Rattle.solve_words.specs.declared.limits.Limits.{Limits}
@@ -152,6 +152,6 @@ one_reading words first second a b =
     let same : (let o : Option Limits = Some first in o) ≡ Some second = sym (call_found words first a) ∙ call_found words second b in
     cc
 
-pub are_read : (words : List (List ℕ)) (found : Option Limits) → found ≡ limits_of words → AreRead words found
-are_read words None is = λ l call. let no : (let o : Option Limits = None in o) ≡ Some l = is ∙ call_found words l call in absurd (cc)
-are_read words (Some l) is = call_read words l (sym is)
+pub are_limits : (words : List (List ℕ)) (found : Option Limits) → found ≡ limits_of words → AreLimitsOf words found
+are_limits words None is = λ l call. let no : (let o : Option Limits = None in o) ≡ Some l = is ∙ call_found words l call in absurd (cc)
+are_limits words (Some l) is = call_read words l (sym is)

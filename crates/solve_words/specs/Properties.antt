@@ -4,9 +4,9 @@ use Rattle.solve_words.specs.Words.{IsCall, IsNoCall, most_nodes, most_units}
 use Rattle.solve_words.specs.declared.limits.Limits.{Limits}
 
 -- the limits of a call, or that the words are none
-abbrev pub AreRead : List (List ℕ) → Option Limits → Type 0
-AreRead words None = IsNoCall words
-AreRead words (Some limits) = IsCall words limits
+abbrev pub AreLimitsOf : List (List ℕ) → Option Limits → Type 0
+AreLimitsOf words None = IsNoCall words
+AreLimitsOf words (Some limits) = IsCall words limits
 
 -- what such limits are
 pub record IsInRange (limits : Limits) : Type 0 where
