@@ -81,6 +81,12 @@ pub record WritesPart (words : List (List ℕ)) (left : Option (List ℕ)) (ends
   pub part : count < length text
   pub held : Appends (take count text) old new
 
+-- a prefix of that text is held, and not all of it
+pub record HoldsPart (text : List ℕ) (old new : Option (List ℕ)) : Type 0 where
+  pub count : ℕ
+  pub part : count < length text
+  pub held : Appends (take count text) old new
+
 -- status 0: the sink holds the answer of the book's end behind what it held
 pub record Answers (words : List (List ℕ)) (read : List ℕ) (book : Option Contents) (old new : Option (List ℕ)) : Type 0 where
   pub limits : Limits

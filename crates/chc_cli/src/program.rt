@@ -1,13 +1,14 @@
-ghost use Rattle.std.specs.Prelude.{◌≡◌, ◌≢◌, ◌≤◌, ◌↔◌, drop, map, IfOk, IfErr, IfSome, IsSome, None};
+ghost use Rattle.std.specs.Prelude.{◌≡◌, ◌≢◌, ◌≤◌, ◌↔◌, ◌⊎◌, [], drop, map, IfOk, IfErr, IfSome, IsSome, None};
 ghost use Rattle.std.specs.String.{string_bytes};
 ghost use Rattle.std.specs.IoError.{error_kind};
 ghost use Rattle.std.specs.Vec.Iter.{into_iter_items};
 ghost use Rattle.outside_io.specs.Bytes.{Appends};
 ghost use Rattle.outside_io.specs.Counts.{counted};
+ghost use Rattle.outside_io.specs.declared.turn.Turn.TheVariants.{Fault};
 ghost use Rattle.answer_text.specs.Lines.{usage_text, memory_text};
 ghost use Rattle.solve_words.specs.Words.{IsCall, IsNoCall};
 ghost use Rattle.solve_words.specs.declared.limits.Limits.{Limits};
-ghost use Rattle.chc_cli.specs.Headline.{Answers, EndsOnce, IsBookFor, ReadsInput, Refuses, wanting_text};
+ghost use Rattle.chc_cli.specs.Headline.{Answers, EndsOnce, HoldsPart, IsBookFor, ReadsInput, Refuses, WritesPart, wanting_text};
 
 use crate::run::{Report, chc_run};
 use crate::words::words_after_name;
@@ -46,7 +47,18 @@ pub fn chc_main<S: Source, K: Sink>(
     ensures read_fault { result.status ≡ 3 → S.faults source.new ≡ counted (S.faults source.old) }
     ensures sink_faults { result.status ≢ 4 → K.faults sink.new ≡ K.faults sink.old }
     ensures write_fault { result.status ≡ 4 → K.faults sink.new ≡ counted (K.faults sink.old) }
+    ensures holds_nothing { result.status ≡ 3 → K.held sink.new ≡ K.held sink.old }
+    ensures stops_reading { result.status ≡ 3 → S.last source.new ≡ Fault }
+    ensures failed_read { result.status ≡ 3 → result.read.items ≡ [] }
+    ensures stops_writing { result.status ≡ 4 → K.last sink.new ≡ Fault }
     ensures memory { result.status ≡ 5 → Appends (wanting_text result.book) (K.held sink.old) (K.held sink.new) }
+
+    // 4: a prefix of what was meant for these words, or of the memory line where there was no room for them.
+    ensures writes_part { IfOk args (λ args. result.status ≡ 4 → WritesPart (map string_bytes (drop 1 (into_iter_items args))) (S.left source.old) (S.ends source.old) (S.ends source.new)
+        result.read.items result.book (K.held sink.old) (K.held sink.new) ⊎ HoldsPart memory_text (K.held sink.old) (K.held sink.new)) }
+    ensures writes_part_of_usage { IfErr args (λ e. error_kind e ≢ ErrorKind.OutOfMemory → result.status ≡ 4 → HoldsPart usage_text (K.held sink.old) (K.held sink.new)) }
+    ensures writes_part_of_memory { IfErr args (λ e. error_kind e ≡ ErrorKind.OutOfMemory → result.status ≡ 4 → HoldsPart memory_text (K.held sink.old) (K.held sink.new)) }
+
     ensures ends { EndsOnce (S.ends source.old) (S.ends source.new) (S.last source.new) }
 {
     match args {
@@ -65,6 +77,8 @@ fn no_memory<K: Sink>(alloc: Global, sink: &mut K) -> Report
     ensures sink_faults { result.status ≢ 4 → K.faults sink.new ≡ K.faults sink.old }
     ensures write_fault { result.status ≡ 4 → K.faults sink.new ≡ counted (K.faults sink.old) }
     ensures memory { result.status ≡ 5 → Appends memory_text (K.held sink.old) (K.held sink.new) }
+    ensures stops_writing { result.status ≡ 4 → K.last sink.new ≡ Fault }
+    ensures writes_part { result.status ≡ 4 → HoldsPart memory_text (K.held sink.old) (K.held sink.new) }
     ensures refusal { result.refusal ≡ None }
     ensures book { result.book ≡ None }
 {

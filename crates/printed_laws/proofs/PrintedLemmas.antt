@@ -37,7 +37,10 @@ same_rest (byte ∷ held) text other h = let rest : held ++ text ≡ held ++ oth
 
 -- what stands behind what was held is what was appended
 appended : (held text other : List ℕ) → Appends other (Some held) (Some (held ++ text)) → text ≡ other
-appended held text other h = let same : held ++ text ≡ held ++ other = cc in same_rest held text other same
+appended held text other h =
+    let both : (let o : Option (List ℕ) = Some (held ++ text) in o) ≡ Some (held ++ other) = h in
+    let same : held ++ text ≡ held ++ other = cc in
+    same_rest held text other same
 
 abbrev pub AcceptedLaw : Type 0
 AcceptedLaw = (bytes printed : List ℕ) → (h : IsSatAnswer bytes printed) → (offset : ℕ) → IsBad h.script.preds printed offset → ⊥
