@@ -124,24 +124,24 @@ limits units nodes = record { units = units; nodes = nodes }
 nodes_found : (units : ℕ) (words : List (List ℕ)) (n : ℕ) → AreNodes words n → nodes_in units words ≡ Some (limits units n)
 nodes_found units [] n h = ap (λ (k : ℕ). let o : Option Limits = Some (limits units k) in o) (sym h)
 nodes_found units (name ∷ []) n h = absurd h
-nodes_found units (name ∷ value ∷ []) n (is, numeral) =
-    subst (λ (word : List ℕ). nodes_named units word value ≡ Some (limits units n)) (sym is) (ap (with_nodes units) (numeral_found 1 most_nodes value n numeral))
+nodes_found units (name ∷ value ∷ []) n (is, digits, number, low, high) =
+    subst (λ (word : List ℕ). nodes_named units word value ≡ Some (limits units n)) (sym is) (ap (with_nodes units) (numeral_found 1 most_nodes value n (digits, number, low, high)))
 nodes_found units (name ∷ value ∷ more ∷ words) n h = absurd h
 
 -- words that name the nodes don't name the units
 left_out : (words : List (List ℕ)) (n : ℕ) → AreNodes words n → options_in words ≡ nodes_in default_units words
 left_out [] n h = refl
 left_out (name ∷ []) n h = absurd h
-left_out (name ∷ value ∷ []) n (is, numeral) = subst (λ (word : List ℕ). options_in (word ∷ value ∷ []) ≡ nodes_in default_units (word ∷ value ∷ [])) (sym is) refl
+left_out (name ∷ value ∷ []) n (is, digits, number, low, high) = subst (λ (word : List ℕ). options_in (word ∷ value ∷ []) ≡ nodes_in default_units (word ∷ value ∷ [])) (sym is) refl
 left_out (name ∷ value ∷ more ∷ words) n h = absurd h
 
 options_found : (first second : List (List ℕ)) (units nodes : ℕ) → AreUnits first units → AreNodes second nodes → options_in (first ++ second) ≡ Some (limits units nodes)
 options_found [] second units nodes given h =
     left_out second nodes h ∙ nodes_found default_units second nodes h ∙ ap (λ (k : ℕ). let o : Option Limits = Some (limits k nodes) in o) (sym given)
 options_found (name ∷ []) second units nodes given h = absurd given
-options_found (name ∷ value ∷ []) second units nodes (is, numeral) h =
+options_found (name ∷ value ∷ []) second units nodes (is, digits, number, low, high) h =
     subst (λ (word : List ℕ). options_in (word ∷ value ∷ second) ≡ Some (limits units nodes)) (sym is)
-    (ap (λ (found : Option ℕ). units_then found second) (numeral_found 0 most_units value units numeral) ∙ nodes_found units second nodes h)
+    (ap (λ (found : Option ℕ). units_then found second) (numeral_found 0 most_units value units (digits, number, low, high)) ∙ nodes_found units second nodes h)
 options_found (name ∷ value ∷ more ∷ words) second units nodes given h = absurd given
 
 call_found : (words : List (List ℕ)) (l : Limits) → IsCall words l → limits_of words ≡ Some l
