@@ -1,30 +1,34 @@
 -- Lemmas that are learnt in place of others.
-use Rattle.std.proofs.Common.{◌≡◌, ℕ, ◌+◌, ◌-◌, ◌<◌, ◌≤◌, List, Bool, true, false, ◌&&◌, cond, Some, None, refl, ap, sym, ◌∙◌, subst, arith}
-use Rattle.std.specs.Prelude.{Option, nat_le, slice_get, ◌==◌}
+use Rattle.std.proofs.Common.{◌≡◌, ℕ, ◌-◌, ◌<◌, ◌≤◌, zero, suc, List, [], ◌∷◌, length, Bool, true, false, ◌&&◌, cond, Some, None, refl, ap, sym, ◌∙◌, arith}
+use Rattle.std.specs.Prelude.{Option, nat_le, slice_get}
 use Rattle.std.specs.List.{list_all}
 use Rattle.std.proofs.lemmas.Bool.Decides.{nat_tests}
 use Rattle.lin_atoms.specs.declared.lit.Lit.{Lit}
 use Rattle.cube_forms.specs.Cubes.{cube_holds}
+use Rattle.obligation_tree.specs.Nodes.{node_at}
+use Rattle.obligation_tree.specs.declared.node.Node.{Node}
 use Rattle.chc_tokens.specs.declared.refuting.Shown.{Shown}
-use Rattle.book_rules.specs.Areas.{is_wide}
 use Rattle.book_rules.specs.Frames.{Lemma}
 use Rattle.book_rules.specs.LemmaRules.{closes, rule_10, rule_11, rule_12, rule_13, rule_14}
 use Rattle.book_rules.specs.Places.{is_over, shown_has_places}
 use Rattle.book_rules.specs.Rules.{Broken, rule}
-use Rattle.book_rules.specs.State.{Obligation, State, is_of}
+use Rattle.book_rules.specs.State.{Obligation, is_of, unless_live}
 use Rattle.book_rules.specs.Steps.{LemmaStep as PlainLemma}
 use Rattle.book_rules.specs.Walks.{on}
 use Rattle.book_rules.specs.declared.by.By.{By}
-use Rattle.book_rules.specs.declared.by.By.TheVariants.{Level as ByLevel, Obligation as ByObligation}
+use Rattle.book_rules.specs.declared.by.By.TheVariants.{Level as ByLevel, Obligation as ByObligation, Step as ByStep}
 use Rattle.cube_rules.proofs.Public.{both_true, from_both}
 use Rattle.step_rules.specs.Standing.{Standing, state_of}
 use Rattle.step_rules.specs.Taken.{learn_of}
 use Rattle.step_rules.specs.Tokens.{all_shown}
+use Rattle.step_rules.specs.Views.{obligation_of, obligations_of}
 use Rattle.step_rules.specs.declared.lemma_part.LemmaPart.{LemmaPart}
+use Rattle.step_rules.proofs.Public.{obligation_of-at}
 use Rattle.obligation_turn.specs.Turns.{GoesOn}
 use Rattle.obligation_turn.proofs.ProvedLemmas.{proved}
-use Rattle.obligation_turn.proofs.RuleLemmas.{kept, passed}
+use Rattle.obligation_turn.proofs.RuleLemmas.{kept, passed, told-of}
 use Rattle.lemma_general.specs.Generals.{IsLearnt}
+use Rattle.lemma_general.specs.Tries.{point_of}
 use Rattle.lemma_general.specs.machinery.Passes.{AreProofsOf, IsCubeOf, IsWithin}
 
 -- rules that aren't broken
@@ -37,24 +41,26 @@ pub passes : (b : Bool) (by : By) → cond {A = Option By} b None (Some by) ≡ 
 passes true by h = refl
 passes false by h = absurd (let never : Some by ≡ None = h in cc)
 
--- a wider cube at the same or a higher level closes the same obligation
+-- a cube that holds the obligation's point closes it at the same or a higher level
 
 higher-too : (m n k : ℕ) → nat_le m n ≡ true → n ≤ k → nat_le m k ≡ true
 higher-too m n k h le = grind (arith, nat_tests, h, le)
 
-closes-too : (pred : ℕ) (cube wider : List Lit) (level higher : ℕ) (o : Obligation) → level ≤ higher → IsWithin cube wider → closes (record { pred = pred; cube = cube }) level o ≡ true → closes (record { pred = pred; cube = wider }) higher o ≡ true
-closes-too pred cube wider level higher o le within h =
+closes-too : (pred : ℕ) (cube other : List Lit) (level higher : ℕ) (o : Obligation) → level ≤ higher → cube_holds o.point other ≡ true → closes (record { pred = pred; cube = cube }) level o ≡ true → closes (record { pred = pred; cube = other }) higher o ≡ true
+closes-too pred cube other level higher o le held h =
     let all = both_true (is_of pred o.pred && nat_le o.level level) (cube_holds o.point cube) h in
     let own = both_true (is_of pred o.pred) (nat_le o.level level) all.0 in
-    from_both (is_of pred o.pred && nat_le o.level higher) (cube_holds o.point wider) (from_both (is_of pred o.pred) (nat_le o.level higher) own.0 (higher-too o.level level higher own.1 le)) (within o.point all.1)
+    from_both (is_of pred o.pred && nat_le o.level higher) (cube_holds o.point other) (from_both (is_of pred o.pred) (nat_le o.level higher) own.0 (higher-too o.level level higher own.1 le)) held
 
-shuts-too : (target pred : ℕ) (cube wider : List Lit) (level higher : ℕ) (found : Option Obligation) → level ≤ higher → IsWithin cube wider
-    → on found (λ (o : Obligation). cond {A = Option By} (closes (record { pred = pred; cube = cube }) level o) None (Some (ByObligation target))) ≡ None
-    → on found (λ (o : Obligation). cond {A = Option By} (closes (record { pred = pred; cube = wider }) higher o) None (Some (ByObligation target))) ≡ None
-shuts-too target pred cube wider level higher None le within h = refl
-shuts-too target pred cube wider level higher (Some o) le within h =
-    passed (closes (record { pred = pred; cube = wider }) higher o) (ByObligation target)
-    (closes-too pred cube wider level higher o le within (passes (closes (record { pred = pred; cube = cube }) level o) (ByObligation target) h))
+-- a live obligation is there
+
+live-there : (nodes : List Node) (n : ℕ) → unless_live (slice_get (obligations_of nodes) n) ≡ None → n < length nodes
+live-there [] n h = absurd (let never : ◌≡◌ {A = Option By} (Some ByStep) None = h in cc)
+live-there (x ∷ nodes) zero h = omega arith
+live-there (x ∷ nodes) (suc n) h = let rest = live-there nodes n h in omega (arith, rest)
+
+abbrev target_of : Standing → ℕ → Obligation
+target_of b target = obligation_of (node_at b.tree.nodes target)
 
 -- what a Lemma that breaks no rule has
 
@@ -62,7 +68,8 @@ pub record IsPlaced (b : Standing) (part : LemmaPart) : Type 0 where
   pub low : nat_le 1 part.level ≡ true
   pub high : nat_le part.level b.level ≡ true
   pub live : rule_13 (state_of b) (learn_of part) ≡ None
-  pub shut : rule_14 (state_of b) (learn_of part) ≡ None
+  pub there : part.target < length b.tree.nodes
+  pub closing : closes (record { pred = part.pred; cube = part.lemma }) part.level (target_of b part.target) ≡ true
   pub over : is_over b.system.preds part.pred part.lemma ≡ true
 
 pub placed : (b : Standing) (part : LemmaPart) → IsLearnt b part → IsPlaced b part
@@ -75,18 +82,28 @@ placed b part learnt =
     let fourth = both-none 13 (rule_13 s l) _ third.1 in
     let fifth = both-none 14 (rule_14 s l) None fourth.1 in
     let between = both_true (nat_le 1 part.level) (nat_le part.level b.level) (passes (nat_le 1 part.level && nat_le part.level b.level) (ByLevel b.level) first.0) in
+    let there = live-there b.tree.nodes part.target fourth.0 in
+    let tell : Obligation → Option By = λ o. cond (closes (record { pred = part.pred; cube = part.lemma }) part.level o) None (Some (ByObligation part.target)) in
+    let told : tell (target_of b part.target) ≡ None = sym (ap (λ (o : Option Obligation). on o tell) (obligation_of-at b.tree.nodes part.target there)) ∙ fifth.0 in
     record {
       low = between.0;
       high = between.1;
       live = fourth.0;
-      shut = fifth.0;
+      there = there;
+      closing = passes (closes (record { pred = part.pred; cube = part.lemma }) part.level (target_of b part.target)) (ByObligation part.target) told;
       over = (both_true (is_over b.system.preds part.pred part.lemma) (list_all (shown_has_places b.system) (all_shown part.proofs)) learnt.places).0;
     }
 
--- with refutations of a wider cube under the frame below, at the same or a higher level
-pub relearnt : (b : Standing) (part : LemmaPart) (level : ℕ) (cube : List Lit) (proofs : List Shown) → GoesOn b → IsLearnt b part → part.level ≤ level → level ≤ b.level → IsCubeOf b part.pred cube → IsWithin part.lemma cube
+-- its cube holds the point of its obligation, and so does each cube that holds as much
+pub held-at : (b : Standing) (part : LemmaPart) (cube : List Lit) → IsLearnt b part → IsWithin part.lemma cube → cube_holds (point_of b part.target) cube ≡ true
+held-at b part cube learnt within =
+    let o = target_of b part.target in
+    within (point_of b part.target) (both_true (is_of part.pred o.pred && nat_le o.level part.level) (cube_holds o.point part.lemma) (placed b part learnt).closing).1
+
+-- with refutations of a cube that holds the obligation's point under the frame below, at the same or a higher level
+pub relearnt : (b : Standing) (part : LemmaPart) (level : ℕ) (cube : List Lit) (proofs : List Shown) → GoesOn b → IsLearnt b part → part.level ≤ level → level ≤ b.level → IsCubeOf b part.pred cube → cube_holds (point_of b part.target) cube ≡ true
     → AreProofsOf b part.pred cube (level - 1) proofs → IsLearnt b (record { target = part.target; pred = part.pred; lemma = cube; level = level; proofs = proofs })
-relearnt b part level cube proofs goes learnt from to is within are =
+relearnt b part level cube proofs goes learnt from to is held are =
     let s = state_of b in
     let lemma : Lemma = record { pred = part.pred; cube = cube } in
     let made : LemmaPart = record { target = part.target; pred = part.pred; lemma = cube; level = level; proofs = proofs } in
@@ -95,8 +112,11 @@ relearnt b part level cube proofs goes learnt from to is within are =
     let its = proved b.system b.frames.lemmas (level - 1) (Some lemma) (Some lemma) proofs ((goes.standing).over).lemmas is.over are in
     let low : nat_le 1 level ≡ true = higher-too 1 part.level level before.low from in
     let high : nat_le level b.level ≡ true = grind (arith, nat_tests, to) in
+    let closing : closes lemma level (target_of b part.target) ≡ true = closes-too part.pred part.lemma cube part.level level (target_of b part.target) from held before.closing in
     let r10 = passed (nat_le 1 level && nat_le level b.level) (ByLevel b.level) (from_both (nat_le 1 level) _ low high) in
-    let r14 : rule_14 s l ≡ None = shuts-too part.target part.pred part.lemma cube part.level level (slice_get s.obligations part.target) from within before.shut in
+    let r14 : rule_14 s l ≡ None =
+    told-of (slice_get s.obligations part.target) (target_of b part.target) (λ (o : Obligation). cond (closes lemma level o) None (Some (ByObligation part.target))) (obligation_of-at b.tree.nodes part.target before.there)
+    (passed (closes lemma level (target_of b part.target)) (ByObligation part.target) closing) in
     record {
       unbroken = kept 10 (rule_10 s l) _ r10 (kept 11 (rule_11 b.system l) _ its.unshown (kept 12 (rule_12 b.system s l) _ its.misused (kept 13 (rule_13 s l) _ before.live (kept 14 (rule_14 s l) None r14 refl))));
       made = its.made;

@@ -4,3 +4,4 @@ pub mod LearnLemmas
 pub mod MetLemmas
 pub mod AskLemmas
 pub mod PassLemmas
+pub mod TakeLemmas

@@ -1,11 +1,11 @@
 -- Parts of lists of literals, and a list without a literal.
-use Rattle.std.proofs.Common.{◌≡◌, ℕ, ◌+◌, ◌<◌, ◌≤◌, zero, suc, List, [], ◌∷◌, ◌++◌, Bool, true, false, ◌&&◌, ◌||◌, inl, inr, length, take, drop, refl, ap, sym, ◌∙◌, subst, arith}
-use Rattle.std.specs.Prelude.{◌⊎◌, ℤ}
+use Rattle.std.proofs.Common.{◌≡◌, ℕ, ◌<◌, zero, suc, List, [], ◌∷◌, ◌++◌, Bool, true, false, ◌||◌, inl, inr, length, take, drop, refl, ap, sym, ◌∙◌, subst, arith}
 use Rattle.std.specs.List.{list_all, list_any}
 use mathlib.Core.Bool.{true≢false}
 use Rattle.lin_atoms.specs.declared.lit.Lit.{Lit}
 use Rattle.lin_atoms.specs.Truth.{lit_truth}
-use Rattle.cube_rules.proofs.Public.{both_true, from_both}
+use Rattle.cube_forms.specs.Cubes.{cube_is_short, lit_is_short}
+use Rattle.cube_rules.proofs.Public.{both_true, from_both, plus-one}
 use Rattle.lemma_general.specs.Generals.{IsPart, without}
 use Rattle.lemma_general.specs.machinery.Passes.{IsWithin}
 
@@ -27,15 +27,29 @@ later : (y : Lit) (part whole : List Lit) → IsPart part whole → IsPart part 
 later y [] whole h = tt
 later y (x ∷ part) whole h = inr h
 
+-- a list without the literal at a place, as it is taken apart
+
+abbrev gone : ℕ → List Lit → List Lit
+gone at lits = take at lits ++ drop (suc at) lits
+
+without-gone : (at : ℕ) (lits : List Lit) → gone at lits ≡ without at lits
+without-gone at lits = ap (λ (n : ℕ). take at lits ++ drop n lits) (sym (plus-one at))
+
+part-gone : (at : ℕ) (lits : List Lit) → at < length lits → IsPart (gone at lits) lits
+part-gone at [] less = absurd (omega arith)
+part-gone zero (x ∷ lits) less = later x lits lits (part-self lits)
+part-gone (suc at) (x ∷ lits) less = inl (refl, part-gone at lits (omega arith))
+
 pub part-without : (at : ℕ) (lits : List Lit) → at < length lits → IsPart (without at lits) lits
-part-without at [] less = absurd (omega arith)
-part-without zero (x ∷ lits) less = later x lits lits (part-self lits)
-part-without (suc at) (x ∷ lits) less = inl (refl, part-without at lits (omega arith))
+part-without at lits less = subst (λ (c : List Lit). IsPart c lits) (without-gone at lits) (part-gone at lits less)
+
+shorter-gone : (at : ℕ) (lits : List Lit) → at < length lits → length (gone at lits) < length lits
+shorter-gone at [] less = absurd (omega arith)
+shorter-gone zero (x ∷ lits) less = omega arith
+shorter-gone (suc at) (x ∷ lits) less = let rest = shorter-gone at lits (omega arith) in omega (arith, rest)
 
 pub shorter : (at : ℕ) (lits : List Lit) → at < length lits → length (without at lits) < length lits
-shorter at [] less = absurd (omega arith)
-shorter zero (x ∷ lits) less = omega arith
-shorter (suc at) (x ∷ lits) less = let rest = shorter at lits (omega arith) in omega arith
+shorter at lits less = subst (λ (c : List Lit). length c < length lits) (without-gone at lits) (shorter-gone at lits less)
 
 -- what all of a list pass, a part passes
 
@@ -55,5 +69,8 @@ part-none p (x ∷ part) [] h none = absurd h
 part-none p (x ∷ part) (y ∷ whole) (inl h) none = let both = none-of (p y) (list_any p whole) none in ap (λ b. b || list_any p part) (ap p h.0 ∙ both.0) ∙ part-none p part whole h.1 both.1
 part-none p (x ∷ part) (y ∷ whole) (inr h) none = let both = none-of (p y) (list_any p whole) none in part-none p (x ∷ part) whole h both.1
 
-pub part-within : (part whole : List Lit) → IsPart part whole → IsWithin whole part
-part-within part whole h = λ tuple held. part-all (lit_truth tuple) part whole h held
+pub part-holds : (part whole : List Lit) → IsPart part whole → IsWithin whole part
+part-holds part whole h = λ tuple held. part-all (lit_truth tuple) part whole h held
+
+pub short-without : (at : ℕ) (lits : List Lit) → at < length lits → cube_is_short lits ≡ true → cube_is_short (without at lits) ≡ true
+short-without at lits within short = part-all lit_is_short (without at lits) lits (part-without at lits within) short

@@ -2,18 +2,18 @@
 use Rattle.std.proofs.Common.{◌≡◌, ℕ, ◌+◌, ◌-◌, ◌<◌, ◌≤◌, List, Bool, true, false, inl, inr, cond, length, refl, ap, sym, ◌∙◌, subst, arith}
 use Rattle.std.specs.Prelude.{◌⊎◌, Option, Some, None, nat_abs, nat_le, ◌==◌, ◌^◌}
 use Rattle.std.specs.List.{list_all, list_any}
+use Rattle.std.proofs.lemmas.Bool.{eqb-true}
 use Rattle.std.proofs.lemmas.Bool.Decides.{nat_tests}
 use mathlib.Core.Bool.{true≢false}
 use Rattle.lin_atoms.specs.Denial.{linear_of}
 use Rattle.lin_atoms.specs.Truth.{lit_is_below}
 use Rattle.lin_atoms.specs.declared.lit.Lit.{Lit}
-use Rattle.book_rules.specs.Areas.{is_wide}
-use Rattle.book_rules.specs.Places.{is_over, places_of}
+use Rattle.book_rules.specs.Places.{places_of}
 use Rattle.book_rules.specs.Walks.{has}
 use Rattle.step_rules.specs.Standing.{Standing}
 use Rattle.step_rules.specs.declared.lemma_part.LemmaPart.{LemmaPart}
 use Rattle.lemma_general.specs.Generals.{IsAgainst, IsForSame, IsGeneralised, IsLearnt, IsLeast, IsPart, IsRaised, bounds_of, without}
-use Rattle.lemma_general.specs.machinery.Passes.{AreMet, IsCubeOf, IsPassed, IsRaisedOnce, IsTaken}
+use Rattle.lemma_general.specs.machinery.Passes.{AreMet, IsCubeOf, IsPassed, IsRaisedOnce, IsSplit, IsTaken}
 use Rattle.lemma_general.specs.declared.breaking.Breaking.{Breaking}
 use Rattle.lemma_general.proofs.BoundLemmas.{bounds-below, bounds-narrow}
 use Rattle.lemma_general.proofs.LearnLemmas.{placed}
@@ -51,13 +51,13 @@ same-trans a b c h k = record { target = k.target ∙ h.target; pred = k.pred �
 
 -- a pass that is under way at a place
 
-pub record IsPassing (b : Standing) (nodes at : ℕ) (first part : LemmaPart) (met : List Breaking) (dropped : Bool) : Type 0 where
-  pub learnt : IsLearnt b part
-  pub same : IsForSame first part
-  pub part : IsPart part.lemma first.lemma
-  pub met : AreMet b part met
-  pub fewer : dropped ≡ true → length part.lemma < length first.lemma
-  pub least : dropped ≡ false → (part ≡ first) × ((i : ℕ) → i < at → IsAgainst b first.pred (first.level - 1) nodes (without i first.lemma))
+pub record IsPassing (b : Standing) (nodes at : ℕ) (first now : LemmaPart) (seen : List Breaking) (dropped : Bool) : Type 0 where
+  pub learnt : IsLearnt b now
+  pub same : IsForSame first now
+  pub part : IsPart now.lemma first.lemma
+  pub met : AreMet b now seen
+  pub fewer : dropped ≡ true → length now.lemma < length first.lemma
+  pub least : dropped ≡ false → (now ≡ first) × ((i : ℕ) → i < at → IsAgainst b first.pred (first.level - 1) nodes (without i first.lemma))
 
 pub passing-first : (b : Standing) (nodes : ℕ) (first : LemmaPart) (met : List Breaking) → IsLearnt b first → AreMet b first met → IsPassing b nodes 0 first first met false
 passing-first b nodes first met learnt all = record {
@@ -104,12 +104,12 @@ passing-kept b nodes at first part new met more dropped on taken all =
     up-to i is before less = by (i == at) refl
       where
         by : (t : Bool) → (i == at) ≡ t → IsAgainst b first.pred (first.level - 1) nodes (without i first.lemma)
-        by true e = (let same : at ≡ i = grind (arith, nat_tests, e) in subst (λ (n : ℕ). IsAgainst b first.pred (first.level - 1) nodes (without n first.lemma)) same
+        by true e = (let same : at ≡ i = sym (eqb-true i at e) in subst (λ (n : ℕ). IsAgainst b first.pred (first.level - 1) nodes (without n first.lemma)) same
             (subst (λ (p : LemmaPart). IsAgainst b p.pred (p.level - 1) nodes (without at p.lemma)) is taken.1))
         by false e = (let lower : i < at = grind (arith, nat_tests, e, less) in before i lower)
 
 pub passed : (b : Standing) (nodes at : ℕ) (first part : LemmaPart) (met : List Breaking) (dropped : Bool) → length part.lemma ≤ at → IsPassing b nodes at first part met dropped → IsPassed b nodes first part dropped
-passed b nodes at first part met true past on = (on.learnt, (on.same, (on.part, on.fewer refl)))
+passed b nodes at first part met true past on = (on.learnt, on.same, on.part, on.fewer refl)
 passed b nodes at first part met false past on =
     let least = on.least refl in
     let long : length first.lemma ≤ at = subst (λ (p : LemmaPart). length p.lemma ≤ at) least.0 past in
@@ -117,27 +117,28 @@ passed b nodes at first part met false past on =
 
 -- between two passes
 
-pub record IsBetween (b : Standing) (nodes : ℕ) (given part : LemmaPart) (met : List Breaking) (going : Bool) : Type 0 where
-  pub learnt : IsLearnt b part
-  pub same : IsForSame given part
-  pub part : IsPart part.lemma (bounds_of given.lemma) ⊎ (IsAgainst b given.pred (given.level - 1) nodes (bounds_of given.lemma) × IsPart part.lemma given.lemma)
-  pub met : AreMet b part met
-  pub least : going ≡ false → IsLeast b part.pred (part.level - 1) nodes part.lemma
+pub record IsBetween (b : Standing) (nodes : ℕ) (given now : LemmaPart) (seen : List Breaking) (going : Bool) : Type 0 where
+  pub learnt : IsLearnt b now
+  pub same : IsForSame given now
+  pub part : IsPart now.lemma (bounds_of given.lemma) ⊎ (IsAgainst b given.pred (given.level - 1) nodes (bounds_of given.lemma) × IsPart now.lemma given.lemma)
+  pub met : AreMet b now seen
+  pub least : going ≡ false → IsLeast b now.pred (now.level - 1) nodes now.lemma
 
-pub between-first : (b : Standing) (nodes : ℕ) (given part : LemmaPart) (met : List Breaking) → IsLearnt b part → IsForSame given part
-    → ((part.lemma ≡ bounds_of given.lemma) ⊎ (IsAgainst b given.pred (given.level - 1) nodes (bounds_of given.lemma) × (part ≡ given))) → AreMet b part met → IsBetween b nodes given part met true
-between-first b nodes given part met learnt same how all = record {
-  learnt = learnt;
-  same = same;
-  part = by how;
+pub between-first : (b : Standing) (nodes : ℕ) (given part : LemmaPart) (met : List Breaking) → IsLearnt b given → IsSplit b nodes given part → AreMet b part met → IsBetween b nodes given part met true
+between-first b nodes given part met learnt (inl how) all = record {
+  learnt = how.0;
+  same = how.1;
+  part = inl (subst (IsPart part.lemma) how.2 (part-self part.lemma));
   met = all;
   least = λ h. absurd (true≢false h);
 }
-  where
-    by : (part.lemma ≡ bounds_of given.lemma) ⊎ (IsAgainst b given.pred (given.level - 1) nodes (bounds_of given.lemma) × (part ≡ given))
-        → IsPart part.lemma (bounds_of given.lemma) ⊎ (IsAgainst b given.pred (given.level - 1) nodes (bounds_of given.lemma) × IsPart part.lemma given.lemma)
-    by (inl is) = inl (subst (λ (c : List Lit). IsPart part.lemma c) is (part-self part.lemma))
-    by (inr is) = inr (is.0, subst (λ (p : LemmaPart). IsPart part.lemma p.lemma) is.1 (part-self part.lemma))
+between-first b nodes given part met learnt (inr how) all = record {
+  learnt = subst (IsLearnt b) (sym how.1) learnt;
+  same = subst (IsForSame given) (sym how.1) (same-self given);
+  part = inr (how.0, subst (λ (p : LemmaPart). IsPart p.lemma given.lemma) (sym how.1) (part-self given.lemma));
+  met = all;
+  least = λ h. absurd (true≢false h);
+}
 
 pub between-next : (b : Standing) (nodes : ℕ) (given part new : LemmaPart) (met more : List Breaking) (going : Bool) → IsBetween b nodes given part met true → IsPassed b nodes part new going → AreMet b new more → IsBetween b nodes given new more going
 between-next b nodes given part new met more true on passed all = record {
@@ -181,3 +182,9 @@ rising-next b nodes given part new false on once =
 
 pub risen : (b : Standing) (nodes : ℕ) (given part : LemmaPart) → IsRising b nodes given part false → IsRaised b nodes given part
 risen b nodes given part on = record { learnt = on.learnt; target = on.target; pred = on.pred; lemma = on.lemma; level = on.level; highest = on.highest refl }
+
+-- passes grow fewer literals
+
+pub fewer-after : (b : Standing) (nodes : ℕ) (old new : LemmaPart) (going : Bool) → IsPassed b nodes old new going → cond {A = ℕ} going (length new.lemma + 1) 0 < length old.lemma + 1
+fewer-after b nodes old new true passed = let less = passed.3 in omega (arith, less)
+fewer-after b nodes old new false passed = omega arith

@@ -1,9 +1,9 @@
 -- Cubes that are tried in a lemma's place (Bradley, "SAT-based model checking without unrolling", section 4: a cube that the frame below
 -- excludes takes the lemma's place, and a counterexample keeps it out).
-use Rattle.std.specs.Prelude.{◌≡◌, ◌-◌, ◌⊎◌, ℕ, ℤ, List, Bool, true, false, not, ◌&&◌, Some, length}
+use Rattle.std.specs.Prelude.{◌≡◌, ◌-◌, ◌⊎◌, ℕ, ℤ, List, Bool, true, false, not, ◌&&◌, Some}
 use Rattle.std.specs.List.{list_all}
 use Rattle.lin_atoms.specs.declared.lit.Lit.{Lit}
-use Rattle.clause_form.specs.System.{is_head_of}
+use Rattle.clause_form.specs.System.{is_clause}
 use Rattle.cube_forms.specs.Cubes.{cube_holds}
 use Rattle.obligation_tree.specs.Nodes.{node_at, obligation_in}
 use Rattle.chc_tokens.specs.Instances.{head_at}
@@ -37,7 +37,7 @@ IsTried b nodes cube old new false = (new ≡ old) × ((may_replace b old cube �
 pub record IsMet (b : Standing) (pred k : ℕ) (met : Breaking) : Type 0 where
   pub at : IsAskedAt b.system (Some pred) k (seen_clause met.seen)
   pub seen_is : is_seen b.system met.seen ≡ true
-  pub legal : is_head_of b.system.preds (length at.clause.sorts) at.clause.head ≡ true
+  pub legal : is_clause b.system.preds at.clause ≡ true
   pub head : head_at (seen_point met.seen) at.clause ≡ Some (pred, met.tuple)
   pub body : list_all (is_passed (seen_point met.seen) at.clause) (uses k b.frames.lemmas at.clause) ≡ true
 

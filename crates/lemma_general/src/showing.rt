@@ -1,16 +1,16 @@
-//! What the frame below says of a lemma.
+//! What a frame says of a cube.
 
-ghost use Rattle.std.specs.Prelude.{◌<◌, IfOk};
+ghost use Rattle.std.specs.Prelude.{◌-◌, ◌<◌, IfOk};
 ghost use Rattle.obligation_turn.specs.Turns.{GoesOn};
-ghost use Rattle.lemma_general.specs.machinery.Passes.{IsCubeOf, IsFoundOf};
+ghost use Rattle.lemma_general.specs.machinery.Passes.{IsCubeOf, IsFoundOf, IsShownOf};
 
-use base::Memory;
-use chc_tokens::Goal;
+use base::{Items, Memory};
+use chc_tokens::{Goal, Shown};
 use clause_queries::{Found, ask_all};
 use cube_forms::{Cube, negate};
-use step_rules::Lent;
+use step_rules::{LemmaPart, Lent};
 
-/// Asks whether the frame of level k implies that no tuple of the predicate lies in the cube.
+/// Asks for an instance whose head, of the predicate, lies in the cube, and whose body is in F(k).
 pub(crate) fn ask(lent: &Lent, pred: u32, cube: &Cube, k: u32, nodes: u32) -> Result<Found, Memory>
     requires goes_on { GoesOn lent.now }
     requires cube { IsCubeOf lent.now pred cube.now }
@@ -28,5 +28,49 @@ pub(crate) fn ask(lent: &Lent, pred: u32, cube: &Cube, k: u32, nodes: u32) -> Re
         k,
         nodes,
     )?;
+    Ok(found)
+}
+
+/// Its refutations, through each clause; none where there is an instance, or the search was given up.
+pub(crate) fn show(
+    lent: &Lent,
+    pred: u32,
+    cube: &Cube,
+    k: u32,
+    nodes: u32,
+) -> Result<Option<Items<Shown>>, Memory>
+    requires goes_on { GoesOn lent.now }
+    requires cube { IsCubeOf lent.now pred cube.now }
+    requires some { 0 < nodes }
+    ensures { IfOk result (IsShownOf lent.now pred cube.now k nodes) }
+{
+    let found = ask(lent, pred, cube, k, nodes)?;
+    match found {
+        Found::Refuted(proofs) => Ok(Some(proofs)),
+        Found::Instance(seen) => {
+            let _seen = seen;
+            Ok(None)
+        }
+        Found::GivenUp(lost) => {
+            let _lost = lost;
+            Ok(None)
+        }
+    }
+}
+
+/// The same as `ask` for a lemma's predicate and the frame below its level.
+pub(crate) fn ask_below(
+    lent: &Lent,
+    part: &LemmaPart,
+    cube: &Cube,
+    nodes: u32,
+) -> Result<Found, Memory>
+    requires goes_on { GoesOn lent.now }
+    requires cube { IsCubeOf lent.now part.now.pred cube.now }
+    requires some { 0 < nodes }
+    ensures { IfOk result (IsFoundOf lent.now part.now.pred cube.now (part.now.level - 1) nodes) }
+{
+    let k = part.level.saturating_sub(1);
+    let found = ask(lent, part.pred, cube, k, nodes)?;
     Ok(found)
 }

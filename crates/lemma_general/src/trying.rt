@@ -1,5 +1,12 @@
 //! Cubes that are tried in a lemma's place.
 
+ghost use Rattle.std.specs.Prelude.{◌≡◌, ◌<◌, length, IfOk, OnOk};
+ghost use Rattle.book_rules.specs.Places.{is_over};
+ghost use Rattle.obligation_turn.specs.Turns.{GoesOn};
+ghost use Rattle.step_rules.specs.Standing.{Standing};
+ghost use Rattle.lemma_general.specs.Generals.{IsLearnt};
+ghost use Rattle.lemma_general.specs.Tries.{IsTried, IsTrying, may_replace, part_of};
+
 use crate::breaking::Breaking;
 use crate::dropping::take;
 use base::{Items, Memory};
@@ -16,13 +23,6 @@ pub struct Tries {
     pub(crate) part: LemmaPart,
     pub(crate) met: Items<Breaking>,
 }
-
-ghost use Rattle.std.specs.Prelude.{◌≡◌, ◌<◌, length, IfOk, OnOk};
-ghost use Rattle.book_rules.specs.Places.{is_over};
-ghost use Rattle.obligation_turn.specs.Turns.{GoesOn};
-ghost use Rattle.step_rules.specs.Standing.{Standing};
-ghost use Rattle.lemma_general.specs.Generals.{IsLearnt};
-ghost use Rattle.lemma_general.specs.Tries.{IsTried, IsTrying, may_replace, part_of};
 
 /// Whether the predicate is there, and has each place of the cube.
 fn is_over(sys: &System, pred: u32, cube: &Cube) -> bool
@@ -83,7 +83,7 @@ impl Tries {
 
     /// The same, where no more is tried.
     pub fn into_part(self) -> LemmaPart
-        ensures { result ≡ part_of self.entry }
+        ensures { result ≡ part_of self }
     {
         self.part
     }

@@ -1,0 +1,159 @@
+-- A cube in a lemma's place, a lemma at the next level, and a lemma's lift, as the code has them in hand.
+use Rattle.std.proofs.Common.{◌≡◌, ℕ, ◌+◌, ◌-◌, ◌<◌, ◌≤◌, zero, suc, List, [], ◌∷◌, Bool, true, false, inl, inr, length, Some, refl, ap, sym, ◌∙◌, subst, arith}
+use Rattle.std.specs.Prelude.{nat_le}
+use Rattle.std.specs.List.{list_any}
+use Rattle.std.proofs.lemmas.Bool.Decides.{nat_tests}
+use Rattle.lin_atoms.specs.declared.lit.Lit.{Lit}
+use Rattle.cube_forms.specs.Cubes.{cube_holds}
+use Rattle.lemma_frames.specs.Frames.{lemma_of, level_of, pred_of as pred_at}
+use Rattle.lemma_frames.specs.declared.framed.Framed.{Framed as KeptLemma}
+use Rattle.chc_tokens.specs.declared.goal.Goal.TheVariants.{Holds}
+use Rattle.chc_tokens.specs.declared.refuting.Shown.{Shown}
+use Rattle.chc_tokens.specs.declared.seeing.Seen.{Seen}
+use Rattle.book_rules.specs.Areas.{is_wide}
+use Rattle.book_rules.specs.Frames.{Framed}
+use Rattle.book_rules.specs.Places.{is_over}
+use Rattle.book_rules.specs.Walks.{AllOf}
+use Rattle.book_rules.proofs.ListLemmas.{all_of-at}
+use Rattle.cube_rules.specs.Views.{framed_at, lemmas_of}
+use Rattle.cube_rules.proofs.Public.{framed_of-at}
+use Rattle.clause_queries.specs.Answers.{IsHit, IsLost}
+use Rattle.clause_queries.specs.Kept.{is_kept}
+use Rattle.clause_queries.specs.declared.lost.Lost.{Lost}
+use Rattle.step_rules.specs.Standing.{Standing}
+use Rattle.step_rules.specs.declared.lemma_part.LemmaPart.{LemmaPart}
+use Rattle.obligation_turn.specs.Turns.{GoesOn}
+use Rattle.obligation_turn.proofs.LiftLemmas.{lifts}
+use Rattle.lemma_general.specs.Generals.{IsAgainst, IsForSame, IsLearnt, IsLiftOf, bounds_of, without}
+use Rattle.lemma_general.specs.Tries.{IsMet, point_of}
+use Rattle.lemma_general.specs.machinery.Passes.{AreMet, AreProofsOf, IsCubeOf, IsRaisedOnce, IsReplaced, IsSplit, IsTaken}
+use Rattle.lemma_general.specs.declared.breaking.Breaking.{Breaking}
+use Rattle.lemma_general.proofs.LearnLemmas.{held-at, placed, relearnt}
+use Rattle.lemma_general.proofs.MetLemmas.{any-hit}
+use Rattle.lemma_general.proofs.BoundLemmas.{bounds-within}
+use Rattle.lemma_general.proofs.PartLemmas.{part-holds, part-without}
+use Rattle.lemma_general.proofs.PassLemmas.{bounds-cube, own-cube, part-cube}
+
+le-of : (m n : ℕ) → nat_le m n ≡ true → m ≤ n
+le-of m n h = grind (arith, nat_tests, h)
+
+-- a cube that is taken, or isn't
+
+pub replaced : (b : Standing) (old : LemmaPart) (cube lemma : List Lit) (proofs : List Shown) → GoesOn b → IsLearnt b old → IsCubeOf b old.pred cube → cube_holds (point_of b old.target) cube ≡ true → lemma ≡ cube → AreProofsOf b old.pred cube (old.level - 1) proofs
+    → IsReplaced b cube old (record { target = old.target; pred = old.pred; lemma = lemma; level = old.level; proofs = proofs })
+replaced b old cube lemma proofs goes learnt is held same are =
+    let top : old.level ≤ b.level = le-of old.level b.level (placed b old learnt).high in
+    let made = relearnt b old old.level cube proofs goes learnt (omega arith) top is held are in
+    let kept : IsLearnt b (record { target = old.target; pred = old.pred; lemma = lemma; level = old.level; proofs = proofs }) =
+    subst (λ (c : List Lit). IsLearnt b (record { target = old.target; pred = old.pred; lemma = c; level = old.level; proofs = proofs })) (sym same) made in
+    (kept, record { target = refl; pred = refl; level = refl }, same)
+
+-- what was met stays so for a lemma of the same predicate and level
+pub met-same : (b : Standing) (old new : LemmaPart) (met : List Breaking) → IsForSame old new → AreMet b old met → AreMet b new met
+met-same b old new met same all =
+    subst (λ (p : ℕ). AllOf (IsMet b p (new.level - 1)) met) (sym same.pred) (subst (λ (l : ℕ). AllOf (IsMet b old.pred (l - 1)) met) (sym same.level) all)
+
+pub met-against : (b : Standing) (nodes : ℕ) (old : LemmaPart) (cube : List Lit) (met : List Breaking) → IsCubeOf b old.pred cube → is_kept cube ≡ true → AreMet b old met → list_any (λ (one : Breaking). cube_holds one.tuple cube) met ≡ true
+    → IsAgainst b old.pred (old.level - 1) nodes cube
+met-against b nodes old cube met is kept all h = inl (any-hit b old.pred (old.level - 1) cube met is kept all h)
+
+pub hit-against : (b : Standing) (pred k nodes : ℕ) (cube : List Lit) (seen : Seen) → IsHit b.system b.frames.lemmas (Some pred) (Holds cube) k seen → IsAgainst b pred k nodes cube
+hit-against b pred k nodes cube seen hit = inl (seen, hit)
+
+pub lost-against : (b : Standing) (pred k nodes : ℕ) (cube : List Lit) (lost : Lost) → IsLost b.system b.frames.lemmas (Some pred) (Holds cube) k nodes lost → IsAgainst b pred k nodes cube
+lost-against b pred k nodes cube lost is = inr (lost, is)
+
+-- without a literal, and split
+
+pub drop-cube : (b : Standing) (part : LemmaPart) (at : ℕ) (cube : List Lit) → IsLearnt b part → at < length part.lemma → cube ≡ without at part.lemma → IsCubeOf b part.pred cube
+drop-cube b part at cube learnt within is = subst (IsCubeOf b part.pred) (sym is) (part-cube b part (without at part.lemma) learnt (part-without at part.lemma within))
+
+pub drop-held : (b : Standing) (part : LemmaPart) (at : ℕ) (cube : List Lit) → IsLearnt b part → at < length part.lemma → cube ≡ without at part.lemma → cube_holds (point_of b part.target) cube ≡ true
+drop-held b part at cube learnt within is =
+    subst (λ (c : List Lit). cube_holds (point_of b part.target) c ≡ true) (sym is) (held-at b part (without at part.lemma) learnt (part-holds (without at part.lemma) part.lemma (part-without at part.lemma within)))
+
+pub split-cube : (b : Standing) (part : LemmaPart) (cube : List Lit) → IsLearnt b part → cube ≡ bounds_of part.lemma → IsCubeOf b part.pred cube
+split-cube b part cube learnt is = subst (IsCubeOf b part.pred) (sym is) (bounds-cube b part learnt)
+
+pub split-held : (b : Standing) (part : LemmaPart) (cube : List Lit) → IsLearnt b part → cube ≡ bounds_of part.lemma → cube_holds (point_of b part.target) cube ≡ true
+split-held b part cube learnt is = subst (λ (c : List Lit). cube_holds (point_of b part.target) c ≡ true) (sym is) (held-at b part (bounds_of part.lemma) learnt (bounds-within part.lemma))
+
+pub split-none : (b : Standing) (nodes : ℕ) (part : LemmaPart) (lits : List Lit) → IsLearnt b part → lits ≡ part.lemma → bounds_of lits ≡ lits → IsSplit b nodes part part
+split-none b nodes part lits learnt is none = inl (learnt, record { target = refl; pred = refl; level = refl }, sym (ap bounds_of (sym is) ∙ none ∙ is))
+
+pub split-by : (b : Standing) (nodes : ℕ) (old new : LemmaPart) (cube : List Lit) (yes : Bool) → cube ≡ bounds_of old.lemma → IsTaken b nodes cube old new yes → IsSplit b nodes old new
+split-by b nodes old new cube true is taken = inl (subst (λ (c : List Lit). IsReplaced b c old new) is taken)
+split-by b nodes old new cube false is taken = inr (subst (IsAgainst b old.pred (old.level - 1) nodes) is taken.1, taken.0)
+
+-- the next level
+
+pub raised-once : (b : Standing) (nodes level : ℕ) (old : LemmaPart) (proofs : List Shown) → GoesOn b → IsLearnt b old → old.level < b.level → level ≡ old.level + 1 → AreProofsOf b old.pred old.lemma old.level proofs
+    → IsRaisedOnce b nodes old (record { target = old.target; pred = old.pred; lemma = old.lemma; level = level; proofs = proofs }) true
+raised-once b nodes level old proofs goes learnt below up are =
+    let same : old.level ≡ level - 1 = omega (arith, up) in
+    let from : old.level ≤ level = omega (arith, up) in
+    let to : level ≤ b.level = omega (arith, up, below) in
+    let held = held-at b old old.lemma learnt (λ tuple h. h) in
+    let made = relearnt b old level old.lemma proofs goes learnt from to (own-cube b old learnt) held (subst (λ (m : ℕ). AreProofsOf b old.pred old.lemma m proofs) same are) in
+    (made, refl, refl, refl, up, to)
+
+pub at-top : (b : Standing) (nodes : ℕ) (old : LemmaPart) → IsLearnt b old → b.level ≤ old.level → IsRaisedOnce b nodes old old false
+at-top b nodes old learnt high =
+    let top : old.level ≤ b.level = le-of old.level b.level (placed b old learnt).high in
+    (refl, inl (omega (arith, high, top)))
+
+pub not-raised : (b : Standing) (nodes : ℕ) (old : LemmaPart) → IsAgainst b old.pred old.level nodes old.lemma → IsRaisedOnce b nodes old old false
+not-raised b nodes old against = (refl, inr against)
+
+-- a lemma of the book
+
+narrow-at : (fs : List KeptLemma) (id : ℕ) → id < length fs → AllOf (λ (f : KeptLemma). is_wide f.lemma ≡ false) fs → is_wide (lemma_of fs id) ≡ false
+narrow-at [] id within all = absurd (omega arith)
+narrow-at (f ∷ fs) zero within all = all.0
+narrow-at (f ∷ fs) (suc id) within all = narrow-at fs id (omega arith) all.1
+
+pub kept-cube : (b : Standing) (id : ℕ) → GoesOn b → id < length b.frames.lemmas → IsCubeOf b (pred_at b.frames.lemmas id) (lemma_of b.frames.lemmas id)
+kept-cube b id goes within = record {
+  over = all_of-at (λ (e : Framed). is_over b.system.preds e.lemma.pred e.lemma.cube ≡ true) (lemmas_of b.frames.lemmas) id (framed_at b.frames.lemmas id) (framed_of-at b.frames.lemmas id within) ((goes.standing).over).lemmas;
+  narrow = narrow-at b.frames.lemmas id within (goes.narrow).lemmas;
+}
+
+pub lifted-of : (b : Standing) (id : ℕ) (proofs : List Shown) → GoesOn b → id < length b.frames.lemmas → level_of b.frames.lemmas id < b.level → AreProofsOf b (pred_at b.frames.lemmas id) (lemma_of b.frames.lemmas id) (level_of b.frames.lemmas id) proofs
+    → IsLiftOf b id (record { lemma = id; from = level_of b.frames.lemmas id; proofs = proofs })
+lifted-of b id proofs goes within below are = let legal = lifts b id proofs goes within below are in record { unbroken = legal.unbroken; made = legal.made; places = legal.places; lemma = refl }
+
+-- the same of what the code has in hand, over what is lent
+
+pred-lent : (a b : Standing) (id pred : ℕ) → a ≡ b → pred ≡ pred_at a.frames.lemmas id → pred ≡ pred_at b.frames.lemmas id
+pred-lent a b id pred same is = is ∙ ap (λ (x : Standing). pred_at x.frames.lemmas id) same
+
+cube-lent : (a b : Standing) (id : ℕ) (cube : List Lit) → a ≡ b → cube ≡ lemma_of a.frames.lemmas id → cube ≡ lemma_of b.frames.lemmas id
+cube-lent a b id cube same is = is ∙ ap (λ (x : Standing). lemma_of x.frames.lemmas id) same
+
+level-lent : (a b : Standing) (id k : ℕ) → a ≡ b → k ≡ level_of a.frames.lemmas id → k ≡ level_of b.frames.lemmas id
+level-lent a b id k same is = is ∙ ap (λ (x : Standing). level_of x.frames.lemmas id) same
+
+pub kept-lent : (a b : Standing) (id pred : ℕ) (cube : List Lit) → a ≡ b → GoesOn b → id < length b.frames.lemmas → pred ≡ pred_at a.frames.lemmas id → cube ≡ lemma_of a.frames.lemmas id → IsCubeOf b pred cube
+kept-lent a b id pred cube same goes within of_pred is =
+    subst (λ (p : ℕ). IsCubeOf b p cube) (sym (pred-lent a b id pred same of_pred)) (subst (IsCubeOf b (pred_at b.frames.lemmas id)) (sym (cube-lent a b id cube same is)) (kept-cube b id goes within))
+
+pub lift-lent : (a b : Standing) (id pred k : ℕ) (cube : List Lit) (proofs : List Shown) → a ≡ b → GoesOn b → id < length b.frames.lemmas → level_of b.frames.lemmas id < b.level → pred ≡ pred_at a.frames.lemmas id → cube ≡ lemma_of a.frames.lemmas id
+    → k ≡ level_of a.frames.lemmas id → AreProofsOf b pred cube k proofs → IsLiftOf b id (record { lemma = id; from = k; proofs = proofs })
+lift-lent a b id pred k cube proofs same goes within below of_pred is level are =
+    let own = level-lent a b id k same level in
+    let its : AreProofsOf b (pred_at b.frames.lemmas id) (lemma_of b.frames.lemmas id) (level_of b.frames.lemmas id) proofs =
+    subst (λ (p : ℕ). AreProofsOf b p (lemma_of b.frames.lemmas id) (level_of b.frames.lemmas id) proofs) (pred-lent a b id pred same of_pred)
+    (subst (λ (c : List Lit). AreProofsOf b pred c (level_of b.frames.lemmas id) proofs) (cube-lent a b id cube same is) (subst (λ (m : ℕ). AreProofsOf b pred cube m proofs) own are)) in
+    subst (λ (m : ℕ). IsLiftOf b id (record { lemma = id; from = m; proofs = proofs })) (sym own) (lifted-of b id proofs goes within below its)
+
+pub none-lent : (a b : Standing) (id pred k nodes : ℕ) (cube : List Lit) → a ≡ b → pred ≡ pred_at a.frames.lemmas id → cube ≡ lemma_of a.frames.lemmas id → k ≡ level_of a.frames.lemmas id → IsAgainst b pred k nodes cube
+    → IsAgainst b (pred_at b.frames.lemmas id) (level_of b.frames.lemmas id) nodes (lemma_of b.frames.lemmas id)
+none-lent a b id pred k nodes cube same of_pred is level against =
+    subst (λ (p : ℕ). IsAgainst b p (level_of b.frames.lemmas id) nodes (lemma_of b.frames.lemmas id)) (pred-lent a b id pred same of_pred)
+    (subst (λ (m : ℕ). IsAgainst b pred m nodes (lemma_of b.frames.lemmas id)) (level-lent a b id k same level) (subst (IsAgainst b pred k nodes) (cube-lent a b id cube same is) against))
+
+pub level-below : (a b : Standing) (level : ℕ) → a ≡ b → level < a.level → level < b.level
+level-below a b level same low = subst (λ (x : Standing). level < x.level) same low
+
+pub level-above : (a b : Standing) (level : ℕ) → a ≡ b → a.level ≤ level → b.level ≤ level
+level-above a b level same high = subst (λ (x : Standing). x.level ≤ level) same high
