@@ -1,12 +1,13 @@
 #!/bin/sh
 # Refuses each allocation of a whole run of the program in turn, for each script given, or for the
-# examples, with few units of work so that a run is short (UNITS, 20 if it isn't given). Each run must
-# end as it does when none is refused, or with status 5 and what is written for want of memory: the
-# error line, or `unknown` with the level that was closed where there was a book.
+# examples, with a search that is short (5 units of work and 3 nodes of a query, or as UNITS and NODES
+# say). Each run must end as it does when none is refused, or with status 5 and what is written for want
+# of memory: the error line, or `unknown` with the level that was closed where there was a book.
 set -e
 top=$(cd "$(dirname "$0")/.." && pwd)
 program=$top/crates/chc/out/chc
-units=${UNITS:-20}
+units=${UNITS:-5}
+nodes=${NODES:-3}
 [ -x "$program" ] || (cd "$top/crates/chc" && rt run -- solve <stdin >/dev/null)
 work=$(mktemp -d)
 trap 'rm -rf "$work"' EXIT
@@ -17,7 +18,7 @@ cc -O2 -shared -fPIC -o "$work/refuse.so" "$top/bench/allocations.c" -ldl
 run() {
     status=0
     LD_PRELOAD=$work/refuse.so REFUSED=$2 COUNTED=$work/count \
-        "$program" solve --units "$units" <"$1" >"$work/$3" || status=$?
+        "$program" solve --units "$units" --nodes "$nodes" <"$1" >"$work/$3" || status=$?
 }
 
 # Whether that is what is written for want of memory.

@@ -82,16 +82,16 @@ module _ (accepted : AcceptedLaw) (same : SameLaw) (solution : SolutionLaw) (spe
   says limits bytes b text book (SatEnd level) answer (definitions, is, made, solved) printed =
       let preds = book.script.preds in
       let h : IsSatAnswer bytes text =
-        record {
-          commands = book.commands;
-          script = book.script;
-          definitions = definitions;
-          is_script = book.is_script;
-          spelled = book.spelled;
-          arena = book.of.arena;
-          solution = solved;
-          answer = subst (λ (a : Answer). IsAnswerText preds a text) is printed;
-        }
+      record {
+        commands = book.commands;
+        script = book.script;
+        definitions = definitions;
+        is_script = book.is_script;
+        spelled = book.spelled;
+        arena = book.of.arena;
+        solution = solved;
+        answer = subst (λ (a : Answer). IsAnswerText preds a text) is printed;
+      }
       in
       sat (codes "(\n" ++ (flat_map (definition_text preds) definitions ++ codes ")\n")) (printed.spelled ∙ ap (answer_text preds) is ∙ sat_line preds definitions)
       (record { accepted = accepted bytes text h; solved = solves bytes text h })
