@@ -2,6 +2,7 @@
 //! reachability"): turn after turn serves an obligation, until the book has ended.
 #![tactic(auto)]
 
+mod carrying;
 mod choosing;
 mod laws;
 mod learning;

@@ -1,4 +1,4 @@
-//! Lemmas that are lifted beside a turn's own step.
+//! Lemmas that are lifted after a step for the root.
 
 ghost use Rattle.std.specs.Prelude.{◌≡◌, ◌<◌, None, length, IfOk, IfSome};
 ghost use Rattle.std.specs.Bool.{OnTrue};
@@ -7,84 +7,13 @@ ghost use Rattle.book_rules.specs.Legal.{end};
 ghost use Rattle.chc_core.specs.Views.{standing_of, state_of};
 ghost use Rattle.obligation_turn.specs.Turns.{IsNarrow};
 ghost use Rattle.book_loop.specs.Runs.{CanRun};
-ghost use Rattle.book_loop.specs.machinery.Steps.{AreFor, HasTaken, IsFurther, IsOffered, IsTaken};
+ghost use Rattle.book_loop.specs.machinery.Steps.{IsFurther, IsTaken};
 
-use crate::older::equal;
-use crate::taking::{has_ended, lend, offer, take};
-use base::{Copied, Memory};
+use crate::taking::{has_ended, lend, take};
+use base::Memory;
 use chc_core::Book;
 use lemma_general::lift;
-use step_rules::{LemmaPart, LiftPart, Step};
-
-// An older lemma in place of a copy of it.
-
-/// Lifts the lemma from this level to the next with the part's proofs, if the book takes it.
-fn lift_by(
-    book: &mut Book,
-    id: u32,
-    from: u32,
-    part: &LemmaPart,
-    nodes: u32,
-) -> Result<bool, Memory>
-    requires { AreFor book.old.system part.now.proofs }
-    ensures further { IsFurther nodes book.old book.new }
-    ensures taken { IfOk result (HasTaken book.old book.new) }
-{
-    let alloc = book.lend().alloc;
-    let proofs = part.proofs.copy(alloc)?;
-    let step = Step::LiftStep(LiftPart {
-        lemma: id,
-        from,
-        proofs,
-    });
-    offer(book, step, nodes)
-}
-
-/// Lifts the lemma level by level up to the part's, as far as the book takes it. The proofs of the part
-/// prove each of these lifts: what they use is in the frame below the part's level, and so in each lower
-/// frame, or is the lemma itself, which is in the frame of its level.
-fn carry(book: &mut Book, id: u32, part: &LemmaPart, nodes: u32) -> Result<bool, Memory>
-    requires there { id < length book.old.frames.lemmas }
-    requires proofs { AreFor book.old.system part.now.proofs }
-    ensures further { IsFurther nodes book.old book.new }
-    ensures taken { IfOk result (HasTaken book.old book.new) }
-{
-    let mut taken = false;
-    for from in book.frames().level_of(id)..part.level {
-        if !lift_by(book, id, from, part, nodes)? {
-            return Ok(taken);
-        }
-        taken = true;
-    }
-    Ok(taken)
-}
-
-/// Lifts an older lemma that has the part's cube, if there is one.
-fn carry_older(book: &mut Book, part: &LemmaPart, nodes: u32) -> Result<bool, Memory>
-    requires { AreFor book.old.system part.now.proofs }
-    ensures further { IsFurther nodes book.old book.new }
-    ensures taken { IfOk result (HasTaken book.old book.new) }
-{
-    match equal(book.frames(), part) {
-        Some(id) => carry(book, id, part, nodes),
-        None => Ok(false),
-    }
-}
-
-/// Where the step learns a lemma whose cube an older one has, lifts that one in its place. Whether it
-/// was lifted.
-pub(crate) fn lift_older(book: &mut Book, step: &Step, nodes: u32) -> Result<bool, Memory>
-    requires { IsOffered book.old.system nodes step.now }
-    ensures further { IsFurther nodes book.old book.new }
-    ensures taken { IfOk result (HasTaken book.old book.new) }
-{
-    match step {
-        Step::LemmaStep(part) => carry_older(book, part, nodes),
-        _ => Ok(false),
-    }
-}
-
-// Lemmas that are lifted after a step for the root.
+use step_rules::Step;
 
 /// Which lemmas are lifted: those from a number on, of at least a level.
 #[derive(Drop)]

@@ -9,9 +9,10 @@ ghost use Rattle.obligation_turn.specs.Turns.{IsNarrow};
 ghost use Rattle.book_loop.specs.Runs.{CanRun, IsOwn};
 ghost use Rattle.book_loop.specs.machinery.Steps.{IsFurther, IsTaken};
 
+use crate::carrying::lift_older;
 use crate::choosing::next_job;
 use crate::learning::improved;
-use crate::lifting::{Pass, lift_after, lift_older, pass_of};
+use crate::lifting::{lift_after, pass_of};
 use crate::taking::{has_ended, lend, take};
 use base::Memory;
 use chc_core::Book;

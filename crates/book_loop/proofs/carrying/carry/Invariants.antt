@@ -1,5 +1,5 @@
 use Rattle.book_loop.specs.machinery.Steps.{HasTaken, IsFurther}
-use Rattle.book_loop.proofs.lifting.carry.Given as goal
+use Rattle.book_loop.proofs.carrying.carry.Given as goal
 
 -- the steps so far
 abbrev pub invariant-loop-from : goal.invariant-loop-from
