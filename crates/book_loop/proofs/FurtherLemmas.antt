@@ -16,7 +16,8 @@ use Rattle.step_rules.specs.declared.step.Step.TheVariants.{OpenStep, LemmaStep,
 use Rattle.chc_core.specs.Contents.{Contents}
 use Rattle.chc_core.specs.Views.{standing_of, state_of}
 use Rattle.chc_core.specs.declared.entry.Entry.{Entry}
-use Rattle.obligation_turn.specs.Turns.{IsNarrow, StepCounts, StepIsNarrow}
+use Rattle.obligation_turn.specs.Counts.{StepCounts}
+use Rattle.obligation_turn.specs.Turns.{IsNarrow, StepIsNarrow}
 use Rattle.book_loop.specs.Runs.{IsOwn}
 use Rattle.book_loop.specs.machinery.Steps.{IsFurther}
 

@@ -13,7 +13,8 @@ use Rattle.step_rules.specs.Standing.{Standing, state_of}
 use Rattle.step_rules.specs.Taken.{IsMadeFor, step_of}
 use Rattle.step_rules.specs.Tokens.{all_shown}
 use Rattle.step_rules.specs.declared.step.Step.{Step}
-use Rattle.obligation_turn.specs.Turns.{IsNarrow, StepCounts, StepIsNarrow}
+use Rattle.obligation_turn.specs.Counts.{StepCounts}
+use Rattle.obligation_turn.specs.Turns.{IsNarrow, StepIsNarrow}
 use Rattle.book_loop.specs.Runs.{IsOwn}
 
 -- what is needed of a turn: the step breaks no rule, its tokens are the system's and its cubes over their predicates; evidence
