@@ -174,13 +174,13 @@ impl<'a> Search<'a> {
     }
 
     /// A literal of the node that was left out joins.
-    fn take_in(&mut self, waiting: Open, at: usize) -> Result<(), Memory>
+    fn take_in(&mut self, alloc: Global, waiting: Open, at: usize) -> Result<(), Memory>
         requires is { Waits self.old waiting }
         requires there { at < length waiting.left_out }
         ensures { OnOk result (Goes self.old waiting self.new) }
     {
         let mut waiting = waiting;
-        waiting.take_in(at)?;
+        waiting.take_in(alloc, at)?;
         self.stack.push(waiting)?;
         Ok(())
     }
@@ -221,7 +221,7 @@ impl<'a> Search<'a> {
     {
         match first_literal(waiting.left_out.as_slice(), point.as_slice()) {
             Some(at) => {
-                self.take_in(waiting, at)?;
+                self.take_in(alloc, waiting, at)?;
                 Ok(Turn::WentOn)
             }
             None => self.meet_cases(alloc, waiting, point),
