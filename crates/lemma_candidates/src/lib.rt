@@ -1,0 +1,13 @@
+//! Whole cubes that are tried in the place of a lemma's, and bounds of a lemma that are widened. Each is
+//! a guess: only what the frame below implies is taken.
+#![tactic(auto)]
+
+mod bounds;
+mod moving;
+mod proposing;
+mod sums;
+mod tightening;
+mod widening;
+
+pub use proposing::propose;
+pub use widening::widen;
