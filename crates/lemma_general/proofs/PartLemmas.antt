@@ -69,5 +69,5 @@ part-none p (x ∷ part) [] h none = absurd h
 part-none p (x ∷ part) (y ∷ whole) (inl h) none = let both = none-of (p y) (list_any p whole) none in ap (λ b. b || list_any p part) (ap p h.0 ∙ both.0) ∙ part-none p part whole h.1 both.1
 part-none p (x ∷ part) (y ∷ whole) (inr h) none = let both = none-of (p y) (list_any p whole) none in part-none p (x ∷ part) whole h both.1
 
-pub part-within : (part whole : List Lit) → IsPart part whole → IsWithin whole part
-part-within part whole h = λ tuple held. part-all (lit_truth tuple) part whole h held
+pub part-holds : (part whole : List Lit) → IsPart part whole → IsWithin whole part
+part-holds part whole h = λ tuple held. part-all (lit_truth tuple) part whole h held

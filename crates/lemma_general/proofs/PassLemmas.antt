@@ -14,11 +14,11 @@ use Rattle.book_rules.specs.Walks.{has}
 use Rattle.step_rules.specs.Standing.{Standing}
 use Rattle.step_rules.specs.declared.lemma_part.LemmaPart.{LemmaPart}
 use Rattle.lemma_general.specs.Generals.{IsAgainst, IsForSame, IsGeneralised, IsLearnt, IsLeast, IsPart, IsRaised, bounds_of, without}
-use Rattle.lemma_general.specs.machinery.Passes.{AreMet, IsCubeOf, IsPassed, IsRaisedOnce, IsTaken}
+use Rattle.lemma_general.specs.machinery.Passes.{AreMet, IsCubeOf, IsPassed, IsRaisedOnce, IsSplit, IsTaken}
 use Rattle.lemma_general.specs.declared.breaking.Breaking.{Breaking}
 use Rattle.lemma_general.proofs.BoundLemmas.{bounds-below, bounds-narrow}
 use Rattle.lemma_general.proofs.LearnLemmas.{placed}
-use Rattle.lemma_general.proofs.PartLemmas.{part-all, part-none, part-self, part-trans, part-within, part-without, shorter}
+use Rattle.lemma_general.proofs.PartLemmas.{part-all, part-none, part-self, part-trans, part-without, shorter}
 
 -- cubes of which a lemma may be asked
 
@@ -125,20 +125,21 @@ pub record IsBetween (b : Standing) (nodes : ℕ) (given now : LemmaPart) (seen 
   pub met : AreMet b now seen
   pub least : going ≡ false → IsLeast b now.pred (now.level - 1) nodes now.lemma
 
-pub between-first : (b : Standing) (nodes : ℕ) (given part : LemmaPart) (met : List Breaking) → IsLearnt b part → IsForSame given part
-    → ((part.lemma ≡ bounds_of given.lemma) ⊎ (IsAgainst b given.pred (given.level - 1) nodes (bounds_of given.lemma) × (part ≡ given))) → AreMet b part met → IsBetween b nodes given part met true
-between-first b nodes given part met learnt same how all = record {
-  learnt = learnt;
-  same = same;
-  part = by how;
+pub between-first : (b : Standing) (nodes : ℕ) (given part : LemmaPart) (met : List Breaking) → IsLearnt b given → IsSplit b nodes given part → AreMet b part met → IsBetween b nodes given part met true
+between-first b nodes given part met learnt (inl how) all = record {
+  learnt = how.0;
+  same = how.1;
+  part = inl (subst (IsPart part.lemma) how.2 (part-self part.lemma));
   met = all;
   least = λ h. absurd (true≢false h);
 }
-  where
-    by : (part.lemma ≡ bounds_of given.lemma) ⊎ (IsAgainst b given.pred (given.level - 1) nodes (bounds_of given.lemma) × (part ≡ given))
-        → IsPart part.lemma (bounds_of given.lemma) ⊎ (IsAgainst b given.pred (given.level - 1) nodes (bounds_of given.lemma) × IsPart part.lemma given.lemma)
-    by (inl is) = inl (subst (λ (c : List Lit). IsPart part.lemma c) is (part-self part.lemma))
-    by (inr is) = inr (is.0, subst (λ (p : LemmaPart). IsPart part.lemma p.lemma) is.1 (part-self part.lemma))
+between-first b nodes given part met learnt (inr how) all = record {
+  learnt = subst (IsLearnt b) (sym how.1) learnt;
+  same = subst (IsForSame given) (sym how.1) (same-self given);
+  part = inr (how.0, subst (λ (p : LemmaPart). IsPart p.lemma given.lemma) (sym how.1) (part-self given.lemma));
+  met = all;
+  least = λ h. absurd (true≢false h);
+}
 
 pub between-next : (b : Standing) (nodes : ℕ) (given part new : LemmaPart) (met more : List Breaking) (going : Bool) → IsBetween b nodes given part met true → IsPassed b nodes part new going → AreMet b new more → IsBetween b nodes given new more going
 between-next b nodes given part new met more true on passed all = record {
@@ -182,3 +183,9 @@ rising-next b nodes given part new false on once =
 
 pub risen : (b : Standing) (nodes : ℕ) (given part : LemmaPart) → IsRising b nodes given part false → IsRaised b nodes given part
 risen b nodes given part on = record { learnt = on.learnt; target = on.target; pred = on.pred; lemma = on.lemma; level = on.level; highest = on.highest refl }
+
+-- passes grow fewer literals
+
+pub fewer-after : (b : Standing) (nodes : ℕ) (old new : LemmaPart) (going : Bool) → IsPassed b nodes old new going → cond {A = ℕ} going (length new.lemma + 1) 0 < length old.lemma + 1
+fewer-after b nodes old new true passed = let less = passed.3 in omega (arith, less)
+fewer-after b nodes old new false passed = omega arith

@@ -24,27 +24,34 @@ use Rattle.step_rules.specs.Standing.{Standing}
 use Rattle.step_rules.specs.declared.lemma_part.LemmaPart.{LemmaPart}
 use Rattle.obligation_turn.specs.Turns.{GoesOn}
 use Rattle.obligation_turn.proofs.LiftLemmas.{lifts}
-use Rattle.lemma_general.specs.Generals.{IsAgainst, IsForSame, IsLearnt, IsLiftOf}
-use Rattle.lemma_general.specs.Tries.{point_of}
-use Rattle.lemma_general.specs.machinery.Passes.{AreMet, AreProofsOf, IsCubeOf, IsRaisedOnce, IsTaken}
+use Rattle.lemma_general.specs.Generals.{IsAgainst, IsForSame, IsLearnt, IsLiftOf, bounds_of, without}
+use Rattle.lemma_general.specs.Tries.{IsMet, point_of}
+use Rattle.lemma_general.specs.machinery.Passes.{AreMet, AreProofsOf, IsCubeOf, IsRaisedOnce, IsReplaced, IsSplit, IsTaken}
 use Rattle.lemma_general.specs.declared.breaking.Breaking.{Breaking}
 use Rattle.lemma_general.proofs.LearnLemmas.{held-at, placed, relearnt}
 use Rattle.lemma_general.proofs.MetLemmas.{any-hit}
-use Rattle.lemma_general.proofs.PassLemmas.{own-cube}
+use Rattle.lemma_general.proofs.BoundLemmas.{bounds-within}
+use Rattle.lemma_general.proofs.PartLemmas.{part-holds, part-without}
+use Rattle.lemma_general.proofs.PassLemmas.{bounds-cube, own-cube, part-cube}
 
 le-of : (m n : ℕ) → nat_le m n ≡ true → m ≤ n
 le-of m n h = grind (arith, nat_tests, h)
 
 -- a cube that is taken, or isn't
 
-pub taken : (b : Standing) (nodes k : ℕ) (old : LemmaPart) (cube lemma : List Lit) (proofs : List Shown) → GoesOn b → IsLearnt b old → IsCubeOf b old.pred cube → cube_holds (point_of b old.target) cube ≡ true → lemma ≡ cube → k ≡ old.level - 1
-    → AreProofsOf b old.pred cube k proofs → IsTaken b nodes cube old (record { target = old.target; pred = old.pred; lemma = lemma; level = old.level; proofs = proofs }) true
-taken b nodes k old cube lemma proofs goes learnt is held same below are =
+pub replaced : (b : Standing) (old : LemmaPart) (cube lemma : List Lit) (proofs : List Shown) → GoesOn b → IsLearnt b old → IsCubeOf b old.pred cube → cube_holds (point_of b old.target) cube ≡ true → lemma ≡ cube → AreProofsOf b old.pred cube (old.level - 1) proofs
+    → IsReplaced b cube old (record { target = old.target; pred = old.pred; lemma = lemma; level = old.level; proofs = proofs })
+replaced b old cube lemma proofs goes learnt is held same are =
     let top : old.level ≤ b.level = le-of old.level b.level (placed b old learnt).high in
-    let made = relearnt b old old.level cube proofs goes learnt (omega arith) top is held (subst (λ (m : ℕ). AreProofsOf b old.pred cube m proofs) below are) in
+    let made = relearnt b old old.level cube proofs goes learnt (omega arith) top is held are in
     let kept : IsLearnt b (record { target = old.target; pred = old.pred; lemma = lemma; level = old.level; proofs = proofs }) =
     subst (λ (c : List Lit). IsLearnt b (record { target = old.target; pred = old.pred; lemma = c; level = old.level; proofs = proofs })) (sym same) made in
     (kept, record { target = refl; pred = refl; level = refl }, same)
+
+-- what was met stays so for a lemma of the same predicate and level
+pub met-same : (b : Standing) (old new : LemmaPart) (met : List Breaking) → IsForSame old new → AreMet b old met → AreMet b new met
+met-same b old new met same all =
+    subst (λ (p : ℕ). AllOf (IsMet b p (new.level - 1)) met) (sym same.pred) (subst (λ (l : ℕ). AllOf (IsMet b old.pred (l - 1)) met) (sym same.level) all)
 
 pub met-against : (b : Standing) (nodes : ℕ) (old : LemmaPart) (cube : List Lit) (met : List Breaking) → IsCubeOf b old.pred cube → is_kept cube ≡ true → AreMet b old met → list_any (λ (one : Breaking). cube_holds one.tuple cube) met ≡ true
     → IsAgainst b old.pred (old.level - 1) nodes cube
@@ -55,6 +62,28 @@ hit-against b pred k nodes cube seen hit = inl (seen, hit)
 
 pub lost-against : (b : Standing) (pred k nodes : ℕ) (cube : List Lit) (lost : Lost) → IsLost b.system b.frames.lemmas (Some pred) (Holds cube) k nodes lost → IsAgainst b pred k nodes cube
 lost-against b pred k nodes cube lost is = inr (lost, is)
+
+-- without a literal, and split
+
+pub drop-cube : (b : Standing) (part : LemmaPart) (at : ℕ) (cube : List Lit) → IsLearnt b part → at < length part.lemma → cube ≡ without at part.lemma → IsCubeOf b part.pred cube
+drop-cube b part at cube learnt within is = subst (IsCubeOf b part.pred) (sym is) (part-cube b part (without at part.lemma) learnt (part-without at part.lemma within))
+
+pub drop-held : (b : Standing) (part : LemmaPart) (at : ℕ) (cube : List Lit) → IsLearnt b part → at < length part.lemma → cube ≡ without at part.lemma → cube_holds (point_of b part.target) cube ≡ true
+drop-held b part at cube learnt within is =
+    subst (λ (c : List Lit). cube_holds (point_of b part.target) c ≡ true) (sym is) (held-at b part (without at part.lemma) learnt (part-holds (without at part.lemma) part.lemma (part-without at part.lemma within)))
+
+pub split-cube : (b : Standing) (part : LemmaPart) (cube : List Lit) → IsLearnt b part → cube ≡ bounds_of part.lemma → IsCubeOf b part.pred cube
+split-cube b part cube learnt is = subst (IsCubeOf b part.pred) (sym is) (bounds-cube b part learnt)
+
+pub split-held : (b : Standing) (part : LemmaPart) (cube : List Lit) → IsLearnt b part → cube ≡ bounds_of part.lemma → cube_holds (point_of b part.target) cube ≡ true
+split-held b part cube learnt is = subst (λ (c : List Lit). cube_holds (point_of b part.target) c ≡ true) (sym is) (held-at b part (bounds_of part.lemma) learnt (bounds-within part.lemma))
+
+pub split-none : (b : Standing) (nodes : ℕ) (part : LemmaPart) (lits : List Lit) → IsLearnt b part → lits ≡ part.lemma → bounds_of lits ≡ lits → IsSplit b nodes part part
+split-none b nodes part lits learnt is none = inl (learnt, record { target = refl; pred = refl; level = refl }, sym (ap bounds_of (sym is) ∙ none ∙ is))
+
+pub split-by : (b : Standing) (nodes : ℕ) (old new : LemmaPart) (cube : List Lit) (yes : Bool) → cube ≡ bounds_of old.lemma → IsTaken b nodes cube old new yes → IsSplit b nodes old new
+split-by b nodes old new cube true is taken = inl (subst (λ (c : List Lit). IsReplaced b c old new) is taken)
+split-by b nodes old new cube false is taken = inr (subst (IsAgainst b old.pred (old.level - 1) nodes) is taken.1, taken.0)
 
 -- the next level
 

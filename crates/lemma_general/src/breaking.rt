@@ -1,18 +1,16 @@
-//! Instances that broke a more general lemma.
+//! Instances that kept a cube out.
 
-ghost use Rattle.std.specs.Prelude.{◌≡◌, ◌++◌, ◌∷◌, [], Some, OnOk};
+ghost use Rattle.std.specs.Prelude.{◌≡◌, ◌-◌, Some, OnOk};
 ghost use Rattle.std.specs.List.{list_any};
 ghost use Rattle.cube_forms.specs.Cubes.{cube_holds};
 ghost use Rattle.chc_tokens.specs.declared.goal.Goal.TheVariants.{Holds};
-ghost use Rattle.book_rules.specs.Walks.{AllOf};
 ghost use Rattle.clause_queries.specs.Answers.{IsHit};
-ghost use Rattle.lemma_general.specs.Tries.{IsMet};
+ghost use Rattle.lemma_general.specs.machinery.Passes.{AreMet};
 
 use base::{Items, Memory};
 use chc_tokens::Seen;
 use cube_forms::{Cube, Tuple};
-use cube_rules::head_at;
-use step_rules::Lent;
+use step_rules::{LemmaPart, Lent};
 
 /// An instance with its body in the frame below, and its head's tuple.
 #[derive(Drop)]
@@ -33,24 +31,23 @@ pub(crate) fn is_met(met: &[Breaking], cube: &Cube) -> bool
     false
 }
 
-/// Keeps an instance whose head lies in a cube of the predicate.
+/// Keeps an instance whose head lies in a cube of the lemma's predicate.
 pub(crate) fn keep(
     lent: &Lent,
     met: &mut Items<Breaking>,
-    pred: u32,
-    k: u32,
+    part: &LemmaPart,
     cube: &Cube,
     seen: Seen,
 ) -> Result<(), Memory>
-    requires hit { IsHit lent.now.system lent.now.frames.lemmas (Some pred) (Holds cube.now) k seen }
-    requires met { AllOf (IsMet lent.now pred k) met.old }
-    ensures { OnOk result (AllOf (IsMet lent.now pred k) met.new) }
+    requires hit { IsHit lent.now.system lent.now.frames.lemmas (Some part.now.pred) (Holds cube.now) (part.now.level - 1) seen }
+    requires met { AreMet lent.now part.now met.old }
+    ensures { OnOk result (AreMet lent.now part.now met.new) }
 {
-    let _cube = cube;
-    let _k = (pred, k);
+    let _for = (part, cube);
     let clause = lent.system.clause(seen.clause() as usize);
-    match head_at(lent.alloc, seen.point(), clause)? {
-        Some((_, tuple)) => {
+    match &clause.head {
+        Some(atom) => {
+            let tuple = Tuple::at(lent.alloc, seen.point(), atom.args.as_slice())?;
             met.push(Breaking { seen, tuple })?;
             Ok(())
         }

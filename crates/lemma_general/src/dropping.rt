@@ -3,21 +3,41 @@
 ghost use Rattle.std.specs.Prelude.{◌≡◌, ◌<◌, ◌-◌, ◌⊎◌, length, true, OnOk, IfOk};
 ghost use Rattle.cube_forms.specs.Cubes.{cube_holds};
 ghost use Rattle.obligation_turn.specs.Turns.{GoesOn};
-ghost use Rattle.lemma_general.specs.Generals.{IsAgainst, IsForSame, IsGeneralised, IsLearnt, bounds_of, without};
+ghost use Rattle.lemma_general.specs.Generals.{IsForSame, IsGeneralised, IsLearnt, without};
 ghost use Rattle.lemma_general.specs.Tries.{point_of};
-ghost use Rattle.lemma_general.specs.machinery.Passes.{AreMet, IsCubeOf, IsPassed, IsTaken};
+ghost use Rattle.lemma_general.specs.machinery.Passes.{AreMet, AreProofsOf, IsCubeOf, IsPassed, IsReplaced, IsSplit, IsTaken};
 
 use crate::bounds::{bounds_of, has_equation};
 use crate::breaking::{Breaking, is_met, keep};
 use crate::cubes::{kept, without};
-use crate::showing::ask;
+use crate::showing::ask_below;
 use base::{Items, Memory};
+use chc_tokens::Shown;
 use clause_queries::{Found, is_kept};
 use cube_forms::{Cube, negate};
 use step_rules::{LemmaPart, Lent};
 
-/// Takes the cube in place of the lemma's, where the frame below implies it. An instance that breaks
-/// it is kept.
+/// Puts the cube in place of the lemma's.
+fn replace(
+    lent: &Lent,
+    part: &mut LemmaPart,
+    cube: &Cube,
+    proofs: Items<Shown>,
+) -> Result<(), Memory>
+    requires goes_on { GoesOn lent.now }
+    requires learnt { IsLearnt lent.now part.old }
+    requires cube { IsCubeOf lent.now part.old.pred cube.now }
+    requires held { cube_holds (point_of lent.now part.old.target) cube.now ≡ true }
+    requires proofs { AreProofsOf lent.now part.old.pred cube.now (part.old.level - 1) proofs }
+    ensures { OnOk result (IsReplaced lent.now cube.now part.old part.new) }
+{
+    part.lemma = negate(lent.alloc, cube)?;
+    part.proofs = proofs;
+    Ok(())
+}
+
+/// Takes the cube in place of the lemma's, where the frame below implies it. An instance that keeps it
+/// out is kept.
 pub(crate) fn take(
     lent: &Lent,
     part: &mut LemmaPart,
@@ -38,17 +58,15 @@ pub(crate) fn take(
     if is_met(met.as_slice(), cube) {
         return Ok(false);
     }
-    let k = part.level.saturating_sub(1);
-    let found = ask(lent, part.pred, cube, k, nodes)?;
+    let found = ask_below(lent, part, cube, nodes)?;
     match found {
         Found::Instance(seen) => {
-            keep(lent, met, part.pred, k, cube, seen)?;
+            keep(lent, met, part, cube, seen)?;
             Ok(false)
         }
         Found::GivenUp(_) => Ok(false),
         Found::Refuted(proofs) => {
-            part.lemma = negate(lent.alloc, cube)?;
-            part.proofs = proofs;
+            replace(lent, part, cube, proofs)?;
             Ok(true)
         }
     }
@@ -71,7 +89,8 @@ fn drop_at(
     ensures taken { IfOk result (IsTaken lent.now nodes (without at part.old.lemma) part.old part.new) }
 {
     let cube = without(lent.alloc, part.lemma.cube(), at)?;
-    take(lent, part, met, &cube, nodes)
+    let taken = take(lent, part, met, &cube, nodes)?;
+    Ok(taken)
 }
 
 /// Tries to drop each literal, from the first to the last. Whether one was dropped.
@@ -93,9 +112,9 @@ fn pass(
     'drop: while at < part.lemma.cube().lits().len() {
         if drop_at(lent, part, met, at, nodes)? {
             dropped = true;
-        } else {
-            at += 1;
+            continue;
         }
+        at += 1;
     }
     Ok(dropped)
 }
@@ -112,15 +131,14 @@ fn split(
     requires learnt { IsLearnt lent.now part.old }
     requires met { AreMet lent.now part.old met.old }
     ensures met { OnOk result (AreMet lent.now part.new met.new) }
-    ensures learnt { OnOk result (IsLearnt lent.now part.new) }
-    ensures same { OnOk result (IsForSame part.old part.new) }
-    ensures split { OnOk result ((part.new.lemma ≡ bounds_of part.old.lemma) ⊎ (IsAgainst lent.now part.old.pred (part.old.level - 1) nodes (bounds_of part.old.lemma) × (part.new ≡ part.old))) }
+    ensures split { OnOk result (IsSplit lent.now nodes part.old part.new) }
 {
-    if has_equation(part.lemma.cube().lits()) {
-        let lits = bounds_of(lent.alloc, part.lemma.cube().lits())?;
-        let cube = kept(lent.alloc, lits)?;
-        take(lent, part, met, &cube, nodes)?;
+    if !has_equation(part.lemma.cube().lits()) {
+        return Ok(());
     }
+    let lits = bounds_of(lent.alloc, part.lemma.cube().lits())?;
+    let cube = kept(lent.alloc, lits)?;
+    take(lent, part, met, &cube, nodes)?;
     Ok(())
 }
 

@@ -1,6 +1,6 @@
-//! What the frame below says of a lemma.
+//! What a frame says of a cube.
 
-ghost use Rattle.std.specs.Prelude.{◌<◌, IfOk};
+ghost use Rattle.std.specs.Prelude.{◌-◌, ◌<◌, IfOk};
 ghost use Rattle.obligation_turn.specs.Turns.{GoesOn};
 ghost use Rattle.lemma_general.specs.machinery.Passes.{IsCubeOf, IsFoundOf};
 
@@ -8,9 +8,9 @@ use base::Memory;
 use chc_tokens::Goal;
 use clause_queries::{Found, ask_all};
 use cube_forms::{Cube, negate};
-use step_rules::Lent;
+use step_rules::{LemmaPart, Lent};
 
-/// Asks whether the frame of level k implies that no tuple of the predicate lies in the cube.
+/// Asks for an instance whose head, of the predicate, lies in the cube, and whose body is in F(k).
 pub(crate) fn ask(lent: &Lent, pred: u32, cube: &Cube, k: u32, nodes: u32) -> Result<Found, Memory>
     requires goes_on { GoesOn lent.now }
     requires cube { IsCubeOf lent.now pred cube.now }
@@ -28,5 +28,22 @@ pub(crate) fn ask(lent: &Lent, pred: u32, cube: &Cube, k: u32, nodes: u32) -> Re
         k,
         nodes,
     )?;
+    Ok(found)
+}
+
+/// The same for a lemma's predicate and the frame below its level.
+pub(crate) fn ask_below(
+    lent: &Lent,
+    part: &LemmaPart,
+    cube: &Cube,
+    nodes: u32,
+) -> Result<Found, Memory>
+    requires goes_on { GoesOn lent.now }
+    requires cube { IsCubeOf lent.now part.now.pred cube.now }
+    requires some { 0 < nodes }
+    ensures { IfOk result (IsFoundOf lent.now part.now.pred cube.now (part.now.level - 1) nodes) }
+{
+    let k = part.level.saturating_sub(1);
+    let found = ask(lent, part.pred, cube, k, nodes)?;
     Ok(found)
 }

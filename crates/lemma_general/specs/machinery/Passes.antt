@@ -11,7 +11,7 @@ use Rattle.clause_queries.specs.Answers.{AreProofs, IsFound}
 use Rattle.clause_queries.specs.declared.finding.Found.{Found}
 use Rattle.step_rules.specs.Standing.{Standing}
 use Rattle.step_rules.specs.declared.lemma_part.LemmaPart.{LemmaPart}
-use Rattle.lemma_general.specs.Generals.{IsAgainst, IsForSame, IsLearnt, IsLeast, IsPart}
+use Rattle.lemma_general.specs.Generals.{IsAgainst, IsForSame, IsLearnt, IsLeast, IsPart, bounds_of}
 use Rattle.lemma_general.specs.Tries.{IsMet}
 use Rattle.lemma_general.specs.declared.breaking.Breaking.{Breaking}
 
@@ -35,10 +35,18 @@ AreProofsOf b pred cube k proofs = AreProofs b.system b.frames.lemmas (Some pred
 abbrev pub AreMet : Standing → LemmaPart → List Breaking → Type 0
 AreMet b part met = AllOf (IsMet b part.pred (part.level - 1)) met
 
--- whether the cube was taken in place of the lemma's
+-- the cube stands in the lemma's place
+abbrev pub IsReplaced : Standing → List Lit → LemmaPart → LemmaPart → Type 0
+IsReplaced b cube old new = IsLearnt b new × IsForSame old new × (new.lemma ≡ cube)
+
+-- whether the cube was taken in the lemma's place
 abbrev pub IsTaken : Standing → ℕ → List Lit → LemmaPart → LemmaPart → Bool → Type 0
-IsTaken b nodes cube old new true = IsLearnt b new × IsForSame old new × (new.lemma ≡ cube)
+IsTaken b nodes cube old new true = IsReplaced b cube old new
 IsTaken b nodes cube old new false = (new ≡ old) × IsAgainst b old.pred (old.level - 1) nodes cube
+
+-- a lemma whose cube is split into bounds, or against which something stands
+abbrev pub IsSplit : Standing → ℕ → LemmaPart → LemmaPart → Type 0
+IsSplit b nodes old new = IsReplaced b (bounds_of old.lemma) old new ⊎ (IsAgainst b old.pred (old.level - 1) nodes (bounds_of old.lemma) × (new ≡ old))
 
 -- whether a pass dropped literals
 abbrev pub IsPassed : Standing → ℕ → LemmaPart → LemmaPart → Bool → Type 0
