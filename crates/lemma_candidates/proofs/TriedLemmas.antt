@@ -4,11 +4,11 @@ use Rattle.cube_forms.specs.Cubes.{cube_holds}
 use Rattle.lin_atoms.specs.declared.lit.Lit.{Lit}
 use Rattle.step_rules.specs.Standing.{Standing}
 use Rattle.step_rules.specs.declared.lemma_part.LemmaPart.{LemmaPart}
-use Rattle.lemma_general.specs.Generals.{IsForSame, IsLearnt}
+use Rattle.lemma_general.specs.Generals.{IsForSame}
 use Rattle.lemma_general.specs.Tries.{IsTried, IsTrying, part_of}
 use Rattle.lemma_general.specs.declared.trying.Tries.{Tries}
-use Rattle.lemma_candidates.specs.Candidates.{IsInPlaceOf, IsWidened, IsWiderCube}
-use Rattle.lemma_candidates.specs.machinery.Tried.{IsTriedOn, IsWidenedOn}
+use Rattle.lemma_candidates.specs.Candidates.{IsWidened, IsWiderCube}
+use Rattle.lemma_candidates.specs.machinery.Tried.{IsWidenedOn}
 
 self-same : (part : LemmaPart) → IsForSame part part
 self-same part = record { target = refl; pred = refl; level = refl }
@@ -23,18 +23,6 @@ tried-same b nodes cube old new false t = subst (IsForSame old) (sym t.0) (self-
 tried-wider : (b : Standing) (nodes : ℕ) (cube : List Lit) (old new : LemmaPart) (taken : Bool) → IsWiderCube old.lemma cube → IsTried b nodes cube old new taken → IsWiderCube old.lemma new.lemma
 tried-wider b nodes cube old new true wider t = subst (IsWiderCube old.lemma) (sym t.2) wider
 tried-wider b nodes cube old new false wider t = subst (λ (p : LemmaPart). IsWiderCube old.lemma p.lemma) (sym t.0) (λ tuple h. h)
-
--- before a try, and after one more
-
-pub on-none : (b : Standing) (tries : Tries) → IsTrying b tries → IsTriedOn b tries tries
-on-none b tries trying = record { trying = trying; same = self-same (part_of tries) }
-
-pub on-more : (b : Standing) (nodes : ℕ) (cube : List Lit) (first old new : Tries) (taken : Bool) → IsTriedOn b first old → IsTrying b new → IsTried b nodes cube (part_of old) (part_of new) taken → IsTriedOn b first new
-on-more b nodes cube first old new taken on trying tried =
-    record { trying = trying; same = same-then (part_of first) (part_of old) (part_of new) on.same (tried-same b nodes cube (part_of old) (part_of new) taken tried) }
-
-pub widened-none : (b : Standing) (tries : Tries) → IsTrying b tries → IsWidenedOn b tries tries
-widened-none b tries trying = record { trying = trying; same = self-same (part_of tries); wider = λ tuple h. h }
 
 pub widened-by : (b : Standing) (nodes : ℕ) (cube : List Lit) (old new : Tries) (taken : Bool) → IsWiderCube (part_of old).lemma cube → IsTrying b new → IsTried b nodes cube (part_of old) (part_of new) taken → IsWidenedOn b old new
 widened-by b nodes cube old new taken wider trying tried = record {
@@ -52,15 +40,7 @@ widened-then b first old new f g = record {
 
 -- what is handed on in the end
 
-pub in-place : (b : Standing) (given made : LemmaPart) (first last : Tries) → part_of first ≡ given → IsTriedOn b first last → made ≡ part_of last → IsInPlaceOf b given made
-in-place b given made first last begun on ended =
-    let is : IsInPlaceOf b (part_of first) (part_of last) = record { learnt = (on.trying).learnt; same = on.same } in
-    subst (IsInPlaceOf b given) (sym ended) (subst (λ (p : LemmaPart). IsInPlaceOf b p (part_of last)) begun is)
-
 pub in-place-wider : (b : Standing) (given made : LemmaPart) (first last : Tries) → part_of first ≡ given → IsWidenedOn b first last → made ≡ part_of last → IsWidened b given made
 in-place-wider b given made first last begun on ended =
     let is : IsWidened b (part_of first) (part_of last) = record { learnt = (on.trying).learnt; same = on.same; wider = on.wider } in
     subst (IsWidened b given) (sym ended) (subst (λ (p : LemmaPart). IsWidened b p (part_of last)) begun is)
-
-pub as-it-is : (b : Standing) (part : LemmaPart) → IsLearnt b part → IsWidened b part part
-as-it-is b part learnt = record { learnt = learnt; same = self-same part; wider = λ tuple h. h }

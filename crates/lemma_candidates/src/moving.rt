@@ -1,6 +1,6 @@
 //! Bounds that are moved outwards.
 
-ghost use Rattle.std.specs.Prelude.{◌≡◌, ◌++◌, ◌∷◌, ◌+◌, ◌<◌, ◌≤ℤ◌, pos, length, take, drop, OnOk, IfOk, IfSome};
+ghost use Rattle.std.specs.Prelude.{◌≡◌, ◌++◌, ◌∷◌, ◌+◌, ◌<◌, length, take, drop, OnOk, IfOk, IfSome};
 ghost use Rattle.lin_atoms.specs.declared.lit.Lit.TheVariants.{Le};
 ghost use Rattle.lemma_candidates.specs.Candidates.{IsLooser, IsWiderCube};
 
@@ -11,20 +11,22 @@ use lin_atoms::{Lin, Lit};
 use std::alloc::Global;
 
 /// The bound moved outwards by so much, where it has room.
-fn moved_bound(alloc: Global, lin: &Lin, by: i64) -> Result<Option<Lit>, Memory>
-    requires { pos 0 ≤ℤ by }
+fn moved_bound(alloc: Global, lin: &Lin, by: u64) -> Result<Option<Lit>, Memory>
     ensures { IfOk result (λ made. IfSome made (IsLooser (Le lin.now))) }
 {
+    let less = match i64::try_from(by) {
+        Ok(by) => -by,
+        Err(_) => return Ok(None),
+    };
     let lin = lin.copy(alloc)?;
-    match lin.plus(-by) {
+    match lin.plus(less) {
         Some(lin) => Ok(Some(Lit::Le(lin))),
         None => Ok(None),
     }
 }
 
 /// The literal moved outwards, if it is a bound and has room for that.
-fn moved(alloc: Global, lit: &Lit, by: i64) -> Result<Option<Lit>, Memory>
-    requires { pos 0 ≤ℤ by }
+fn moved(alloc: Global, lit: &Lit, by: u64) -> Result<Option<Lit>, Memory>
     ensures { IfOk result (λ made. IfSome made (IsLooser lit.now)) }
 {
     match lit {
@@ -56,8 +58,7 @@ fn with_at(alloc: Global, lits: &[Lit], at: usize, lit: Lit) -> Result<Vec<Lit>,
 }
 
 /// The cube with the bound at a place moved outwards, if there is one with room for that.
-pub(crate) fn wider(alloc: Global, cube: &Cube, at: usize, by: i64) -> Result<Option<Cube>, Memory>
-    requires { pos 0 ≤ℤ by }
+pub(crate) fn wider(alloc: Global, cube: &Cube, at: usize, by: u64) -> Result<Option<Cube>, Memory>
     ensures { IfOk result (λ made. IfSome made (IsWiderCube cube.now)) }
 {
     let lits = cube.lits();

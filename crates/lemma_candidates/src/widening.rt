@@ -1,6 +1,6 @@
 //! Bounds of a lemma that are moved outwards: one lemma then does for many steps of a counter.
 
-ghost use Rattle.std.specs.Prelude.{◌<◌, ◌≤ℤ◌, pos, IfOk, OnOk};
+ghost use Rattle.std.specs.Prelude.{◌<◌, IfOk, OnOk};
 ghost use Rattle.obligation_turn.specs.Turns.{GoesOn};
 ghost use Rattle.lemma_general.specs.Generals.{IsLearnt};
 ghost use Rattle.lemma_general.specs.Tries.{IsTrying};
@@ -20,14 +20,13 @@ const FROM_LEVEL: u32 = 12;
 const MOST_MOVES: u32 = 40;
 
 /// The widest move that is followed by a wider one.
-const WIDEST: i64 = 1 << 40;
+const WIDEST: u64 = 1 << 40;
 
 /// How far a bound is moved next. Moves double until one is refused, and are halved from then on.
 #[derive(Clone, Copy)]
 struct Move {
-    by: i64,
+    by: u64,
     grows: bool,
-    ghost outwards: { pos 0 ≤ℤ by },
 }
 
 /// The move after one that was taken or not.
@@ -46,11 +45,10 @@ fn next(last: Move, taken: bool) -> Move {
 }
 
 /// Whether the bound at a place could be moved.
-fn try_move(lent: &Lent, tries: &mut Tries, at: usize, by: i64, nodes: u32) -> Result<bool, Memory>
+fn try_move(lent: &Lent, tries: &mut Tries, at: usize, by: u64, nodes: u32) -> Result<bool, Memory>
     requires goes_on { GoesOn lent.now }
     requires trying { IsTrying lent.now tries.old }
     requires some { 0 < nodes }
-    requires outwards { pos 0 ≤ℤ by }
     ensures { OnOk result (IsWidenedOn lent.now tries.old tries.new) }
 {
     match wider(lent.alloc, tries.part().lemma.cube(), at, by)? {
