@@ -6,8 +6,10 @@ mod bounds;
 mod moving;
 mod proposing;
 mod sums;
+mod tidying;
 mod tightening;
 mod widening;
 
 pub use proposing::propose;
+pub use tidying::tidy;
 pub use widening::widen;

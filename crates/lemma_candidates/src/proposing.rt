@@ -10,11 +10,11 @@ ghost use Rattle.lemma_candidates.specs.machinery.Tried.{IsTriedOn};
 use crate::sums::pair_sums;
 use base::Memory;
 use cube_forms::Cube;
-use lemma_general::Tries;
+use lemma_general::{Tries, generalise};
 use step_rules::{LemmaPart, Lent};
 
-/// Tries one cube after another, until one is taken.
-fn try_each(lent: &Lent, tries: &mut Tries, cubes: &[Cube], nodes: u32) -> Result<(), Memory>
+/// Tries one cube after another, until one is taken; whether one was.
+fn try_each(lent: &Lent, tries: &mut Tries, cubes: &[Cube], nodes: u32) -> Result<bool, Memory>
     requires goes_on { GoesOn lent.now }
     requires trying { IsTrying lent.now tries.old }
     requires some { 0 < nodes }
@@ -22,14 +22,15 @@ fn try_each(lent: &Lent, tries: &mut Tries, cubes: &[Cube], nodes: u32) -> Resul
 {
     for cube in cubes {
         if tries.try_cube(lent, cube, nodes)? {
-            return Ok(());
+            return Ok(true);
         }
     }
-    Ok(())
+    Ok(false)
 }
 
-/// A lemma of another cube in the lemma's place, if the frame below implies one of those that are tried:
-/// sums of two bounds of its cube. Else the lemma as it is.
+/// A lemma of another cube in the lemma's place, made more general, if the frame below implies one of
+/// those that are tried: sums of two bounds of its cube. Else the lemma as it is. It is for lemmas that
+/// were made more general, so that only bounds that matter are added up.
 pub fn propose(lent: &Lent, part: LemmaPart, nodes: u32) -> Result<LemmaPart, Memory>
     requires goes_on { GoesOn lent.now }
     requires learnt { IsLearnt lent.now part }
@@ -38,6 +39,11 @@ pub fn propose(lent: &Lent, part: LemmaPart, nodes: u32) -> Result<LemmaPart, Me
 {
     let cubes = pair_sums(lent.alloc, part.lemma.cube())?;
     let mut tries = Tries::new(lent.alloc, part);
-    try_each(lent, &mut tries, cubes.as_slice(), nodes)?;
-    Ok(tries.into_part())
+    let taken = try_each(lent, &mut tries, cubes.as_slice(), nodes)?;
+    let part = tries.into_part();
+    if !taken {
+        return Ok(part);
+    }
+    let general = generalise(lent, part, nodes)?;
+    Ok(general)
 }

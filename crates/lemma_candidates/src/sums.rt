@@ -2,7 +2,7 @@
 
 use crate::bounds::{bounds, cube_of};
 use crate::tightening::tightened;
-use base::Memory;
+use base::{Memory, Same};
 use cube_forms::Cube;
 use lin_atoms::{Lin, Lit, WideStop};
 use std::alloc::Global;
@@ -48,6 +48,17 @@ fn sum_cube(alloc: Global, x: &Lin, y: &Lin) -> Result<Option<Cube>, Memory> {
     }
 }
 
+/// Adds the cube, unless it is there.
+fn push_new(cubes: &mut Vec<Cube>, cube: Cube) -> Result<(), Memory> {
+    for one in cubes.as_slice() {
+        if one.equals(&cube) {
+            return Ok(());
+        }
+    }
+    cubes.push(cube)?;
+    Ok(())
+}
+
 /// Adds the sums of one bound with each of others, as far as there is room for more.
 fn push_sums(alloc: Global, cubes: &mut Vec<Cube>, x: &Lin, others: &[Lin]) -> Result<(), Memory> {
     for y in others {
@@ -55,7 +66,7 @@ fn push_sums(alloc: Global, cubes: &mut Vec<Cube>, x: &Lin, others: &[Lin]) -> R
             return Ok(());
         }
         if let Some(cube) = sum_cube(alloc, x, y)? {
-            cubes.push(cube)?;
+            push_new(cubes, cube)?;
         }
     }
     Ok(())

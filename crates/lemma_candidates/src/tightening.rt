@@ -3,7 +3,7 @@
 ghost use Rattle.std.specs.Prelude.{◌<ℤ◌, pos};
 
 use base::{Copied, Memory};
-use lin_atoms::{Lin, gcd};
+use lin_atoms::{Divisor, Lin, gcd};
 use std::alloc::Global;
 
 /// The greatest common divisor of the coefficients.
@@ -50,6 +50,34 @@ pub(crate) fn tightened(alloc: Global, lin: &Lin) -> Result<Lin, Memory> {
     }
     let terms = divided(alloc, lin.terms(), divisor)?;
     match Lin::new(terms, rounded(lin.constant(), divisor)) {
+        Ok(made) => Ok(made),
+        Err(_) => lin.copy(alloc),
+    }
+}
+
+/// The terms with each coefficient reduced, without those that are 0 then.
+fn residues(alloc: Global, terms: &[(u32, i64)], modulus: i64) -> Result<Vec<(u32, i64)>, Memory>
+    requires { pos 0 <ℤ modulus }
+{
+    let mut made = Vec::new(alloc);
+    for (variable, coefficient) in terms {
+        let rest = coefficient.rem_euclid(modulus);
+        if rest != 0 {
+            made.push((*variable, rest))?;
+        }
+    }
+    Ok(made)
+}
+
+/// A form of which the divisor divides the same values, with each number reduced modulo the divisor; the
+/// form itself where no variable would be left.
+pub(crate) fn residue(alloc: Global, divisor: Divisor, lin: &Lin) -> Result<Lin, Memory> {
+    let modulus = divisor.get();
+    let terms = residues(alloc, lin.terms(), modulus)?;
+    if terms.len() == 0 {
+        return lin.copy(alloc);
+    }
+    match Lin::new(terms, lin.constant().rem_euclid(i128::from(modulus))) {
         Ok(made) => Ok(made),
         Err(_) => lin.copy(alloc),
     }
