@@ -12,6 +12,10 @@ use lemma_candidates::{propose, tidy, widen};
 use lemma_general::{Tries, generalise, raise};
 use step_rules::{LemmaPart, Lent, Step};
 
+/// From this level of the book on more than parts of a lemma's cube is tried: few systems that end below
+/// it need more, and their lemmas stay as they were found.
+const GUESS_LEVEL: u32 = 5;
+
 /// Whether an old lemma that excludes the obligation's point holds at the part's level, too, and so
 /// stands in its place. One is tried: the newest of the highest level.
 fn again(lent: &Lent, tries: &mut Tries, nodes: u32) -> Result<bool, Memory>
@@ -31,7 +35,7 @@ fn again(lent: &Lent, tries: &mut Tries, nodes: u32) -> Result<bool, Memory>
 
 /// A more general lemma in its place: its literals are brought into their simplest form, those that it
 /// needn't have are dropped, and sums of two bounds and wider bounds are tried.
-fn general(lent: &Lent, part: LemmaPart, nodes: u32) -> Result<LemmaPart, Memory>
+fn guessed(lent: &Lent, part: LemmaPart, nodes: u32) -> Result<LemmaPart, Memory>
     requires goes_on { GoesOn lent.now }
     requires some { 0 < nodes }
     requires learnt { IsLearnt lent.now part }
@@ -42,6 +46,22 @@ fn general(lent: &Lent, part: LemmaPart, nodes: u32) -> Result<LemmaPart, Memory
     let proposed = propose(lent, general, nodes)?;
     let widened = widen(lent, proposed, nodes)?;
     Ok(widened)
+}
+
+/// A more general lemma in its place. At low levels of the book literals are dropped, and nothing else.
+fn general(lent: &Lent, part: LemmaPart, nodes: u32) -> Result<LemmaPart, Memory>
+    requires goes_on { GoesOn lent.now }
+    requires some { 0 < nodes }
+    requires learnt { IsLearnt lent.now part }
+    ensures { IfOk result (IsLearnt lent.now) }
+{
+    if lent.level < GUESS_LEVEL {
+        let plain = generalise(lent, part, nodes)?;
+        Ok(plain)
+    } else {
+        let guessed = guessed(lent, part, nodes)?;
+        Ok(guessed)
+    }
 }
 
 /// An old lemma in the lemma's place, if one holds at its level, and else a more general one.

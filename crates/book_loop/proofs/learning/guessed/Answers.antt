@@ -1,4 +1,4 @@
-use Rattle.book_loop.proofs.learning.general.Goals as goal
+use Rattle.book_loop.proofs.learning.guessed.Goals as goal
 
 pub generalise-requires-clause-learnt : goal.generalise-requires-clause-learnt
 generalise-requires-clause-learnt c = c.in_ok-tidied.ensures.learnt
