@@ -1,5 +1,5 @@
 -- Books that go on, and their narrow cubes.
-use Rattle.std.proofs.Common.{◌≡◌, ℕ, ◌<◌, zero, suc, List, [], ◌∷◌, length, false, None, arith}
+use Rattle.std.proofs.Common.{◌≡◌, ℕ, ◌<◌, suc, List, [], ◌∷◌, length, false, arith}
 use Rattle.lemma_frames.specs.Frames.{lemma_of}
 use Rattle.lemma_frames.specs.declared.framed.Framed.{Framed}
 use Rattle.obligation_tree.specs.Nodes.{node_at, obligation_in}
