@@ -9,8 +9,6 @@ mod clauses;
 #[cfg(test)]
 mod faults;
 #[cfg(test)]
-mod heights;
-#[cfg(test)]
 mod limits;
 #[cfg(test)]
 mod programs;
