@@ -8,6 +8,7 @@ ghost use Rattle.book_loop.specs.machinery.Steps.{IsTaken};
 
 use crate::older::excluding;
 use base::Memory;
+use lemma_candidates::{propose, tidy, widen};
 use lemma_general::{Tries, generalise, raise};
 use step_rules::{LemmaPart, Lent, Step};
 
@@ -28,8 +29,23 @@ fn again(lent: &Lent, tries: &mut Tries, nodes: u32) -> Result<bool, Memory>
     }
 }
 
-/// An old lemma in the lemma's place, if one holds at its level, and else a more general one.
+/// A more general lemma in its place: its literals are brought into their simplest form, those that it
+/// needn't have are dropped, and sums of two bounds and wider bounds are tried.
 fn general(lent: &Lent, part: LemmaPart, nodes: u32) -> Result<LemmaPart, Memory>
+    requires goes_on { GoesOn lent.now }
+    requires some { 0 < nodes }
+    requires learnt { IsLearnt lent.now part }
+    ensures { IfOk result (IsLearnt lent.now) }
+{
+    let tidied = tidy(lent, part, nodes)?;
+    let general = generalise(lent, tidied, nodes)?;
+    let proposed = propose(lent, general, nodes)?;
+    let widened = widen(lent, proposed, nodes)?;
+    Ok(widened)
+}
+
+/// An old lemma in the lemma's place, if one holds at its level, and else a more general one.
+fn served(lent: &Lent, part: LemmaPart, nodes: u32) -> Result<LemmaPart, Memory>
     requires goes_on { GoesOn lent.now }
     requires some { 0 < nodes }
     requires learnt { IsLearnt lent.now part }
@@ -41,7 +57,7 @@ fn general(lent: &Lent, part: LemmaPart, nodes: u32) -> Result<LemmaPart, Memory
     if shown {
         return Ok(part);
     }
-    let general = generalise(lent, part, nodes)?;
+    let general = general(lent, part, nodes)?;
     Ok(general)
 }
 
@@ -52,8 +68,8 @@ fn learnt(lent: &Lent, part: LemmaPart, nodes: u32) -> Result<LemmaPart, Memory>
     requires learnt { IsLearnt lent.now part }
     ensures { IfOk result (IsLearnt lent.now) }
 {
-    let general = general(lent, part, nodes)?;
-    let raised = raise(lent, general, nodes)?;
+    let served = served(lent, part, nodes)?;
+    let raised = raise(lent, served, nodes)?;
     Ok(raised)
 }
 

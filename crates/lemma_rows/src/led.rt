@@ -55,9 +55,9 @@ fn better(book: &Book, part: LemmaPart) -> Result<LemmaPart, Memory>
 {
     let _facts = book.facts();
     let lent = book.lend();
-    let part = generalise(&lent, part, NODES)?;
-    let part = raise(&lent, part, NODES)?;
-    Ok(part)
+    let general = generalise(&lent, part, NODES)?;
+    let raised = raise(&lent, general, NODES)?;
+    Ok(raised)
 }
 
 /// The step, where it is a Lemma with a better one.
@@ -68,8 +68,8 @@ fn improved(book: &Book, step: Step) -> Result<Step, Memory>
 {
     match step {
         Step::LemmaStep(part) => {
-            let part = better(book, part)?;
-            Ok(Step::LemmaStep(part))
+            let learnt = better(book, part)?;
+            Ok(Step::LemmaStep(learnt))
         }
         other => Ok(other),
     }
@@ -86,8 +86,8 @@ fn next_step(book: &Book) -> Result<Option<Step>, Memory>
     let _facts = book.facts();
     let lent = book.lend();
     let step = turn(&lent, job, NODES)?;
-    let step = improved(book, step)?;
-    Ok(Some(step))
+    let taken = improved(book, step)?;
+    Ok(Some(taken))
 }
 
 /// The book takes the step. Whether it did.

@@ -1,15 +1,13 @@
-use Rattle.std.proofs.Common.{subst, sym}
-use Rattle.lemma_general.specs.Generals.{IsLearnt}
 use Rattle.book_loop.proofs.learning.general.Goals as goal
 
-pub again-requires-clause-trying : goal.again-requires-clause-trying
-again-requires-clause-trying c = c.new-tries.ensures.trying c.args.lent.now c.requires.learnt
-
-pub returns-then-shown : goal.returns-then-shown
-returns-then-shown c = subst (IsLearnt c.args.lent.now) (sym c.into_part-part.ensures) c.in_ok-shown.ensures.learnt
-
 pub generalise-requires-clause-learnt : goal.generalise-requires-clause-learnt
-generalise-requires-clause-learnt c = subst (IsLearnt c.args.lent.now) (sym c.into_part-part.ensures) c.in_ok-shown.ensures.learnt
+generalise-requires-clause-learnt c = c.in_ok-tidied.ensures.learnt
+
+pub propose-requires-clause-learnt : goal.propose-requires-clause-learnt
+propose-requires-clause-learnt c = c.in_ok-general.ensures.learnt
+
+pub widen-requires-clause-learnt : goal.widen-requires-clause-learnt
+widen-requires-clause-learnt c = c.in_ok-proposed.ensures.learnt
 
 pub returns : goal.returns
-returns c = c.in_ok-general.ensures.learnt
+returns c = c.in_ok-widened.ensures.learnt
