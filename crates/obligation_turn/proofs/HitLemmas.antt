@@ -25,7 +25,7 @@ use Rattle.book_rules.specs.declared.by.By.TheVariants.{Lemma as ByLemma}
 use Rattle.cube_rules.specs.Views.{framed_of, lemmas_of}
 use Rattle.cube_rules.proofs.Public.{both_true, from_both}
 use Rattle.clause_queries.specs.Answers.{IsHit}
-use Rattle.clause_queries.specs.Uses.{is_asked, use_of, uses}
+use Rattle.clause_queries.specs.Uses.{is_asked, uses}
 use Rattle.clause_queries.proofs.Public.{same_some, uses-all, uses_on-all}
 use Rattle.obligation_turn.specs.machinery.Hits.{breaks_at, is_hit_at}
 use Rattle.obligation_turn.proofs.BodyLemmas.{body-accepted, body-inside, passed-is}

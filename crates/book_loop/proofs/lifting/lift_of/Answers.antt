@@ -21,3 +21,9 @@ pub returns-in-Some-clause-taken : goal.returns-in-Some-clause-taken
 returns-in-Some-clause-taken c =
     let found = subst (IsLiftFound c.lend-lent.result c.args.nodes c.args.id) c.in-Some.is c.in_ok-part.ensures.found in
     subst (λ (b : Standing). IsTaken b c.args.nodes (LiftStep c.in-Some.part)) c.lend-lent.ensures.is (taken-lift c.lend-lent.result c.args.id c.args.nodes c.in-Some.part found)
+
+pub returns-in-Some-clause-work : goal.returns-in-Some-clause-work
+returns-in-Some-clause-work c = subst (λ (b : Standing). IsWorkspaceFor b.system c.lift_in.new.work) c.lend-lent.ensures.is c.in_ok-part.ensures.work
+
+pub returns-in-None-clause-work : goal.returns-in-None-clause-work
+returns-in-None-clause-work c = subst (λ (b : Standing). IsWorkspaceFor b.system c.lift_in.new.work) c.lend-lent.ensures.is c.in_ok-part.ensures.work

@@ -1,4 +1,4 @@
-use Rattle.std.proofs.Common.{◌≡◌, true, ap, sym, subst, ◌∙◌}
+use Rattle.std.proofs.Common.{◌≡◌, true, sym, subst}
 use Rattle.chc_tokens.specs.Tokens.{is_seen}
 use Rattle.chc_tokens.specs.declared.seeing.Seen.{Seen}
 use Rattle.obligation_turn.specs.Workspaces.{IsFoundOf}

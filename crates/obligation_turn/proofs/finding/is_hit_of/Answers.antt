@@ -12,7 +12,7 @@ pub lemma-lemma-requires : goal.lemma-lemma-requires
 lemma-lemma-requires c = there-lent _ c.args.lent.now c.args.id c.lent.view_is c.requires.there
 
 pub is_hit-requires : goal.is_hit-requires
-is_hit-requires c = seen-lent _ c.args.lent.now c.args.seen.now c.lent.view_is c.requires.seen
+is_hit-requires c = record { seen = seen-lent _ c.args.lent.now c.args.seen.now c.lent.view_is c.requires.seen }
 
 pub returns : goal.returns
 returns c =
