@@ -1,4 +1,5 @@
 use Rattle.std.proofs.Common.{subst}
+use Rattle.lemma_frames.specs.Frames.{lemma_of, level_of, pred_of as pred_at}
 use Rattle.obligation_turn.specs.Workspaces.{IsFoundOf}
 use Rattle.lemma_general.proofs.TakeLemmas.{hit-against, lift-lent, lost-against}
 use Rattle.lemma_general.proofs.lifting.lift_in.Goals as goal
@@ -10,8 +11,10 @@ returns-in-Refuted-clause-found c =
 
 pub returns-in-Instance-clause-found : goal.returns-in-Instance-clause-found
 returns-in-Instance-clause-found c =
-    hit-against c.args.lent.now _ _ c.args.nodes _ c.in-Instance.seen (subst (IsFoundOf c.args.lent.now c.args.nodes c.args.id) c.in-Instance.is c.in_ok-found.ensures.found)
+    let fs = c.args.lent.now.frames.lemmas in
+    hit-against c.args.lent.now (pred_at fs c.args.id) (level_of fs c.args.id) c.args.nodes (lemma_of fs c.args.id) c.in-Instance.seen (subst (IsFoundOf c.args.lent.now c.args.nodes c.args.id) c.in-Instance.is c.in_ok-found.ensures.found)
 
 pub returns-in-GivenUp-clause-found : goal.returns-in-GivenUp-clause-found
 returns-in-GivenUp-clause-found c =
-    lost-against c.args.lent.now _ _ c.args.nodes _ c.in-GivenUp.lost (subst (IsFoundOf c.args.lent.now c.args.nodes c.args.id) c.in-GivenUp.is c.in_ok-found.ensures.found)
+    let fs = c.args.lent.now.frames.lemmas in
+    lost-against c.args.lent.now (pred_at fs c.args.id) (level_of fs c.args.id) c.args.nodes (lemma_of fs c.args.id) c.in-GivenUp.lost (subst (IsFoundOf c.args.lent.now c.args.nodes c.args.id) c.in-GivenUp.is c.in_ok-found.ensures.found)
