@@ -1,9 +1,8 @@
 -- What is asked of a cube and what is found, over what is lent.
-use Rattle.std.proofs.Common.{◌≡◌, ℕ, ◌-◌, ◌<◌, ◌≤◌, List, length, inr, inl, Some, refl, ap, sym, ◌∙◌, subst, arith}
+use Rattle.std.proofs.Common.{◌≡◌, ℕ, List, Some, sym, subst}
 use Rattle.lin_atoms.specs.declared.lit.Lit.{Lit}
 use Rattle.chc_tokens.specs.declared.goal.Goal.{Goal}
 use Rattle.chc_tokens.specs.declared.goal.Goal.TheVariants.{Holds}
-use Rattle.chc_tokens.specs.declared.refuting.Shown.{Shown}
 use Rattle.clause_queries.specs.Answers.{GoalFits, IsFound, MayAskAll}
 use Rattle.clause_queries.specs.declared.finding.Found.{Found}
 use Rattle.step_rules.specs.Standing.{Standing}

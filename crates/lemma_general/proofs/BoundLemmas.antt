@@ -1,12 +1,13 @@
 -- The two bounds of an equation.
-use Rattle.std.proofs.Common.{◌≡◌, ℕ, ◌+◌, zero, suc, List, [], ◌∷◌, ◌++◌, Bool, true, false, ◌&&◌, ◌||◌, not, refl, ap, ap₂, sym, ◌∙◌, subst, arith}
-use Rattle.std.specs.Prelude.{ℤ, pos, negsuc, neg_ℤ, nat_abs, nat_le, nat_lt, int_le, ◌==◌, ◌^◌, ◌×◌}
+use Rattle.std.proofs.Common.{◌≡◌, ℕ, ◌+◌, ◌<◌, zero, suc, length, take, get_or, List, [], ◌∷◌, ◌++◌, Bool, true, false, ◌&&◌, ◌||◌, refl, ap, ap₂, ◌∙◌, arith}
+use Rattle.std.specs.Prelude.{ℤ, pos, negsuc, neg_ℤ, nat_abs, nat_le, nat_lt, int_le, ◌==◌, ◌^◌}
 use Rattle.std.specs.List.{list_all, list_any}
-use mathlib.Core.Bool.{true≢false}
+use Rattle.std.proofs.lemmas.Bool.{eqb-true}
+use Rattle.std.proofs.lemmas.List.{take_more}
 use Rattle.base.specs.Widths.{is_short}
 use Rattle.lin_atoms.specs.Algebra.{negated, negated_terms}
 use Rattle.lin_atoms.specs.Denial.{linear_of}
-use Rattle.lin_atoms.specs.Linear.{are_short, value_at}
+use Rattle.lin_atoms.specs.Linear.{value_at}
 use Rattle.lin_atoms.specs.Linear.{Linear}
 use Rattle.lin_atoms.specs.Truth.{lit_is_below, lit_truth}
 use Rattle.lin_atoms.specs.declared.lit.Lit.{Lit}
@@ -25,13 +26,13 @@ abs-neg (negsuc n) = refl
 -- an equation of 0 is two bounds by 0
 zero-below : (v : ℤ) → (nat_abs v == 0) ≡ true → int_le v (pos 0) ≡ true
 zero-below (pos zero) h = refl
-zero-below (pos (suc n)) h = absurd (true≢false (sym h))
-zero-below (negsuc n) h = absurd (true≢false (sym h))
+zero-below (pos (suc n)) h = let e = eqb-true (suc n) 0 h in absurd (omega (arith, e))
+zero-below (negsuc n) h = let e = eqb-true (suc n) 0 h in absurd (omega (arith, e))
 
 zero-above : (v : ℤ) → (nat_abs v == 0) ≡ true → int_le (neg_ℤ v) (pos 0) ≡ true
 zero-above (pos zero) h = refl
-zero-above (pos (suc n)) h = absurd (true≢false (sym h))
-zero-above (negsuc n) h = absurd (true≢false (sym h))
+zero-above (pos (suc n)) h = let e = eqb-true (suc n) 0 h in absurd (omega (arith, e))
+zero-above (negsuc n) h = let e = eqb-true (suc n) 0 h in absurd (omega (arith, e))
 
 negated-true : (tuple : List ℤ) (l : Linear) → (nat_abs (value_at tuple l) == 0) ≡ true → lit_truth tuple (Le (negated l)) ≡ true
 negated-true tuple l h = ap (λ v. int_le v (pos 0)) (value_at-negated tuple l) ∙ zero-above (value_at tuple l) h
@@ -62,9 +63,9 @@ bounds-none p f g (Le l ∷ cube) h = by (p (Le l)) h (bounds-none p f g cube)
     by : (b : Bool) → (b || list_any p cube) ≡ false → (list_any p cube ≡ false → list_any p (bounds_of cube) ≡ false) → (b || list_any p (bounds_of cube)) ≡ false
     by true k rest = k
     by false k rest = rest k
-bounds-none p f g (Eq l ∷ cube) h = ap₂ (λ a b. a || b || list_any p (bounds_of cube)) (f l) (g l) ∙ by (p (Eq l)) h (bounds-none p f g cube)
+bounds-none p f g (Eq l ∷ cube) h = ap₂ (λ a b. a || (b || list_any p (bounds_of cube))) (f l) (g l) ∙ by (p (Eq l)) h (bounds-none p f g cube)
   where
-    by : (b : Bool) → (b || list_any p cube) ≡ false → (list_any p cube ≡ false → list_any p (bounds_of cube) ≡ false) → (b || b || list_any p (bounds_of cube)) ≡ false
+    by : (b : Bool) → (b || list_any p cube) ≡ false → (list_any p cube ≡ false → list_any p (bounds_of cube) ≡ false) → (b || (b || list_any p (bounds_of cube))) ≡ false
     by true k rest = k
     by false k rest = rest k
 bounds-none p f g (Div n l ∷ cube) h = by (p (Div n l)) h (bounds-none p f g cube)
@@ -108,3 +109,6 @@ bounds-append (Le l ∷ front) back = ap (λ rest. Le l ∷ rest) (bounds-append
 bounds-append (Eq l ∷ front) back = ap (λ rest. Le l ∷ Le (negated l) ∷ rest) (bounds-append front back)
 bounds-append (Div n l ∷ front) back = ap (λ rest. Div n l ∷ rest) (bounds-append front back)
 bounds-append (NDiv n l ∷ front) back = ap (λ rest. NDiv n l ∷ rest) (bounds-append front back)
+
+pub bounds-next : (lits : List Lit) (i : ℕ) (d : Lit) → i < length lits → bounds_of (take (i + 1) lits) ≡ bounds_of (take i lits) ++ bounds_of (get_or lits i d ∷ [])
+bounds-next lits i d within = ap bounds_of (take_more lits i d within) ∙ bounds-append (take i lits) (get_or lits i d ∷ [])

@@ -1,6 +1,6 @@
 -- Lemmas that are learnt in place of others.
 use Rattle.std.proofs.Common.{◌≡◌, ℕ, ◌-◌, ◌<◌, ◌≤◌, zero, suc, List, [], ◌∷◌, length, Bool, true, false, ◌&&◌, cond, Some, None, refl, ap, sym, ◌∙◌, arith}
-use Rattle.std.specs.Prelude.{Option, nat_le, slice_get, ◌==◌}
+use Rattle.std.specs.Prelude.{Option, nat_le, slice_get}
 use Rattle.std.specs.List.{list_all}
 use Rattle.std.proofs.lemmas.Bool.Decides.{nat_tests}
 use Rattle.lin_atoms.specs.declared.lit.Lit.{Lit}

@@ -1,6 +1,6 @@
 -- Instances that are kept, and cubes that hold their heads.
-use Rattle.std.proofs.Common.{◌≡◌, ℕ, ◌<◌, List, [], ◌∷◌, ◌++◌, Bool, true, false, ◌&&◌, ◌||◌, not, length, Some, None, refl, ap, ap₂, sym, ◌∙◌, subst}
-use Rattle.std.specs.Prelude.{ℤ, Option, option_map, slice_get, ◌==◌}
+use Rattle.std.proofs.Common.{◌≡◌, ℕ, ◌<◌, List, [], ◌∷◌, ◌++◌, Bool, true, false, ◌||◌, not, length, Some, None, refl, ap, ap₂, sym, ◌∙◌, subst}
+use Rattle.std.specs.Prelude.{ℤ, Option, option_map, slice_get}
 use Rattle.std.specs.List.{list_all, list_any}
 use Rattle.std.proofs.lemmas.Option.{slice_get_within}
 use mathlib.Core.Bool.{true≢false}
@@ -21,7 +21,7 @@ use Rattle.book_rules.proofs.ListLemmas.{all_of-push}
 use Rattle.cube_rules.proofs.Public.{both_true}
 use Rattle.clause_queries.specs.Answers.{GoalFits, IsHit}
 use Rattle.clause_queries.specs.Kept.{is_kept}
-use Rattle.clause_queries.specs.Uses.{is_asked, uses}
+use Rattle.clause_queries.specs.Uses.{uses}
 use Rattle.clause_queries.proofs.Public.{has-goal, number_is}
 use Rattle.step_rules.specs.Standing.{Standing}
 use Rattle.lemma_general.specs.Tries.{IsMet}
@@ -105,4 +105,4 @@ pub hit-headed : (a b : Standing) (pred k n : ℕ) (cube : List Lit) (seen : See
 hit-headed a b pred k n cube seen clause same hit is there none =
     let first : (hit.at).clause ≡ clause = (let both = sym (hit.at).there ∙ clause-lent a b seen n clause same is there in cc) in
     let headed = (both_true (is_head (Some pred) ((hit.at).clause).head) _ (hit.at).asked).0 in
-    true≢false (sym (ap (λ (c : Clause). is_head (Some pred) c.head) first ∙ ap (is_head (Some pred)) none) ∙ headed)
+    true≢false (sym headed ∙ ap (λ (c : Clause). is_head (Some pred) c.head) first ∙ ap (is_head (Some pred)) none)

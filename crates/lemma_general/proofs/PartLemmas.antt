@@ -1,10 +1,10 @@
 -- Parts of lists of literals, and a list without a literal.
-use Rattle.std.proofs.Common.{◌≡◌, ℕ, ◌+◌, ◌<◌, ◌≤◌, zero, suc, List, [], ◌∷◌, ◌++◌, Bool, true, false, ◌&&◌, ◌||◌, inl, inr, length, take, drop, refl, ap, sym, ◌∙◌, subst, arith}
-use Rattle.std.specs.Prelude.{◌⊎◌, ℤ}
+use Rattle.std.proofs.Common.{◌≡◌, ℕ, ◌<◌, zero, suc, List, [], ◌∷◌, ◌++◌, Bool, true, false, ◌||◌, inl, inr, length, take, drop, refl, ap, sym, ◌∙◌, subst, arith}
 use Rattle.std.specs.List.{list_all, list_any}
 use mathlib.Core.Bool.{true≢false}
 use Rattle.lin_atoms.specs.declared.lit.Lit.{Lit}
 use Rattle.lin_atoms.specs.Truth.{lit_truth}
+use Rattle.cube_forms.specs.Cubes.{cube_is_short, lit_is_short}
 use Rattle.cube_rules.proofs.Public.{both_true, from_both, plus-one}
 use Rattle.lemma_general.specs.Generals.{IsPart, without}
 use Rattle.lemma_general.specs.machinery.Passes.{IsWithin}
@@ -71,3 +71,6 @@ part-none p (x ∷ part) (y ∷ whole) (inr h) none = let both = none-of (p y) (
 
 pub part-holds : (part whole : List Lit) → IsPart part whole → IsWithin whole part
 part-holds part whole h = λ tuple held. part-all (lit_truth tuple) part whole h held
+
+pub short-without : (at : ℕ) (lits : List Lit) → at < length lits → cube_is_short lits ≡ true → cube_is_short (without at lits) ≡ true
+short-without at lits within short = part-all lit_is_short (without at lits) lits (part-without at lits within) short

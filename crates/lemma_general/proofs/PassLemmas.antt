@@ -8,8 +8,7 @@ use mathlib.Core.Bool.{true≢false}
 use Rattle.lin_atoms.specs.Denial.{linear_of}
 use Rattle.lin_atoms.specs.Truth.{lit_is_below}
 use Rattle.lin_atoms.specs.declared.lit.Lit.{Lit}
-use Rattle.book_rules.specs.Areas.{is_wide}
-use Rattle.book_rules.specs.Places.{is_over, places_of}
+use Rattle.book_rules.specs.Places.{places_of}
 use Rattle.book_rules.specs.Walks.{has}
 use Rattle.step_rules.specs.Standing.{Standing}
 use Rattle.step_rules.specs.declared.lemma_part.LemmaPart.{LemmaPart}

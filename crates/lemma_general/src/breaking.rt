@@ -43,7 +43,8 @@ pub(crate) fn keep(
     requires met { AreMet lent.now part.now met.old }
     ensures { OnOk result (AreMet lent.now part.now met.new) }
 {
-    let _for = (part, cube);
+    let _part = part;
+    let _cube = cube;
     let clause = lent.system.clause(seen.clause() as usize);
     match &clause.head {
         Some(atom) => {

@@ -31,7 +31,8 @@ fn replace(
     requires proofs { AreProofsOf lent.now part.old.pred cube.now (part.old.level - 1) proofs }
     ensures { OnOk result (IsReplaced lent.now cube.now part.old part.new) }
 {
-    part.lemma = negate(lent.alloc, cube)?;
+    let lemma = negate(lent.alloc, cube)?;
+    part.lemma = lemma;
     part.proofs = proofs;
     Ok(())
 }
@@ -64,7 +65,10 @@ pub(crate) fn take(
             keep(lent, met, part, cube, seen)?;
             Ok(false)
         }
-        Found::GivenUp(_) => Ok(false),
+        Found::GivenUp(lost) => {
+            let _lost = lost;
+            Ok(false)
+        }
         Found::Refuted(proofs) => {
             replace(lent, part, cube, proofs)?;
             Ok(true)
@@ -155,7 +159,7 @@ pub fn generalise(lent: &Lent, part: LemmaPart, nodes: u32) -> Result<LemmaPart,
     let mut met = Items::new(lent.alloc);
     split(lent, &mut part, &mut met, nodes)?;
     let mut going = true;
-    'pass: while going {
+    'passes: while going {
         going = pass(lent, &mut part, &mut met, nodes)?;
     }
     Ok(part)

@@ -5,9 +5,8 @@ ghost use Rattle.lemma_frames.specs.Frames.{level_of};
 ghost use Rattle.obligation_turn.specs.Turns.{GoesOn};
 ghost use Rattle.lemma_general.specs.Generals.{IsLiftFound};
 
-use crate::showing::ask;
+use crate::showing::show;
 use base::Memory;
-use clause_queries::Found;
 use step_rules::{Lent, LiftPart};
 
 /// The lift of the lemma of that number, if the frame of its level implies it.
@@ -20,14 +19,13 @@ pub fn lift(lent: &Lent, id: u32, nodes: u32) -> Result<Option<LiftPart>, Memory
 {
     let from = lent.frames.level_of(id);
     let lemma = lent.frames.lemma(id);
-    let found = ask(lent, lent.frames.pred_of(id), lemma.cube(), from, nodes)?;
-    match found {
-        Found::Refuted(proofs) => Ok(Some(LiftPart {
+    let shown = show(lent, lent.frames.pred_of(id), lemma.cube(), from, nodes)?;
+    match shown {
+        Some(proofs) => Ok(Some(LiftPart {
             lemma: id,
             from,
             proofs,
         })),
-        Found::Instance(_) => Ok(None),
-        Found::GivenUp(_) => Ok(None),
+        None => Ok(None),
     }
 }

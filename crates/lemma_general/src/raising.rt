@@ -5,9 +5,8 @@ ghost use Rattle.obligation_turn.specs.Turns.{GoesOn};
 ghost use Rattle.lemma_general.specs.Generals.{IsLearnt, IsRaised};
 ghost use Rattle.lemma_general.specs.machinery.Passes.{IsRaisedOnce};
 
-use crate::showing::ask;
+use crate::showing::show;
 use base::Memory;
-use clause_queries::Found;
 use step_rules::{LemmaPart, Lent};
 
 /// Takes the lemma to the next level, if there is one and its frame implies it.
@@ -20,15 +19,14 @@ fn raise_once(lent: &Lent, part: &mut LemmaPart, nodes: u32) -> Result<bool, Mem
     if part.level >= lent.level {
         return Ok(false);
     }
-    let found = ask(lent, part.pred, part.lemma.cube(), part.level, nodes)?;
-    match found {
-        Found::Refuted(proofs) => {
+    let shown = show(lent, part.pred, part.lemma.cube(), part.level, nodes)?;
+    match shown {
+        Some(proofs) => {
             part.level += 1;
             part.proofs = proofs;
             Ok(true)
         }
-        Found::Instance(_) => Ok(false),
-        Found::GivenUp(_) => Ok(false),
+        None => Ok(false),
     }
 }
 

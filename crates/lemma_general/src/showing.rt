@@ -2,10 +2,10 @@
 
 ghost use Rattle.std.specs.Prelude.{◌-◌, ◌<◌, IfOk};
 ghost use Rattle.obligation_turn.specs.Turns.{GoesOn};
-ghost use Rattle.lemma_general.specs.machinery.Passes.{IsCubeOf, IsFoundOf};
+ghost use Rattle.lemma_general.specs.machinery.Passes.{IsCubeOf, IsFoundOf, IsShownOf};
 
-use base::Memory;
-use chc_tokens::Goal;
+use base::{Items, Memory};
+use chc_tokens::{Goal, Shown};
 use clause_queries::{Found, ask_all};
 use cube_forms::{Cube, negate};
 use step_rules::{LemmaPart, Lent};
@@ -31,7 +31,34 @@ pub(crate) fn ask(lent: &Lent, pred: u32, cube: &Cube, k: u32, nodes: u32) -> Re
     Ok(found)
 }
 
-/// The same for a lemma's predicate and the frame below its level.
+/// Its refutations, through each clause; none where there is an instance, or the search was given up.
+pub(crate) fn show(
+    lent: &Lent,
+    pred: u32,
+    cube: &Cube,
+    k: u32,
+    nodes: u32,
+) -> Result<Option<Items<Shown>>, Memory>
+    requires goes_on { GoesOn lent.now }
+    requires cube { IsCubeOf lent.now pred cube.now }
+    requires some { 0 < nodes }
+    ensures { IfOk result (IsShownOf lent.now pred cube.now k nodes) }
+{
+    let found = ask(lent, pred, cube, k, nodes)?;
+    match found {
+        Found::Refuted(proofs) => Ok(Some(proofs)),
+        Found::Instance(seen) => {
+            let _seen = seen;
+            Ok(None)
+        }
+        Found::GivenUp(lost) => {
+            let _lost = lost;
+            Ok(None)
+        }
+    }
+}
+
+/// The same as `ask` for a lemma's predicate and the frame below its level.
 pub(crate) fn ask_below(
     lent: &Lent,
     part: &LemmaPart,

@@ -83,7 +83,7 @@ impl Tries {
 
     /// The same, where no more is tried.
     pub fn into_part(self) -> LemmaPart
-        ensures { result ≡ part_of self.entry }
+        ensures { result ≡ part_of self }
     {
         self.part
     }

@@ -26,22 +26,22 @@ const CASES: [Case; 4] = [
         lemmas: "0 at 2: le -1x0+11; 0 at 2: le -1x0+11; ",
     },
     Case {
-        shows: "what never moves is enough",
+        shows: "a literal that isn't needed is dropped",
         script: "(set-logic HORN)(declare-fun p (Int Int) Bool)(assert (p 0 0))(assert (forall ((x Int) (y Int)) (=> (p x y) (p (+ x 1) y))))(assert (forall ((x Int) (y Int)) (=> (and (p x y) (> x 5) (> y 3)) false)))(check-sat)",
-        units: 5,
-        lemmas: "",
+        units: 7,
+        lemmas: "0 at 2: le -1x1+4; 0 at 2: le -1x1+4; ",
     },
     Case {
-        shows: "a chain: a lemma goes up at once",
-        script: "(set-logic HORN)(declare-fun p (Int) Bool)(declare-fun q (Int) Bool)(assert (p 0))(assert (forall ((x Int)) (=> (p x) (p x))))(assert (forall ((x Int)) (=> (p x) (q x))))(assert (not (q 5)))(check-sat)",
-        units: 5,
-        lemmas: "",
+        shows: "an equation is split, and a lemma goes up at once",
+        script: "(set-logic HORN)(declare-fun p (Int) Bool)(declare-fun q (Int) Bool)(assert (p 0))(assert (forall ((x Int)) (=> (p x) (q x))))(assert (not (q 5)))(check-sat)",
+        units: 13,
+        lemmas: "1 at 1:; 0 at 3: le -1x0+5; 1 at 3: le -1x0+5; 1 at 3: le -1x0+5; ",
     },
     Case {
         shows: "a loop with a saturating counter",
         script: "(set-logic HORN)(declare-fun |main@entry| () Bool)(declare-fun |main@loop| (Int Int) Bool)(declare-fun |main@exit| (Int Int) Bool)(assert |main@entry|)(assert (forall ((A Int) (B Int)) (=> (and |main@entry| (= A 0) (= B 0)) (|main@loop| A B))))(assert (forall ((A Int) (B Int) (C Int) (D Int)) (let ((a!1 (and (< A 100) (= C (+ A 1)))) (a!2 (= D (ite (> B 50) B (+ B 2))))) (=> (and (|main@loop| A B) a!1 a!2) (|main@loop| C D)))))(assert (forall ((A Int) (B Int)) (=> (and (|main@loop| A B) (not (< A 100))) (|main@exit| A B))))(assert (forall ((A Int) (B Int)) (=> (and (|main@exit| A B) (not (<= B 52))) false)))(check-sat)",
-        units: 19,
-        lemmas: "",
+        units: 20,
+        lemmas: "2 at 2:; 1 at 1:; 2 at 2:; 1 at 4: le -1x1+53; 2 at 4: le -1x1+53; 2 at 4: le -1x1+53; ",
     },
 ];
 

@@ -1,5 +1,5 @@
 -- How literals are dropped.
-use Rattle.std.specs.Prelude.{◌≡◌, ◌<◌, ◌≤◌, ◌-◌, ◌+◌, ◌⊎◌, ℕ, ℤ, List, Bool, true, false, Some, length}
+use Rattle.std.specs.Prelude.{◌≡◌, ◌<◌, ◌≤◌, ◌-◌, ◌+◌, ◌⊎◌, ℕ, ℤ, List, Bool, true, false, Option, Some, None, length}
 use Rattle.lin_atoms.specs.declared.lit.Lit.{Lit}
 use Rattle.cube_forms.specs.Cubes.{cube_holds}
 use Rattle.chc_tokens.specs.declared.goal.Goal.TheVariants.{Holds}
@@ -30,6 +30,11 @@ IsFoundOf b pred cube k nodes found = IsFound b.system b.frames.lemmas (Some pre
 
 abbrev pub AreProofsOf : Standing → ℕ → List Lit → ℕ → List Shown → Type 0
 AreProofsOf b pred cube k proofs = AreProofs b.system b.frames.lemmas (Some pred) (Holds cube) k proofs
+
+-- the refutations of a cube under F(k); none where something stands against it
+abbrev pub IsShownOf : Standing → ℕ → List Lit → ℕ → ℕ → Option (List Shown) → Type 0
+IsShownOf b pred cube k nodes (Some proofs) = AreProofsOf b pred cube k proofs
+IsShownOf b pred cube k nodes None = IsAgainst b pred k nodes cube
 
 -- instances that were met
 abbrev pub AreMet : Standing → LemmaPart → List Breaking → Type 0

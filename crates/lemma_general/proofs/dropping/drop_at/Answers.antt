@@ -1,4 +1,5 @@
-use Rattle.std.proofs.Common.{ap, ◌∙◌, subst}
+use Rattle.std.proofs.Common.{List, ap, ◌∙◌, subst}
+use Rattle.lin_atoms.specs.declared.lit.Lit.{Lit}
 use Rattle.lemma_general.specs.Generals.{without}
 use Rattle.lemma_general.specs.machinery.Passes.{IsTaken}
 use Rattle.lemma_general.proofs.TakeLemmas.{drop-cube, drop-held}
@@ -9,3 +10,7 @@ take-requires-clause-cube c = drop-cube c.args.lent.now c.args.part.now c.args.a
 
 pub take-requires-clause-held : goal.take-requires-clause-held
 take-requires-clause-held c = drop-held c.args.lent.now c.args.part.now c.args.at c.in_ok-cube.cube c.requires.learnt c.requires.at (c.in_ok-cube.ensures ∙ ap (without c.args.at) c.cube.ensures)
+
+pub returns-clause-taken : goal.returns-clause-taken
+returns-clause-taken c =
+    subst (λ (cube : List Lit). IsTaken c.args.lent.now c.args.nodes cube c.args.part.now c.take.new.part c.in_ok-taken.taken) (c.in_ok-cube.ensures ∙ ap (without c.args.at) c.cube.ensures) c.in_ok-taken.ensures.taken

@@ -1,4 +1,4 @@
-use Rattle.std.proofs.Common.{◌-◌, ℕ, length}
+use Rattle.std.proofs.Common.{◌-◌, length}
 use Rattle.lemma_general.proofs.PassLemmas.{IsPassing}
 use Rattle.lemma_general.proofs.dropping.pass.Given as goal
 

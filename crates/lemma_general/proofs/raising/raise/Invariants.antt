@@ -1,4 +1,4 @@
-use Rattle.std.proofs.Common.{◌≡◌, ◌+◌, ◌-◌, ℕ, cond}
+use Rattle.std.proofs.Common.{◌+◌, ◌-◌, ℕ, cond}
 use Rattle.lemma_general.proofs.PassLemmas.{IsRising}
 use Rattle.lemma_general.proofs.raising.raise.Given as goal
 
