@@ -9,6 +9,8 @@ mod hull_queries;
 mod hulls;
 mod moving;
 mod proposing;
+#[cfg(test)]
+mod rows;
 mod sums;
 mod tidying;
 mod tightening;
