@@ -157,15 +157,25 @@ fn unknown(alloc: Global, sys: &System) -> Result<Vec<Known>, Memory> {
     Ok(known)
 }
 
+/// Lets all divisibilities go.
+fn lose_divisibilities(alloc: Global, known: &mut Vec<Known>) {
+    for one in known.iter_mut() {
+        match one {
+            Known::Nothing => {}
+            Known::Common(hull) => hull.drop_divisibilities(alloc),
+        }
+    }
+}
+
 /// What the tuples of each predicate have in common, as far as it was found: first equations, then
-/// divisibilities; nothing where a few thousand queries didn't settle it.
+/// divisibilities; neither where a few thousand queries didn't settle it.
 pub(crate) fn hulls(alloc: Global, sys: &System) -> Result<Vec<Known>, Memory> {
     let mut known = unknown(alloc, sys)?;
     if !rounds(alloc, &mut known, sys, false)? {
         return unknown(alloc, sys);
     }
     if !rounds(alloc, &mut known, sys, true)? {
-        return unknown(alloc, sys);
+        lose_divisibilities(alloc, &mut known);
     }
     Ok(known)
 }

@@ -1,5 +1,7 @@
 //! Queries of a clause about the hull of its head.
 
+ghost use Rattle.std.specs.Prelude.{◌<◌};
+
 use crate::bounds::cube_of;
 use crate::hinting::Known;
 use base::{Copied, Items, Memory};
@@ -9,8 +11,14 @@ use lia_search::has_short_multiples;
 use lin_atoms::{Form, Lit, WideStop, denied};
 use std::alloc::Global;
 
-/// The most inner nodes of a query.
+/// The most inner nodes of a query about one literal.
+const FEW_NODES: u32 = 20;
+
+/// The most inner nodes of a query about several.
 const MOST_NODES: u32 = 200;
+
+/// For how many queries one counts that is given up.
+const GIVEN_UP: u32 = 100;
 
 /// The most variables of a clause that a query takes.
 const MOST_VARIABLES: u32 = 2_048;
@@ -35,11 +43,13 @@ pub(crate) enum Verdict {
 }
 
 /// Asks whether a point of so many variables makes the formula true.
-fn ask(alloc: Global, form: &Form, vars: u32) -> Result<Answer, Memory> {
+fn ask(alloc: Global, form: &Form, vars: u32, nodes: u32) -> Result<Answer, Memory>
+    requires { 0 < nodes }
+{
     if vars > MOST_VARIABLES || !form.is_below(vars as usize) || !has_short_multiples(form) {
         return Ok(Answer::GivenUp);
     }
-    match decide(alloc, form, &[], vars, MOST_NODES)? {
+    match decide(alloc, form, &[], vars, nodes)? {
         Decision::Model(point) => Ok(Answer::Point(point)),
         Decision::Refuted(_) => Ok(Answer::Refuted),
         Decision::GaveUp(_) => Ok(Answer::GivenUp),
@@ -51,17 +61,24 @@ fn ask_clause(
     alloc: Global,
     clause: &Clause,
     parts: Items<Form>,
+    nodes: u32,
     left: &mut u32,
-) -> Result<Answer, Memory> {
+) -> Result<Answer, Memory>
+    requires { 0 < nodes }
+{
     if *left == 0 {
         return Ok(Answer::GivenUp);
     }
     *left -= 1;
     let whole = Form::And(parts);
-    match u32::try_from(clause.sorts.len()) {
-        Ok(vars) => ask(alloc, &whole, vars),
-        Err(_) => Ok(Answer::GivenUp),
+    let answer = match u32::try_from(clause.sorts.len()) {
+        Ok(vars) => ask(alloc, &whole, vars, nodes)?,
+        Err(_) => Answer::GivenUp,
+    };
+    if let Answer::GivenUp = answer {
+        *left = left.saturating_sub(GIVEN_UP);
     }
+    Ok(answer)
 }
 
 /// The literals at arguments, where each number has room.
@@ -141,20 +158,28 @@ fn ask_for(
     clause: &Clause,
     lits: &[Lit],
     whole: bool,
+    nodes: u32,
     left: &mut u32,
-) -> Result<Answer, Memory> {
+) -> Result<Answer, Memory>
+    requires { 0 < nodes }
+{
     let mut parts = body_of(alloc, known, clause, whole)?;
     let mut denials = Items::new(alloc);
     for lit in lits {
         push_denial(alloc, &mut denials, lit)?;
     }
     parts.push(Form::Or(denials))?;
-    ask_clause(alloc, clause, parts, left)
+    ask_clause(alloc, clause, parts, nodes, left)
 }
 
-/// Asks for a tuple at which one of the literals is false: of all at once, and where that is given up,
-/// of one after another.
-fn visit(
+/// The tuple of the head at a point.
+fn met(alloc: Global, point: &[i64], head: &Atom) -> Result<Verdict, Memory> {
+    let tuple = tuple_at(alloc, point, head.args.as_slice())?;
+    Ok(Verdict::Met(tuple))
+}
+
+/// Asks for a tuple at which one of the literals is false, of one literal after another.
+fn visit_each(
     alloc: Global,
     known: &[Known],
     clause: &Clause,
@@ -163,27 +188,38 @@ fn visit(
     whole: bool,
     left: &mut u32,
 ) -> Result<Verdict, Memory> {
-    match ask_for(alloc, known, clause, lits, whole, left)? {
-        Answer::Point(point) => return Ok(Verdict::Met(tuple_at(
-            alloc,
-            point.as_slice(),
-            head.args.as_slice(),
-        )?)),
-        Answer::Refuted => return Ok(Verdict::Kept),
-        Answer::GivenUp => {}
-    }
     for (at, _) in lits.iter().enumerate() {
-        match ask_for(alloc, known, clause, &lits[at..at + 1], whole, left)? {
-            Answer::Point(point) => return Ok(Verdict::Met(tuple_at(
-                alloc,
-                point.as_slice(),
-                head.args.as_slice(),
-            )?)),
+        match ask_for(
+            alloc,
+            known,
+            clause,
+            &lits[at..at + 1],
+            whole,
+            FEW_NODES,
+            left,
+        )? {
+            Answer::Point(point) => return met(alloc, point.as_slice(), head),
             Answer::Refuted => {}
             Answer::GivenUp => return Ok(Verdict::Lost(at)),
         }
     }
     Ok(Verdict::Kept)
+}
+
+/// The same of all at once, and where that is given up, of one after another.
+fn visit_all(
+    alloc: Global,
+    known: &[Known],
+    clause: &Clause,
+    head: &Atom,
+    lits: &[Lit],
+    left: &mut u32,
+) -> Result<Verdict, Memory> {
+    match ask_for(alloc, known, clause, lits, false, MOST_NODES, left)? {
+        Answer::Point(point) => met(alloc, point.as_slice(), head),
+        Answer::Refuted => Ok(Verdict::Kept),
+        Answer::GivenUp => visit_each(alloc, known, clause, head, lits, false, left),
+    }
 }
 
 /// Asks for any tuple of the head.
@@ -192,16 +228,11 @@ fn visit_first(
     known: &[Known],
     clause: &Clause,
     head: &Atom,
-    whole: bool,
     left: &mut u32,
 ) -> Result<Verdict, Memory> {
-    let parts = body_of(alloc, known, clause, whole)?;
-    match ask_clause(alloc, clause, parts, left)? {
-        Answer::Point(point) => Ok(Verdict::Met(tuple_at(
-            alloc,
-            point.as_slice(),
-            head.args.as_slice(),
-        )?)),
+    let parts = body_of(alloc, known, clause, false)?;
+    match ask_clause(alloc, clause, parts, FEW_NODES, left)? {
+        Answer::Point(point) => met(alloc, point.as_slice(), head),
         Answer::Refuted => Ok(Verdict::Kept),
         Answer::GivenUp => Ok(Verdict::Kept),
     }
@@ -216,13 +247,13 @@ pub(crate) fn visit_equations(
     left: &mut u32,
 ) -> Result<Verdict, Memory> {
     match known.get(head.pred as usize) {
-        Some(Known::Nothing) => visit_first(alloc, known, clause, head, false, left),
+        Some(Known::Nothing) => visit_first(alloc, known, clause, head, left),
         Some(Known::Common(hull)) => {
             let lits = lits_at(alloc, hull.equations(alloc)?, head.args.as_slice())?;
             if lits.as_slice().len() == 0 {
                 return Ok(Verdict::Kept);
             }
-            visit(alloc, known, clause, head, lits.as_slice(), false, left)
+            visit_all(alloc, known, clause, head, lits.as_slice(), left)
         }
         None => Ok(Verdict::Kept),
     }
@@ -242,7 +273,7 @@ pub(crate) fn visit_divisibilities(
             if lits.as_slice().len() == 0 {
                 return Ok(Verdict::Kept);
             }
-            visit(alloc, known, clause, head, lits.as_slice(), true, left)
+            visit_each(alloc, known, clause, head, lits.as_slice(), true, left)
         }
         _ => Ok(Verdict::Kept),
     }

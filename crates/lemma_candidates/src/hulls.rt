@@ -343,6 +343,11 @@ impl Hull {
         Ok(())
     }
 
+    /// Lets all divisibilities go.
+    pub(crate) fn drop_divisibilities(&mut self, alloc: Global) {
+        self.residues = Vec::new(alloc);
+    }
+
     /// The equations.
     pub(crate) fn equations(&self, alloc: Global) -> Result<Vec<Lit>, Memory> {
         let mut lits = Vec::new(alloc);

@@ -11,6 +11,7 @@ mod moving;
 mod proposing;
 #[cfg(test)]
 mod rows;
+mod shrinking;
 mod sums;
 mod tidying;
 mod tightening;
