@@ -37,6 +37,7 @@ fn sat(alloc: Global, checked: &Checked, book: &Book, level: u32) -> Result<Answ
     requires ended { end (state_of book.now) ≡ Some (Sat level) }
     ensures { IfOk result (IsAnswerAt checked.now.script book.now (Sat level)) }
 {
+    // Laws, which run nothing: the definitions can be made, and solve the script.
     sat_ends_solve_the_script();
     lemmas_of_books_have_places();
     book.is_replayed();

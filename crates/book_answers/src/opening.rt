@@ -31,6 +31,7 @@ pub fn open(alloc: Global, checked: &Checked, units: u32) -> Result<Opened, Memo
     requires units { units ≤ most_units }
     ensures { IfOk result (IsOpened checked.now units) }
 {
+    // A law, which runs nothing: the clauses can be searched.
     systems_of_scripts_can_be_run();
     match read_clauses(alloc, checked) {
         Ok(system) => {

@@ -40,6 +40,7 @@ fn is_printable(checked: &Checked, book: &Book, ending: End, answer: &Answer)
     let facts = book.facts();
     facts.are_recorded();
     let _count = facts.count();
+    // Laws, which run nothing: both kinds of answers may be printed.
     lines_of_facts_are_read_back();
     definitions_are_printed();
 }

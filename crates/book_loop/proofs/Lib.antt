@@ -1,3 +1,4 @@
+pub mod FurtherLemmas
 pub mod JobLemmas
 pub mod StepLemmas
 pub mod SystemLemmas

@@ -1,31 +1,28 @@
--- A turn's step keeps cubes narrow, and a journal has room for each unit and each obligation that is stalled.
-use Rattle.std.proofs.Common.{◌≡◌, ℕ, ◌+◌, ◌≤◌, List, [], ◌∷◌, map, length, false, refl, sym, subst}
-use Rattle.std.specs.Prelude.{None}
-use Rattle.clause_form.specs.System.{Clauses}
-use Rattle.lemma_frames.specs.declared.framed.Framed.{Framed as KeptLemma}
-use Rattle.obligation_tree.specs.Nodes.{obligation_in}
-use Rattle.obligation_tree.specs.declared.node.Node.{Node}
-use Rattle.book_rules.specs.Areas.{is_wide}
+-- What a turn needs of the book, and what its steps have.
+use Rattle.std.proofs.Common.{◌≡◌, ℕ, zero, suc, ◌+◌, ◌<◌, ◌≤◌, List, [], ◌∷◌, length, None, Some, refl, sym, subst, arith}
+use Rattle.std.specs.Prelude.{Option, slice_get}
+use Rattle.std.proofs.lemmas.List.{length-map}
 use Rattle.book_rules.specs.Counts.{HasRoom}
-use Rattle.book_rules.specs.Effects.{after}
-use Rattle.book_rules.specs.Frames.{Framed}
 use Rattle.book_rules.specs.Kept.{AreRecorded, IsOrdered}
 use Rattle.book_rules.specs.Legal.{AreLegal, end, replay}
-use Rattle.book_rules.specs.State.{Obligation, State, opening}
-use Rattle.book_rules.specs.Walks.{AllOf}
+use Rattle.book_rules.specs.LemmaRules.{rule_10, rule_11, rule_12, rule_13}
+use Rattle.book_rules.specs.State.{Obligation, unless_live}
 use Rattle.book_rules.proofs.CountLemmas.{opening_room}
-use Rattle.book_rules.proofs.StepLemmas.{ChildHas, LemmaHas, lemmas-after, steady-after}
-use Rattle.step_rules.specs.Standing.{IsStanding, Standing}
-use Rattle.step_rules.specs.Taken.{step_of}
-use Rattle.step_rules.specs.Views.{framed_of, lemmas_of, obligation_of, obligations_of}
+use Rattle.book_rules.proofs.SoundLemmas.{unbroken}
+use Rattle.step_rules.specs.Standing.{IsStanding, Standing, state_of as state_standing}
+use Rattle.step_rules.specs.Taken.{learn_of}
+use Rattle.step_rules.specs.Views.{obligation_of, obligations_of}
+use Rattle.step_rules.specs.declared.lemma_part.LemmaPart.{LemmaPart}
+use Rattle.step_rules.specs.declared.lift_part.LiftPart.{LiftPart}
 use Rattle.step_rules.specs.declared.step.Step.{Step}
-use Rattle.step_rules.specs.declared.step.Step.TheVariants.{OpenStep, LemmaStep, FactStep, LiftStep, RaiseStep, StallStep}
+use Rattle.step_rules.specs.declared.step.Step.TheVariants.{LemmaStep, LiftStep}
 use Rattle.chc_core.specs.Contents.{Contents}
 use Rattle.chc_core.specs.Openings.{opening_of}
 use Rattle.chc_core.specs.Views.{standing_of, state_of, steps_of}
-use Rattle.obligation_turn.specs.Turns.{GoesOn, IsNarrow, IsTurn, StepIsNarrow}
+use Rattle.obligation_turn.specs.Turns.{GoesOn, IsNarrow, IsTurn}
+use Rattle.lemma_general.specs.Generals.{IsLearnt, IsLiftOf}
 use Rattle.book_loop.specs.Runs.{CanRun}
-use Rattle.book_loop.specs.machinery.Steps.{IsTaken}
+use Rattle.book_loop.specs.machinery.Steps.{IsOffered, IsTaken}
 
 pub goes_on : (b : Contents) → CanRun b.system → IsStanding (standing_of b) → IsOrdered (state_of b) → AreRecorded b.system [] (state_of b).facts → end (state_of b) ≡ None
     → IsNarrow (standing_of b) → GoesOn (standing_of b)
@@ -34,59 +31,46 @@ goes_on b can standing ordered recorded goes narrow = record { few = can.few; st
 pub taken : (b : Standing) (job nodes : ℕ) (step : Step) → IsTurn b job nodes step → IsTaken b nodes step
 taken b job nodes step h = record { unbroken = h.unbroken; made = h.made; places = h.places; counts = h.counts; narrow = h.narrow }
 
--- narrow cubes
+-- lemmas and lifts
 
-all_map : {X Y : Type 0} (P : Y → Type 0) (f : X → Y) (xs : List X) → AllOf (λ x. P (f x)) xs → AllOf P (map f xs)
-all_map P f [] h = tt
-all_map P f (x ∷ xs) h = (h.0, all_map P f xs h.1)
+pub learnt : (b : Standing) (nodes : ℕ) (part : LemmaPart) → IsTaken b nodes (LemmaStep part) → IsLearnt b part
+learnt b nodes part h = record { unbroken = h.unbroken; made = h.made; places = h.places; narrow = h.narrow }
 
-all_unmap : {X Y : Type 0} (P : Y → Type 0) (f : X → Y) (xs : List X) → AllOf P (map f xs) → AllOf (λ x. P (f x)) xs
-all_unmap P f [] h = tt
-all_unmap P f (x ∷ xs) h = (h.0, all_unmap P f xs h.1)
+pub taken-learnt : (b : Standing) (nodes : ℕ) (part : LemmaPart) → IsLearnt b part → IsTaken b nodes (LemmaStep part)
+taken-learnt b nodes part h = record { unbroken = h.unbroken; made = h.made; places = h.places; counts = tt; narrow = h.narrow }
 
-abbrev NarrowLemma : Framed → Type 0
-NarrowLemma e = is_wide e.lemma.cube ≡ false
+pub taken-lift : (b : Standing) (id nodes : ℕ) (part : LiftPart) → IsLiftOf b id part → IsTaken b nodes (LiftStep part)
+taken-lift b id nodes part h = record { unbroken = h.unbroken; made = h.made; places = h.places; counts = tt; narrow = tt }
 
-abbrev NarrowObligation : Obligation → Type 0
-NarrowObligation o = is_wide o.cube ≡ false
+pub offered : (b : Standing) (nodes : ℕ) (step : Step) → IsTaken b nodes step → IsOffered b.system nodes step
+offered b nodes step h = record { made = h.made; places = h.places; counts = h.counts; narrow = h.narrow }
 
-record IsNarrowState (s : State) : Type 0 where
-  lemmas : AllOf NarrowLemma s.lemmas
-  obligations : AllOf NarrowObligation s.obligations
+-- an obligation for which a lemma is learnt
 
-narrow_state : (b : Contents) → IsNarrow (standing_of b) → IsNarrowState (state_of b)
-narrow_state b h = record { lemmas = all_map NarrowLemma framed_of b.frames.lemmas h.lemmas; obligations = all_map NarrowObligation obligation_of b.tree.nodes h.obligations }
+within-at : {X : Type 0} (xs : List X) (n : ℕ) (x : X) → slice_get xs n ≡ Some x → n < length xs
+within-at [] n x there = absurd (cc)
+within-at (y ∷ xs) zero x there = omega arith
+within-at (y ∷ xs) (suc n) x there = let rest = within-at xs n x there in omega arith
 
-state_narrow : (b : Contents) → IsNarrowState (state_of b) → IsNarrow (standing_of b)
-state_narrow b h = record { lemmas = all_unmap NarrowLemma framed_of b.frames.lemmas h.lemmas; obligations = all_unmap NarrowObligation obligation_of b.tree.nodes h.obligations }
+live-within : (os : List Obligation) (n : ℕ) → unless_live (slice_get os n) ≡ None → n < length os
+live-within os n live = by (slice_get os n) refl live where
+  by : (found : Option Obligation) → slice_get os n ≡ found → unless_live found ≡ None → n < length os
+  by None is h = absurd (cc)
+  by (Some o) is h = within-at os n o is
 
-lemma_new : (step : Step) → StepIsNarrow step → LemmaHas NarrowLemma (step_of step)
-lemma_new (OpenStep o) h = tt
-lemma_new (LemmaStep l) h = h
-lemma_new (FactStep f) h = tt
-lemma_new (LiftStep l) h = tt
-lemma_new (RaiseStep r) h = tt
-lemma_new (StallStep t) h = tt
+pub target-there : (b : Standing) (part : LemmaPart) → IsLearnt b part → part.target < length b.tree.nodes
+target-there b part h =
+    let s = state_standing b in
+    let l = learn_of part in
+    let first = unbroken 10 (rule_10 s l) _ h.unbroken in
+    let second = unbroken 11 (rule_11 b.system l) _ first.1 in
+    let third = unbroken 12 (rule_12 b.system s l) _ second.1 in
+    let fourth = unbroken 13 (rule_13 s l) _ third.1 in
+    subst (λ (n : ℕ). part.target < n) (length-map b.tree.nodes obligation_of) (live-within (obligations_of b.tree.nodes) part.target fourth.0)
 
-child_new : (sys : Clauses) (s : State) (step : Step) → StepIsNarrow step → ChildHas NarrowObligation sys s (step_of step)
-child_new sys s (OpenStep o) h = λ parent atom there is. h
-child_new sys s (LemmaStep l) h = tt
-child_new sys s (FactStep f) h = tt
-child_new sys s (LiftStep l) h = tt
-child_new sys s (RaiseStep r) h = tt
-child_new sys s (StallStep t) h = tt
-
-narrow_step : (sys : Clauses) (s : State) (step : Step) → IsNarrowState s → StepIsNarrow step → IsNarrowState (after sys s (step_of step))
-narrow_step sys s step h new = record {
-  lemmas = lemmas-after NarrowLemma (λ e level k. k) sys s (step_of step) h.lemmas (lemma_new step new);
-  obligations = steady-after NarrowObligation (λ o level closed stalled k. k) sys s (step_of step) h.obligations (child_new sys s step new);
-}
-
-pub narrow-after : (b c : Contents) (step : Step) → state_of c ≡ after b.system (state_of b) (step_of step) → IsNarrow (standing_of b) → StepIsNarrow step → IsNarrow (standing_of c)
-narrow-after b c step is h new = state_narrow c (subst IsNarrowState (sym is) (narrow_step b.system (state_of b) step (narrow_state b h) new))
-
-pub narrow-opening : (b : Contents) (units : ℕ) → state_of b ≡ opening units → IsNarrow (standing_of b)
-narrow-opening b units is = state_narrow b (subst IsNarrowState (sym is) (record { lemmas = tt; obligations = (refl, tt) }))
+-- over what is lent
+pub target-lent : (a b : Standing) (given part : LemmaPart) → a ≡ b → given ≡ part → IsLearnt b part → given.target < length a.tree.nodes
+target-lent a b given part same is h = subst (λ (x : Standing). given.target < length x.tree.nodes) (sym same) (subst (λ (p : LemmaPart). p.target < length b.tree.nodes) (sym is) (target-there b part h))
 
 -- entries
 

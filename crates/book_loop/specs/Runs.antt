@@ -3,7 +3,7 @@ use Rattle.std.specs.Prelude.{◌≡◌, ℕ}
 use Rattle.clause_form.specs.System.{Clauses}
 use Rattle.chc_core.specs.declared.entry.Entry.{Entry}
 use Rattle.clause_queries.specs.Answers.{AreFew}
-use Rattle.obligation_turn.specs.Turns.{StepCounts}
+use Rattle.obligation_turn.specs.Counts.{StepCounts}
 use Rattle.step_rules.specs.Standing.{IsNumbered}
 
 -- clauses, predicates and the body atoms of each clause have numbers of 32 bits

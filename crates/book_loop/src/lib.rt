@@ -2,9 +2,14 @@
 //! reachability"): turn after turn serves an obligation, until the book has ended.
 #![tactic(auto)]
 
+mod carrying;
 mod choosing;
 mod laws;
+mod learning;
+mod lifting;
+mod older;
 mod running;
+mod taking;
 
 pub use laws::systems_of_scripts_can_be_run;
 pub use running::{begin, search};

@@ -1,37 +1,27 @@
 //! Turn after turn.
 
-ghost use Rattle.std.specs.Prelude.{◌≡◌, ◌≤◌, ◌<◌, ◌+◌, [], None, length, IfOk, OnOk, OnErr, IsSome};
-ghost use Rattle.std.specs.Bool.{OnFalse, OnTrue};
+ghost use Rattle.std.specs.Prelude.{◌≡◌, ◌≤◌, ◌<◌, ◌+◌, [], None, length, IfOk, OnOk, IsSome};
 ghost use Rattle.book_rules.specs.Legal.{end};
 ghost use Rattle.book_rules.specs.Walks.{AllOf};
 ghost use Rattle.chc_core.specs.Openings.{most_units};
 ghost use Rattle.chc_core.specs.Views.{standing_of, state_of};
 ghost use Rattle.obligation_turn.specs.Turns.{IsNarrow};
 ghost use Rattle.book_loop.specs.Runs.{CanRun, IsOwn};
-ghost use Rattle.book_loop.specs.machinery.Steps.{AddsOwn, IsTaken};
+ghost use Rattle.book_loop.specs.machinery.Steps.{IsFurther, IsTaken};
 
+use crate::carrying::lift_older;
 use crate::choosing::next_job;
+use crate::learning::improved;
+use crate::lifting::{lift_after, pass_of};
+use crate::taking::{has_ended, lend, take};
 use base::Memory;
-use chc_core::{Book, Refused, Step};
+use chc_core::Book;
 use clause_form::System;
 use obligation_turn::turn;
 use std::alloc::Global;
+use step_rules::Step;
 
-/// The number of the only worker.
-const WORKER: u32 = 1;
-
-/// Whether the book has an end.
-fn has_ended(book: &Book) -> bool
-    ensures ended { OnTrue result (IsSome (end (state_of book.now))) }
-    ensures goes_on { OnFalse result (end (state_of book.now) ≡ None) }
-{
-    match book.end() {
-        Some(_) => true,
-        None => false,
-    }
-}
-
-/// The step of the next turn.
+/// The step of the next turn. A lemma is first made more general and raised.
 fn next_step(book: &Book, nodes: u32) -> Result<Step, Memory>
     requires can_run { CanRun book.now.system }
     requires some { 0 < nodes }
@@ -39,59 +29,41 @@ fn next_step(book: &Book, nodes: u32) -> Result<Step, Memory>
     requires narrow { IsNarrow (standing_of book.now) }
     ensures { IfOk result (IsTaken (standing_of book.now) nodes) }
 {
-    let _facts = book.facts();
     let job = next_job(book);
-    let lent = book.lend();
+    let lent = lend(book);
     let step = turn(&lent, job, nodes)?;
-    Ok(step)
+    let served = improved(&lent, step, nodes)?;
+    Ok(served)
 }
 
-/// The book takes the step.
-fn take(book: &mut Book, step: Step, nodes: u32) -> Result<(), Memory>
+/// The book takes the step. In place of a lemma whose cube an older one has, that one is lifted.
+fn serve(book: &mut Book, step: Step, nodes: u32) -> Result<(), Memory>
     requires goes_on { end (state_of book.old) ≡ None }
-    requires narrow { IsNarrow (standing_of book.old) }
     requires taken { IsTaken (standing_of book.old) nodes step }
-    ensures system { OnOk result (book.new.system ≡ book.old.system) }
-    ensures given { OnOk result (book.new.given ≡ book.old.given) }
-    ensures narrow { OnOk result (IsNarrow (standing_of book.new)) }
-    ensures entry { OnOk result (AddsOwn nodes book.old.journal book.new.journal) }
-    ensures err { OnErr result (book.new ≡ book.old) }
+    ensures further { IsFurther nodes book.old book.new }
+    ensures grown { OnOk result (length book.old.journal < length book.new.journal) }
 {
-    let _nodes = nodes;
-    match book.commit(WORKER, step) {
-        Ok(_) => Ok(()),
-        Err(Refused::Memory) => Err(Memory),
-        Err(Refused::Ended { end }) => {
-            let _end = end;
-            unreachable!()
-        }
-        Err(Refused::Spent { units }) => {
-            let _units = units;
-            unreachable!()
-        }
-        Err(Refused::Rule { number, by }) => {
-            let _broken = (number, by);
-            unreachable!()
-        }
+    if lift_older(book, &step, nodes)? {
+        return Ok(());
     }
+    take(book, step, nodes)
 }
 
-/// One turn: a step for the obligation that is asked next. A journal has at most an entry for each unit,
-/// and one for each obligation that was stalled.
+/// One turn: a step for the obligation that is asked next, and the lifts that come with it. A journal
+/// has at most an entry for each unit, and one for each obligation that was stalled.
 fn advance(book: &mut Book, nodes: u32) -> Result<(), Memory>
     requires can_run { CanRun book.old.system }
     requires some { 0 < nodes }
     requires goes_on { end (state_of book.old) ≡ None }
     requires narrow { IsNarrow (standing_of book.old) }
-    ensures system { OnOk result (book.new.system ≡ book.old.system) }
-    ensures given { OnOk result (book.new.given ≡ book.old.given) }
-    ensures narrow { OnOk result (IsNarrow (standing_of book.new)) }
-    ensures entry { OnOk result (AddsOwn nodes book.old.journal book.new.journal) }
+    ensures further { IsFurther nodes book.old book.new }
+    ensures grown { OnOk result (length book.old.journal < length book.new.journal) }
     ensures room { OnOk result (length book.new.journal ≤ book.new.given + book.new.given + 1) }
-    ensures err { OnErr result (book.new ≡ book.old) }
 {
     let step = next_step(book, nodes)?;
-    take(book, step, nodes)?;
+    let pass = pass_of(book, &step);
+    serve(book, step, nodes)?;
+    lift_after(book, pass, nodes)?;
     book.is_replayed();
     Ok(())
 }

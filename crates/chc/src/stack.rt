@@ -3,7 +3,7 @@
 use std::alloc::{AllocError, Global};
 
 /// How many pages of stack a text takes whose lists nest as deep as they may, with some to spare.
-const PAGES: u32 = 800;
+const PAGES: u32 = 1_500;
 
 /// The bytes of a page, and a little less, so that each call touches the page below the last one.
 const PAGE: usize = 4000;

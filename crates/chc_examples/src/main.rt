@@ -17,7 +17,7 @@ const SCRIPTS: [(&str, &str); 13] = [
     ("query.smt2", "--units 1"),
     ("bounded.smt2", ""),
     ("halves.smt2", ""),
-    ("saturating.smt2", "--units 0"),
+    ("saturating.smt2", ""),
     ("two_heads.smt2", ""),
     ("too_wide.smt2", ""),
     ("wrong_sort.smt2", ""),

@@ -6,7 +6,7 @@ use std::alloc::Global;
 use std::process::Abort;
 
 /// What a case shows, the words behind `solve`, the script, and its output.
-const CASES: [&str; 11] = [
+const CASES: [&str; 14] = [
     "no clause at all§§(set-logic HORN)(check-sat)§sat\n(\n)\n",
     "a counter that reaches 3§§(set-logic HORN)\n(declare-fun p (Int) Bool)\n(assert (p 0))\n(assert (forall ((x Int)) (=> (p x) (p (+ x 1)))))\n(assert (not (p 3)))\n(check-sat)\n§unsat\n(derivation\n(step 1 1 () () (p 0))\n(step 2 2 (0) (1) (p 1))\n(step 3 2 (1) (2) (p 2))\n(step 4 2 (2) (3) (p 3))\n(step 5 3 () (4) false)\n)\n",
     "no unit§--units 0§(set-logic HORN)(declare-fun p (Int) Bool)(assert (p 0))(assert (forall ((x Int)) (=> (p x) (p (+ x 1)))))(assert (not (p 3)))(check-sat)§unknown\n; level 0 units 0\n",
@@ -17,6 +17,9 @@ const CASES: [&str; 11] = [
     "false itself, with one unit§--units 1§(set-logic HORN)(assert false)(check-sat)§unsat\n(derivation\n(step 1 1 () () false)\n)\n",
     "a predicate without clauses§§(set-logic HORN)(declare-fun p (Int) Bool)(assert (forall ((x Int)) (=> (p x) false)))(check-sat)§sat\n(\n(define-fun p ((x0 Int)) Bool false)\n)\n",
     "Bool arguments, and none§§(set-logic HORN)(declare-fun q () Bool)(declare-fun r (Bool Int) Bool)(assert q)(assert (=> q (r true (- 2))))(assert (forall ((b Bool) (x Int)) (=> (and (r b x) b (< x 0)) false)))(check-sat)§unsat\n(derivation\n(step 1 1 () () q)\n(step 2 2 () (1) (r true (- 2)))\n(step 3 3 (true (- 2)) (2) false)\n)\n",
+    "a counter that stops at 10§--units 7§(set-logic HORN)\n(declare-fun p (Int) Bool)\n(assert (p 0))\n(assert (forall ((x Int)) (=> (and (p x) (< x 10)) (p (+ x 1)))))\n(assert (forall ((x Int)) (=> (and (p x) (> x 10)) false)))\n(check-sat)\n§sat\n(\n(define-fun p ((x0 Int)) Bool (not (<= (* (- 1) x0) (- 11))))\n)\n",
+    "sums of even numbers, by two body atoms§--units 7§(set-logic HORN)\n(declare-fun p (Int) Bool)\n(assert (p 2))\n(assert (forall ((x Int) (y Int)) (=> (and (p x) (p y)) (p (+ x y)))))\n(assert (forall ((x Int)) (=> (and (p x) (= (mod x 2) 1)) false)))\n(check-sat)\n§sat\n(\n(define-fun p ((x0 Int)) Bool (not ((_ divisible 2) (+ x0 (- 1)))))\n)\n",
+    "a loop with a saturating counter, as a front end prints it§--units 19§; a loop with a saturating counter\n(set-info :source |printed by a front end|)\n(set-info :smt-lib-version 2.6)\n(set-option :fp.engine spacer)\n(set-logic HORN)\n(declare-fun |main@entry| () Bool)\n(declare-fun |main@loop| (Int Int) Bool)\n(declare-fun |main@exit| (Int Int) Bool)\n(assert |main@entry|)\n(assert (forall ((A Int) (B Int))\n  (=> (and |main@entry| (= A 0) (= B 0)) (|main@loop| A B))))\n(assert (forall ((A Int) (B Int) (C Int) (D Int))\n  (let ((a!1 (and (< A 100) (= C (+ A 1)))) (a!2 (= D (ite (> B 50) B (+ B 2)))))\n    (=> (and (|main@loop| A B) a!1 a!2) (|main@loop| C D)))))\n(assert (forall ((A Int) (B Int))\n  (=> (and (|main@loop| A B) (not (< A 100))) (|main@exit| A B))))\n(assert (forall ((A Int) (B Int))\n  (=> (and (|main@exit| A B) (not (<= B 52))) false)))\n(check-sat)\n(get-model)\n(exit)\n§sat\n(\n(define-fun main@entry () Bool true)\n(define-fun main@loop ((x0 Int) (x1 Int)) Bool (not (<= (* (- 1) x1) (- 53))))\n(define-fun main@exit ((x0 Int) (x1 Int)) Bool (not (<= (* (- 1) x1) (- 53))))\n)\n",
     "a division of a negative number§§(set-logic HORN)(assert (not (and (= (mod (- 7) 2) 1) (= (div (- 7) 2) (- 4)))))(check-sat)§unsat\n(derivation\n(step 1 1 () () false)\n)\n",
 ];
 

@@ -12,7 +12,7 @@ use crate::lost::Lost;
 use base::{Items, Memory};
 use chc_tokens::{Goal, Seen, Shown, TokenStop, Used, base_of, forms_of, seen, shown_by};
 use clause_form::{Clause, System};
-use lia_cases::{Decision, decide};
+use lia_cases::{Decision, decide_owned};
 use std::alloc::Global;
 
 /// What was found of a query.
@@ -69,7 +69,7 @@ pub(crate) fn ask(
     let forms = forms_of(alloc, sys, clause, used.as_slice())?;
     let own = sys.clause(clause as usize);
     let vars = variables(own);
-    let decision = decide(alloc, &base, forms.as_slice(), vars, nodes)?;
+    let decision = decide_owned(alloc, base, forms, vars, nodes)?;
     match decision {
         Decision::Model(point) => Ok(Asked::Instance(instance(sys, clause, point))),
         Decision::Refuted(proof) => Ok(Asked::Refuted(shown_by(sys, clause, goal, used, proof))),

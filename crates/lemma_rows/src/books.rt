@@ -2,7 +2,7 @@
 
 ghost use Rattle.std.specs.Prelude.{◌<◌, ◌^◌, length, IfOk, IfSome};
 ghost use Rattle.horn_shape.specs.Clause.{IsLegalScript};
-ghost use Rattle.lemma_rows.specs.Led.{IsLed};
+ghost use Rattle.book_loop.specs.Runs.{CanRun};
 
 use base::Memory;
 use book_loop::{begin, systems_of_scripts_can_be_run};
@@ -27,7 +27,7 @@ fn checked(alloc: Global, text: &[u8]) -> Result<Checked, Memory>
 /// The book over the clauses of the text; nothing where the text is refused.
 pub(crate) fn book_of(alloc: Global, text: &[u8]) -> Result<Option<Book>, Memory>
     requires { length text.now < 2 ^ 32 }
-    ensures { IfOk result (λ found. IfSome found IsLed) }
+    ensures { IfOk result (λ found. IfSome found (λ book. CanRun book.system)) }
 {
     let checked = checked(alloc, text)?;
     systems_of_scripts_can_be_run();

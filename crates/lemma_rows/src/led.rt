@@ -5,13 +5,14 @@ ghost use Rattle.std.specs.Prelude.{◌≡◌, ◌<◌, None, IfOk, IfSome, IsTr
 ghost use Rattle.std.specs.Bool.{OnTrue};
 ghost use Rattle.book_rules.specs.Legal.{end};
 ghost use Rattle.chc_core.specs.Views.{standing_of, state_of};
-ghost use Rattle.book_loop.specs.machinery.Jobs.{IsJob};
-ghost use Rattle.book_loop.specs.machinery.Steps.{IsTaken};
+ghost use Rattle.book_loop.specs.Runs.{CanRun};
 ghost use Rattle.lemma_general.specs.Generals.{IsLearnt};
-ghost use Rattle.lemma_rows.specs.Led.{IsLed, IsOn};
+ghost use Rattle.lemma_rows.specs.Led.{AreNarrow, HaveNarrow, IsFree, IsGiven, IsOn};
 
 use base::Memory;
 use chc_core::{Book, Step};
+use cube_rules::is_wide;
+use lemma_frames::Frames;
 use lemma_general::{generalise, lift, raise};
 use obligation_tree::Tree;
 use obligation_turn::turn;
@@ -23,14 +24,14 @@ const NODES: u32 = 1000;
 /// Whether the obligation may be asked.
 fn is_job(tree: &Tree, id: u32) -> bool
     requires { id < length tree.now.nodes }
-    ensures { IsTrue result → IsJob tree.now.nodes id }
+    ensures { IsTrue result → IsFree tree.now.nodes id }
 {
     tree.is_live(id) && !tree.has_live_child(id) && !tree.is_stalled(id)
 }
 
 /// The oldest one that may be asked.
 fn job_of(tree: &Tree) -> Option<u32>
-    ensures { IfSome result (IsJob tree.now.nodes) }
+    ensures { IfSome result (IsFree tree.now.nodes) }
 {
     for id in 0..tree.count() {
         if is_job(tree, id) {
@@ -40,11 +41,43 @@ fn job_of(tree: &Tree) -> Option<u32>
     None
 }
 
-/// Whether the book goes on.
+/// Whether the cubes of all lemmas are narrow.
+fn are_narrow(frames: &Frames) -> bool
+    ensures { OnTrue result (AreNarrow frames.now.lemmas) }
+{
+    for id in 0..frames.count() {
+        if is_wide(frames.lemma(id).cube().lits()) {
+            return false;
+        }
+    }
+    true
+}
+
+/// Whether those of all obligations are.
+fn have_narrow(tree: &Tree) -> bool
+    ensures { OnTrue result (HaveNarrow tree.now.nodes) }
+{
+    for id in 0..tree.count() {
+        if is_wide(tree.obligation(id).cube.lits()) {
+            return false;
+        }
+    }
+    true
+}
+
+/// Whether the book has no end.
 pub(crate) fn goes_on(book: &Book) -> bool
     ensures { OnTrue result (end (state_of book.now) ≡ None) }
 {
     book.end().is_none()
+}
+
+/// Whether the book can be led on: its cubes are narrow, as they always are.
+fn is_on(book: &Book) -> bool
+    requires { CanRun book.now.system }
+    ensures { OnTrue result (IsOn book.now) }
+{
+    goes_on(book) && are_narrow(book.frames()) && have_narrow(book.tree())
 }
 
 /// A more general lemma, as high as it goes.
@@ -55,21 +88,21 @@ fn better(book: &Book, part: LemmaPart) -> Result<LemmaPart, Memory>
 {
     let _facts = book.facts();
     let lent = book.lend();
-    let part = generalise(&lent, part, NODES)?;
-    let part = raise(&lent, part, NODES)?;
-    Ok(part)
+    let general = generalise(&lent, part, NODES)?;
+    let raised = raise(&lent, general, NODES)?;
+    Ok(raised)
 }
 
 /// The step, where it is a Lemma with a better one.
 fn improved(book: &Book, step: Step) -> Result<Step, Memory>
     requires on { IsOn book.now }
-    requires taken { IsTaken (standing_of book.now) 1000 step }
-    ensures { IfOk result (IsTaken (standing_of book.now) 1000) }
+    requires given { IsGiven (standing_of book.now) step }
+    ensures { IfOk result (IsGiven (standing_of book.now)) }
 {
     match step {
         Step::LemmaStep(part) => {
-            let part = better(book, part)?;
-            Ok(Step::LemmaStep(part))
+            let learnt = better(book, part)?;
+            Ok(Step::LemmaStep(learnt))
         }
         other => Ok(other),
     }
@@ -78,7 +111,7 @@ fn improved(book: &Book, step: Step) -> Result<Step, Memory>
 /// The step of the next turn.
 fn next_step(book: &Book) -> Result<Option<Step>, Memory>
     requires on { IsOn book.now }
-    ensures { IfOk result (λ found. IfSome found (IsTaken (standing_of book.now) 1000)) }
+    ensures { IfOk result (λ found. IfSome found (IsGiven (standing_of book.now))) }
 {
     let Some(job) = job_of(book.tree()) else {
         return Ok(None);
@@ -86,15 +119,15 @@ fn next_step(book: &Book) -> Result<Option<Step>, Memory>
     let _facts = book.facts();
     let lent = book.lend();
     let step = turn(&lent, job, NODES)?;
-    let step = improved(book, step)?;
-    Ok(Some(step))
+    let taken = improved(book, step)?;
+    Ok(Some(taken))
 }
 
 /// The book takes the step. Whether it did.
 fn take(book: &mut Book, step: Step) -> bool
-    requires led { IsLed book.old }
-    requires taken { IsTaken (standing_of book.old) 1000 step }
-    ensures { IsLed book.new }
+    requires can_run { CanRun book.old.system }
+    requires given { IsGiven (standing_of book.old) step }
+    ensures { CanRun book.new.system }
 {
     match book.commit(1, step) {
         Ok(_) => true,
@@ -104,10 +137,10 @@ fn take(book: &mut Book, step: Step) -> bool
 
 /// One turn. Whether the book took a step.
 fn lead(book: &mut Book) -> Result<bool, Memory>
-    requires { IsLed book.old }
-    ensures { IsLed book.new }
+    requires { CanRun book.old.system }
+    ensures { CanRun book.new.system }
 {
-    if !goes_on(book) {
+    if !is_on(book) {
         return Ok(false);
     }
     let step = next_step(book)?;
@@ -119,8 +152,8 @@ fn lead(book: &mut Book) -> Result<bool, Memory>
 
 /// So many turns, or fewer where it ends before.
 pub(crate) fn lead_on(book: &mut Book, turns: u32) -> Result<(), Memory>
-    requires { IsLed book.old }
-    ensures { IsLed book.new }
+    requires { CanRun book.old.system }
+    ensures { CanRun book.new.system }
 {
     for _ in 0..turns {
         if !lead(book)? {
@@ -132,9 +165,9 @@ pub(crate) fn lead_on(book: &mut Book, turns: u32) -> Result<(), Memory>
 
 /// Whether the lemma of that number is one below the book's level that can't be lifted.
 pub(crate) fn stays(book: &Book, id: u32) -> Result<bool, Memory>
-    requires { IsLed book.now }
+    requires { CanRun book.now.system }
 {
-    if !goes_on(book) || id >= book.frames().count() || book.frames().level_of(id) >= book.level() {
+    if !is_on(book) || id >= book.frames().count() || book.frames().level_of(id) >= book.level() {
         return Ok(false);
     }
     let _facts = book.facts();

@@ -1,7 +1,6 @@
 //! Scripts with the lemmas that are learnt of them.
 
-ghost use Rattle.std.specs.Prelude.{◌≤◌};
-ghost use Rattle.lemma_rows.specs.Led.{IsLed};
+ghost use Rattle.book_loop.specs.Runs.{CanRun};
 
 use crate::books::book_of;
 use crate::led::{goes_on, lead_on, stays};
@@ -47,7 +46,7 @@ const CASES: [Case; 4] = [
 
 /// The book of a script after so many turns.
 fn led(rt: &impl Abort, alloc: Global, script: &str, turns: u32) -> Book
-    ensures { IsLed result }
+    ensures { CanRun result.system }
 {
     let text = script.as_bytes();
     assert!(rt; text.len() < 2000, "a short script");

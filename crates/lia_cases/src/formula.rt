@@ -13,15 +13,46 @@ use lin_atoms::Form;
 use std::alloc::Global;
 
 /// The formula and the lemmas, in order.
-fn conjunction(alloc: Global, form: &Form, lemmas: &[Form]) -> Result<Form, Memory>
-    ensures { IfOk result (λ whole. whole ≡ And (form.now ∷ lemmas.now)) }
+fn conjunction(alloc: Global, form: Form, lemmas: Items<Form>) -> Result<Form, Memory>
+    ensures { IfOk result (λ whole. whole ≡ And (form ∷ lemmas)) }
 {
     let mut parts = Items::new(alloc);
-    parts.push(form.copy(alloc)?)?;
-    for lemma in lemmas {
-        parts.push(lemma.copy(alloc)?)?;
-    }
+    parts.push(form)?;
+    parts.append(lemmas)?;
     Ok(Form::And(parts))
+}
+
+/// What `decide` answers of a formula and lemmas that aren't needed any more. They aren't copied.
+pub fn decide_owned(
+    alloc: Global,
+    form: Form,
+    lemmas: Items<Form>,
+    vars: u32,
+    nodes: u32,
+) -> Result<Decision, Memory>
+    requires below { is_below vars form ≡ true }
+    requires lemmas_below { list_all (is_below vars) lemmas ≡ true }
+    requires short { has_short_multiples form ≡ true }
+    requires lemmas_short { list_all has_short_multiples lemmas ≡ true }
+    requires few { vars ≤ 2048 }
+    requires some { 0 < nodes }
+    ensures { IfOk result (λ decision. Decides (And (form ∷ lemmas)) vars nodes decision) }
+{
+    let taken = literals(&form);
+    let whole = conjunction(alloc, form, lemmas)?;
+    let decision = search(alloc, whole, taken, vars, nodes)?;
+    Ok(decision)
+}
+
+/// Copies of the lemmas.
+fn copies(alloc: Global, lemmas: &[Form]) -> Result<Items<Form>, Memory>
+    ensures { IfOk result (λ copied. copied ≡ lemmas.now) }
+{
+    let mut copied = Items::new(alloc);
+    for lemma in lemmas {
+        copied.push(lemma.copy(alloc)?)?;
+    }
+    Ok(copied)
 }
 
 /// Decides whether an integer point makes the formula and all lemmas true: a point of `vars` integers,
@@ -45,7 +76,8 @@ pub fn decide(
     requires some { 0 < nodes }
     ensures { IfOk result (λ decision. Decides (And (form.now ∷ lemmas.now)) vars nodes decision) }
 {
-    let whole = conjunction(alloc, form, lemmas)?;
-    let decision = search(alloc, whole, literals(form), vars, nodes)?;
+    let own = form.copy(alloc)?;
+    let lemmas = copies(alloc, lemmas)?;
+    let decision = decide_owned(alloc, own, lemmas, vars, nodes)?;
     Ok(decision)
 }

@@ -6,5 +6,5 @@ mod counting;
 mod formula;
 
 pub use asking::{are_below, have_short_multiples};
-pub use formula::decide;
+pub use formula::{decide, decide_owned};
 pub use lia_search::Decision;

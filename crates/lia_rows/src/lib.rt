@@ -5,6 +5,8 @@
 #[cfg(test)]
 mod boxes;
 #[cfg(test)]
+mod divisors;
+#[cfg(test)]
 mod lemmas;
 #[cfg(test)]
 mod literals;

@@ -5,6 +5,7 @@ ghost use Rattle.std.specs.List.{list_all, list_any};
 ghost use Rattle.lin_atoms.specs.Truth.{lit_truth, truth};
 ghost use Rattle.lia_search.specs.machinery.Opened.{left_lits};
 
+use crate::shared::Shared;
 use crate::waiting::LeftOut;
 use base::Items;
 use lin_atoms::{Form, holds};
@@ -29,7 +30,7 @@ pub(crate) fn first_literal(left_out: &[LeftOut], point: &[i64]) -> Option<usize
     ensures none { IsNone result → list_all (lit_truth point.now) (left_lits left_out.now) ≡ true }
 {
     for (at, one) in left_out.iter().enumerate() {
-        if !one.lit.holds(point) {
+        if !one.lit.get().holds(point) {
             return Some(at);
         }
     }
@@ -37,14 +38,14 @@ pub(crate) fn first_literal(left_out: &[LeftOut], point: &[i64]) -> Option<usize
 }
 
 /// The first of the disjunctions that is false at the point.
-pub(crate) fn first_disjunction(cases: &[Items<Form>], point: &[i64]) -> Option<usize>
+pub(crate) fn first_disjunction(cases: &[Shared<Items<Form>>], point: &[i64]) -> Option<usize>
     ensures within { IfSome result (λ at. at < length cases.now) }
     ensures broken { IfSome result (λ at. option_map (list_any (truth point.now)) (slice_get cases.now at) ≡ Some false) }
     ensures before { IfSome result (λ at. list_all (list_any (truth point.now)) (take at cases.now) ≡ true) }
     ensures none { IsNone result → list_all (list_any (truth point.now)) cases.now ≡ true }
 {
     for (at, parts) in cases.iter().enumerate() {
-        if !any_holds(parts.as_slice(), point) {
+        if !any_holds(parts.get().as_slice(), point) {
             return Some(at);
         }
     }

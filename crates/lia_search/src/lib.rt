@@ -11,6 +11,7 @@ mod names;
 mod parts;
 mod running;
 mod searching;
+mod shared;
 mod short;
 mod waiting;
 

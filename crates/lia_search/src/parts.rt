@@ -4,18 +4,35 @@ ghost use Rattle.std.specs.Prelude.{◌≡◌, ◌+◌, ◌+ℤ◌, ◌++◌, �
 ghost use Rattle.farkas_proof.specs.Split.{at_least, at_most};
 ghost use Rattle.lia_search.specs.machinery.Opened.{opened_part, with_lit, with_lits};
 
+use crate::shared::Shared;
 use crate::waiting::Open;
 use base::{Copied, Items, Memory};
-use farkas_proof::flattened;
+use farkas_proof::{Flat, flattened};
 use lia_node::{above, at_most};
 use lin_atoms::{Form, Lin, Lit};
 use std::alloc::Global;
 
+/// Disjunctions that nodes can share.
+pub(crate) fn shared(
+    alloc: Global,
+    cases: Items<Items<Form>>,
+) -> Result<Items<Shared<Items<Form>>>, Memory>
+    ensures { IfOk result (λ made. made ≡ cases) }
+{
+    let mut left = cases;
+    let mut made = Vec::with_capacity(alloc, left.len())?;
+    'share: while let Some(parts) = left.pop() {
+        made.push(Shared::new(alloc, parts)?)?;
+    }
+    made.reverse();
+    Ok(Items::from_vec(made))
+}
+
 /// Disjunctions after others.
 fn push_all(
     alloc: Global,
-    made: &mut Items<Items<Form>>,
-    cases: &[Items<Form>],
+    made: &mut Items<Shared<Items<Form>>>,
+    cases: &[Shared<Items<Form>>],
 ) -> Result<(), Memory>
     ensures { OnOk result (made.new ≡ made.old ++ cases.now) }
 {
@@ -28,10 +45,10 @@ fn push_all(
 /// The disjunctions with others in place of one of them.
 fn replaced(
     alloc: Global,
-    cases: &[Items<Form>],
+    cases: &[Shared<Items<Form>>],
     which: usize,
-    new: &[Items<Form>],
-) -> Result<Items<Items<Form>>, Memory>
+    new: &[Shared<Items<Form>>],
+) -> Result<Items<Shared<Items<Form>>>, Memory>
     requires { which < length cases.now }
     ensures { IfOk result (λ made. made ≡ take which cases.now ++ (new.now ++ drop (which + 1) cases.now)) }
 {
@@ -57,15 +74,11 @@ fn in_part(alloc: Global, waiting: &Open, which: usize, part: &Form) -> Result<O
     requires { which < length waiting.now.cases }
     ensures { IfOk result (λ below. below ≡ opened_part which waiting.now part.now) }
 {
-    let flat = flattened(alloc, part)?;
-    let cases = replaced(
-        alloc,
-        waiting.cases.as_slice(),
-        which,
-        flat.cases.as_slice(),
-    )?;
+    let Flat { lits, cases } = flattened(alloc, part)?;
+    let new = shared(alloc, cases)?;
+    let cases = replaced(alloc, waiting.cases.as_slice(), which, new.as_slice())?;
     let mut below = waiting.copy(alloc)?;
-    add_all(alloc, &mut below, flat.lits.as_slice())?;
+    add_all(alloc, &mut below, lits.as_slice())?;
     below.cases = cases;
     Ok(below)
 }
@@ -81,7 +94,7 @@ pub(crate) fn push_parts(
     ensures stack { OnOk result (reverse stack.new.items ≡ map (opened_part which waiting.now) (slice_index_or waiting.now.cases which []) ++ reverse stack.old.items) }
     ensures count { IfOk result (λ count. count ≡ length (slice_index_or waiting.now.cases which [])) }
 {
-    let parts = waiting.cases.as_slice()[which].as_slice();
+    let parts = waiting.cases.as_slice()[which].get().as_slice();
     let mut left = parts.len();
     'parts: while left > 0 {
         left -= 1;

@@ -22,6 +22,7 @@ use crate::waiting::Open;
 use base::Memory;
 use farkas_proof::{Evidence, Refutation};
 use lia_close::{Step, close, numbered, tree_of};
+use lia_divisors::close_by_divisor;
 use lia_node::{Examined, examine};
 use lin_atoms::Form;
 use node_rows::are_legal;
@@ -115,28 +116,40 @@ impl<'a> Search<'a> {
         Ok(())
     }
 
-    /// The node is split by a branch.
+    /// The node is closed by a common divisor of a row, where there is one, and otherwise split by a
+    /// branch.
     fn branch(
         &mut self,
         alloc: Global,
         waiting: Open,
         variable: u32,
         floor: i64,
-    ) -> Result<(), Memory>
+    ) -> Result<Turn, Memory>
         requires is { Waits self.old waiting }
         requires solution { HasSolution self.old.end waiting.lits }
         requires vertex { HasVertexBetween (system self.old.end waiting.lits) variable floor }
         requires few { end_of_quotients self.old.end waiting.lits ≤ self.old.end + most_rows }
         requires room { self.old.count < self.old.nodes }
-        ensures { OnOk result (Splits self.old self.new) }
+        ensures { Turns self.old waiting self.new result }
     {
         let mut waiting = waiting;
         self.name(&mut waiting)?;
+        let found = close_by_divisor(
+            alloc,
+            waiting.lits.as_slice(),
+            waiting.reasons.as_slice(),
+            waiting.known,
+            self.end,
+        )?;
+        if let Some(tree) = found {
+            self.steps.push(Step::Closed(tree))?;
+            return Ok(Turn::WentOn);
+        }
         let lin = side(alloc, variable, floor)?;
         self.steps.push(Step::Split(lin))?;
         push_sides(alloc, &mut self.stack, waiting, variable, floor)?;
         self.count += 1;
-        Ok(())
+        Ok(Turn::Split)
     }
 
     /// The node is split by the parts of an open disjunction.
@@ -161,13 +174,13 @@ impl<'a> Search<'a> {
     }
 
     /// A literal of the node that was left out joins.
-    fn take_in(&mut self, waiting: Open, at: usize) -> Result<(), Memory>
+    fn take_in(&mut self, alloc: Global, waiting: Open, at: usize) -> Result<(), Memory>
         requires is { Waits self.old waiting }
         requires there { at < length waiting.left_out }
         ensures { OnOk result (Goes self.old waiting self.new) }
     {
         let mut waiting = waiting;
-        waiting.take_in(at)?;
+        waiting.take_in(alloc, at)?;
         self.stack.push(waiting)?;
         Ok(())
     }
@@ -208,7 +221,7 @@ impl<'a> Search<'a> {
     {
         match first_literal(waiting.left_out.as_slice(), point.as_slice()) {
             Some(at) => {
-                self.take_in(waiting, at)?;
+                self.take_in(alloc, waiting, at)?;
                 Ok(Turn::WentOn)
             }
             None => self.meet_cases(alloc, waiting, point),
@@ -252,10 +265,7 @@ impl<'a> Search<'a> {
                 Ok(Turn::WentOn)
             }
             Examined::Model(point) => self.meet(alloc, waiting, point),
-            Examined::Fraction { variable, floor } => {
-                self.branch(alloc, waiting, variable, floor)?;
-                Ok(Turn::Split)
-            }
+            Examined::Fraction { variable, floor } => self.branch(alloc, waiting, variable, floor),
             Examined::Wide(evidence) => Ok(self.give_up(&waiting, evidence, is_first)),
         }
     }

@@ -10,7 +10,9 @@ ghost use Rattle.lia_search.specs.machinery.Searched.{IsSearch};
 use crate::decision::Decision;
 use crate::ends::small_end;
 use crate::finishing::decided;
+use crate::parts::shared;
 use crate::running::Search;
+use crate::shared::Shared;
 use crate::waiting::{LeftOut, Open};
 use base::{Copied, Items, Memory};
 use farkas_proof::{Flat, flattened};
@@ -26,7 +28,7 @@ fn left_out(alloc: Global, lits: &[Lit], from: usize) -> Result<Items<LeftOut>, 
     let mut at = from;
     'left: while at < lits.len() {
         made.push(LeftOut {
-            lit: lits[at].copy(alloc)?,
+            lit: Shared::new(alloc, lits[at].copy(alloc)?)?,
             number: numbered(at)?,
         })?;
         at += 1;
@@ -48,6 +50,7 @@ fn first(alloc: Global, flat: Flat, taken: usize) -> Result<Open, Memory>
     }
     let left_out = left_out(alloc, flat.lits.as_slice(), at)?;
     let Flat { lits: all, cases } = flat;
+    let cases = shared(alloc, cases)?;
     Ok(Open {
         lits,
         numbers,

@@ -3,15 +3,16 @@
 ghost use Rattle.std.specs.Prelude.{◌≡◌, ◌<◌, length, OnOk};
 ghost use Rattle.lia_search.specs.machinery.Opened.{with_left_out, with_lit};
 
+use crate::shared::Shared;
 use base::{Copied, Items, Memory};
 use lia_close::numbered;
 use lin_atoms::{Form, Lit};
 use std::alloc::Global;
 
 /// A literal of the form that is left out, and its number in the refutation.
-#[derive(Debug, Drop)]
+#[derive(Drop)]
 pub(crate) struct LeftOut {
-    pub(crate) lit: Lit,
+    pub(crate) lit: Shared<Lit>,
     pub(crate) number: u32,
 }
 
@@ -39,7 +40,7 @@ pub(crate) struct Open {
     /// The literals of the form that are left out.
     pub(crate) left_out: Items<LeftOut>,
     /// The open disjunctions, each as its parts.
-    pub(crate) cases: Items<Items<Form>>,
+    pub(crate) cases: Items<Shared<Items<Form>>>,
 }
 
 impl Copied for Open {
@@ -68,12 +69,12 @@ impl Open {
     }
 
     /// A literal that was left out joins as the last.
-    pub(crate) fn take_in(&mut self, at: usize) -> Result<(), Memory>
+    pub(crate) fn take_in(&mut self, alloc: Global, at: usize) -> Result<(), Memory>
         requires { at < length self.old.left_out }
         ensures { OnOk result (self.new ≡ with_left_out self.old at) }
     {
         let LeftOut { lit, number } = self.left_out.remove(at);
-        self.lits.push(lit)?;
+        self.lits.push(lit.get().copy(alloc)?)?;
         self.numbers.push(number)?;
         Ok(())
     }

@@ -1,15 +1,11 @@
 -- On which books and obligations a turn is asked, and what it answers (Hoder and Bjorner, "Generalized property directed
 -- reachability", section 3; Komuravelli, Gurfinkel and Chaki, "SMT-based model checking for recursive programs", section 4).
 use Rattle.std.specs.Prelude.{◌≡◌, ◌<◌, ◌-◌, ℕ, [], Some, None, length, slice_get, true, false}
-use Rattle.farkas_proof.specs.KeptEvidence.{given_evidence}
 use Rattle.clause_form.specs.declared.clause.Clause.{Clause}
-use Rattle.lia_search.specs.Decides.{CountsTo}
 use Rattle.lemma_frames.specs.declared.framed.Framed.{Framed as KeptLemma}
 use Rattle.obligation_tree.specs.declared.node.Node.{Node}
 use Rattle.obligation_tree.specs.Nodes.{has_live_child, is_live_at, is_stalled_in, node_at, obligation_in}
-use Rattle.chc_tokens.specs.Kept.{kept_why, seen_clause, seen_point}
-use Rattle.chc_tokens.specs.declared.why.Why.{Why}
-use Rattle.chc_tokens.specs.declared.why.Why.TheVariants.{Broken, Unknown}
+use Rattle.chc_tokens.specs.Kept.{seen_clause, seen_point}
 use Rattle.book_rules.specs.Areas.{is_wide}
 use Rattle.book_rules.specs.Frames.{AreRefuted}
 use Rattle.book_rules.specs.Instances.{instances}
@@ -20,6 +16,7 @@ use Rattle.book_rules.specs.Rules.{broken}
 use Rattle.book_rules.specs.Walks.{AllOf}
 use Rattle.area_literals.specs.Areas.{IsAreaOf}
 use Rattle.clause_queries.specs.Answers.{AreFew}
+pub use Rattle.obligation_turn.specs.Counts.{StepCounts, WhyCounts}
 use Rattle.step_rules.specs.Standing.{IsStanding, Standing, state_of}
 use Rattle.step_rules.specs.Taken.{AreProjected, IsMadeFor, step_of}
 use Rattle.step_rules.specs.Views.{facts_of, lemmas_of}
@@ -46,19 +43,6 @@ pub record IsOpenLeaf (b : Standing) (job : ℕ) : Type 0 where
   pub live : is_live_at b.tree.nodes job ≡ true
   pub leaf : has_live_child b.tree.nodes job ≡ false
   pub unmarked : is_stalled_in (node_at b.tree.nodes job) ≡ false
-
-abbrev pub WhyCounts : ℕ → Why → Type 0
-WhyCounts nodes (Broken seen) = Unit {0}
-WhyCounts nodes (Unknown clause used evidence) = CountsTo nodes (given_evidence evidence)
-
--- where evidence counts inner nodes, it counts so many
-abbrev pub StepCounts : ℕ → Step → Type 0
-StepCounts nodes (OpenStep o) = Unit {0}
-StepCounts nodes (LemmaStep l) = Unit {0}
-StepCounts nodes (FactStep f) = Unit {0}
-StepCounts nodes (LiftStep l) = Unit {0}
-StepCounts nodes (RaiseStep r) = AllOf (λ k. WhyCounts nodes (kept_why k)) r.kept
-StepCounts nodes (StallStep t) = CountsTo nodes (given_evidence t.evidence)
 
 -- a cube that the step adds to the book is narrow, too
 abbrev pub StepIsNarrow : Step → Type 0

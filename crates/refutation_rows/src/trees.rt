@@ -335,7 +335,7 @@ const ABOVE: Node = Node::Round(&[(2, 1), (1, 1)], 3);
 
 const BELOW: Node = Node::Round(&[(3, 1), (1, -1)], 3);
 
-const QUOTIENTS: [Case; 5] = [
+const QUOTIENTS: [Case; 6] = [
     (
         OFF_BY_1,
         &[BACK, ROUND, Node::Quotient(0)],
@@ -376,6 +376,13 @@ const QUOTIENTS: [Case; 5] = [
         &[BELOW, ABOVE, Node::Quotient(0)],
         &[(4, 1), (5, 1)],
         Answer::NoProof(3),
+    ),
+    // what is known of the quotient has a constant of 2^64
+    (
+        &[(Kind::Undivided, &[(0, 1)], 1 - (1 << 64))],
+        &[Node::Quotient(0)],
+        &[(1, 1)],
+        Answer::SumWide(0),
     ),
 ];
 

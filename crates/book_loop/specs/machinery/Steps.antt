@@ -1,12 +1,20 @@
--- A step that the book takes, and what its entry adds to the journal.
-use Rattle.std.specs.Prelude.{◌≡◌, ℕ, List, [], ◌∷◌, ◌++◌, None, true}
-use Rattle.book_rules.specs.Places.{has_places}
+-- Steps that the book takes, and what their entries add to the journal.
+use Rattle.std.specs.Prelude.{◌≡◌, ◌<◌, ◌≤◌, ℕ, List, Bool, true, false, None, length}
+use Rattle.clause_form.specs.System.{Clauses}
+use Rattle.chc_tokens.specs.Tokens.{IsShown}
+use Rattle.chc_tokens.specs.declared.refuting.Shown.{Shown}
+use Rattle.book_rules.specs.Places.{has_places, shown_has_places}
 use Rattle.book_rules.specs.Rules.{broken}
-use Rattle.chc_core.specs.declared.entry.Entry.{Entry}
+use Rattle.book_rules.specs.Walks.{AllOf}
+use Rattle.std.specs.List.{list_all}
+use Rattle.chc_core.specs.Contents.{Contents}
+use Rattle.chc_core.specs.Views.{standing_of}
 use Rattle.step_rules.specs.Standing.{Standing, state_of}
 use Rattle.step_rules.specs.Taken.{IsMadeFor, step_of}
+use Rattle.step_rules.specs.Tokens.{all_shown}
 use Rattle.step_rules.specs.declared.step.Step.{Step}
-use Rattle.obligation_turn.specs.Turns.{StepCounts, StepIsNarrow}
+use Rattle.obligation_turn.specs.Counts.{StepCounts}
+use Rattle.obligation_turn.specs.Turns.{IsNarrow, StepIsNarrow}
 use Rattle.book_loop.specs.Runs.{IsOwn}
 
 -- what is needed of a turn: the step breaks no rule, its tokens are the system's and its cubes over their predicates; evidence
@@ -18,8 +26,27 @@ pub record IsTaken (b : Standing) (nodes : ℕ) (step : Step) : Type 0 where
   pub counts : StepCounts nodes step
   pub narrow : StepIsNarrow step
 
--- one more entry, the worker's own
-pub record AddsOwn (nodes : ℕ) (old new : List Entry) : Type 0 where
-  pub entry : Entry
-  pub added : new ≡ old ++ entry ∷ []
-  pub own : IsOwn nodes entry
+-- the same of a step that may break a rule
+pub record IsOffered (sys : Clauses) (nodes : ℕ) (step : Step) : Type 0 where
+  pub made : IsMadeFor sys step
+  pub places : has_places sys (step_of step) ≡ true
+  pub counts : StepCounts nodes step
+  pub narrow : StepIsNarrow step
+
+-- proofs of a lemma that were made for the system
+pub record AreFor (sys : Clauses) (proofs : List Shown) : Type 0 where
+  pub made : AllOf (IsShown sys) proofs
+  pub places : list_all (shown_has_places sys) (all_shown proofs) ≡ true
+
+-- the book took steps of its own, or none
+pub record IsFurther (nodes : ℕ) (old new : Contents) : Type 0 where
+  pub system : new.system ≡ old.system
+  pub given : new.given ≡ old.given
+  pub narrow : IsNarrow (standing_of old) → IsNarrow (standing_of new)
+  pub own : AllOf (IsOwn nodes) old.journal → AllOf (IsOwn nodes) new.journal
+  pub longer : length old.journal ≤ length new.journal
+
+-- whether it took any
+abbrev pub HasTaken : Contents → Contents → Bool → Type 0
+HasTaken old new true = length old.journal < length new.journal
+HasTaken old new false = new ≡ old

@@ -1,5 +1,23 @@
+use Rattle.std.proofs.Common.{sym, subst, arith}
+use Rattle.book_loop.specs.Runs.{CanRun}
+use Rattle.book_loop.proofs.FurtherLemmas.{further-then}
 use Rattle.book_loop.proofs.StepLemmas.{room}
 use Rattle.book_loop.proofs.running.advance.Goals as goal
 
+pub lift_after-requires-clause-can_run : goal.lift_after-requires-clause-can_run
+lift_after-requires-clause-can_run c = subst CanRun (sym c.in_ok-serve.ensures.further.system) c.requires.can_run
+
+pub lift_after-requires-clause-narrow : goal.lift_after-requires-clause-narrow
+lift_after-requires-clause-narrow c = c.in_ok-serve.ensures.further.narrow c.requires.narrow
+
+pub returns-clause-further : goal.returns-clause-further
+returns-clause-further c = further-then c.args.nodes c.args.book.now c.serve.new.book c.lift_after.new.book c.in_ok-serve.ensures.further c.in_ok-lift_after.ensures
+
+pub returns-clause-grown : goal.returns-clause-grown
+returns-clause-grown c =
+    let one = c.in_ok-serve.ensures.grown in
+    let two = c.in_ok-lift_after.ensures.longer in
+    omega (arith, one, two)
+
 pub returns-clause-room : goal.returns-clause-room
-returns-clause-room c = room c.take.new.book c.is_replayed.ensures.replayed c.is_replayed.ensures.legal
+returns-clause-room c = room c.lift_after.new.book c.is_replayed.ensures.replayed c.is_replayed.ensures.legal

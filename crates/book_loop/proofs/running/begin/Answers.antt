@@ -1,4 +1,4 @@
-use Rattle.book_loop.proofs.StepLemmas.{narrow-opening}
+use Rattle.book_loop.proofs.FurtherLemmas.{narrow-opening}
 use Rattle.book_loop.proofs.running.begin.Goals as goal
 
 pub returns-clause-narrow : goal.returns-clause-narrow

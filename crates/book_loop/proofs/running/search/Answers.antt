@@ -1,30 +1,24 @@
-use Rattle.std.proofs.Common.{◌≡◌, ◌+◌, List, length, ap, sym, ◌∙◌, subst, arith}
-use Rattle.std.proofs.lemmas.List.{length_push}
-use Rattle.book_rules.specs.Walks.{AllOf}
-use Rattle.book_rules.proofs.ListLemmas.{all_of-push}
-use Rattle.chc_core.specs.declared.entry.Entry.{Entry}
-use Rattle.book_loop.specs.Runs.{CanRun, IsOwn}
+use Rattle.std.proofs.Common.{sym, subst, arith}
+use Rattle.book_loop.specs.Runs.{CanRun}
+use Rattle.book_loop.proofs.FurtherLemmas.{further-none, further-then}
 use Rattle.book_loop.proofs.running.search.Goals as goal
+
+pub turns-init : goal.turns-init
+turns-init c = further-none c.args.nodes c.args.book.now
 
 pub advance-requires-clause-can_run : goal.advance-requires-clause-can_run
 advance-requires-clause-can_run c = subst CanRun (sym c.turns.invariant.system) c.requires.can_run
 
+pub advance-requires-clause-narrow : goal.advance-requires-clause-narrow
+advance-requires-clause-narrow c = c.turns.invariant.narrow c.requires.narrow
+
 pub turns-preserved : goal.turns-preserved
-turns-preserved c =
-    let done = c.in_ok-advance.ensures in
-    let entry = done.entry in
-    record {
-      system = done.system ∙ c.turns.invariant.system;
-      given = done.given ∙ c.turns.invariant.given;
-      narrow = done.narrow;
-      own = subst (AllOf (IsOwn c.args.nodes)) (sym entry.added) (all_of-push (IsOwn c.args.nodes) c.turns.book.journal entry.entry c.turns.invariant.own entry.own);
-    }
+turns-preserved c = further-then c.args.nodes c.args.book.now c.turns.book c.advance.new.book c.turns.invariant c.in_ok-advance.ensures.further
 
 pub turns-smaller : goal.turns-smaller
 turns-smaller c =
     let done = c.in_ok-advance.ensures in
-    let entry = done.entry in
-    let grown : length c.advance.new.book.journal ≡ length c.turns.book.journal + 1 = ap (λ (j : List Entry). length j) entry.added ∙ length_push c.turns.book.journal entry.entry in
-    let given = done.given in
+    let grown = done.grown in
+    let given = done.further.given in
     let room = done.room in
     omega (arith, grown, given, room)

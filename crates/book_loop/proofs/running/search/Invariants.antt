@@ -1,17 +1,10 @@
-use Rattle.std.proofs.Common.{◌≡◌, ◌+◌, ◌-◌, length}
-use Rattle.book_rules.specs.Walks.{AllOf}
-use Rattle.chc_core.specs.Views.{standing_of}
-use Rattle.obligation_turn.specs.Turns.{IsNarrow}
-use Rattle.book_loop.specs.Runs.{IsOwn}
+use Rattle.std.proofs.Common.{◌+◌, ◌-◌, length}
+use Rattle.book_loop.specs.machinery.Steps.{IsFurther}
 use Rattle.book_loop.proofs.running.search.Given as goal
 
+-- the steps so far
 abbrev pub invariant-turns : goal.invariant-turns
-invariant-turns l = record {
-  system : l.book.system ≡ l.initial.book.system;
-  given : l.book.given ≡ l.initial.book.given;
-  narrow : IsNarrow (standing_of l.book);
-  own : AllOf (IsOwn l.nodes) l.book.journal;
-}
+invariant-turns l = IsFurther l.nodes l.initial.book l.book
 
 -- the entries for which there is room
 abbrev pub decreases-turns : goal.decreases-turns

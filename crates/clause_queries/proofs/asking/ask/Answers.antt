@@ -1,10 +1,7 @@
-use Rattle.std.proofs.Common.{List, ◌∷◌, ap, sym, ◌∙◌}
+use Rattle.std.proofs.Common.{ap, sym, ◌∙◌}
 use Rattle.std.specs.List.{list_all}
-use Rattle.lin_atoms.specs.Truth.{is_below, truth}
-use Rattle.lin_atoms.specs.declared.form.Form.{Form}
-use Rattle.lin_atoms.specs.declared.form.Form.TheViews.{And}
+use Rattle.lin_atoms.specs.Truth.{is_below}
 use Rattle.clause_form.proofs.Public.{keeps}
-use Rattle.lia_search.specs.Decides.{has_short_multiples}
 use Rattle.chc_tokens.specs.Queries.{forms_at}
 use Rattle.clause_queries.proofs.AnswerLemmas.{base-within, model, model-instance}
 use Rattle.clause_queries.proofs.AskLemmas.{base-below, base-short, forms-below, forms-short}
@@ -16,22 +13,21 @@ clause-own-requires c = base-within c.args.sys.now c.args.clause c.args.goal c.r
 pub variables-vars-requires : goal.variables-vars-requires
 variables-vars-requires c = (keeps c.args.sys.now.preds c.clause-own.result.now c.clause-own.ensures.legal).few
 
-pub decide-requires-clause-below : goal.decide-requires-clause-below
-decide-requires-clause-below c =
+pub decide_owned-requires-clause-below : goal.decide_owned-requires-clause-below
+decide_owned-requires-clause-below c =
     ap (λ n. is_below n c.in_ok-base.base) c.variables-vars.ensures ∙ base-below c.args.sys.now c.args.clause c.clause-own.result.now c.args.goal c.in_ok-base.base c.clause-own.ensures.legal c.clause-own.ensures.is c.in_ok-base.ensures
 
-pub decide-requires-clause-lemmas_below : goal.decide-requires-clause-lemmas_below
-decide-requires-clause-lemmas_below c =
-    ap (list_all (is_below c.variables-vars.result)) c.as_slice-2.ensures ∙ ap (λ n. list_all (is_below n) c.in_ok-forms.forms) c.variables-vars.ensures
+pub decide_owned-requires-clause-lemmas_below : goal.decide_owned-requires-clause-lemmas_below
+decide_owned-requires-clause-lemmas_below c =
+    ap (λ n. list_all (is_below n) c.in_ok-forms.forms) c.variables-vars.ensures
     ∙ forms-below c.args.sys.now c.args.clause c.clause-own.result.now c.as_slice.result.now c.in_ok-forms.forms c.clause-own.ensures.legal c.clause-own.ensures.is c.in_ok-forms.ensures
 
-pub decide-requires-clause-short : goal.decide-requires-clause-short
-decide-requires-clause-short c = base-short c.args.sys.now c.args.clause c.clause-own.result.now c.args.goal c.in_ok-base.base c.clause-own.ensures.legal c.clause-own.ensures.is c.in_ok-base.ensures c.requires.asks.goal_short
+pub decide_owned-requires-clause-short : goal.decide_owned-requires-clause-short
+decide_owned-requires-clause-short c = base-short c.args.sys.now c.args.clause c.clause-own.result.now c.args.goal c.in_ok-base.base c.clause-own.ensures.legal c.clause-own.ensures.is c.in_ok-base.ensures c.requires.asks.goal_short
 
-pub decide-requires-clause-lemmas_short : goal.decide-requires-clause-lemmas_short
-decide-requires-clause-lemmas_short c =
-    ap (list_all has_short_multiples) c.as_slice-2.ensures
-    ∙ forms-short c.args.sys.now c.args.clause c.clause-own.result.now c.args.used.items c.in_ok-forms.forms c.clause-own.ensures.is (ap (forms_at c.args.sys.now c.args.clause) (sym c.as_slice.ensures.value) ∙ c.in_ok-forms.ensures) c.requires.asks.used_short
+pub decide_owned-requires-clause-lemmas_short : goal.decide_owned-requires-clause-lemmas_short
+decide_owned-requires-clause-lemmas_short c =
+    forms-short c.args.sys.now c.args.clause c.clause-own.result.now c.args.used.items c.in_ok-forms.forms c.clause-own.ensures.is (ap (forms_at c.args.sys.now c.args.clause) (sym c.as_slice.ensures.value) ∙ c.in_ok-forms.ensures) c.requires.asks.used_short
 
 pub returns-in-Model : goal.returns-in-Model
 returns-in-Model c =
@@ -42,6 +38,5 @@ returns-in-Model c =
     let point = c.in-Model.point.items in
     let told = rw c.in-Model.is at c.in_ok-decision.ensures in
     let used_is = ap (forms_at sys c.args.clause) (sym c.as_slice.ensures.value) ∙ c.in_ok-forms.ensures in
-    let holds = ap (λ (fs : List Form). truth point (And (base ∷ fs))) (sym c.as_slice-2.ensures) ∙ told.2 in
-    let is = model sys c.args.clause c.args.goal c.args.used.items own base forms point c.clause-own.ensures.is c.in_ok-base.ensures used_is (told.0 ∙ c.variables-vars.ensures) holds in
+    let is = model sys c.args.clause c.args.goal c.args.used.items own base forms point c.clause-own.ensures.is c.in_ok-base.ensures used_is (told.0 ∙ c.variables-vars.ensures) told.2 in
     model-instance sys c.args.clause c.args.goal c.args.used.items own point c.instance.result is c.instance.ensures.clause c.instance.ensures.point c.instance.ensures.seen

@@ -6,7 +6,7 @@ use Rattle.std.proofs.lemmas.Int.{to_z-of_z}
 use Rattle.simplex_core.specs.Meaning.{IsConflict}
 use Rattle.node_rows.specs.Known.{are_known, has_short_constant}
 use Rattle.node_rows.specs.Nodes.{node_table}
-use Rattle.lia_search.proofs.StateLemmas.{closes-after, closes-goes, moved, same-first, splits-after, told, told-few, top-known, top-short, turns-after}
+use Rattle.lia_search.proofs.StateLemmas.{closes-after, closes-goes, moved, same-first, told, told-few, top-known, top-short, turns-after}
 use Rattle.lia_search.proofs.TurnLemmas.{top}
 use Rattle.lia_search.proofs.running.Search.turn.Goals as goal
 
@@ -77,8 +77,8 @@ branch-self-requires-clause-vertex c =
 pub branch-self-requires-clause-few : goal.branch-self-requires-clause-few
 branch-self-requires-clause-few c = told-few c.args.self.now.end _ c.args.waiting.lits _ _ c.as_slice.ensures c.in-Fraction.is refl c.in_ok-examined.ensures.small
 
-pub returns-in_ok-branch-in-Fraction : goal.returns-in_ok-branch-in-Fraction
-returns-in_ok-branch-in-Fraction c = let mid = record c.args.self.now { is_first = false } in splits-after c.args.self.now mid _ (same-first c.args.self.now mid refl) refl c.in_ok-branch-in-Fraction.ensures
+pub returns-in-Fraction : goal.returns-in-Fraction
+returns-in-Fraction c = let mid = record c.args.self.now { is_first = false } in turns-after c.args.self.now mid _ c.args.waiting _ (same-first c.args.self.now mid refl) refl refl c.branch-self.ensures
 
 pub give_up-requires-clause-is : goal.give_up-requires-clause-is
 give_up-requires-clause-is c = moved c.args.self.now _ _ refl c.requires.is

@@ -1,0 +1,111 @@
+-- What a book keeps over steps of its own.
+use Rattle.std.proofs.Common.{◌≡◌, ℕ, ◌+◌, ◌<◌, List, [], ◌∷◌, ◌++◌, map, length, false, refl, ap, sym, ◌∙◌, subst, arith}
+use Rattle.std.proofs.lemmas.List.{length_push}
+use Rattle.clause_form.specs.System.{Clauses}
+use Rattle.book_rules.specs.Areas.{is_wide}
+use Rattle.book_rules.specs.Effects.{after}
+use Rattle.book_rules.specs.Frames.{Framed}
+use Rattle.book_rules.specs.State.{Obligation, State, opening}
+use Rattle.book_rules.specs.Walks.{AllOf}
+use Rattle.book_rules.proofs.ListLemmas.{all_of-push}
+use Rattle.book_rules.proofs.StepLemmas.{ChildHas, LemmaHas, lemmas-after, steady-after}
+use Rattle.step_rules.specs.Taken.{step_of}
+use Rattle.step_rules.specs.Views.{framed_of, obligation_of}
+use Rattle.step_rules.specs.declared.step.Step.{Step}
+use Rattle.step_rules.specs.declared.step.Step.TheVariants.{OpenStep, LemmaStep, FactStep, LiftStep, RaiseStep, StallStep}
+use Rattle.chc_core.specs.Contents.{Contents}
+use Rattle.chc_core.specs.Views.{standing_of, state_of}
+use Rattle.chc_core.specs.declared.entry.Entry.{Entry}
+use Rattle.obligation_turn.specs.Counts.{StepCounts}
+use Rattle.obligation_turn.specs.Turns.{IsNarrow, StepIsNarrow}
+use Rattle.book_loop.specs.Runs.{IsOwn}
+use Rattle.book_loop.specs.machinery.Steps.{IsFurther}
+
+-- narrow cubes
+
+all_map : {X Y : Type 0} (P : Y → Type 0) (f : X → Y) (xs : List X) → AllOf (λ x. P (f x)) xs → AllOf P (map f xs)
+all_map P f [] h = tt
+all_map P f (x ∷ xs) h = (h.0, all_map P f xs h.1)
+
+all_unmap : {X Y : Type 0} (P : Y → Type 0) (f : X → Y) (xs : List X) → AllOf P (map f xs) → AllOf (λ x. P (f x)) xs
+all_unmap P f [] h = tt
+all_unmap P f (x ∷ xs) h = (h.0, all_unmap P f xs h.1)
+
+abbrev NarrowLemma : Framed → Type 0
+NarrowLemma e = is_wide e.lemma.cube ≡ false
+
+abbrev NarrowObligation : Obligation → Type 0
+NarrowObligation o = is_wide o.cube ≡ false
+
+record IsNarrowState (s : State) : Type 0 where
+  lemmas : AllOf NarrowLemma s.lemmas
+  obligations : AllOf NarrowObligation s.obligations
+
+narrow_state : (b : Contents) → IsNarrow (standing_of b) → IsNarrowState (state_of b)
+narrow_state b h = record { lemmas = all_map NarrowLemma framed_of b.frames.lemmas h.lemmas; obligations = all_map NarrowObligation obligation_of b.tree.nodes h.obligations }
+
+state_narrow : (b : Contents) → IsNarrowState (state_of b) → IsNarrow (standing_of b)
+state_narrow b h = record { lemmas = all_unmap NarrowLemma framed_of b.frames.lemmas h.lemmas; obligations = all_unmap NarrowObligation obligation_of b.tree.nodes h.obligations }
+
+lemma_new : (step : Step) → StepIsNarrow step → LemmaHas NarrowLemma (step_of step)
+lemma_new (OpenStep o) h = tt
+lemma_new (LemmaStep l) h = h
+lemma_new (FactStep f) h = tt
+lemma_new (LiftStep l) h = tt
+lemma_new (RaiseStep r) h = tt
+lemma_new (StallStep t) h = tt
+
+child_new : (sys : Clauses) (s : State) (step : Step) → StepIsNarrow step → ChildHas NarrowObligation sys s (step_of step)
+child_new sys s (OpenStep o) h = λ parent atom there is. h
+child_new sys s (LemmaStep l) h = tt
+child_new sys s (FactStep f) h = tt
+child_new sys s (LiftStep l) h = tt
+child_new sys s (RaiseStep r) h = tt
+child_new sys s (StallStep t) h = tt
+
+narrow_step : (sys : Clauses) (s : State) (step : Step) → IsNarrowState s → StepIsNarrow step → IsNarrowState (after sys s (step_of step))
+narrow_step sys s step h new = record {
+  lemmas = lemmas-after NarrowLemma (λ e level k. k) sys s (step_of step) h.lemmas (lemma_new step new);
+  obligations = steady-after NarrowObligation (λ o level closed stalled k. k) sys s (step_of step) h.obligations (child_new sys s step new);
+}
+
+narrow-after : (b c : Contents) (step : Step) → state_of c ≡ after b.system (state_of b) (step_of step) → IsNarrow (standing_of b) → StepIsNarrow step → IsNarrow (standing_of c)
+narrow-after b c step is h new = state_narrow c (subst IsNarrowState (sym is) (narrow_step b.system (state_of b) step (narrow_state b h) new))
+
+pub narrow-opening : (b : Contents) (units : ℕ) → state_of b ≡ opening units → IsNarrow (standing_of b)
+narrow-opening b units is = state_narrow b (subst IsNarrowState (sym is) (record { lemmas = tt; obligations = (refl, tt) }))
+
+-- books that took steps
+
+pub further-none : (nodes : ℕ) (b : Contents) → IsFurther nodes b b
+further-none nodes b = record { system = refl; given = refl; narrow = λ h. h; own = λ h. h; longer = omega arith }
+
+pub further-then : (nodes : ℕ) (b c d : Contents) → IsFurther nodes b c → IsFurther nodes c d → IsFurther nodes b d
+further-then nodes b c d first second =
+    let one = first.longer in
+    let two = second.longer in
+    record {
+      system = second.system ∙ first.system;
+      given = second.given ∙ first.given;
+      narrow = λ h. second.narrow (first.narrow h);
+      own = λ h. second.own (first.own h);
+      longer = omega (arith, one, two);
+    }
+
+pub grown : (b c : Contents) (entry : Entry) → c.journal ≡ b.journal ++ entry ∷ [] → length b.journal < length c.journal
+grown b c entry is =
+    let more : length c.journal ≡ length b.journal + 1 = ap (λ (j : List Entry). length j) is ∙ length_push b.journal entry in
+    omega (arith, more)
+
+pub further-step : (nodes : ℕ) (b c : Contents) (step : Step) → state_of c ≡ after b.system (state_of b) (step_of step) → c.system ≡ b.system → c.given ≡ b.given
+    → c.journal ≡ b.journal ++ (record { worker = 1; step = step }) ∷ [] → StepCounts nodes step → StepIsNarrow step → IsFurther nodes b c
+further-step nodes b c step is system given journal counts narrow =
+    let entry : Entry = record { worker = 1; step = step } in
+    let more = grown b c entry journal in
+    record {
+      system = system;
+      given = given;
+      narrow = λ h. narrow-after b c step is h narrow;
+      own = λ h. subst (AllOf (IsOwn nodes)) (sym journal) (all_of-push (IsOwn nodes) b.journal entry h (record { worker = refl; counts = counts }));
+      longer = omega (arith, more);
+    }

@@ -1,0 +1,6 @@
+use Rattle.book_loop.specs.machinery.Steps.{IsFurther}
+use Rattle.book_loop.proofs.lifting.lift_all.Given as goal
+
+-- the steps so far
+abbrev pub invariant-loop-id : goal.invariant-loop-id
+invariant-loop-id l = IsFurther l.nodes l.initial.book l.book

@@ -1,0 +1,6 @@
+use Rattle.book_loop.specs.machinery.Steps.{IsFurther}
+use Rattle.book_loop.proofs.lifting.lift_up.Given as goal
+
+-- the steps so far
+abbrev pub invariant-loop : goal.invariant-loop
+invariant-loop l = IsFurther l.nodes l.initial.book l.book

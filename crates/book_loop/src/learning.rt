@@ -1,0 +1,110 @@
+//! The work on a lemma before the book takes it.
+
+ghost use Rattle.std.specs.Prelude.{◌<◌, IfOk, OnOk};
+ghost use Rattle.obligation_turn.specs.Turns.{GoesOn};
+ghost use Rattle.lemma_general.specs.Generals.{IsLearnt};
+ghost use Rattle.lemma_general.specs.Tries.{IsTrying};
+ghost use Rattle.book_loop.specs.machinery.Steps.{IsTaken};
+
+use crate::older::excluding;
+use base::Memory;
+use lemma_candidates::{propose, tidy, widen};
+use lemma_general::{Tries, generalise, raise};
+use step_rules::{LemmaPart, Lent, Step};
+
+/// From this level of the book on more than parts of a lemma's cube is tried: few systems that end below
+/// it need more, and their lemmas stay as they were found.
+const GUESS_LEVEL: u32 = 5;
+
+/// Whether an old lemma that excludes the obligation's point holds at the part's level, too, and so
+/// stands in its place. One is tried: the newest of the highest level.
+fn again(lent: &Lent, tries: &mut Tries, nodes: u32) -> Result<bool, Memory>
+    requires goes_on { GoesOn lent.now }
+    requires some { 0 < nodes }
+    requires trying { IsTrying lent.now tries.old }
+    ensures { OnOk result (IsTrying lent.now tries.new) }
+{
+    let part = tries.part();
+    let obligation = lent.tree.obligation(part.target);
+    let point = obligation.point.as_slice();
+    match excluding(lent.frames, part, point) {
+        Some(id) => tries.try_cube(lent, lent.frames.lemma(id).cube(), nodes),
+        None => Ok(false),
+    }
+}
+
+/// A more general lemma in its place: its literals are brought into their simplest form, those that it
+/// needn't have are dropped, and sums of two bounds and wider bounds are tried.
+fn guessed(lent: &Lent, part: LemmaPart, nodes: u32) -> Result<LemmaPart, Memory>
+    requires goes_on { GoesOn lent.now }
+    requires some { 0 < nodes }
+    requires learnt { IsLearnt lent.now part }
+    ensures { IfOk result (IsLearnt lent.now) }
+{
+    let tidied = tidy(lent, part, nodes)?;
+    let general = generalise(lent, tidied, nodes)?;
+    let proposed = propose(lent, general, nodes)?;
+    let widened = widen(lent, proposed, nodes)?;
+    Ok(widened)
+}
+
+/// A more general lemma in its place. At low levels of the book literals are dropped, and nothing else.
+fn general(lent: &Lent, part: LemmaPart, nodes: u32) -> Result<LemmaPart, Memory>
+    requires goes_on { GoesOn lent.now }
+    requires some { 0 < nodes }
+    requires learnt { IsLearnt lent.now part }
+    ensures { IfOk result (IsLearnt lent.now) }
+{
+    if lent.level < GUESS_LEVEL {
+        let plain = generalise(lent, part, nodes)?;
+        Ok(plain)
+    } else {
+        let guessed = guessed(lent, part, nodes)?;
+        Ok(guessed)
+    }
+}
+
+/// An old lemma in the lemma's place, if one holds at its level, and else a more general one.
+fn served(lent: &Lent, part: LemmaPart, nodes: u32) -> Result<LemmaPart, Memory>
+    requires goes_on { GoesOn lent.now }
+    requires some { 0 < nodes }
+    requires learnt { IsLearnt lent.now part }
+    ensures { IfOk result (IsLearnt lent.now) }
+{
+    let mut tries = Tries::new(lent.alloc, part);
+    let shown = again(lent, &mut tries, nodes)?;
+    let part = tries.into_part();
+    if shown {
+        return Ok(part);
+    }
+    let general = general(lent, part, nodes)?;
+    Ok(general)
+}
+
+/// The lemma that is learnt in the end: an old one or a more general one, at the highest level.
+fn learnt(lent: &Lent, part: LemmaPart, nodes: u32) -> Result<LemmaPart, Memory>
+    requires goes_on { GoesOn lent.now }
+    requires some { 0 < nodes }
+    requires learnt { IsLearnt lent.now part }
+    ensures { IfOk result (IsLearnt lent.now) }
+{
+    let served = served(lent, part, nodes)?;
+    let raised = raise(lent, served, nodes)?;
+    Ok(raised)
+}
+
+/// The step with the lemma that is learnt in the end in place of its own; any other step as it is.
+pub(crate) fn improved(lent: &Lent, step: Step, nodes: u32) -> Result<Step, Memory>
+    requires goes_on { GoesOn lent.now }
+    requires some { 0 < nodes }
+    requires taken { IsTaken lent.now nodes step }
+    ensures { IfOk result (IsTaken lent.now nodes) }
+{
+    match step {
+        Step::LemmaStep(part) => {
+            let made = learnt(lent, part, nodes)?;
+            Ok(Step::LemmaStep(made))
+        }
+        step => Ok(step),
+    }
+}

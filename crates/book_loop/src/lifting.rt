@@ -1,0 +1,133 @@
+//! Lemmas that are lifted after a step for the root.
+
+ghost use Rattle.std.specs.Prelude.{◌≡◌, ◌<◌, None, length, IfOk, IfSome};
+ghost use Rattle.std.specs.Bool.{OnTrue};
+ghost use Rattle.lemma_frames.specs.Frames.{level_of};
+ghost use Rattle.book_rules.specs.Legal.{end};
+ghost use Rattle.chc_core.specs.Views.{standing_of, state_of};
+ghost use Rattle.obligation_turn.specs.Turns.{IsNarrow};
+ghost use Rattle.book_loop.specs.Runs.{CanRun};
+ghost use Rattle.book_loop.specs.machinery.Steps.{IsFurther, IsTaken};
+
+use crate::taking::{has_ended, lend, take};
+use base::Memory;
+use chc_core::Book;
+use lemma_general::lift;
+use step_rules::Step;
+
+/// Which lemmas are lifted: those from a number on, of at least a level.
+#[derive(Drop)]
+pub(crate) struct Pass {
+    first: u32,
+    least: u32,
+}
+
+/// The lemmas that are lifted after the step: after a Raise those of the level that was the highest,
+/// after a Lift the later ones.
+pub(crate) fn pass_of(book: &Book, step: &Step) -> Option<Pass> {
+    match step {
+        Step::RaiseStep(_) => Some(Pass {
+            first: 0,
+            least: book.level(),
+        }),
+        Step::LiftStep(part) => Some(Pass {
+            first: part.lemma,
+            least: 1,
+        }),
+        _ => None,
+    }
+}
+
+/// Whether there is a lemma of that number, of at least a level, and below that of the book.
+fn is_below(book: &Book, id: u32, least: u32) -> bool
+    ensures there { OnTrue result (id < length book.now.frames.lemmas) }
+    ensures below { OnTrue result (level_of book.now.frames.lemmas id < book.now.level) }
+{
+    let frames = book.frames();
+    if id >= frames.count() {
+        return false;
+    }
+    let level = frames.level_of(id);
+    least <= level && level < book.level()
+}
+
+/// The Lift of the lemma, if the frame of its level implies it.
+fn lift_of(book: &Book, id: u32, nodes: u32) -> Result<Option<Step>, Memory>
+    requires can_run { CanRun book.now.system }
+    requires some { 0 < nodes }
+    requires goes_on { end (state_of book.now) ≡ None }
+    requires narrow { IsNarrow (standing_of book.now) }
+    requires there { id < length book.now.frames.lemmas }
+    requires below { level_of book.now.frames.lemmas id < book.now.level }
+    ensures { IfOk result (λ found. IfSome found (IsTaken (standing_of book.now) nodes)) }
+{
+    let lent = lend(book);
+    match lift(&lent, id, nodes)? {
+        Some(part) => Ok(Some(Step::LiftStep(part))),
+        None => Ok(None),
+    }
+}
+
+/// Lifts the lemma by one level, if it is of at least a level, below that of the book, and the frame of
+/// its own implies it. Whether it was lifted.
+fn lift_once(book: &mut Book, id: u32, least: u32, nodes: u32) -> Result<bool, Memory>
+    requires can_run { CanRun book.old.system }
+    requires some { 0 < nodes }
+    requires narrow { IsNarrow (standing_of book.old) }
+    ensures { IsFurther nodes book.old book.new }
+{
+    if has_ended(book) {
+        return Ok(false);
+    }
+    if !is_below(book, id, least) {
+        return Ok(false);
+    }
+    match lift_of(book, id, nodes)? {
+        Some(step) => {
+            take(book, step, nodes)?;
+            Ok(true)
+        }
+        None => Ok(false),
+    }
+}
+
+/// Lifts the lemma as far as it goes.
+fn lift_up(book: &mut Book, id: u32, least: u32, nodes: u32) -> Result<(), Memory>
+    requires can_run { CanRun book.old.system }
+    requires some { 0 < nodes }
+    requires narrow { IsNarrow (standing_of book.old) }
+    ensures { IsFurther nodes book.old book.new }
+{
+    for _ in least..book.level() {
+        if !lift_once(book, id, least, nodes)? {
+            return Ok(());
+        }
+    }
+    Ok(())
+}
+
+/// Lifts the lemmas of the pass in order of number, each as far as it goes.
+fn lift_all(book: &mut Book, pass: Pass, nodes: u32) -> Result<(), Memory>
+    requires can_run { CanRun book.old.system }
+    requires some { 0 < nodes }
+    requires narrow { IsNarrow (standing_of book.old) }
+    ensures { IsFurther nodes book.old book.new }
+{
+    for id in pass.first..book.frames().count() {
+        lift_up(book, id, pass.least, nodes)?;
+    }
+    Ok(())
+}
+
+/// Lifts the lemmas of the pass, if there is one.
+pub(crate) fn lift_after(book: &mut Book, pass: Option<Pass>, nodes: u32) -> Result<(), Memory>
+    requires can_run { CanRun book.old.system }
+    requires some { 0 < nodes }
+    requires narrow { IsNarrow (standing_of book.old) }
+    ensures { IsFurther nodes book.old book.new }
+{
+    match pass {
+        Some(pass) => lift_all(book, pass, nodes),
+        None => Ok(()),
+    }
+}

@@ -1,0 +1,133 @@
+//! Conjunctions over unbounded variables that no branch ends: a common divisor does.
+
+use lia_branch::{Decision, are_below, decide_all, have_short_constants};
+use lin_atoms::{Divisor, Lin, Lit};
+use std::alloc::Global;
+use std::process::Abort;
+
+/// A literal: its kind, its divisor, the coefficients of four variables, and the constant.
+type Row = (u32, i64, [i64; 4], i128);
+
+fn add_term(rt: &impl Abort, terms: &mut Vec<(u32, i64)>, variable: u32, coefficient: i64) {
+    if coefficient != 0 {
+        terms.push((variable, coefficient)).expect(rt, "memory");
+    }
+}
+
+fn form(rt: &impl Abort, alloc: Global, coefficients: [i64; 4], constant: i128) -> Lin {
+    let [x, y, z, u] = coefficients;
+    let mut terms = Vec::new(alloc);
+    add_term(rt, &mut terms, 0, x);
+    add_term(rt, &mut terms, 1, y);
+    add_term(rt, &mut terms, 2, z);
+    add_term(rt, &mut terms, 3, u);
+    Lin::new(terms, constant).expect(rt, "a form")
+}
+
+/// A literal: `<=`, `=`, a divisibility or one denied, of a form.
+fn lit(kind: u32, n: Divisor, lin: Lin) -> Lit {
+    match kind {
+        0 => Lit::Le(lin),
+        1 => Lit::Eq(lin),
+        2 => Lit::Div(n, lin),
+        _ => Lit::NDiv(n, lin),
+    }
+}
+
+fn add_row(rt: &impl Abort, alloc: Global, lits: &mut Vec<Lit>, row: Row) {
+    let (kind, n, coefficients, constant) = row;
+    let n = Divisor::new(n).expect(rt, "a divisor");
+    lits.push(lit(kind, n, form(rt, alloc, coefficients, constant)))
+        .expect(rt, "memory");
+}
+
+/// Whether the rows are refuted with one inner node at the most.
+fn is_refuted(rt: &impl Abort, alloc: Global, rows: &[Row]) -> bool {
+    let mut lits = Vec::new(alloc);
+    for row in rows {
+        add_row(rt, alloc, &mut lits, *row);
+    }
+    assert!(rt; are_below(lits.as_slice(), 4));
+    assert!(rt; have_short_constants(lits.as_slice()));
+    let decision = decide_all(alloc, lits.as_slice(), 4, 1).expect(rt, "memory");
+    matches!(decision, Decision::Refuted(_))
+}
+
+/// x is twice y, and one more than twice z.
+const PARITY: [Row; 2] = [(1, 1, [1, -2, 0, 0], 0), (1, 1, [1, 0, -2, 0], -1)];
+
+/// 2 divides x and y and not x + y: an even number of calls twice over is even.
+const EVEN: [Row; 3] = [
+    (2, 2, [1, 0, 0, 0], 0),
+    (2, 2, [0, 1, 0, 0], 0),
+    (3, 2, [1, 1, 0, 0], 0),
+];
+
+/// An even number times an odd one: y = 3x, x is even, and y + 1 is twice z.
+const TIMES: [Row; 3] = [
+    (1, 1, [3, -1, 0, 0], 0),
+    (2, 2, [1, 0, 0, 0], 0),
+    (1, 1, [0, 1, -2, 0], 1),
+];
+
+/// x leaves 1 and y leaves 1 by 3, and x + y doesn't leave 2.
+const SUM: [Row; 3] = [
+    (2, 3, [1, 0, 0, 0], -1),
+    (2, 3, [0, 1, 0, 0], -1),
+    (3, 3, [1, 1, 0, 0], -2),
+];
+
+/// Each of four numbers leaves 1 by 5, and their sum leaves 3.
+const FIVE: [Row; 5] = [
+    (2, 5, [1, 0, 0, 0], -1),
+    (2, 5, [0, 1, 0, 0], -1),
+    (2, 5, [0, 0, 1, 0], -1),
+    (2, 5, [0, 0, 0, 1], -1),
+    (2, 5, [1, 1, 1, 1], -3),
+];
+
+/// x moves by 2 and y by 3: 3x + 5y keeps what it leaves by 7.
+const KEPT: [Row; 4] = [
+    (3, 7, [3, 5, 0, 0], -1),
+    (1, 1, [1, 0, -1, 0], 2),
+    (1, 1, [0, 1, 0, -1], 3),
+    (2, 7, [0, 0, 3, 5], -1),
+];
+
+/// The parity as pairs of bounds, in place of equations.
+const PAIRS: [Row; 4] = [
+    (0, 1, [1, -2, 0, 0], 0),
+    (0, 1, [-1, 2, 0, 0], 0),
+    (0, 1, [1, 0, -2, 0], -1),
+    (0, 1, [-1, 0, 2, 0], 1),
+];
+
+/// 3 divides x, x - y is 4 or 5, and 3 divides y.
+const BOX: [Row; 4] = [
+    (2, 3, [1, 0, 0, 0], 0),
+    (2, 3, [0, 1, 0, 0], 0),
+    (0, 1, [1, -1, 0, 0], -5),
+    (0, 1, [-1, 1, 0, 0], 4),
+];
+
+/// The box with the bounds of twice the difference, which are rounded first: from 7 to 11.
+const TWICE: [Row; 4] = [
+    (2, 3, [1, 0, 0, 0], 0),
+    (2, 3, [0, 1, 0, 0], 0),
+    (0, 1, [2, -2, 0, 0], -11),
+    (0, 1, [-2, 2, 0, 0], 7),
+];
+
+/// 4 divides x + 2 and x is 12z + 1.
+const MODULI: [Row; 2] = [(2, 4, [1, 0, 0, 0], 2), (1, 1, [1, 0, -12, 0], -1)];
+
+const ALL: [&[Row]; 10] = [
+    &PARITY, &EVEN, &TIMES, &SUM, &FIVE, &KEPT, &PAIRS, &BOX, &TWICE, &MODULI,
+];
+
+#[test]
+fn common_divisors_end(rt: HostRuntime) {
+    for rows in ALL {
+        assert!(rt; is_refuted(&rt, rt.alloc(), rows));
+    }
+}

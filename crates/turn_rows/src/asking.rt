@@ -1,0 +1,107 @@
+//! Which clauses are asked first, and what is found of several.
+
+ghost use Rattle.std.specs.Prelude.{◌<◌};
+ghost use Rattle.chc_core.specs.Views.{standing_of};
+ghost use Rattle.obligation_turn.specs.Turns.{IsNarrow};
+ghost use Rattle.book_loop.specs.Runs.{CanRun};
+
+use crate::books::opened;
+use chc_core::Book;
+use chc_tokens::Goal;
+use clause_queries::{Found, ask_all};
+use std::alloc::Global;
+use std::process::Abort;
+
+/// A predicate p over an integer.
+const P: &str = "(set-logic HORN)(declare-fun p (Int) Bool)";
+
+/// Three bodies of p, each with an instance that gives false; the last has one atom alone.
+const BODIES: &str =
+    "(assert (forall ((x Int)) (=> (and (p x) (p 1) (p 2)) false)))(assert (forall ((x Int)) (=> (and (p x) (p 1)) false)))(assert (forall ((x Int)) (=> (and (p x) (< x 0)) false)))";
+
+/// A clause without a body, and without an instance.
+const NEVER: &str = "(assert (forall ((x Int)) (=> (and (< x 0) (> x 3)) false)))";
+
+/// A clause without a body in whose guard every pivot has an entry without room.
+const WIDE: &str =
+    "(assert (forall ((x Int) (y Int)) (=> (and (= (+ (* 4611686018427387905 x) y) 3) (= (+ x (* 4611686018427387905 y)) 5)) false)))";
+
+/// What is found of a query for false under the frame of level k, with the clause's number, or with
+/// how many refutations there are.
+#[derive(Clone, Copy, Debug, PartialEq, Eq)]
+enum Told {
+    Instance(u32),
+    Refuted(usize),
+    GivenUp(u32),
+}
+
+fn summary(found: &Found) -> Told {
+    match found {
+        Found::Instance(seen) => Told::Instance(seen.clause()),
+        Found::Refuted(proofs) => Told::Refuted(proofs.len()),
+        Found::GivenUp(lost) => Told::GivenUp(lost.clause),
+    }
+}
+
+/// Asks all clauses for false.
+fn asked(rt: &impl Abort, alloc: Global, book: &Book, k: u32) -> Told
+    requires can_run { CanRun book.now.system }
+    requires narrow { IsNarrow (standing_of book.now) }
+{
+    book.is_replayed();
+    let sys = book.system();
+    let found = ask_all(alloc, sys, book.frames(), None, &Goal::Query, k, 100).expect(rt, "memory");
+    summary(&found)
+}
+
+fn check(rt: &impl Abort, alloc: Global, shows: &str, clauses: [&str; 2], k: u32, expected: Told) {
+    let [first, second] = clauses;
+    let text = format!(in alloc; "{P}{first}{second}(check-sat)").expect(rt, "memory");
+    let book = opened(rt, alloc, text.as_str(), 1);
+    assert!(rt; asked(rt, alloc, &book, k) == expected, "{shows}");
+}
+
+#[test]
+fn clauses_with_fewer_body_atoms_are_asked_first(rt: HostRuntime) {
+    for (shows, clauses, k, expected) in [
+        (
+            "one atom before two and three",
+            [BODIES, ""],
+            1,
+            Told::Instance(2),
+        ),
+        (
+            "a clause without a body is refuted first",
+            [BODIES, NEVER],
+            1,
+            Told::Instance(2),
+        ),
+        (
+            "at level 0 bodies have no instance",
+            [BODIES, ""],
+            0,
+            Told::Refuted(0),
+        ),
+        (
+            "at level 0 a clause without a body is asked",
+            [BODIES, NEVER],
+            0,
+            Told::Refuted(1),
+        ),
+        (
+            "an instance comes before what is given up",
+            [WIDE, BODIES],
+            1,
+            Told::Instance(3),
+        ),
+        ("a query is given up", [WIDE, BODIES], 0, Told::GivenUp(0)),
+        (
+            "the first that is given up",
+            [NEVER, WIDE],
+            1,
+            Told::GivenUp(1),
+        ),
+    ] {
+        check(&rt, rt.alloc(), shows, clauses, k, expected);
+    }
+}
