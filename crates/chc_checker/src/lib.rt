@@ -1,0 +1,13 @@
+//! The checker of answers: definitions under which every assertion of a script is true, or a derivation
+//! of false by its assertions.
+#![tactic(auto)]
+
+mod derivation;
+mod laws;
+mod model;
+mod verdict;
+mod whole;
+
+pub use laws::{valid_answers_are_not_wrong, valid_answers_exclude_each_other};
+pub use verdict::{Hidden, Place, Unshown, Verdict};
+pub use whole::check_answer;
