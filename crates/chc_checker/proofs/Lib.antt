@@ -1,0 +1,6 @@
+pub mod DefinitionLemmas
+pub mod FormLemmas
+pub mod GuardLemmas
+pub mod JudgeLemmas
+pub mod PassLemmas
+pub mod TermLemmas

@@ -30,11 +30,7 @@ fn verdict_of(finding: Finding) -> Verdict
 }
 
 /// Whether the steps derive false by the assertions of the script.
-pub(crate) fn check_steps(
-    alloc: Global,
-    script: &Script,
-    lines: &[Line],
-) -> Result<Verdict, Memory>
+pub(crate) fn check_steps(alloc: Global, script: &Script, lines: &[Line]) -> Result<Verdict, Memory>
     requires legal { IsLegalScript script.now }
     requires normal { IsNormalScript script.now }
     ensures { (nodes : ℕ) → IfOk result (Says nodes script.now (Unsat lines.now)) }

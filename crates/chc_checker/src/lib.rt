@@ -2,6 +2,7 @@
 //! of false by its assertions.
 #![tactic(auto)]
 
+mod counting;
 mod derivation;
 mod laws;
 mod model;

@@ -1,21 +1,21 @@
 //! Answers that a script is satisfiable.
 
-ghost use Rattle.std.specs.Prelude.{◌≡◌, ◌<◌, ◌≤◌, ◌∷◌, [], None, IfOk, true};
+ghost use Rattle.std.specs.Prelude.{◌≡◌, ◌<◌, ◌≤◌, ◌∷◌, [], None, IfOk};
 ghost use Rattle.term_tree.specs.Solution.{AreFormulas, DefinesEach};
 ghost use Rattle.horn_shape.specs.Clause.{IsLegalScript};
 ghost use Rattle.lin_atoms.specs.declared.form.Form.TheViews.{And};
-ghost use Rattle.lin_atoms.specs.Truth.{is_below};
-ghost use Rattle.lia_search.specs.Decides.{Decides, has_short_multiples};
+ghost use Rattle.lia_search.specs.Decides.{Decides};
 ghost use Rattle.clause_normal.specs.Normal.{first_without_room, normal_clause};
-ghost use Rattle.clause_laws.specs.Defined.{breaking_form, breaking_variables};
+ghost use Rattle.clause_laws.specs.Defined.{breaking_form, breaking_variables, breaking_wide};
 ghost use Rattle.answer_text.specs.declared.answer.Answer.TheVariants.{Sat};
 ghost use Rattle.chc_checker.specs.Verdicts.{IsNormalScript, IsReached, Says};
-ghost use Rattle.chc_checker.specs.machinery.Judging.{IsDecided};
+ghost use Rattle.chc_checker.specs.machinery.Judging.{HaveFewArguments, IsDecided};
 
+use crate::counting::count_all;
 use crate::verdict::{Hidden, Place, Unshown, Verdict};
 use base::{Items, Memory};
 use clause_defined::with_definitions;
-use clause_normal::NormalStop;
+use clause_normal::{NormalStop, assertion_of, has_number};
 use derivation_check::clauses_of;
 use horn_shape::HornClause;
 use lia_cases::{Decision, decide};
@@ -85,20 +85,15 @@ fn decided(
     requires vars { vars ≡ breaking_variables definitions.now (normal_clause script.now clause.now) }
     requires few { vars ≤ 2048 }
     requires narrow { first_without_room script.now clause.now ≡ None }
+    requires wide { breaking_wide definitions.now (normal_clause script.now clause.now) ≡ None }
+    requires counted { HaveFewArguments script.now definitions.now }
     requires some { 0 < nodes }
     ensures { IfOk result (IsDecided nodes script.now definitions.now number) }
 {
     script.terms.is_arena();
+    has_number(assertion_of(script, clause).term);
     let decision = decide(alloc, &form, &[], vars, nodes)?;
-    Ok(verdict_by(
-        script,
-        definitions,
-        nodes,
-        number,
-        clause,
-        vars,
-        decision,
-    ))
+    Ok(verdict_by(script, definitions, nodes, number, clause, vars, decision))
 }
 
 /// The verdict at the assertion of that number; none where it is true under the definitions.
@@ -115,6 +110,7 @@ fn judged(
     requires defined { DefinesEach 0 script.now.preds definitions.now }
     requires formulas { AreFormulas script.now.preds definitions.now }
     requires reached { IsReached script.now definitions.now number clause.now }
+    requires counted { HaveFewArguments script.now definitions.now }
     requires some { 0 < nodes }
     ensures { IfOk result (IsDecided nodes script.now definitions.now number) }
 {
@@ -154,6 +150,7 @@ pub(crate) fn check_model(
     requires some { 0 < nodes }
     ensures { IfOk result (Says nodes script.now (Sat definitions.now)) }
 {
+    count_all(script, definitions);
     let clauses = clauses_of(alloc, script)?;
     for (index, clause) in clauses.iter().enumerate() {
         let number = index as u32 + 1;

@@ -3,7 +3,7 @@
 ghost use Rattle.std.specs.Prelude.{◌≡◌, ℕ, suc, length, IfOk, slice_get, Some};
 ghost use Rattle.horn_shape.specs.Clause.{IsClauseOf, IsLegalScript};
 ghost use Rattle.derivation_check.specs.Findings.{AreRightBefore, Finds, IsHornScript, IsReached};
-ghost use Rattle.derivation_check.specs.machinery.Tests.{AreClausesOf, IsJudged};
+ghost use Rattle.derivation_check.specs.machinery.Tests.{AreClausesOf, IsJudged, unless_right};
 
 use crate::clauses::clauses_of;
 use crate::finding::Finding;
@@ -13,6 +13,16 @@ use base::Memory;
 use horn_shape::HornClause;
 use std::alloc::Global;
 use term_tree::{Script, ValueStop};
+
+fn unless_right(right: bool, number: u64) -> Option<Finding>
+    ensures { result ≡ unless_right right number }
+{
+    if right {
+        None
+    } else {
+        Some(Finding::WrongAt(number))
+    }
+}
 
 /// What is found at the step of that number, by the clause of the assertion that it names; nothing
 /// where it is right.
@@ -31,8 +41,7 @@ fn judged_by(
 {
     script.terms.is_arena();
     match is_right(alloc, &script.terms, lines, number, line, clause) {
-        Ok(true) => Ok(None),
-        Ok(false) => Ok(Some(Finding::WrongAt(number))),
+        Ok(right) => Ok(unless_right(right, number)),
         Err(ValueStop::ValueWide { term }) => Ok(Some(Finding::WideAt { step: number, term })),
         Err(ValueStop::Memory) => Err(Memory),
     }
@@ -79,11 +88,7 @@ fn ended(lines: &[Line]) -> Finding
 /// Whether the lines of an answer are a derivation of false by the assertions of the script, and where
 /// not. Steps are taken in order, and the first that isn't right decides; the values of its terms are
 /// exact up to 128 bits. The time is linear in the sizes of the script and of the evaluated terms.
-pub fn check_derivation(
-    alloc: Global,
-    script: &Script,
-    lines: &[Line],
-) -> Result<Finding, Memory>
+pub fn check_derivation(alloc: Global, script: &Script, lines: &[Line]) -> Result<Finding, Memory>
     requires legal { IsLegalScript script.now }
     requires horn { IsHornScript script.now }
     ensures { IfOk result (Finds script.now lines.now) }

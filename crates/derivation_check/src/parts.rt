@@ -30,12 +30,7 @@ fn part_value(
 }
 
 /// Whether the guard is true, or a negated one false.
-fn is_met(
-    alloc: Global,
-    terms: &Terms,
-    guard: &Part,
-    values: &[Value],
-) -> Result<bool, ValueStop>
+fn is_met(alloc: Global, terms: &Terms, guard: &Part, values: &[Value]) -> Result<bool, ValueStop>
     requires { guard.now.term.0 < length terms.now.nodes }
     ensures is { IfOk result (λ met. met ≡ is_met terms.now.nodes (environment_of values.now) guard.now) }
     ensures wide { (term : TermId) → IsErrOf result (ValueStop.ValueWide term) → HasWide terms.now.nodes (environment_of values.now) guard.now term.0 }

@@ -17,6 +17,7 @@ use Rattle.horn_shape.specs.Instance.{is_met, part_value}
 use Rattle.answer_text.specs.declared.answer.Line.{Line}
 use Rattle.derivation_lines.specs.Claims.{IsLine, concluded_in}
 use Rattle.derivation_check.specs.declared.finding.Finding.{Finding}
+use Rattle.derivation_check.specs.declared.finding.Finding.TheVariants.{WrongAt}
 use Rattle.derivation_check.specs.Findings.{Finds}
 
 -- the lists are as long as each other, and their items stand in the relation
@@ -87,3 +88,7 @@ pub record AreClausesOf (script : Script) (clauses : List HornClause) : Type 0 w
 abbrev pub IsJudged : Script → List Line → ℕ → Line → Option Finding → Type 0
 IsJudged script lines number line None = (place : ℕ) → number ≡ suc place → IsLine script lines place line
 IsJudged script lines number line (Some finding) = Finds script lines finding
+
+abbrev pub unless_right : Bool → ℕ → Option Finding
+unless_right true number = None
+unless_right false number = Some (WrongAt number)
