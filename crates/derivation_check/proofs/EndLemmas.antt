@@ -36,7 +36,7 @@ last_at : (lines before : List Line) (n : ℕ) (d last : Line) → length lines 
 last_at lines before n d last long ends =
     let counted : length lines ≡ length before + 1 = ap (λ (l : List Line). length l) ends ∙ length-append before (last ∷ []) in
     let same : n ≡ length before = omega (arith, long, counted) in
-    ap (λ (l : List Line). get_or l n d) ends ∙ get_or_push before last d n same
+    ap (λ (l : List Line). get_or l n d) ends ∙ get_or_push before last d n (sym same)
 
 pub ends_elsewhere : (script : Script) (lines : List Line) (n : ℕ) (last : Line) (said : ℕ × List Value) → length lines ≡ suc n → last ≡ get_or lines n last → last.head ≡ Some said
     → AreRightBefore script lines (length lines) → IsWrongAt script lines (suc n)

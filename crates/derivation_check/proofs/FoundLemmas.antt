@@ -2,12 +2,15 @@
 use Rattle.std.proofs.Common.{◌≡◌, ℕ, zero, suc, ◌<◌, ◌≤◌, List, length, Bool, true, false, inl, inr, refl, ap, sym, ◌∙◌, subst, arith}
 use Rattle.std.proofs.lemmas.Bool.{cases_lt}
 use Rattle.std.proofs.lemmas.Option.{slice_get_within}
-use Rattle.std.specs.Prelude.{Some, None, slice_get}
+use Rattle.std.specs.Prelude.{Some, None, Ok, Err, slice_get}
+use Rattle.term_tree.specs.declared.node.TermId.{TermId}
+use Rattle.term_tree.specs.declared.script.Assertion.{Assertion}
 use Rattle.term_tree.specs.declared.script.Script.{Script}
 use Rattle.term_tree.specs.Value.{environment_of}
 use Rattle.horn_shape.specs.declared.clause.HornClause.{HornClause}
 use Rattle.horn_shape.specs.declared.clause.Part.{Part}
-use Rattle.horn_shape.specs.Clause.{IsClauseOf}
+use Rattle.horn_shape.specs.Clause.{IsClauseOf, IsNotHornAt, assertion_reading, content_of}
+use Rattle.horn_shape.specs.Shape.{Content, Reading}
 use Rattle.answer_text.specs.declared.answer.Line.{Line}
 use Rattle.derivation_lines.specs.Claims.{IsLine}
 use Rattle.derivation_check.specs.Findings.{AreRightBefore, HasWide, IsPartOf, IsReached, IsWideAt, IsWrongAt}
@@ -93,3 +96,15 @@ right_more script lines place line there before right i other less at = elim (ca
   where
     same_line : (a b : Line) → Some a ≡ Some b → a ≡ b
     same_line a b e = cc
+
+-- an assertion that has a clause fits its forms
+pub not_both : (script : Script) (index offset : ℕ) (clause : HornClause) (bad : IsNotHornAt script index offset) → IsClauseOf script index clause → ⊥
+not_both script index offset clause bad is =
+    let same : bad.assertion ≡ is.assertion = same_assertion bad.assertion is.assertion (sym bad.there ∙ is.there) in
+    misread bad.misfit (content_of clause) (sym bad.reading ∙ ap (assertion_reading script) same ∙ is.reading)
+  where
+    same_assertion : (a b : Assertion) → Some a ≡ Some b → a ≡ b
+    same_assertion a b e = cc
+
+    misread : (misfit : TermId) (content : Content) → (let r : Reading = Err misfit in r) ≡ Ok content → ⊥
+    misread misfit content e = absurd (cc)

@@ -79,10 +79,11 @@ fn ended(lines: &[Line]) -> Finding
     if count == 0 {
         return Finding::WrongAt(0);
     }
-    match lines[count - 1].head {
-        None => Finding::Derives,
-        Some(_) => Finding::WrongAt(count as u64),
+    let last = &lines[count - 1];
+    if last.head.is_some() {
+        return Finding::WrongAt(count as u64);
     }
+    Finding::Derives
 }
 
 /// Whether the lines of an answer are a derivation of false by the assertions of the script, and where
