@@ -33,7 +33,7 @@ use Rattle.clause_normal.proofs.PassLemmas.{passes}
 use Rattle.clause_normal.proofs.PlaceLemmas.{IsPlaced, places_are}
 use Rattle.clause_laws.specs.Defined.{definition_forms, definition_places, definition_sorting, naming_at}
 use Rattle.clause_laws.proofs.DefinitionLemmas.{body_there, parameter_there}
-use Rattle.clause_defined.proofs.AlikeLemmas.{all_one, there_is_one}
+use Rattle.clause_defined.proofs.Public.{all_one, there_is_one}
 use Rattle.chc_checker.proofs.PassLemmas.{append_pass, both_hold}
 use Rattle.chc_checker.proofs.TermLemmas.{formula_below, formula_short, place_below, place_short}
 

@@ -28,8 +28,7 @@ use Rattle.clause_laws.specs.Defined.{breaking_form, breaking_variables, breakin
 use Rattle.clause_laws.proofs.DefinitionLemmas.{body_there}
 use Rattle.clause_laws.proofs.PointLemmas.{count_is}
 use Rattle.clause_defined.specs.machinery.Uses.{CanBePut, CanRestBePut, IsDefinedFor}
-use Rattle.clause_defined.proofs.ClauseLemmas.{all_below, all_defined}
-use Rattle.clause_defined.proofs.UseLemmas.{at_least, can_next, can_rest}
+use Rattle.clause_defined.proofs.Public.{all_below, all_defined, at_least, can_next, can_rest}
 use Rattle.chc_checker.specs.machinery.Judging.{HaveFewArguments}
 use Rattle.chc_checker.proofs.DefinitionLemmas.{forms_below, forms_short}
 use Rattle.chc_checker.proofs.GuardLemmas.{guard_below, guard_short}

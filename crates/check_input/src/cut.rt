@@ -20,10 +20,20 @@ fn begins_line(input: &[u8], at: usize) -> bool
     at == 0 || input[at - 1] == b'\n'
 }
 
+/// The first eight bytes, or all where there are fewer.
+fn first_eight(rest: &[u8]) -> &[u8]
+    ensures { result.now ≡ take 8 rest.now }
+{
+    if rest.len() < 8 {
+        return rest;
+    }
+    &rest[..8]
+}
+
 fn is_marker(rest: &[u8]) -> bool
     ensures { result ≡ bytes_eq (take 8 rest.now) (codes ";;answer") }
 {
-    rest.len() >= 8 && &rest[..8] == b";;answer".as_slice()
+    first_eight(rest) == b";;answer".as_slice()
 }
 
 /// How many bytes end the line, where it ends at once.
