@@ -6,6 +6,7 @@ ghost use Rattle.horn_shape.specs.Clause.{IsLegalScript};
 ghost use Rattle.lin_atoms.specs.declared.form.Form.TheViews.{And};
 ghost use Rattle.lia_search.specs.Decides.{Decides};
 ghost use Rattle.clause_normal.specs.Normal.{first_without_room, normal_clause};
+ghost use Rattle.clause_normal.specs.machinery.Making.{AreTablesOf};
 ghost use Rattle.clause_laws.specs.Defined.{breaking_form, breaking_variables, breaking_wide};
 ghost use Rattle.answer_text.specs.declared.answer.Answer.TheVariants.{Sat};
 ghost use Rattle.chc_checker.specs.Verdicts.{IsNormalScript, IsReached, Says};
@@ -14,8 +15,8 @@ ghost use Rattle.chc_checker.specs.machinery.Judging.{HaveFewArguments, IsDecide
 use crate::counting::count_all;
 use crate::verdict::{Hidden, Place, Unshown, Verdict};
 use base::{Items, Memory};
-use clause_defined::with_definitions;
-use clause_normal::{NormalStop, assertion_of, has_number};
+use clause_defined::with_tables;
+use clause_normal::{NormalStop, Tables, assertion_of, has_number, tables_of};
 use derivation_check::clauses_of;
 use horn_shape::HornClause;
 use lia_cases::{Decision, decide};
@@ -100,6 +101,7 @@ fn decided(
 fn judged(
     alloc: Global,
     script: &Script,
+    tables: &Tables,
     definitions: &[Definition],
     nodes: u32,
     number: u32,
@@ -107,6 +109,7 @@ fn judged(
 ) -> Result<Option<Verdict>, Memory>
     requires legal { IsLegalScript script.now }
     requires normal { IsNormalScript script.now }
+    requires tables { AreTablesOf script.now tables.now }
     requires defined { DefinesEach 0 script.now.preds definitions.now }
     requires formulas { AreFormulas script.now.preds definitions.now }
     requires reached { IsReached script.now definitions.now number clause.now }
@@ -114,7 +117,7 @@ fn judged(
     requires some { 0 < nodes }
     ensures { IfOk result (IsDecided nodes script.now definitions.now number) }
 {
-    match with_definitions(alloc, script, clause, definitions) {
+    match with_tables(alloc, script, tables, clause, definitions) {
         Ok((form, vars)) => decided(
             alloc,
             script,
@@ -152,9 +155,10 @@ pub(crate) fn check_model(
 {
     count_all(script, definitions);
     let clauses = clauses_of(alloc, script)?;
+    let tables = tables_of(alloc, script.preds.as_slice(), &script.terms)?;
     for (index, clause) in clauses.iter().enumerate() {
         let number = index as u32 + 1;
-        let found = judged(alloc, script, definitions, nodes, number, clause)?;
+        let found = judged(alloc, script, &tables, definitions, nodes, number, clause)?;
         if let Some(verdict) = found {
             return Ok(verdict);
         }

@@ -66,7 +66,7 @@ fn behind_marker(input: &[u8], at: usize) -> Option<usize>
 }
 
 /// Cuts the input at the marker, the first line that is exactly `;;answer`; nothing where no line is.
-pub fn cut(input: &[u8]) -> Option<Cut>
+pub fn cut_at_marker(input: &[u8]) -> Option<Cut>
     ensures cut { IfSome result (λ cut. IsCut input.now cut.script cut.answer) }
     ensures none { result ≡ None → HasNoMarker input.now }
 {

@@ -3,4 +3,4 @@
 
 mod cut;
 
-pub use cut::{Cut, cut};
+pub use cut::{Cut, cut_at_marker};
