@@ -2,6 +2,7 @@ pub mod CoverLemmas
 pub mod EndLemmas
 pub mod FirstLemmas
 pub mod FlatLemmas
+pub mod LeftLemmas
 pub mod MoreLemmas
 pub mod NameLemmas
 pub mod NamingLemmas

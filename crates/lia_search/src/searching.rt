@@ -1,6 +1,7 @@
 //! A search from its start to what is decided.
 
-ghost use Rattle.std.specs.Prelude.{◌≡◌, ◌<◌, ◌≤◌, ◌^◌, drop, IfOk, true};
+ghost use Rattle.std.specs.Prelude.{◌≡◌, ◌<◌, ◌≤◌, ◌^◌, drop, length, take, IfOk, OnOk, true};
+ghost use Rattle.std.specs.List.{range_with_len};
 ghost use Rattle.lin_atoms.specs.Truth.{is_below};
 ghost use Rattle.farkas_proof.specs.Refutation.{form_end};
 ghost use Rattle.lia_search.specs.Decides.{Decides, has_short_multiples};
@@ -14,48 +15,58 @@ use crate::parts::shared;
 use crate::running::Search;
 use crate::shared::Shared;
 use crate::waiting::{LeftOut, Open};
-use base::{Copied, Items, Memory};
+use base::{Items, Memory};
 use farkas_proof::{Flat, flattened};
 use lia_close::numbered;
 use lin_atoms::{Form, Lit};
 use std::alloc::Global;
 
-/// The literals of the flattened form from one on, with their numbers, which are left out.
-fn left_out(alloc: Global, lits: &[Lit], from: usize) -> Result<Items<LeftOut>, Memory>
-    ensures { IfOk result (λ made. made ≡ left_from from (drop from lits.now)) }
+/// The literals of the flattened form from one on, with their numbers, which are left out. Those
+/// before it stay.
+fn left_out(alloc: Global, lits: &mut Items<Lit>, taken: usize) -> Result<Items<LeftOut>, Memory>
+    ensures left { IfOk result (λ made. made ≡ left_from (length (take taken lits.old)) (drop taken lits.old)) }
+    ensures stay { OnOk result (lits.new ≡ take taken lits.old) }
 {
-    let mut made = Items::new(alloc);
-    let mut at = from;
-    'left: while at < lits.len() {
-        made.push(LeftOut {
-            lit: Shared::new(alloc, lits[at].copy(alloc)?)?,
-            number: numbered(at)?,
-        })?;
-        at += 1;
+    let mut made = Vec::new(alloc);
+    'left: while lits.len() > taken {
+        match lits.pop() {
+            Some(lit) => {
+                let number = numbered(lits.len())?;
+                let lit = Shared::new(alloc, lit)?;
+                made.push(LeftOut { lit, number })?;
+            }
+            None => unreachable!(),
+        }
     }
-    Ok(made)
+    made.reverse();
+    Ok(Items::from_vec(made))
+}
+
+/// So many numbers, from 0 on.
+fn numbers(alloc: Global, count: usize) -> Result<Items<u32>, Memory>
+    ensures { IfOk result (λ made. made ≡ range_with_len 0 count) }
+{
+    let mut made = Vec::with_capacity(alloc, count)?;
+    for at in 0..count {
+        made.push(numbered(at)?)?;
+    }
+    Ok(Items::from_vec(made))
 }
 
 /// The first node: the first literals of the flattened form have joined, so many of them.
 fn first(alloc: Global, flat: Flat, taken: usize) -> Result<Open, Memory>
     ensures { IfOk result (λ waiting. waiting ≡ first_open taken flat.lits flat.cases) }
 {
-    let mut lits = Items::new(alloc);
-    let mut numbers = Items::new(alloc);
-    let mut at = 0;
-    'taken: while at < taken && at < flat.lits.len() {
-        lits.push(flat.lits.as_slice()[at].copy(alloc)?)?;
-        numbers.push(numbered(at)?)?;
-        at += 1;
-    }
-    let left_out = left_out(alloc, flat.lits.as_slice(), at)?;
-    let Flat { lits: all, cases } = flat;
+    let Flat { mut lits, cases } = flat;
+    let known = lits.len();
+    let left_out = left_out(alloc, &mut lits, taken)?;
+    let numbers = numbers(alloc, lits.len())?;
     let cases = shared(alloc, cases)?;
     Ok(Open {
         lits,
         numbers,
         reasons: Items::new(alloc),
-        known: all.len(),
+        known,
         left_out,
         cases,
     })

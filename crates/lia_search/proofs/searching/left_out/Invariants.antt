@@ -1,10 +1,14 @@
-use Rattle.std.proofs.Common.{◌≡◌, ◌-◌, ◌++◌, drop, length}
-use Rattle.lia_search.specs.machinery.Opened.{left_from}
+use Rattle.std.proofs.Common.{◌≡◌, ◌≤◌, ◌++◌, length, reverse, take}
+use Rattle.lia_search.specs.machinery.Opened.{left_from, left_lits}
 use Rattle.lia_search.proofs.searching.left_out.Given as goal
 
--- those so far, and the rest
+-- those that are left, and those so far from the last on
 abbrev pub invariant-left : goal.invariant-left
-invariant-left l = l.made ++ left_from l.at (drop l.at l.lits) ≡ left_from l.from (drop l.from l.lits)
+invariant-left l = record {
+  whole : l.lits ++ left_lits (reverse l.made.items) ≡ l.fn.lits;
+  made : reverse l.made.items ≡ left_from (length l.lits) (left_lits (reverse l.made.items));
+  edge : length (take l.taken l.fn.lits) ≤ length l.lits;
+}
 
 abbrev pub decreases-left : goal.decreases-left
-decreases-left l = length l.lits - l.at
+decreases-left l = length l.lits
