@@ -1,9 +1,7 @@
 //! A node is closed by a tree that was only guessed: it counts after a check.
 
-ghost use Rattle.std.specs.Prelude.{◌≡◌, ◌<◌, ◌^◌, ℕ, List, length, IfOk, IfSome, true};
-ghost use Rattle.std.specs.List.{list_all};
+ghost use Rattle.std.specs.Prelude.{◌≡◌, ℕ, List, length, IfOk, IfSome};
 ghost use Rattle.lin_atoms.specs.declared.lit.Lit.{Lit};
-ghost use Rattle.node_rows.specs.Known.{are_known, has_short_constant};
 ghost use Rattle.lia_close.specs.Placed.{IsSoundAt, Place};
 ghost use Rattle.lia_close.specs.Said.{AreReasons};
 ghost use Rattle.lia_divisors.specs.machinery.There.{AreThere};
@@ -14,6 +12,7 @@ use crate::rows::guessed;
 use crate::said::{Said, all_said};
 use base::Memory;
 use farkas_proof::{CheckStop, Refutation, check};
+use int_rows::Tableau;
 use lin_atoms::Lit;
 use std::alloc::Global;
 
@@ -41,23 +40,22 @@ fn checked(
 /// A tree for a node that a common divisor closes: in a row of its tableau, at a vertex, a number
 /// divides the entries of all columns but some that lie between two bounds, and no multiple of it
 /// lies between what these columns add up to at least and at most. `None` where no such row is found,
-/// or the tree is no proof. The tree stands where so many literals are known; `reasons` has for each
+/// or the tree is no proof. The tableau is the node's at a vertex, and where it isn't, no tree is
+/// found. The tree stands where so many literals are known; `reasons` has for each
 /// literal of the node the number of the first of those that give its bounds, as for `close`.
 pub fn close_by_divisor(
     alloc: Global,
+    vertex: Option<Tableau>,
     lits: &[Lit],
     reasons: &[u32],
     known: usize,
     end: u32,
 ) -> Result<Option<Refutation>, Memory>
-    requires known { are_known end lits.now ≡ true }
-    requires short { list_all has_short_constant lits.now ≡ true }
-    requires few { end < 2 ^ 31 }
     requires each { length reasons.now ≡ length lits.now }
     ensures { IfOk result (λ found. IfSome found (λ tree. (place : Place) → length place.known ≡ known → AreReasons place.known end lits.now reasons.now → IsSoundAt end place tree)) }
 {
     let said = all_said(alloc, lits, reasons, end)?;
-    match guessed(alloc, lits, end, said.as_slice(), known)? {
+    match guessed(alloc, vertex, lits, end, said.as_slice(), known)? {
         Some(chain) => {
             let found = checked(alloc, said.as_slice(), known, chain)?;
             Ok(found)

@@ -1,18 +1,12 @@
 //! Rows whose entries have a common divisor.
 
-ghost use Rattle.std.specs.Prelude.{◌≡◌, ◌<◌, ◌^◌, true};
-ghost use Rattle.std.specs.List.{list_all};
-ghost use Rattle.node_rows.specs.Known.{are_known, has_short_constant};
-
 use crate::chain::Chain;
 use crate::columns::forms;
 use crate::said::Said;
 use crate::sides::{Bound, Sides, all_sides};
 use base::Memory;
-use int_rows::{RowStop, Tableau};
+use int_rows::Tableau;
 use lin_atoms::{Lit, gcd};
-use node_rows::node_tableau;
-use simplex_core::{Feasible, feasible};
 use std::alloc::Global;
 
 /// Both bounds of a column that has both.
@@ -242,37 +236,19 @@ fn of_rows(
     Ok(None)
 }
 
-/// The rows of the tableau at its vertex.
-fn at_vertex(
-    alloc: Global,
-    tableau: &mut Tableau,
-    said: &[Said],
-    known: usize,
-) -> Result<Option<Chain>, Memory> {
-    let forms = forms(alloc, tableau)?;
-    let sides = all_sides(alloc, said, forms.as_slice(), tableau.columns())?;
-    match feasible(alloc, tableau)? {
-        Feasible::Vertex(_) => of_rows(alloc, tableau, sides.as_slice(), known),
-        Feasible::Conflict(_) => Ok(None),
-        Feasible::Wide(_) => Ok(None),
-    }
-}
-
-/// A chain that may refute the literals, by one row of their tableau at a vertex.
+/// A chain that may refute the literals, by one row of their tableau, which is at a vertex.
 pub(crate) fn guessed(
     alloc: Global,
+    vertex: Option<Tableau>,
     lits: &[Lit],
     end: u32,
     said: &[Said],
     known: usize,
-) -> Result<Option<Chain>, Memory>
-    requires known { are_known end lits.now ≡ true }
-    requires short { list_all has_short_constant lits.now ≡ true }
-    requires few { end < 2 ^ 31 }
-{
-    match node_tableau(alloc, lits, end) {
-        Ok(mut tableau) => at_vertex(alloc, &mut tableau, said, known),
-        Err(RowStop::Memory) => Err(Memory),
-        Err(RowStop::TooMany) => Ok(None),
-    }
+) -> Result<Option<Chain>, Memory> {
+    let Some(tableau) = vertex else {
+        return Ok(None);
+    };
+    let forms = forms(alloc, lits, end)?;
+    let sides = all_sides(alloc, said, forms.as_slice(), tableau.columns())?;
+    of_rows(alloc, &tableau, sides.as_slice(), known)
 }

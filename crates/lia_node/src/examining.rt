@@ -47,9 +47,15 @@ fn solved(alloc: Global, lits: &[Lit], end: u32, tableau: &mut Tableau) -> Resul
 /// What the literals of a node tell: one that is false by itself, a conflict, a model, a vertex with
 /// a fraction, or evidence of giving up. The literals stand in the order in which they joined the
 /// node or one above it. Those of the form speak of variables below `end`; quotients are numbered on
-/// from there, and a branch may be on a quotient of a literal before it. The tableau is made anew.
-/// Where there is one, there are at most as many quotients as rows.
-pub fn examine(alloc: Global, lits: &[Lit], end: u32) -> Result<Examined, Memory>
+/// from there, and a branch may be on a quotient of a literal before it. The tableau is made anew,
+/// and handed on as the run of the simplex leaves it, for guesses: nothing is said of it. Where there
+/// is one, there are at most as many quotients as rows.
+pub fn examine(
+    alloc: Global,
+    lits: &[Lit],
+    end: u32,
+    left: &mut Option<Tableau>,
+) -> Result<Examined, Memory>
     requires known { are_known end lits.now ≡ true }
     requires short { list_all has_short_constant lits.now ≡ true }
     requires few { end < 2 ^ 31 }
@@ -62,6 +68,7 @@ pub fn examine(alloc: Global, lits: &[Lit], end: u32) -> Result<Examined, Memory
     match node_tableau(alloc, lits, end) {
         Ok(mut tableau) => {
             let told = solved(alloc, lits, end, &mut tableau)?;
+            *left = Some(tableau);
             Ok(told)
         }
         Err(RowStop::Memory) => Err(Memory),

@@ -21,6 +21,7 @@ use crate::parts::{push_parts, push_sides, side};
 use crate::waiting::Open;
 use base::Memory;
 use farkas_proof::{Evidence, Refutation};
+use int_rows::Tableau;
 use lia_close::{Step, close, numbered, tree_of};
 use lia_divisors::close_by_divisor;
 use lia_node::{Examined, examine};
@@ -116,12 +117,13 @@ impl<'a> Search<'a> {
         Ok(())
     }
 
-    /// The node is closed by a common divisor of a row, where there is one, and otherwise split by a
-    /// branch.
+    /// The node is closed by a common divisor of a row at the vertex, where there is one, and otherwise
+    /// split by a branch.
     fn branch(
         &mut self,
         alloc: Global,
         waiting: Open,
+        vertex: Option<Tableau>,
         variable: u32,
         floor: i64,
     ) -> Result<Turn, Memory>
@@ -136,6 +138,7 @@ impl<'a> Search<'a> {
         self.name(&mut waiting)?;
         let found = close_by_divisor(
             alloc,
+            vertex,
             waiting.lits.as_slice(),
             waiting.reasons.as_slice(),
             waiting.known,
@@ -254,7 +257,8 @@ impl<'a> Search<'a> {
     {
         let is_first = self.is_first;
         self.is_first = false;
-        let examined = examine(alloc, waiting.lits.as_slice(), self.end)?;
+        let mut left = None;
+        let examined = examine(alloc, waiting.lits.as_slice(), self.end, &mut left)?;
         match examined {
             Examined::False(at) => {
                 self.close_by_literal(alloc, &waiting, at)?;
@@ -265,7 +269,9 @@ impl<'a> Search<'a> {
                 Ok(Turn::WentOn)
             }
             Examined::Model(point) => self.meet(alloc, waiting, point),
-            Examined::Fraction { variable, floor } => self.branch(alloc, waiting, variable, floor),
+            Examined::Fraction { variable, floor } => {
+                self.branch(alloc, waiting, left, variable, floor)
+            }
             Examined::Wide(evidence) => Ok(self.give_up(&waiting, evidence, is_first)),
         }
     }

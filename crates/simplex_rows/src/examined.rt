@@ -27,7 +27,8 @@ fn told(rt: &impl Abort, alloc: Global, first: Lit, second: Lit) -> Examined {
     let lits = Vec::from_array(alloc, [first, second]).expect(rt, "memory");
     assert!(rt; are_known(lits.as_slice(), 2));
     assert!(rt; have_short_constants(lits.as_slice()));
-    examine(alloc, lits.as_slice(), 2).expect(rt, "memory")
+    let mut left = None;
+    examine(alloc, lits.as_slice(), 2, &mut left).expect(rt, "memory")
 }
 
 /// Two equations `a*x + b*y + c = 0`.
