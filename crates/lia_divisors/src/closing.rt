@@ -1,4 +1,4 @@
-//! A node is closed by a tree that was only guessed: it counts after a check.
+//! What was only guessed of a node counts after a check.
 
 ghost use Rattle.std.specs.Prelude.{◌≡◌, ◌<◌, ◌^◌, ℕ, List, length, IfOk, IfSome, true};
 ghost use Rattle.std.specs.List.{list_all};
@@ -6,30 +6,36 @@ ghost use Rattle.lin_atoms.specs.declared.lit.Lit.{Lit};
 ghost use Rattle.node_rows.specs.Known.{are_known, has_short_constant};
 ghost use Rattle.lia_close.specs.Placed.{IsSoundAt, Place};
 ghost use Rattle.lia_close.specs.Said.{AreReasons};
+ghost use Rattle.lia_divisors.specs.Found.{Finds};
 ghost use Rattle.lia_divisors.specs.machinery.There.{AreThere};
 
-use crate::chain::Chain;
 use crate::filled::{conjunction, filled};
-use crate::rows::guessed;
+use crate::found::Found;
+use crate::parts::{Guess, guessed};
+use crate::points::is_point;
 use crate::said::{Said, all_said};
+use crate::written::{Move, tree_of};
 use base::Memory;
 use farkas_proof::{CheckStop, Refutation, check};
 use lin_atoms::Lit;
 use std::alloc::Global;
 
-/// The tree of the chain, where it is a proof by what the node knows: its own literals and what is
+/// The tree of the moves, where it is a proof by what the node knows: its own literals and what is
 /// known of their quotients, by their numbers among all that are known.
 fn checked(
     alloc: Global,
     said: &[Said],
     known: usize,
-    chain: Chain,
+    moves: Vec<Move>,
 ) -> Result<Option<Refutation>, Memory>
     ensures { IfOk result (λ found. IfSome found (λ tree. (end : ℕ) (place : Place) → length place.known ≡ known → AreThere place.known said.now → IsSoundAt end place tree)) }
 {
     let filled = filled(alloc, said, known)?;
     let form = conjunction(alloc, filled.as_slice())?;
-    let tree = chain.tree(alloc)?;
+    let made = tree_of(alloc, moves)?;
+    let Some(tree) = made else {
+        return Ok(None);
+    };
     match check(alloc, &form, &tree) {
         Ok(_) => Ok(Some(tree)),
         Err(CheckStop::Memory) => Err(Memory),
@@ -38,30 +44,59 @@ fn checked(
     }
 }
 
-/// A tree for a node that a common divisor closes: in a row of its tableau, at a vertex, a number
-/// divides the entries of all columns but some that lie between two bounds, and no multiple of it
-/// lies between what these columns add up to at least and at most. `None` where no such row is found,
-/// or the tree is no proof. The tree stands where so many literals are known; `reasons` has for each
-/// literal of the node the number of the first of those that give its bounds, as for `close`.
-pub fn close_by_divisor(
+/// The tree, where it is a proof.
+fn closed(alloc: Global, said: &[Said], known: usize, moves: Vec<Move>) -> Result<Found, Memory>
+    ensures { IfOk result (λ found. (end : ℕ) (lits : List Lit) (reasons : List ℕ) → ((place : Place) → AreReasons place.known end lits reasons → AreThere place.known said.now) → Finds end lits reasons known found) }
+{
+    let checked = checked(alloc, said, known, moves)?;
+    match checked {
+        Some(tree) => Ok(Found::Tree(tree)),
+        None => Ok(Found::Nothing),
+    }
+}
+
+/// The point, where the literals are true there.
+fn tested(lits: &[Lit], end: u32, point: Vec<i64>) -> Result<Found, Memory>
+    ensures { IfOk result (λ found. (reasons : List ℕ) (known : ℕ) → Finds end lits.now reasons known found) }
+{
+    if is_point(lits, end, point.as_slice())? {
+        return Ok(Found::Point(point));
+    }
+    Ok(Found::Nothing)
+}
+
+/// Looks for a proof that no integer point makes a node's literals true, or for such a point, where a
+/// vertex of its tableau has a fraction. The node is split into parts by what columns may be, so many
+/// parts at the most, and a part is closed where its bounds contradict or where a common divisor of a
+/// row leaves no integers: a number divides the entries of all columns but some that lie between two
+/// bounds, and no multiple of it lies between what these columns add up to at least and at most. With
+/// one part the node is closed by a common divisor alone. What is found is checked.
+/// The tree stands where so many literals are known; `reasons` has for each literal of the node the
+/// number of the first of those that give its bounds, as for `close`.
+pub fn find(
     alloc: Global,
     lits: &[Lit],
     reasons: &[u32],
     known: usize,
     end: u32,
-) -> Result<Option<Refutation>, Memory>
+    parts: u32,
+) -> Result<Found, Memory>
     requires known { are_known end lits.now ≡ true }
     requires short { list_all has_short_constant lits.now ≡ true }
     requires few { end < 2 ^ 31 }
     requires each { length reasons.now ≡ length lits.now }
-    ensures { IfOk result (λ found. IfSome found (λ tree. (place : Place) → length place.known ≡ known → AreReasons place.known end lits.now reasons.now → IsSoundAt end place tree)) }
+    ensures { IfOk result (Finds end lits.now reasons.now known) }
 {
     let said = all_said(alloc, lits, reasons, end)?;
-    match guessed(alloc, lits, end, said.as_slice(), known)? {
-        Some(chain) => {
-            let found = checked(alloc, said.as_slice(), known, chain)?;
+    match guessed(alloc, lits, end, said.as_slice(), known, parts)? {
+        Guess::Tree(moves) => {
+            let found = closed(alloc, said.as_slice(), known, moves)?;
             Ok(found)
         }
-        None => Ok(None),
+        Guess::Point(point) => {
+            let found = tested(lits, end, point)?;
+            Ok(found)
+        }
+        Guess::Nothing => Ok(Found::Nothing),
     }
 }

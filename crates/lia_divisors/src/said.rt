@@ -119,7 +119,7 @@ fn put_below(
 }
 
 /// The next number.
-fn next(number: u32, more: u32) -> Result<u32, Memory>
+pub(crate) fn next(number: u32, more: u32) -> Result<u32, Memory>
     ensures { IfOk result (λ n. n ≡ number + more) }
 {
     match number.checked_add(more) {
@@ -198,7 +198,7 @@ fn quotients_of(no_variable: bool) -> u32
 }
 
 /// How many quotients the literal brings.
-fn quotients(lit: &Lit) -> u32
+pub(crate) fn quotients(lit: &Lit) -> u32
     ensures { result ≡ quotients lit.now }
 {
     match lit {

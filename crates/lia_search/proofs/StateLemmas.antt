@@ -33,6 +33,7 @@ use Rattle.lia_close.proofs.Public.{one-tree, root-tree}
 use Rattle.lia_node.specs.Tells.{IsEvidenceAt, Tells, has_tableau, is_of_node}
 use Rattle.lia_node.specs.declared.examined.Examined.{Examined}
 use Rattle.lia_search.specs.Decides.{CountsTo, has_short_multiples}
+use Rattle.lia_search.specs.declared.waiting.LeftOut.{LeftOut}
 use Rattle.lia_search.specs.declared.waiting.Open.{Open}
 use Rattle.lia_search.specs.declared.running.End.{End}
 use Rattle.lia_search.specs.declared.running.Search.{Search}
@@ -182,16 +183,38 @@ closes-named old s new before after n = closes-after old s new (named-steps old 
 pub splits-named : (old s new : Search) (before after : Open) → Named old before s after → Splits s new → Splits old new
 splits-named old s new before after n = splits-after old s new (named-steps old s n.steps) (named-count old s n.steps)
 
--- the two sides of a branch, with the literals as they were before their names
-pub branched-named : (old s new : Search) (before after : Open) (x : ℕ) (c : ℤ) → Named old before s after → HasSolution old.end before.lits → HasVertexBetween (system old.end before.lits) x c → nat_abs c ≤ 2 ^ 63
+-- what a node weighs, it weighs with its names
+goes-weighed : (s new : Search) (before after : Open) → after.left_out ≡ before.left_out → Goes s after new → Goes s before new
+goes-weighed s new before after same goes = record {
+  is = goes.is;
+  same = goes.same;
+  count = goes.count;
+  less = subst (λ (ls : List LeftOut). weight new.stack.items < weight s.stack.items + (length ls + 1)) same goes.less;
+}
+
+turns-weighed : (s new : Search) (before after : Open) (result : Result Turn Memory) → after.left_out ≡ before.left_out → Turns s after new result → Turns s before new result
+turns-weighed s new before after (Ok turn.WentOn) same turns = goes-weighed s new before after same turns
+turns-weighed s new before after (Ok turn.Split) same turns = turns
+turns-weighed s new before after (Ok (turn.Over end)) same turns = turns
+turns-weighed s new before after (Err stop) same turns = tt
+
+pub turns-named : (old s new : Search) (before after : Open) (result : Result Turn Memory) → Named old before s after → Turns s after new result → Turns old before new result
+turns-named old s new before after result n turns =
+    turns-after old s new before result (named-steps old s n.steps) (named-count old s n.steps) (named-stack old s n.steps) (turns-weighed s new before after result n.left_out turns)
+
+pub named-room : (old s : Search) (before after : Open) → Named old before s after → old.count < old.nodes → s.count < s.nodes
+named-room old s before after n room =
+    let count = named-count old s n.steps in
+    let nodes = (named-steps old s n.steps).nodes in
+    omega (arith, count, nodes, room)
+
+-- the two sides of a branch
+pub branched-at : (s new : Search) (waiting : Open) (x : ℕ) (c : ℤ) → Waits s waiting → length waiting.reasons ≡ length waiting.lits → HasSolution s.end waiting.lits → HasVertexBetween (system s.end waiting.lits) x c → nat_abs c ≤ 2 ^ 63
     → new ≡ record s { steps = new.steps; stack = new.stack; count = s.count + 1 } → new.steps.items ≡ s.steps.items ++ Split (record { terms = (x, pos 1) ∷ []; constant = neg_ℤ c }) ∷ []
-    → reverse new.stack.items ≡ with_lit after (at_most x c) ∷ with_lit after (at_least x (c +ℤ pos 1)) ∷ reverse s.stack.items → Splits old new
-branched-named old s new before after x c n solution vertex room same written stacked =
-    let t = top s after n.is in
-    let own : HasSolution s.end after.lits = named-keeps (λ q lits. HasSolution q lits) old s before after n solution in
-    let between : HasVertexBetween (system s.end after.lits) x c = named-keeps (λ q lits. HasVertexBetween (system q lits) x c) old s before after n vertex in
-    splits-named old s new before after n
-    (branched s new after x c t n.full (subst (λ (q : ℕ). HasSolution q after.lits) t.end own) (subst (λ (q : ℕ). HasVertexBetween (system q after.lits) x c) t.end between) room same written stacked)
+    → reverse new.stack.items ≡ with_lit waiting (at_most x c) ∷ with_lit waiting (at_least x (c +ℤ pos 1)) ∷ reverse s.stack.items → Splits s new
+branched-at s new waiting x c is full solution vertex room same written stacked =
+    let t = top s waiting is in
+    branched s new waiting x c t full (subst (λ (q : ℕ). HasSolution q waiting.lits) t.end solution) (subst (λ (q : ℕ). HasVertexBetween (system q waiting.lits) x c) t.end vertex) room same written stacked
 
 -- and the parts of a disjunction
 pub parted-named : (old s new : Search) (before after : Open) (which : ℕ) → Named old before s after → HasSolution old.end before.lits → which < length after.cases

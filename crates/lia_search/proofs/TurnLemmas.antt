@@ -164,6 +164,15 @@ cases-times : (n : ℕ) (o : Open) → (named_times n o).cases ≡ o.cases
 cases-times zero o = refl
 cases-times (suc n) o = cases-times n (with_name o) ∙ named-cases o (named_by (next_lit o) == 0)
 
+-- nor does it say anything of what is left out
+named-left : (o : Open) (b : Bool) → (cond b (record o { reasons = o.reasons ++ next_number o ∷ [] }) (record o { reasons = o.reasons ++ o.known ∷ []; known = o.known + named_by (next_lit o) })).left_out ≡ o.left_out
+named-left o true = refl
+named-left o false = refl
+
+left-times : (n : ℕ) (o : Open) → (named_times n o).left_out ≡ o.left_out
+left-times zero o = refl
+left-times (suc n) o = left-times n (with_name o) ∙ named-left o (named_by (next_lit o) == 0)
+
 pub all-named : (s new : Search) (waiting after : Open) → IsTop s waiting → list_all is_legal waiting.lits ≡ true → end_of_quotients s.end waiting.lits ≤ s.end + most_rows
     → after ≡ all_named waiting → new ≡ record s { steps = new.steps } → new.steps.items ≡ s.steps.items ++ steps_of_names waiting → Named s waiting new after
 all-named s new waiting after t legal few is same written =
@@ -177,6 +186,7 @@ all-named s new waiting after t legal few is same written =
       steps = refl;
       lits = names.lits;
       cases = cases-times (length waiting.lits - length waiting.reasons) waiting;
+      left_out = left-times (length waiting.lits - length waiting.reasons) waiting;
       full = names.full;
     } in
     subst (λ (o : Open). Named s waiting new o) (sym is) (subst (λ (n : Search). Named s waiting n (all_named waiting)) (sym same) made)

@@ -22,11 +22,14 @@ use crate::waiting::Open;
 use base::Memory;
 use farkas_proof::{Evidence, Refutation};
 use lia_close::{Step, close, numbered, tree_of};
-use lia_divisors::close_by_divisor;
+use lia_divisors::{Found, find};
 use lia_node::{Examined, examine};
 use lin_atoms::Form;
 use node_rows::are_legal;
 use std::alloc::Global;
+
+/// So many parts of the first node with a fraction are looked at.
+const MOST_PARTS: u32 = 601;
 
 /// A search of a form, and how far it has come.
 #[derive(Drop)]
@@ -65,6 +68,15 @@ pub(crate) enum Turn {
     /// A node is split.
     Split,
     Over(End),
+}
+
+/// How many parts are looked at where a node has a fraction, after so many inner nodes: in all a few
+/// thousand, and always one.
+fn parts_at(count: u32) -> u32 {
+    match MOST_PARTS.checked_div(count.saturating_add(1)) {
+        Some(parts) => parts.max(1),
+        None => 1,
+    }
 }
 
 impl<'a> Search<'a> {
@@ -116,8 +128,30 @@ impl<'a> Search<'a> {
         Ok(())
     }
 
-    /// The node is closed by a common divisor of a row, where there is one, and otherwise split by a
-    /// branch.
+    /// The node is split by a branch.
+    fn split_at(
+        &mut self,
+        alloc: Global,
+        waiting: Open,
+        variable: u32,
+        floor: i64,
+    ) -> Result<(), Memory>
+        requires is { Waits self.old waiting }
+        requires full { length waiting.reasons ≡ length waiting.lits }
+        requires solution { HasSolution self.old.end waiting.lits }
+        requires vertex { HasVertexBetween (system self.old.end waiting.lits) variable floor }
+        requires room { self.old.count < self.old.nodes }
+        ensures { OnOk result (Splits self.old self.new) }
+    {
+        let lin = side(alloc, variable, floor)?;
+        self.steps.push(Step::Split(lin))?;
+        push_sides(alloc, &mut self.stack, waiting, variable, floor)?;
+        self.count += 1;
+        Ok(())
+    }
+
+    /// At a vertex with a fraction: the node is closed by a tree, or met at a point, where one is
+    /// found, and otherwise split by a branch.
     fn branch(
         &mut self,
         alloc: Global,
@@ -134,22 +168,25 @@ impl<'a> Search<'a> {
     {
         let mut waiting = waiting;
         self.name(&mut waiting)?;
-        let found = close_by_divisor(
+        let found = find(
             alloc,
             waiting.lits.as_slice(),
             waiting.reasons.as_slice(),
             waiting.known,
             self.end,
+            parts_at(self.count),
         )?;
-        if let Some(tree) = found {
-            self.steps.push(Step::Closed(tree))?;
-            return Ok(Turn::WentOn);
+        match found {
+            Found::Tree(tree) => {
+                self.steps.push(Step::Closed(tree))?;
+                Ok(Turn::WentOn)
+            }
+            Found::Point(point) => self.meet(alloc, waiting, point),
+            Found::Nothing => {
+                self.split_at(alloc, waiting, variable, floor)?;
+                Ok(Turn::Split)
+            }
         }
-        let lin = side(alloc, variable, floor)?;
-        self.steps.push(Step::Split(lin))?;
-        push_sides(alloc, &mut self.stack, waiting, variable, floor)?;
-        self.count += 1;
-        Ok(Turn::Split)
     }
 
     /// The node is split by the parts of an open disjunction.

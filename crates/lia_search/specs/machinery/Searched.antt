@@ -45,6 +45,7 @@ pub record Named (old : Search) (before : Open) (new : Search) (after : Open) : 
   pub steps : new ≡ record old { steps = new.steps }
   pub lits : after.lits ≡ before.lits
   pub cases : after.cases ≡ before.cases
+  pub left_out : after.left_out ≡ before.left_out
   pub full : length after.reasons ≡ length after.lits
 
 -- the same form and the same number of inner nodes

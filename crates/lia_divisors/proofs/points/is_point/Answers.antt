@@ -1,0 +1,4 @@
+use Rattle.lia_divisors.proofs.points.is_point.Goals as goal
+
+pub returns : goal.returns
+returns c = ?

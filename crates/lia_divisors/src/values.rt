@@ -1,0 +1,41 @@
+//! The values of a vertex.
+
+use base::Memory;
+use lin_atoms::Ratio;
+use std::alloc::Global;
+
+/// The value, where it is an integer.
+fn whole(ratio: &Ratio) -> Option<i64> {
+    if ratio.num().checked_rem_euclid(ratio.den()) != Some(0) {
+        return None;
+    }
+    floored(ratio)
+}
+
+/// The value rounded down.
+fn floored(ratio: &Ratio) -> Option<i64> {
+    let floor = ratio.num().checked_div_euclid(ratio.den())?;
+    i64::try_from(floor).ok()
+}
+
+/// The values, where each is an integer.
+pub(crate) fn wholes(alloc: Global, ratios: &[Ratio]) -> Result<Option<Vec<i64>>, Memory> {
+    let mut point = Vec::new(alloc);
+    for ratio in ratios {
+        match whole(ratio) {
+            Some(value) => point.push(value)?,
+            None => return Ok(None),
+        }
+    }
+    Ok(Some(point))
+}
+
+/// The first of the values that isn't an integer, and its floor.
+pub(crate) fn first_fraction(ratios: &[Ratio]) -> Option<(usize, i64)> {
+    for (at, ratio) in ratios.iter().enumerate() {
+        if whole(ratio).is_none() {
+            return Some((at, floored(ratio)?));
+        }
+    }
+    None
+}
