@@ -129,9 +129,9 @@ node-moves e (Refutation-F.Split lin s u) plain end at filled cases place stands
     let says = sound-says true (lit_fits low && lit_fits high) at (followed_by first second) sound in
     let room = both_true (lit_fits low) _ says.1 in
     let plains = both_true (is_plain s.0) _ plain in
-    let then = sound-both first second says.2 in
-    let below = s.1 plains.0 end (at + 1) (filled ++ low ∷ []) cases (with_known place (low ∷ [])) (stands-last filled place.known low long stands) (long-last filled place.known low long) then.1.0 in
-    let above = u.1 plains.1 end then.0 (filled ++ high ∷ []) cases (with_known place (high ∷ [])) (stands-last filled place.known high long stands) (long-last filled place.known high long) then.1.1 in
+    let both-sides = sound-both first second says.2 in
+    let below = s.1 plains.0 end (at + 1) (filled ++ low ∷ []) cases (with_known place (low ∷ [])) (stands-last filled place.known low long stands) (long-last filled place.known low long) both-sides.1.0 in
+    let above = u.1 plains.1 end both-sides.0 (filled ++ high ∷ []) cases (with_known place (high ∷ [])) (stands-last filled place.known high long stands) (long-last filled place.known high long) both-sides.1.1 in
     subst (IsSoundAt end place) (sym (rolls-Split lin s.0 u.0)) (sound-split end place lin s.0 u.0 room.0 room.1 below above)
 node-moves e (Refutation-F.Cases which subs) plain end at filled cases place stands long sound = absurd (cc)
 node-moves e (Refutation-F.Quotient lit s) plain end at filled cases place stands long sound = absurd (cc)

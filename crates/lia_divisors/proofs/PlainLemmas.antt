@@ -31,11 +31,12 @@ pub plain-chained : (rs : List Rounding) (ms : List (ℕ × ℤ)) → is_plain (
 plain-chained [] ms = plain-leaf ms
 plain-chained (r ∷ rs) ms = plain-round r.multipliers.items r.divisor (chained rs (Leaf ms)) ∙ plain-chained rs ms
 
--- a list of them, and one more
-pub plain-popped : (ts rest : List Refutation) (t : Refutation) → list_all is_plain ts ≡ true → ts ≡ rest ++ t ∷ [] → (list_all is_plain rest ≡ true) × (is_plain t ≡ true)
-plain-popped ts rest t all is =
-    let both = both_true (list_all is_plain rest) _ (sym (list_all-append is_plain rest (t ∷ [])) ∙ ap (list_all is_plain) (sym is) ∙ all) in
-    (both.0, (both_true (is_plain t) true both.1).0)
+-- a list of them, and one more or less
+pub plain-rest : (ts rest more : List Refutation) → list_all is_plain ts ≡ true → ts ≡ rest ++ more → (list_all is_plain rest ≡ true) × (list_all is_plain more ≡ true)
+plain-rest ts rest more all is = both_true (list_all is_plain rest) (list_all is_plain more) (sym (list_all-append is_plain rest more) ∙ ap (list_all is_plain) (sym is) ∙ all)
+
+pub plain-last : (ts rest : List Refutation) (t : Refutation) → list_all is_plain ts ≡ true → ts ≡ rest ++ t ∷ [] → is_plain t ≡ true
+plain-last ts rest t all is = (both_true (is_plain t) true (plain-rest ts rest (t ∷ []) all is).1).0
 
 pub plain-pushed : (ts rest : List Refutation) (t : Refutation) → list_all is_plain rest ≡ true → is_plain t ≡ true → ts ≡ rest ++ t ∷ [] → list_all is_plain ts ≡ true
 plain-pushed ts rest t all plain is = ap (list_all is_plain) is ∙ list_all-append is_plain rest (t ∷ []) ∙ and_from (list_all is_plain rest) _ all (and_from (is_plain t) true plain refl)

@@ -3,6 +3,9 @@
 
 ghost use Rattle.std.specs.Prelude.{◌≡◌, ◌<◌, ◌^◌, true};
 ghost use Rattle.std.specs.List.{list_all};
+ghost use Rattle.lin_atoms.specs.Linear.{is_long};
+ghost use Rattle.int_rows.specs.Ready.{bound_fits};
+ghost use Rattle.int_rows.specs.Table.{width};
 ghost use Rattle.node_rows.specs.Known.{are_known, has_short_constant};
 
 use crate::chain::Chain;
@@ -10,7 +13,7 @@ use crate::columns::forms;
 use crate::conflicts::of_conflict;
 use crate::rows::of_rows;
 use crate::said::Said;
-use crate::sides::{Sides, all_sides};
+use crate::sides::{Bound, Sides, all_sides};
 use crate::splits::{Part, Place, above, below, form_of, narrowest};
 use crate::values::{first_fraction, wholes};
 use crate::written::Move;
@@ -40,34 +43,50 @@ enum Told {
     Nothing,
 }
 
-/// A bound with room.
-fn fitting(bound: Option<i128>) -> Option<i128> {
+/// Whether the number is below 2^64 in magnitude.
+fn is_long(value: i128) -> bool
+    ensures { result ≡ is_long value }
+{
+    value.unsigned_abs() < 1 << 64
+}
+
+/// The bound's value, where it has room.
+fn fitting(bound: Option<Bound>) -> Option<i128>
+    ensures { bound_fits result ≡ true }
+{
     match bound {
-        Some(value) if value.unsigned_abs() < 1 << 64 => Some(value),
-        _ => None,
+        Some(bound) => {
+            if is_long(bound.value) {
+                Some(bound.value)
+            } else {
+                None
+            }
+        }
+        None => None,
     }
 }
 
-/// The value of a bound.
-fn value(sides: &Sides, is_lower: bool) -> Option<i128> {
-    let own = if is_lower { sides.lower } else { sides.upper };
-    match own {
-        Some(bound) => Some(bound.value),
-        None => None,
+/// Whether the tableau has a column of this number.
+fn has_column(tableau: &Tableau, column: usize) -> bool
+    ensures { result ≡ true → column < width tableau.now }
+{
+    match tableau.columns().checked_add(tableau.rows()) {
+        Some(width) => column < width,
+        None => false,
+    }
+}
+
+/// A column of the tableau gets its bounds.
+fn set_side(tableau: &mut Tableau, column: usize, own: &Sides) {
+    if has_column(tableau, column) {
+        tableau.set_bounds(column, fitting(own.lower), fitting(own.upper));
     }
 }
 
 /// The tableau gets the bounds of a part.
 fn set_sides(tableau: &mut Tableau, sides: &[Sides]) {
-    let width = tableau.columns().saturating_add(tableau.rows());
     for (column, own) in sides.iter().enumerate() {
-        if column < width {
-            tableau.set_bounds(
-                column,
-                fitting(value(own, true)),
-                fitting(value(own, false)),
-            );
-        }
+        set_side(tableau, column, own);
     }
 }
 

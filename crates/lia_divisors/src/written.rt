@@ -31,20 +31,61 @@ fn split(alloc: Global, lin: Lin, low: Refutation, high: Refutation) -> Result<R
     })
 }
 
+/// The last of the trees.
+fn taken(trees: &mut Vec<Refutation>) -> Option<Refutation>
+    requires { list_all is_plain trees.old.items ≡ true }
+    ensures rest { list_all is_plain trees.new.items ≡ true }
+    ensures plain { IfSome result (λ tree. is_plain tree ≡ true) }
+{
+    match trees.pop() {
+        Some(tree) => Some(tree),
+        None => None,
+    }
+}
+
+/// A tree joins the others.
+fn put_tree(trees: &mut Vec<Refutation>, tree: Refutation) -> Result<(), Memory>
+    requires all { list_all is_plain trees.old.items ≡ true }
+    requires plain { is_plain tree ≡ true }
+    ensures { OnOk result (list_all is_plain trees.new.items ≡ true) }
+{
+    trees.push(tree)?;
+    Ok(())
+}
+
+/// A split stands above a tree and the last of the others.
+fn put_over(
+    alloc: Global,
+    trees: &mut Vec<Refutation>,
+    lin: Lin,
+    low: Refutation,
+) -> Result<(), Memory>
+    requires all { list_all is_plain trees.old.items ≡ true }
+    requires plain { is_plain low ≡ true }
+    ensures { OnOk result (list_all is_plain trees.new.items ≡ true) }
+{
+    match taken(trees) {
+        Some(high) => {
+            let made = split(alloc, lin, low, high)?;
+            put_tree(trees, made)?;
+            Ok(())
+        }
+        None => Ok(()),
+    }
+}
+
 /// A split stands above the last two trees.
 fn put_split(alloc: Global, trees: &mut Vec<Refutation>, lin: Lin) -> Result<(), Memory>
     requires { list_all is_plain trees.old.items ≡ true }
     ensures { OnOk result (list_all is_plain trees.new.items ≡ true) }
 {
-    let Some(low) = trees.pop() else {
-        return Ok(());
-    };
-    let Some(high) = trees.pop() else {
-        return Ok(());
-    };
-    let made = split(alloc, lin, low, high)?;
-    trees.push(made)?;
-    Ok(())
+    match taken(trees) {
+        Some(low) => {
+            put_over(alloc, trees, lin, low)?;
+            Ok(())
+        }
+        None => Ok(()),
+    }
 }
 
 /// A chain's tree joins the others.
@@ -53,7 +94,7 @@ fn put_chain(alloc: Global, trees: &mut Vec<Refutation>, chain: Chain) -> Result
     ensures { OnOk result (list_all is_plain trees.new.items ≡ true) }
 {
     let made = chain.tree(alloc)?;
-    trees.push(made)?;
+    put_tree(trees, made)?;
     Ok(())
 }
 
@@ -82,5 +123,5 @@ pub(crate) fn tree_of(alloc: Global, moves: Vec<Move>) -> Result<Option<Refutati
     'back: while let Some(next) = moves.pop() {
         put(alloc, &mut trees, next)?;
     }
-    Ok(trees.pop())
+    Ok(taken(&mut trees))
 }

@@ -129,7 +129,7 @@ impl<'a> Search<'a> {
     }
 
     /// The node is split by a branch.
-    fn split_at(
+    fn put_branch(
         &mut self,
         alloc: Global,
         waiting: Open,
@@ -183,7 +183,7 @@ impl<'a> Search<'a> {
             }
             Found::Point(point) => self.meet(alloc, waiting, point),
             Found::Nothing => {
-                self.split_at(alloc, waiting, variable, floor)?;
+                self.put_branch(alloc, waiting, variable, floor)?;
                 Ok(Turn::Split)
             }
         }

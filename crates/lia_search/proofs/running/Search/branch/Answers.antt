@@ -25,15 +25,15 @@ find-requires-clause-few c = (top _ _ c.in_ok-name.ensures.is).small
 pub find-requires-clause-each : goal.find-requires-clause-each
 find-requires-clause-each c = ap (λ (ns : List ℕ). length ns) c.as_slice-2.ensures ∙ c.in_ok-name.ensures.full ∙ sym (ap (λ (lits : List Lit). length lits) c.as_slice.ensures)
 
-pub returns-in-Tree : goal.returns-in-Tree
-returns-in-Tree c =
+pub returns-in_ok-push-in-Tree : goal.returns-in_ok-push-in-Tree
+returns-in_ok-push-in-Tree c =
     let n = c.in_ok-name.ensures in
     let s = c.name.new.self in
     let after = c.name.new.waiting in
     let sound = subst (λ (f : Found). Finds s.end c.as_slice.result.now c.as_slice-2.result.now after.known f) c.in-Tree.is c.in_ok-found.ensures in
     closes-goes c.args.self.now _ c.args.waiting
     (closes-named c.args.self.now s _ c.args.waiting after n
-    (closed-bounds s _ after c.as_slice.result.now c.as_slice-2.result.now c.in-Tree.tree (top _ _ n.is) n.full c.as_slice.ensures c.as_slice-2.ensures sound refl c.in_ok-push.ensures.items))
+    (closed-bounds s _ after c.as_slice.result.now c.as_slice-2.result.now c.in-Tree.tree (top _ _ n.is) n.full c.as_slice.ensures c.as_slice-2.ensures sound refl c.in_ok-push-in-Tree.ensures.items))
 
 pub meet-requires-clause-is : goal.meet-requires-clause-is
 meet-requires-clause-is c = c.in_ok-name.ensures.is
@@ -59,20 +59,20 @@ meet-requires-clause-room c = named-room c.args.self.now c.name.new.self c.args.
 pub returns-in-Point : goal.returns-in-Point
 returns-in-Point c = turns-named c.args.self.now c.name.new.self _ c.args.waiting c.name.new.waiting _ c.in_ok-name.ensures c.meet.ensures
 
-pub split_at-requires-clause-is : goal.split_at-requires-clause-is
-split_at-requires-clause-is c = c.in_ok-name.ensures.is
+pub put_branch-requires-clause-is : goal.put_branch-requires-clause-is
+put_branch-requires-clause-is c = c.in_ok-name.ensures.is
 
-pub split_at-requires-clause-full : goal.split_at-requires-clause-full
-split_at-requires-clause-full c = c.in_ok-name.ensures.full
+pub put_branch-requires-clause-full : goal.put_branch-requires-clause-full
+put_branch-requires-clause-full c = c.in_ok-name.ensures.full
 
-pub split_at-requires-clause-solution : goal.split_at-requires-clause-solution
-split_at-requires-clause-solution c = named-keeps (λ q lits. HasSolution q lits) c.args.self.now c.name.new.self c.args.waiting c.name.new.waiting c.in_ok-name.ensures c.requires.solution
+pub put_branch-requires-clause-solution : goal.put_branch-requires-clause-solution
+put_branch-requires-clause-solution c = named-keeps (λ q lits. HasSolution q lits) c.args.self.now c.name.new.self c.args.waiting c.name.new.waiting c.in_ok-name.ensures c.requires.solution
 
-pub split_at-requires-clause-vertex : goal.split_at-requires-clause-vertex
-split_at-requires-clause-vertex c = named-keeps (λ q lits. HasVertexBetween (system q lits) c.args.variable c.args.floor) c.args.self.now c.name.new.self c.args.waiting c.name.new.waiting c.in_ok-name.ensures c.requires.vertex
+pub put_branch-requires-clause-vertex : goal.put_branch-requires-clause-vertex
+put_branch-requires-clause-vertex c = named-keeps (λ q lits. HasVertexBetween (system q lits) c.args.variable c.args.floor) c.args.self.now c.name.new.self c.args.waiting c.name.new.waiting c.in_ok-name.ensures c.requires.vertex
 
-pub split_at-requires-clause-room : goal.split_at-requires-clause-room
-split_at-requires-clause-room c = named-room c.args.self.now c.name.new.self c.args.waiting c.name.new.waiting c.in_ok-name.ensures c.requires.room
+pub put_branch-requires-clause-room : goal.put_branch-requires-clause-room
+put_branch-requires-clause-room c = named-room c.args.self.now c.name.new.self c.args.waiting c.name.new.waiting c.in_ok-name.ensures c.requires.room
 
-pub returns-in_ok-split_at-in-Nothing : goal.returns-in_ok-split_at-in-Nothing
-returns-in_ok-split_at-in-Nothing c = splits-named c.args.self.now c.name.new.self _ c.args.waiting c.name.new.waiting c.in_ok-name.ensures c.in_ok-split_at-in-Nothing.ensures
+pub returns-in_ok-put_branch-in-Nothing : goal.returns-in_ok-put_branch-in-Nothing
+returns-in_ok-put_branch-in-Nothing c = splits-named c.args.self.now c.name.new.self _ c.args.waiting c.name.new.waiting c.in_ok-name.ensures c.in_ok-put_branch-in-Nothing.ensures

@@ -4,7 +4,7 @@ use Rattle.std.proofs.lemmas.Int.{ints, to_z-of_z}
 use Rattle.lin_atoms.specs.Linear.{Linear}
 use Rattle.lia_close.specs.declared.written.Step.TheVariants.{Split}
 use Rattle.lia_search.proofs.StateLemmas.{branched-at}
-use Rattle.lia_search.proofs.running.Search.split_at.Goals as goal
+use Rattle.lia_search.proofs.running.Search.put_branch.Goals as goal
 
 pub returns : goal.returns
 returns c =
