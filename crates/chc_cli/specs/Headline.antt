@@ -20,7 +20,7 @@ use Rattle.book_loop.specs.Runs.{IsOwn}
 use Rattle.book_answers.specs.Answers.{HasNoLowFalse, HasText, IsBookOf}
 use Rattle.answer_text.specs.declared.answer.UnknownCause.TheVariants.{NoMemory}
 use Rattle.answer_text.specs.Lines.{error_text, level_text, memory_text, usage_text}
-use Rattle.solve_words.specs.Words.{limits_of}
+use Rattle.solve_words.specs.Words.{IsCall, IsNoCall}
 use Rattle.solve_words.specs.declared.limits.Limits.{Limits}
 use Rattle.chc_cli.specs.Clauses.{IsInputRefused}
 
@@ -67,11 +67,11 @@ EndsOnce old new last = new ≢ old → (new ≡ counted old) × (last ≡ End)
 
 -- the text that the call was to write: its kinds are told apart by the status that it was to end with
 pub data IsMeant (words : List (List ℕ)) (left : Option (List ℕ)) (old new : ℕ) (read : List ℕ) (book : Option Contents) (text : List ℕ) : Type 0 where
-  answer : (limits : Limits) (b : Contents) → limits_of words ≡ Some limits → book ≡ Some b → IsAnswered limits read b text → IfSome left (λ bytes. read ≡ bytes)
+  answer : (limits : Limits) (b : Contents) → IsCall words limits → book ≡ Some b → IsAnswered limits read b text → IfSome left (λ bytes. read ≡ bytes)
       → IsMeant words left old new read book text
-  error : (refusal : Refusal) (limits : Limits) → limits_of words ≡ Some limits → RefusesInput left old new read refusal → text ≡ error_text refusal → IsMeant words left old new read book text
-  usage : limits_of words ≡ None → read ≡ [] → text ≡ usage_text → IsMeant words left old new read book text
-  memory : (limits : Limits) → limits_of words ≡ Some limits → text ≡ wanting_text book → IsMeant words left old new read book text
+  error : (refusal : Refusal) (limits : Limits) → IsCall words limits → RefusesInput left old new read refusal → text ≡ error_text refusal → IsMeant words left old new read book text
+  usage : IsNoCall words → read ≡ [] → text ≡ usage_text → IsMeant words left old new read book text
+  memory : (limits : Limits) → IsCall words limits → text ≡ wanting_text book → IsMeant words left old new read book text
 
 -- status 4: a prefix of the text that was meant is held, and not all of it
 pub record WritesPart (words : List (List ℕ)) (left : Option (List ℕ)) (ends after : ℕ) (read : List ℕ) (book : Option Contents) (old new : Option (List ℕ)) : Type 0 where
@@ -81,10 +81,16 @@ pub record WritesPart (words : List (List ℕ)) (left : Option (List ℕ)) (ends
   pub part : count < length text
   pub held : Appends (take count text) old new
 
+-- a prefix of that text is held, and not all of it
+pub record HoldsPart (text : List ℕ) (old new : Option (List ℕ)) : Type 0 where
+  pub count : ℕ
+  pub part : count < length text
+  pub held : Appends (take count text) old new
+
 -- status 0: the sink holds the answer of the book's end behind what it held
 pub record Answers (words : List (List ℕ)) (read : List ℕ) (book : Option Contents) (old new : Option (List ℕ)) : Type 0 where
   pub limits : Limits
-  pub words_are : limits_of words ≡ Some limits
+  pub words_are : IsCall words limits
   pub b : Contents
   pub book_is : book ≡ Some b
   pub text : List ℕ

@@ -55,6 +55,7 @@ fn searched(alloc: Global, checked: &Checked, book: Book, limits: Limits) -> Ans
     requires some { 0 < limits.nodes }
     ensures { IsSearched limits checked.now result }
 {
+    // A law, which runs nothing: the book's clauses can be searched.
     systems_of_scripts_can_be_run();
     let mut book = book;
     let found = search(&mut book, limits.nodes);
@@ -94,6 +95,7 @@ pub fn answer_to(alloc: Global, read: &[u8], limits: Limits) -> Result<Answer, M
     ensures { IfOk result (IsAnswerTo limits read.now) }
 {
     let checked = check_text(alloc, read)?;
+    // Laws, which run nothing: what the checker made is a legal script.
     checked.script.terms.is_arena();
     scripts_are_within_limits();
     assertions_are_legal();

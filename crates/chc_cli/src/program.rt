@@ -1,13 +1,14 @@
-ghost use Rattle.std.specs.Prelude.{◌≡◌, ◌≢◌, ◌≤◌, ◌↔◌, drop, map, IfOk, IfErr, IfSome, IsSome, Some, None};
+ghost use Rattle.std.specs.Prelude.{◌≡◌, ◌≢◌, ◌≤◌, ◌↔◌, ◌⊎◌, [], drop, map, IfOk, IfErr, IfSome, IsSome, None};
 ghost use Rattle.std.specs.String.{string_bytes};
 ghost use Rattle.std.specs.IoError.{error_kind};
 ghost use Rattle.std.specs.Vec.Iter.{into_iter_items};
 ghost use Rattle.outside_io.specs.Bytes.{Appends};
 ghost use Rattle.outside_io.specs.Counts.{counted};
+ghost use Rattle.outside_io.specs.declared.turn.Turn.TheVariants.{Fault};
 ghost use Rattle.answer_text.specs.Lines.{usage_text, memory_text};
-ghost use Rattle.solve_words.specs.Words.{limits_of};
+ghost use Rattle.solve_words.specs.Words.{IsCall, IsNoCall};
 ghost use Rattle.solve_words.specs.declared.limits.Limits.{Limits};
-ghost use Rattle.chc_cli.specs.Headline.{Answers, EndsOnce, IsBookFor, ReadsInput, Refuses, wanting_text};
+ghost use Rattle.chc_cli.specs.Headline.{Answers, EndsOnce, HoldsPart, IsBookFor, ReadsInput, Refuses, WritesPart, wanting_text};
 
 use crate::run::{Report, chc_run};
 use crate::words::words_after_name;
@@ -29,8 +30,8 @@ pub fn chc_main<S: Source, K: Sink>(
     ensures statuses { result.status ≤ 5 }
 
     // The words are all of them: no other list of words is taken for theirs.
-    ensures solves { IfOk args (λ args. IsSome (limits_of (map string_bytes (drop 1 (into_iter_items args)))) → result.status ≢ 2) }
-    ensures other_words { IfOk args (λ args. limits_of (map string_bytes (drop 1 (into_iter_items args))) ≡ None → result.status ≢ 4 → result.status ≢ 5 → result.status ≡ 2) }
+    ensures solves { IfOk args (λ args. (limits : Limits) → IsCall (map string_bytes (drop 1 (into_iter_items args))) limits → result.status ≢ 2) }
+    ensures other_words { IfOk args (λ args. IsNoCall (map string_bytes (drop 1 (into_iter_items args))) → result.status ≢ 4 → result.status ≢ 5 → result.status ≡ 2) }
     ensures no_text { IfErr args (λ e. error_kind e ≢ ErrorKind.OutOfMemory → result.status ≢ 4 → result.status ≡ 2) }
     ensures no_room { IfErr args (λ e. error_kind e ≡ ErrorKind.OutOfMemory → result.status ≢ 4 → result.status ≡ 5) }
 
@@ -40,13 +41,24 @@ pub fn chc_main<S: Source, K: Sink>(
     ensures refused { IfSome result.refusal (λ refusal. Refuses (S.left source.old) (S.ends source.old) (S.ends source.new) result.read.items refusal (K.held sink.old) (K.held sink.new)) }
     ensures refuses_all { IfSome result.refusal (ReadsInput (S.left source.old) result.read.items) }
     ensures refusal { IsSome result.refusal ↔ (result.status ≡ 1) }
-    ensures book { IfOk args (λ args. IfSome result.book (λ b. (limits : Limits) → limits_of (map string_bytes (drop 1 (into_iter_items args))) ≡ Some limits → IsBookFor limits result.read.items b)) }
+    ensures book { IfOk args (λ args. IfSome result.book (λ b. (limits : Limits) × IsCall (map string_bytes (drop 1 (into_iter_items args))) limits × IsBookFor limits result.read.items b)) }
     ensures usage { result.status ≡ 2 → Appends usage_text (K.held sink.old) (K.held sink.new) }
     ensures source_faults { result.status ≢ 3 → S.faults source.new ≡ S.faults source.old }
     ensures read_fault { result.status ≡ 3 → S.faults source.new ≡ counted (S.faults source.old) }
     ensures sink_faults { result.status ≢ 4 → K.faults sink.new ≡ K.faults sink.old }
     ensures write_fault { result.status ≡ 4 → K.faults sink.new ≡ counted (K.faults sink.old) }
+    ensures holds_nothing { result.status ≡ 3 → K.held sink.new ≡ K.held sink.old }
+    ensures stops_reading { result.status ≡ 3 → S.last source.new ≡ Fault }
+    ensures failed_read { result.status ≡ 3 → result.read.items ≡ [] }
+    ensures stops_writing { result.status ≡ 4 → K.last sink.new ≡ Fault }
     ensures memory { result.status ≡ 5 → Appends (wanting_text result.book) (K.held sink.old) (K.held sink.new) }
+
+    // 4: a prefix of what was meant for these words, or of the memory line where there was no room for them.
+    ensures writes_part { IfOk args (λ args. result.status ≡ 4 → WritesPart (map string_bytes (drop 1 (into_iter_items args))) (S.left source.old) (S.ends source.old) (S.ends source.new)
+        result.read.items result.book (K.held sink.old) (K.held sink.new) ⊎ HoldsPart memory_text (K.held sink.old) (K.held sink.new)) }
+    ensures writes_part_of_usage { IfErr args (λ e. error_kind e ≢ ErrorKind.OutOfMemory → result.status ≡ 4 → HoldsPart usage_text (K.held sink.old) (K.held sink.new)) }
+    ensures writes_part_of_memory { IfErr args (λ e. error_kind e ≡ ErrorKind.OutOfMemory → result.status ≡ 4 → HoldsPart memory_text (K.held sink.old) (K.held sink.new)) }
+
     ensures ends { EndsOnce (S.ends source.old) (S.ends source.new) (S.last source.new) }
 {
     match args {
@@ -65,6 +77,8 @@ fn no_memory<K: Sink>(alloc: Global, sink: &mut K) -> Report
     ensures sink_faults { result.status ≢ 4 → K.faults sink.new ≡ K.faults sink.old }
     ensures write_fault { result.status ≡ 4 → K.faults sink.new ≡ counted (K.faults sink.old) }
     ensures memory { result.status ≡ 5 → Appends memory_text (K.held sink.old) (K.held sink.new) }
+    ensures stops_writing { result.status ≡ 4 → K.last sink.new ≡ Fault }
+    ensures writes_part { result.status ≡ 4 → HoldsPart memory_text (K.held sink.old) (K.held sink.new) }
     ensures refusal { result.refusal ≡ None }
     ensures book { result.book ≡ None }
 {

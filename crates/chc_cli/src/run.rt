@@ -1,11 +1,11 @@
-ghost use Rattle.std.specs.Prelude.{◌≡◌, ◌≢◌, ◌≤◌, ◌↔◌, [], map, None, Some, IfSome, IsSome};
+ghost use Rattle.std.specs.Prelude.{◌≡◌, ◌≢◌, ◌≤◌, ◌↔◌, [], map, None, IfSome, IsSome};
 ghost use Rattle.std.specs.String.{string_bytes};
 ghost use Rattle.outside_io.specs.Bytes.{Appends};
 ghost use Rattle.outside_io.specs.Counts.{counted};
 ghost use Rattle.outside_io.specs.declared.turn.Turn.TheVariants.{Fault};
 ghost use Rattle.term_tree.specs.declared.refusal.Refusal.{Refusal};
 ghost use Rattle.sort_check.specs.Scripts.{IsRefused};
-ghost use Rattle.solve_words.specs.Words.{limits_of};
+ghost use Rattle.solve_words.specs.Words.{IsCall, IsNoCall};
 ghost use Rattle.solve_words.specs.declared.limits.Limits.{Limits};
 ghost use Rattle.chc_cli.specs.Clauses.{HasNoSystem, IsUnrefused};
 ghost use Rattle.chc_cli.specs.Headline.{Answers, EndsOnce, IsBookFor, ReadsInput, Refuses, WritesPart, wanting_text};
@@ -54,7 +54,8 @@ pub fn chc_run<S: Source, K: Sink>(
 ) -> Report
     ensures statuses { result.status ≤ 5 }
 
-    // 0: the book over the clauses of the script that the bytes read spell has ended, and the text that the sink holds now is the answer of its end: a derivation of false by the script's assertions, definitions under which each of them is true, or the closed level and the cause.
+    // 0: the book over the clauses of the script that the bytes read spell has ended, and the sink holds the answer of its end: a derivation of false by the script's assertions,
+    // definitions under which each of them is true, or the closed level and the cause.
     ensures answered { result.status ≡ 0 → Answers (map string_bytes words.now) result.read.items result.book (K.held sink.old) (K.held sink.new) }
     ensures answers_all { result.status ≡ 0 → IfSome (S.left source.old) (λ bytes. result.read.items ≡ bytes) }
 
@@ -69,15 +70,15 @@ pub fn chc_run<S: Source, K: Sink>(
     ensures refuses_shapes { IfSome (S.left source.old) (λ bytes. HasNoSystem bytes → result.status ≢ 0) }
 
     // Whatever the status: the book is one of the script that the bytes read spell, within the limits of the words, and no derivation of false is as low as its closed level.
-    ensures book { IfSome result.book (λ b. (limits : Limits) → limits_of (map string_bytes words.now) ≡ Some limits → IsBookFor limits result.read.items b) }
+    ensures book { IfSome result.book (λ b. (limits : Limits) × IsCall (map string_bytes words.now) limits × IsBookFor limits result.read.items b) }
     ensures unopened { IsSome result.refusal → result.book ≡ None }
 
     // 2: words that are no call of `solve` are answered so, and nothing is read for them.
     ensures usage { result.status ≡ 2 → Appends usage_text (K.held sink.old) (K.held sink.new) }
-    ensures solves { IsSome (limits_of (map string_bytes words.now)) → result.status ≢ 2 }
-    ensures other_words { limits_of (map string_bytes words.now) ≡ None → result.status ≢ 4 → result.status ≡ 2 }
-    ensures unread { limits_of (map string_bytes words.now) ≡ None → S.turns source.new ≡ S.turns source.old }
-    ensures other_book { limits_of (map string_bytes words.now) ≡ None → result.book ≡ None }
+    ensures solves { (limits : Limits) → IsCall (map string_bytes words.now) limits → result.status ≢ 2 }
+    ensures other_words { IsNoCall (map string_bytes words.now) → result.status ≢ 4 → result.status ≡ 2 }
+    ensures unread { IsNoCall (map string_bytes words.now) → S.turns source.new ≡ S.turns source.old }
+    ensures other_book { IsNoCall (map string_bytes words.now) → result.book ≡ None }
     ensures other_read { result.status ≡ 2 → result.read.items ≡ [] }
 
     // 3: exactly where the source has failed, and then nothing is written.
@@ -112,6 +113,7 @@ pub fn chc_run<S: Source, K: Sink>(
             return report_of(alloc, status);
         }
     };
+    // A law, which runs nothing: what is answered isn't refused by the rules of commands.
     no_script_is_refused();
     match plan_for(alloc, source, limits) {
         Plan::Answered { read, book, text } => {

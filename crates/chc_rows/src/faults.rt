@@ -31,6 +31,36 @@ fn a_sink_that_fails_is_status_4_and_holds_a_prefix(rt: HostRuntime) {
     );
 }
 
+/// A counter from 0, and 3 gives false.
+const COUNTER: &[u8] =
+    b"(set-logic HORN)\n(declare-fun p (Int) Bool)\n(assert (p 0))\n(assert (forall ((x Int)) (=> (p x) (p (+ x 1)))))\n(assert (not (p 3)))\n(check-sat)\n";
+
+#[test]
+fn a_script_whose_source_fails_is_not_searched(rt: HostRuntime) {
+    let ends = Ends {
+        source_step: 100,
+        source_fails: Some(2),
+        sink_step: 4,
+        sink_fails: None,
+    };
+    let run = run_over(&rt, rt.alloc(), &["solve"], COUNTER, &ends);
+    check_ran(&rt, "a counter whose source fails", &run, 3, b"");
+    assert!(rt; run.report.book.is_none(), "no book is opened");
+}
+
+#[test]
+fn a_derivation_that_cannot_be_written_is_status_4(rt: HostRuntime) {
+    let ends = Ends {
+        source_step: 4096,
+        source_fails: None,
+        sink_step: 4,
+        sink_fails: Some(3),
+    };
+    let run = run_over(&rt, rt.alloc(), &["solve"], COUNTER, &ends);
+    check_ran(&rt, "a counter whose sink fails", &run, 4, b"unsat\n(d");
+    assert!(rt; run.report.book.is_some(), "the book has ended");
+}
+
 /// Ends whose sink takes six bytes and then fails.
 const SHORT: Ends = Ends {
     source_step: 4096,

@@ -9,6 +9,8 @@ mod clauses;
 #[cfg(test)]
 mod faults;
 #[cfg(test)]
+mod heights;
+#[cfg(test)]
 mod limits;
 #[cfg(test)]
 mod programs;

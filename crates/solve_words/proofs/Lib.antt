@@ -1,2 +1,3 @@
+pub mod CallLemmas
 pub mod Numbers
 pub mod RangeLemmas

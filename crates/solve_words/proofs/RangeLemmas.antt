@@ -4,17 +4,19 @@ use Rattle.std.specs.Prelude.{nat_le, Option, IfSome, if◌then◌else◌, codes
 use Rattle.std.specs.Str.{bytes_eq}
 use Rattle.std.proofs.lemmas.Bool.Decides.{nat_tests}
 use Rattle.base.specs.Numeral.{is_numeral, number_of}
-use Rattle.solve_words.specs.Words.{IsInRange, at_least, at_most, default_nodes, default_units, limits_of, most_nodes, most_units, nodes_in, nodes_named, numeral_within, options_in, units_then, with_nodes}
+use Rattle.solve_words.specs.Properties.{IsInRange}
+use Rattle.solve_words.specs.Words.{default_nodes, default_units, most_nodes, most_units}
+use Rattle.solve_words.specs.machinery.Reading.{at_least, at_most, limits_of, nodes_in, nodes_named, numeral_within, options_in, units_then, with_nodes}
 use Rattle.solve_words.specs.declared.limits.Limits.{Limits}
 
-at_most_is : (most n k : ℕ) → at_most most n ≡ Some k → k ≤ most
+pub at_most_is : (most n k : ℕ) → at_most most n ≡ Some k → k ≤ most
 at_most_is most n k h = by (nat_le n most) refl h
   where
     by : (b : Bool) → nat_le n most ≡ b → (let o : Option ℕ = if b then Some n else None in o) ≡ Some k → k ≤ most
     by true is e = let same : n ≡ k = cc in let low : n ≤ most = grind (arith, nat_tests, is) in omega (arith, same, low)
     by false is e = absurd (cc)
 
-at_least_is : (least : ℕ) (found : Option ℕ) (k : ℕ) → at_least least found ≡ Some k → (least ≤ k) × (found ≡ Some k)
+pub at_least_is : (least : ℕ) (found : Option ℕ) (k : ℕ) → at_least least found ≡ Some k → (least ≤ k) × (found ≡ Some k)
 at_least_is least None k h = absurd (cc)
 at_least_is least (Some n) k h = by (nat_le least n) refl h
   where

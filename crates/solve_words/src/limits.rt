@@ -2,7 +2,8 @@
 
 ghost use Rattle.std.specs.Prelude.{◌≡◌, map, IfSome};
 ghost use Rattle.std.specs.String.{string_bytes};
-ghost use Rattle.solve_words.specs.Words.{IsInRange, limits_of, nodes_in, nodes_named, options_in, units_then, with_nodes};
+ghost use Rattle.solve_words.specs.Properties.{AreLimitsOf, IsInRange};
+ghost use Rattle.solve_words.specs.machinery.Reading.{limits_of, nodes_in, nodes_named, options_in, units_then, with_nodes};
 
 use crate::numerals::number_within;
 
@@ -86,7 +87,7 @@ fn options_in(words: &[String]) -> Option<Limits>
     }
 }
 
-/// The limits of the words, as they are defined.
+/// The limits of the words.
 fn limits_in(words: &[String]) -> Option<Limits>
     ensures { result ≡ limits_of (map string_bytes words.now) }
 {
@@ -105,7 +106,7 @@ fn limits_in(words: &[String]) -> Option<Limits>
 /// The limits of a call of `solve`, by the words after the program's name; nothing where they are no such
 /// call: `solve`, then `--units N` or not, then `--nodes N` or not, each N a numeral within its range.
 pub fn limits_of(words: &[String]) -> Option<Limits>
-    ensures is { result ≡ limits_of (map string_bytes words.now) }
+    ensures read { AreLimitsOf (map string_bytes words.now) result }
     ensures within { IfSome result IsInRange }
 {
     limits_in(words)

@@ -4,7 +4,7 @@ ghost use Rattle.std.specs.Prelude.{◌≡◌, ◌≤◌, ◌<◌, ◌^◌};
 ghost use Rattle.std.specs.List.{list_all};
 ghost use Rattle.base.specs.Bytes.{is_digit};
 ghost use Rattle.base.specs.Numeral.{is_numeral, number_of};
-ghost use Rattle.solve_words.specs.Words.{at_most, numeral_within};
+ghost use Rattle.solve_words.specs.machinery.Reading.{at_most, numeral_within};
 
 use base::is_digit;
 

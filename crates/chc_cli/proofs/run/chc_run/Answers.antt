@@ -1,4 +1,4 @@
-use Rattle.std.proofs.Common.{◌++◌, ℕ, ap, arith, refl, sym, ◌∙◌}
+use Rattle.std.proofs.Common.{◌++◌, ℕ, ap, arith, refl, ◌∙◌}
 use Rattle.std.specs.Prelude.{Some, None, codes}
 use Rattle.answer_text.specs.Lines.{error_text, level_text}
 use Rattle.answer_text.specs.declared.answer.UnknownCause.TheVariants.{NoMemory}
@@ -21,7 +21,7 @@ returns-in-Answered-clause-refuses_shapes g c =
 pub returns-in-Answered-clause-writes_part : goal.returns-in-Answered-clause-writes_part
 returns-in-Answered-clause-writes_part g c = λ four.
     let plan = c.in-Answered.ensures.plan in
-    let meant = answer c.in-Some.limits c.in-Answered.book (sym c.limits_of.ensures.is ∙ c.in-Some.is) refl plan.0 plan.1 in
+    let meant = answer c.in-Some.limits c.in-Answered.book c.in-Some.ensures.read refl plan.0 plan.1 in
     elim c.match-write_all-2.branch [
       | in-Ok-write_all w ↦ absurd (omega (arith, w.status-is, four))
       | in-Err-write_all w ↦
@@ -31,7 +31,7 @@ returns-in-Answered-clause-writes_part g c = λ four.
 
 pub returns-in-Unfinished-clause-writes_part : goal.returns-in-Unfinished-clause-writes_part
 returns-in-Unfinished-clause-writes_part g c = λ four.
-    let meant = memory c.in-Some.limits (sym c.limits_of.ensures.is ∙ c.in-Some.is) refl in
+    let meant = memory c.in-Some.limits c.in-Some.ensures.read refl in
     let same = c.unfinished_lines-length.ensures.text ∙ ap (λ (l : ℕ). codes "unknown\n" ++ level_text l NoMemory) c.level.ensures.is in
     elim c.match-write_all-3.branch [
       | in-Ok-write_all-2 w ↦ absurd (omega (arith, w.status-is, four))
@@ -68,7 +68,7 @@ returns-in-Refused-clause-writes_part g c = λ four.
     let old = g.S.Source.ends c.args.source.now in
     let new = g.S.Source.ends c.plan_for.new.source in
     let refused = refused_read left old new c.in-Refused.read.items c.in-Refused.refusal plan.0 plan.1 c.in-Refused.ensures.unended in
-    let meant = error c.in-Refused.refusal c.in-Some.limits (sym c.limits_of.ensures.is ∙ c.in-Some.is) refused refl in
+    let meant = error c.in-Refused.refusal c.in-Some.limits c.in-Some.ensures.read refused refl in
     let part = c.in-Err-write_all-3.ensures.err in
     written_part _ _ _ _ _ _ _ _ (error_text c.in-Refused.refusal) c.as_slice-in-Refused.result.now meant (c.as_slice-in-Refused.ensures.value ∙ plan.2) part.0 part.1 part.2
 
@@ -91,13 +91,13 @@ returns-in-Overlong-clause-writes_part g c = λ four.
     let old = g.S.Source.ends c.args.source.now in
     let new = g.S.Source.ends c.plan_for.new.source in
     let refused = refused_long left old new _ c.in-Overlong.refusal plan.0 plan.1 c.in-Overlong.ensures.ended in
-    let meant = error c.in-Overlong.refusal c.in-Some.limits (sym c.limits_of.ensures.is ∙ c.in-Some.is) refused refl in
+    let meant = error c.in-Overlong.refusal c.in-Some.limits c.in-Some.ensures.read refused refl in
     let part = c.in-Err-write_all-4.ensures.err in
     written_part _ _ _ _ _ _ _ _ (error_text c.in-Overlong.refusal) c.as_slice-in-Overlong.result.now meant (c.as_slice-in-Overlong.ensures.value ∙ plan.2) part.0 part.1 part.2
 
 pub returns-clause-writes_part : goal.returns-clause-writes_part
 returns-clause-writes_part g c = λ four.
-    let meant = memory c.in-Some.limits (sym c.limits_of.ensures.is ∙ c.in-Some.is) refl in
+    let meant = memory c.in-Some.limits c.in-Some.ensures.read refl in
     elim c.match-write_all-6.branch [
       | in-Ok-write_all-5 w ↦ absurd (omega (arith, w.status-is, four))
       | in-Err-write_all-5 w ↦
