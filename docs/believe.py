@@ -1,5 +1,5 @@
 #!/usr/bin/env python3
-"""Prints the definitions on which the contract of the top call rests, file by file, those that others cite first.
+"""Prints the definitions on which the contracts of the top calls rest, file by file, those that others cite first.
 
 A definition rests on every name in its text that stands in its file or is imported there, so nothing that it needs is
 left out; what else stands in the file isn't counted. Types that are declared in Rust aren't followed.
@@ -167,7 +167,9 @@ def cited_machinery():
 
 def main():
     wrong = cited_machinery()
-    start = imports_of((CRATES / "chc_cli" / "src" / "run.rt").read_text())
+    start = {}
+    for file in ("run.rt", "program.rt"):
+        start |= imports_of((CRATES / "chc_cli" / "src" / file).read_text())
     places = closure(dict.fromkeys(File.at(path).find(name) for path, name in start.values()))
     files = in_reading_order(places)
     rows = [(name_of(path), share_of(path, {name for other, name in places if other == path})) for path in files]
@@ -180,7 +182,7 @@ def main():
         print(f"| `{name}` | {share} | {says.get(name, '')} |" if sys.argv[1:] == ["table"] else f"{name}: {share}")
     print(f"{len(places)} definitions in {len(rows)} of {len(list(CRATES.glob('*/specs/**/*.antt')))} files, {lines} lines", file=sys.stderr)
     if any("machinery" in path.parts for path in files):
-        print("the contract of the top call rests on machinery", file=sys.stderr)
+        print("a contract of the top calls rests on machinery", file=sys.stderr)
         wrong = 1
     if [(name, share) for name, share, _ in listed] != rows:
         print("ARCHITECTURE.md lists others, or in another order", file=sys.stderr)

@@ -5,9 +5,12 @@ ghost use Rattle.std.specs.Vec.Iter.{into_iter_items};
 ghost use Rattle.outside_io.specs.Bytes.{Appends};
 ghost use Rattle.outside_io.specs.Counts.{counted};
 ghost use Rattle.outside_io.specs.declared.turn.Turn.TheVariants.{Fault};
+ghost use Rattle.term_tree.specs.declared.refusal.Refusal.{Refusal};
+ghost use Rattle.sort_check.specs.Scripts.{IsRefused};
 ghost use Rattle.answer_text.specs.Lines.{usage_text, memory_text};
 ghost use Rattle.solve_words.specs.Words.{IsCall, IsNoCall};
 ghost use Rattle.solve_words.specs.declared.limits.Limits.{Limits};
+ghost use Rattle.chc_cli.specs.Clauses.{HasNoSystem, IsUnrefused};
 ghost use Rattle.chc_cli.specs.Headline.{Answers, EndsOnce, HoldsPart, IsBookFor, ReadsInput, Refuses, WritesPart, wanting_text};
 
 use crate::run::{Report, chc_run};
@@ -34,14 +37,24 @@ pub fn chc_main<S: Source, K: Sink>(
     ensures other_words { IfOk args (λ args. IsNoCall (map string_bytes (drop 1 (into_iter_items args))) → result.status ≢ 4 → result.status ≢ 5 → result.status ≡ 2) }
     ensures no_text { IfErr args (λ e. error_kind e ≢ ErrorKind.OutOfMemory → result.status ≢ 4 → result.status ≡ 2) }
     ensures no_room { IfErr args (λ e. error_kind e ≡ ErrorKind.OutOfMemory → result.status ≢ 4 → result.status ≡ 5) }
+    ensures no_words { IfErr args (λ e. S.turns source.new ≡ S.turns source.old) }
 
-    // What `chc_run` says of each status.
+    // What `chc_run` says of each status, and whatever the status.
     ensures answered { IfOk args (λ args. result.status ≡ 0 → Answers (map string_bytes (drop 1 (into_iter_items args))) result.read.items result.book (K.held sink.old) (K.held sink.new)) }
     ensures answers_all { result.status ≡ 0 → IfSome (S.left source.old) (λ bytes. result.read.items ≡ bytes) }
     ensures refused { IfSome result.refusal (λ refusal. Refuses (S.left source.old) (S.ends source.old) (S.ends source.new) result.read.items refusal (K.held sink.old) (K.held sink.new)) }
     ensures refuses_all { IfSome result.refusal (ReadsInput (S.left source.old) result.read.items) }
     ensures refusal { IsSome result.refusal ↔ (result.status ≡ 1) }
     ensures book { IfOk args (λ args. IfSome result.book (λ b. (limits : Limits) × IsCall (map string_bytes (drop 1 (into_iter_items args))) limits × IsBookFor limits result.read.items b)) }
+    ensures answers_scripts { IfSome (S.left source.old) (λ bytes. IsUnrefused bytes → result.status ≢ 1) }
+    ensures refuses_others { IfSome (S.left source.old) (λ bytes. (refusal : Refusal) → IsRefused bytes refusal → result.status ≢ 0) }
+    ensures refuses_shapes { IfSome (S.left source.old) (λ bytes. HasNoSystem bytes → result.status ≢ 0) }
+    ensures unopened { IsSome result.refusal → result.book ≡ None }
+    ensures unread { IfOk args (λ args. IsNoCall (map string_bytes (drop 1 (into_iter_items args))) → S.turns source.new ≡ S.turns source.old) }
+    ensures other_read { result.status ≡ 2 → result.read.items ≡ [] }
+    ensures unwritten { result.status ≡ 3 → K.turns sink.new ≡ K.turns sink.old }
+    ensures reads_all { S.ends source.new ≢ S.ends source.old → IfSome (S.left source.old) (λ bytes. result.read.items ≡ bytes) }
+    ensures reads_none { S.ends source.new ≢ counted (S.ends source.old) → result.read.items ≡ [] }
     ensures usage { result.status ≡ 2 → Appends usage_text (K.held sink.old) (K.held sink.new) }
     ensures source_faults { result.status ≢ 3 → S.faults source.new ≡ S.faults source.old }
     ensures read_fault { result.status ≡ 3 → S.faults source.new ≡ counted (S.faults source.old) }
@@ -74,6 +87,7 @@ pub fn chc_main<S: Source, K: Sink>(
 /// The report where the words can't be had for want of memory.
 fn no_memory<K: Sink>(alloc: Global, sink: &mut K) -> Report
     ensures statuses { result.status ≢ 4 → result.status ≡ 5 }
+    ensures read { result.read.items ≡ [] }
     ensures sink_faults { result.status ≢ 4 → K.faults sink.new ≡ K.faults sink.old }
     ensures write_fault { result.status ≡ 4 → K.faults sink.new ≡ counted (K.faults sink.old) }
     ensures memory { result.status ≡ 5 → Appends memory_text (K.held sink.old) (K.held sink.new) }
