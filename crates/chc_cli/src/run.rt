@@ -93,7 +93,8 @@ pub fn chc_run<S: Source, K: Sink>(
     ensures sink_faults { result.status ≢ 4 → K.faults sink.new ≡ K.faults sink.old }
     ensures write_fault { result.status ≡ 4 → K.faults sink.new ≡ counted (K.faults sink.old) }
     ensures stops_writing { result.status ≡ 4 → K.last sink.new ≡ Fault }
-    ensures writes_part { result.status ≡ 4 → WritesPart (map string_bytes words.now) (S.left source.old) (S.ends source.old) (S.ends source.new) result.read.items result.book (K.held sink.old) (K.held sink.new) }
+    ensures writes_part { result.status ≡ 4 → WritesPart (map string_bytes words.now) (S.left source.old) (S.ends source.old) (S.ends source.new)
+        result.read.items result.book (K.held sink.old) (K.held sink.new) }
 
     // 5: want of memory: the closed level of the book, where there is one.
     ensures memory { result.status ≡ 5 → Appends (wanting_text result.book) (K.held sink.old) (K.held sink.new) }
