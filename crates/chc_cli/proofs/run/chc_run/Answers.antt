@@ -8,6 +8,9 @@ use Rattle.chc_cli.proofs.PlanLemmas.{answered_only, answered_system, appended, 
 use Rattle.chc_cli.proofs.run.chc_run.Goals.{in-Ok-write_all, in-Err-write_all, in-Ok-write_all-2, in-Err-write_all-2, in-Ok-write_all-5, in-Err-write_all-5}
 use Rattle.chc_cli.proofs.run.chc_run.Goals as goal
 
+pub returns-in-None-clause-solves : goal.returns-in-None-clause-solves
+returns-in-None-clause-solves g c = λ limits call two. c.in-None.ensures.read limits call
+
 pub returns-in-Answered-clause-refuses_others : goal.returns-in-Answered-clause-refuses_others
 returns-in-Answered-clause-refuses_others g c =
     let plan = c.in-Answered.ensures.plan in
