@@ -4,6 +4,7 @@ use Rattle.std.specs.Prelude.{◌≡◌, ◌≤◌, ℕ, List, [], ◌∷◌, �
 use Rattle.base.specs.Numeral.{is_numeral, number_of}
 use Rattle.solve_words.specs.declared.limits.Limits.{Limits}
 
+-- what a call may give; how many units a book may be given is said apart, by chc_core, for who reads of books alone
 abbrev pub most_units : ℕ
 most_units = 1000000
 
