@@ -7,6 +7,7 @@ ghost use Rattle.lemma_general.specs.Tries.{IsTrying};
 ghost use Rattle.lemma_candidates.specs.Candidates.{IsInPlaceOf};
 ghost use Rattle.lemma_candidates.specs.machinery.Tried.{IsTriedOn};
 
+use crate::hints::Hints;
 use crate::sums::pair_sums;
 use base::Memory;
 use cube_forms::Cube;
@@ -26,6 +27,34 @@ fn try_each(lent: &Lent, tries: &mut Tries, cubes: &[Cube], nodes: u32) -> Resul
         }
     }
     Ok(false)
+}
+
+/// Cubes that hold the point of the lemma's obligation, by what was guessed.
+fn shut_out(lent: &Lent, part: &LemmaPart, hints: &Hints) -> Result<Vec<Cube>, Memory> {
+    if part.target >= lent.tree.count() {
+        return Ok(Vec::new(lent.alloc));
+    }
+    let obligation = lent.tree.obligation(part.target);
+    hints.cubes(lent.alloc, part.pred, obligation.point.as_slice())
+}
+
+/// A lemma of another cube in the lemma's place, if the frame below implies one of those that hold the
+/// obligation's point and are shut out by what was guessed of the predicate. Else the lemma as it is.
+pub fn propose_hulls(
+    lent: &Lent,
+    part: LemmaPart,
+    hints: &Hints,
+    nodes: u32,
+) -> Result<LemmaPart, Memory>
+    requires goes_on { GoesOn lent.now }
+    requires learnt { IsLearnt lent.now part }
+    requires some { 0 < nodes }
+    ensures { IfOk result (IsInPlaceOf lent.now part) }
+{
+    let mut tries = Tries::new(lent.alloc, part);
+    let cubes = shut_out(lent, tries.part(), hints)?;
+    try_each(lent, &mut tries, cubes.as_slice(), nodes)?;
+    Ok(tries.into_part())
 }
 
 /// A lemma of another cube in the lemma's place, made more general, if the frame below implies one of
