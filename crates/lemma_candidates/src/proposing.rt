@@ -44,25 +44,41 @@ fn shut_out(
     hints.cubes(lent.alloc, part.pred, obligation.point.as_slice(), whole)
 }
 
-/// Whether one of the literals is an equation or says something of residues.
-fn is_beside_bounds(lits: &[Lit]) -> bool {
-    for lit in lits {
-        match lit {
-            Lit::Le(_) => {}
-            _ => return true,
-        }
+/// Whether the literal is a bound.
+fn is_bound(lit: &Lit) -> bool {
+    match lit {
+        Lit::Le(_) => true,
+        _ => false,
     }
-    false
 }
 
-/// The same of the kind that the lemma's cube has: of one literal none, and by residues only where the
-/// cube has more than bounds.
+/// Whether the literal says something of residues.
+fn is_of_residues(lit: &Lit) -> bool {
+    match lit {
+        Lit::Div(_, _) => true,
+        Lit::NDiv(_, _) => true,
+        _ => false,
+    }
+}
+
+/// Whether all literals are bounds.
+fn are_bounds(lits: &[Lit]) -> bool {
+    for lit in lits {
+        if !is_bound(lit) {
+            return false;
+        }
+    }
+    true
+}
+
+/// The same of the kind that the lemma's cube has: of one literal about residues none, and by residues
+/// only where the cube has more than bounds.
 fn shut_out_alike(lent: &Lent, part: &LemmaPart, hints: &Hints) -> Result<Vec<Cube>, Memory> {
     let lits = part.lemma.cube().lits();
-    if lits.len() <= 1 {
+    if lits.len() == 1 && is_of_residues(&lits[0]) {
         return Ok(Vec::new(lent.alloc));
     }
-    shut_out(lent, part, hints, is_beside_bounds(lits))
+    shut_out(lent, part, hints, !are_bounds(lits))
 }
 
 /// The lemma with the first of the cubes that is taken, else as it is.
@@ -99,8 +115,8 @@ pub fn propose_hulls(
     with_one_of(lent, part, cubes.as_slice(), nodes)
 }
 
-/// The same with fewer cubes, for a lemma as its turn gave it: a cube of one literal stays, and residues
-/// are tried only in the place of a cube that has more than bounds.
+/// The same with fewer cubes, for a lemma as its turn gave it: a cube of one literal about residues stays,
+/// and residues are tried only in the place of a cube that has more than bounds.
 pub fn propose_alike(
     lent: &Lent,
     part: LemmaPart,
