@@ -8,13 +8,16 @@ ghost use Rattle.book_loop.specs.machinery.Steps.{IsTaken};
 
 use crate::older::excluding;
 use base::Memory;
-use lemma_candidates::{propose, tidy, widen};
+use lemma_candidates::{Hints, propose, propose_alike, propose_hulls, tidy, widen};
 use lemma_general::{Tries, generalise, raise};
 use step_rules::{LemmaPart, Lent, Step};
 
-/// From this level of the book on more than parts of a lemma's cube is tried: few systems that end below
-/// it need more, and their lemmas stay as they were found.
+/// From this level of the book on all guesses are tried: few systems that end below it need more than
+/// parts of a lemma's cube, and their lemmas stay as they were found.
 const GUESS_LEVEL: u32 = 5;
+
+/// They are tried at each level for a cube of so many literals.
+const MANY_LITERALS: usize = 4;
 
 /// Whether an old lemma that excludes the obligation's point holds at the part's level, too, and so
 /// stands in its place. One is tried: the newest of the highest level.
@@ -33,39 +36,54 @@ fn again(lent: &Lent, tries: &mut Tries, nodes: u32) -> Result<bool, Memory>
     }
 }
 
-/// A more general lemma in its place: its literals are brought into their simplest form, those that it
-/// needn't have are dropped, and sums of two bounds and wider bounds are tried.
-fn guessed(lent: &Lent, part: LemmaPart, nodes: u32) -> Result<LemmaPart, Memory>
+/// A more general lemma in its place: its literals are brought into their simplest form, what was guessed
+/// of the predicate is tried, literals that it needn't have are dropped, and sums of two bounds and wider
+/// bounds are tried.
+fn guessed(lent: &Lent, part: LemmaPart, hints: &Hints, nodes: u32) -> Result<LemmaPart, Memory>
     requires goes_on { GoesOn lent.now }
     requires some { 0 < nodes }
     requires learnt { IsLearnt lent.now part }
     ensures { IfOk result (IsLearnt lent.now) }
 {
     let tidied = tidy(lent, part, nodes)?;
-    let general = generalise(lent, tidied, nodes)?;
+    let hulled = propose_hulls(lent, tidied, hints, nodes)?;
+    let general = generalise(lent, hulled, nodes)?;
     let proposed = propose(lent, general, nodes)?;
     let widened = widen(lent, proposed, nodes)?;
     Ok(widened)
 }
 
-/// A more general lemma in its place. At low levels of the book literals are dropped, and nothing else.
-fn general(lent: &Lent, part: LemmaPart, nodes: u32) -> Result<LemmaPart, Memory>
+/// A more general lemma in its place: of what was guessed of the predicate only what is of the cube's
+/// kind is tried, and literals that it needn't have are dropped.
+fn plain(lent: &Lent, part: LemmaPart, hints: &Hints, nodes: u32) -> Result<LemmaPart, Memory>
     requires goes_on { GoesOn lent.now }
     requires some { 0 < nodes }
     requires learnt { IsLearnt lent.now part }
     ensures { IfOk result (IsLearnt lent.now) }
 {
-    if lent.level < GUESS_LEVEL {
-        let plain = generalise(lent, part, nodes)?;
+    let hulled = propose_alike(lent, part, hints, nodes)?;
+    let general = generalise(lent, hulled, nodes)?;
+    Ok(general)
+}
+
+/// A more general lemma in its place. At low levels of the book less is tried for short cubes.
+fn general(lent: &Lent, part: LemmaPart, hints: &Hints, nodes: u32) -> Result<LemmaPart, Memory>
+    requires goes_on { GoesOn lent.now }
+    requires some { 0 < nodes }
+    requires learnt { IsLearnt lent.now part }
+    ensures { IfOk result (IsLearnt lent.now) }
+{
+    if lent.level < GUESS_LEVEL && part.lemma.cube().lits().len() < MANY_LITERALS {
+        let plain = plain(lent, part, hints, nodes)?;
         Ok(plain)
     } else {
-        let guessed = guessed(lent, part, nodes)?;
+        let guessed = guessed(lent, part, hints, nodes)?;
         Ok(guessed)
     }
 }
 
 /// An old lemma in the lemma's place, if one holds at its level, and else a more general one.
-fn served(lent: &Lent, part: LemmaPart, nodes: u32) -> Result<LemmaPart, Memory>
+fn served(lent: &Lent, part: LemmaPart, hints: &Hints, nodes: u32) -> Result<LemmaPart, Memory>
     requires goes_on { GoesOn lent.now }
     requires some { 0 < nodes }
     requires learnt { IsLearnt lent.now part }
@@ -77,24 +95,24 @@ fn served(lent: &Lent, part: LemmaPart, nodes: u32) -> Result<LemmaPart, Memory>
     if shown {
         return Ok(part);
     }
-    let general = general(lent, part, nodes)?;
+    let general = general(lent, part, hints, nodes)?;
     Ok(general)
 }
 
 /// The lemma that is learnt in the end: an old one or a more general one, at the highest level.
-fn learnt(lent: &Lent, part: LemmaPart, nodes: u32) -> Result<LemmaPart, Memory>
+fn learnt(lent: &Lent, part: LemmaPart, hints: &Hints, nodes: u32) -> Result<LemmaPart, Memory>
     requires goes_on { GoesOn lent.now }
     requires some { 0 < nodes }
     requires learnt { IsLearnt lent.now part }
     ensures { IfOk result (IsLearnt lent.now) }
 {
-    let served = served(lent, part, nodes)?;
+    let served = served(lent, part, hints, nodes)?;
     let raised = raise(lent, served, nodes)?;
     Ok(raised)
 }
 
 /// The step with the lemma that is learnt in the end in place of its own; any other step as it is.
-pub(crate) fn improved(lent: &Lent, step: Step, nodes: u32) -> Result<Step, Memory>
+pub(crate) fn improved(lent: &Lent, step: Step, hints: &Hints, nodes: u32) -> Result<Step, Memory>
     requires goes_on { GoesOn lent.now }
     requires some { 0 < nodes }
     requires taken { IsTaken lent.now nodes step }
@@ -102,7 +120,7 @@ pub(crate) fn improved(lent: &Lent, step: Step, nodes: u32) -> Result<Step, Memo
 {
     match step {
         Step::LemmaStep(part) => {
-            let made = learnt(lent, part, nodes)?;
+            let made = learnt(lent, part, hints, nodes)?;
             Ok(Step::LemmaStep(made))
         }
         step => Ok(step),

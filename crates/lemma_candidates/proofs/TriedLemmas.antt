@@ -8,7 +8,7 @@ use Rattle.lemma_general.specs.Generals.{IsForSame}
 use Rattle.lemma_general.specs.Tries.{IsTried, IsTrying, part_of}
 use Rattle.lemma_general.specs.declared.trying.Tries.{Tries}
 use Rattle.lemma_candidates.specs.Candidates.{IsWidened, IsWiderCube}
-use Rattle.lemma_candidates.specs.machinery.Tried.{IsWidenedOn}
+use Rattle.lemma_candidates.specs.machinery.Tried.{IsTriedOn, IsWidenedOn}
 
 self-same : (part : LemmaPart) → IsForSame part part
 self-same part = record { target = refl; pred = refl; level = refl }
@@ -23,6 +23,9 @@ tried-same b nodes cube old new false t = subst (IsForSame old) (sym t.0) (self-
 tried-wider : (b : Standing) (nodes : ℕ) (cube : List Lit) (old new : LemmaPart) (taken : Bool) → IsWiderCube old.lemma cube → IsTried b nodes cube old new taken → IsWiderCube old.lemma new.lemma
 tried-wider b nodes cube old new true wider t = subst (IsWiderCube old.lemma) (sym t.2) wider
 tried-wider b nodes cube old new false wider t = subst (λ (p : LemmaPart). IsWiderCube old.lemma p.lemma) (sym t.0) (λ tuple h. h)
+
+pub tried-then : (b : Standing) (first old new : Tries) → IsTriedOn b first old → IsTriedOn b old new → IsTriedOn b first new
+tried-then b first old new f g = record { trying = g.trying; same = same-then (part_of first) (part_of old) (part_of new) f.same g.same }
 
 pub widened-by : (b : Standing) (nodes : ℕ) (cube : List Lit) (old new : Tries) (taken : Bool) → IsWiderCube (part_of old).lemma cube → IsTrying b new → IsTried b nodes cube (part_of old) (part_of new) taken → IsWidenedOn b old new
 widened-by b nodes cube old new taken wider trying tried = record {

@@ -3,13 +3,20 @@
 #![tactic(auto)]
 
 mod bounds;
+mod hinting;
+mod hints;
+mod hull_queries;
+mod hulls;
 mod moving;
 mod proposing;
+mod shrinking;
 mod sums;
 mod tidying;
 mod tightening;
+mod values;
 mod widening;
 
-pub use proposing::propose;
+pub use hints::{Hints, hints_of};
+pub use proposing::{propose, propose_alike, propose_hulls};
 pub use tidying::tidy;
 pub use widening::widen;

@@ -6,6 +6,7 @@ ghost use Rattle.lemma_general.specs.Generals.{IsLearnt};
 ghost use Rattle.lemma_candidates.specs.Candidates.{IsInPlaceOf};
 
 use crate::bounds::cube_of;
+use crate::shrinking::shrink;
 use crate::tightening::{residue, tightened};
 use base::{Memory, Same};
 use lemma_general::Tries;
@@ -62,7 +63,7 @@ fn tidied(alloc: Global, lits: &[Lit]) -> Result<Vec<Lit>, Memory> {
 
 /// The lemma with the literals of its cube in their simplest form, each once, equations as two bounds,
 /// and the last first: so equal lemmas have equal cubes, and what came late is what is left out first.
-/// The lemma as it is where the frame below isn't seen to imply it so.
+/// Then runs of literals are left out as far as that is shown: halves, quarters and so on.
 pub fn tidy(lent: &Lent, part: LemmaPart, nodes: u32) -> Result<LemmaPart, Memory>
     requires goes_on { GoesOn lent.now }
     requires learnt { IsLearnt lent.now part }
@@ -74,5 +75,6 @@ pub fn tidy(lent: &Lent, part: LemmaPart, nodes: u32) -> Result<LemmaPart, Memor
     if let Some(cube) = cube_of(lent.alloc, lits)? {
         tries.try_cube(lent, &cube, nodes)?;
     }
+    shrink(lent, &mut tries, nodes)?;
     Ok(tries.into_part())
 }

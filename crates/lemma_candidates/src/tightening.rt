@@ -82,3 +82,20 @@ pub(crate) fn residue(alloc: Global, divisor: Divisor, lin: &Lin) -> Result<Lin,
         Err(_) => lin.copy(alloc),
     }
 }
+
+/// The form divided by what divides all its numbers.
+pub(crate) fn primitive(alloc: Global, lin: &Lin) -> Result<Lin, Memory> {
+    let whole = gcd(content(lin), lin.constant().unsigned_abs());
+    let divisor = match i64::try_from(whole) {
+        Ok(divisor) => divisor,
+        Err(_) => return lin.copy(alloc),
+    };
+    if divisor <= 1 {
+        return lin.copy(alloc);
+    }
+    let terms = divided(alloc, lin.terms(), divisor)?;
+    match Lin::new(terms, lin.constant().div_euclid(i128::from(divisor))) {
+        Ok(made) => Ok(made),
+        Err(_) => lin.copy(alloc),
+    }
+}

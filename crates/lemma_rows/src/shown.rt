@@ -2,6 +2,7 @@
 
 use base::Memory;
 use chc_core::Book;
+use cube_forms::Cube;
 use lin_atoms::{Lin, Lit};
 use std::alloc::Global;
 
@@ -54,6 +55,16 @@ pub(crate) fn shown_lemmas(alloc: Global, book: &Book) -> Result<String, Memory>
         let (pred, level) = (frames.pred_of(id), frames.level_of(id));
         let cube = shown_cube(alloc, frames.lemma(id).cube().lits())?;
         text.push_str(&format!(in alloc; "{pred} at {level}:{cube}; ")?)?;
+    }
+    Ok(text)
+}
+
+/// Cubes, one behind the other.
+pub(crate) fn shown_cubes(alloc: Global, cubes: &[Cube]) -> Result<String, Memory> {
+    let mut text = String::new(alloc);
+    for cube in cubes {
+        let cube = shown_cube(alloc, cube.lits())?;
+        text.push_str(&format!(in alloc; "{cube};")?)?;
     }
     Ok(text)
 }

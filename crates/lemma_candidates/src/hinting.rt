@@ -1,0 +1,181 @@
+//! Hulls of all predicates: what each clause keeps, found by asking it for tuples that break it
+//! (Karr, "Affine relationships among variables of a program", for the equations).
+
+use crate::hull_queries::{Verdict, visit_divisibilities, visit_equations};
+use crate::hulls::{Hull, hull_of};
+use base::Memory;
+use clause_form::{Atom, Clause, System};
+use std::alloc::Global;
+
+/// How many queries are asked.
+const MOST_QUERIES: u32 = 3_000;
+
+/// What is known of the tuples of a predicate.
+#[derive(Drop)]
+pub(crate) enum Known {
+    /// No tuple was met.
+    Nothing,
+    /// What those that were met have in common.
+    Common(Hull),
+}
+
+/// Whether a tuple of each atom's predicate was met.
+fn are_reached(known: &[Known], atoms: &[Atom]) -> bool {
+    for atom in atoms {
+        match known.get(atom.pred as usize) {
+            Some(Known::Common(_)) => {}
+            _ => return false,
+        }
+    }
+    true
+}
+
+/// Takes a tuple of the predicate in.
+fn take(alloc: Global, known: &mut Vec<Known>, pred: u32, tuple: &[i64]) -> Result<(), Memory> {
+    if let Some(place) = known.as_mut_slice().get_mut(pred as usize) {
+        match place {
+            Known::Nothing => *place = Known::Common(hull_of(alloc, tuple)?),
+            Known::Common(hull) => hull.add(alloc, tuple)?,
+        }
+    }
+    Ok(())
+}
+
+/// Lets a literal of the predicate's hull go: a divisibility or an equation.
+fn lose(
+    alloc: Global,
+    known: &mut Vec<Known>,
+    pred: u32,
+    at: usize,
+    whole: bool,
+) -> Result<(), Memory> {
+    if let Some(place) = known.as_mut_slice().get_mut(pred as usize) {
+        match place {
+            Known::Nothing => {}
+            Known::Common(hull) => {
+                if whole {
+                    hull.drop_divisibility(alloc, at)?;
+                } else {
+                    hull.drop_equation(alloc, at)?;
+                }
+            }
+        }
+    }
+    Ok(())
+}
+
+/// Asks a clause once; whether anything changed.
+fn step(
+    alloc: Global,
+    known: &mut Vec<Known>,
+    clause: &Clause,
+    head: &Atom,
+    whole: bool,
+    left: &mut u32,
+) -> Result<bool, Memory> {
+    let found = if whole {
+        visit_divisibilities(alloc, known.as_slice(), clause, head, left)?
+    } else {
+        visit_equations(alloc, known.as_slice(), clause, head, left)?
+    };
+    match found {
+        Verdict::Kept => Ok(false),
+        Verdict::Met(tuple) => {
+            take(alloc, known, head.pred, tuple.as_slice())?;
+            Ok(true)
+        }
+        Verdict::Lost(at) => {
+            lose(alloc, known, head.pred, at, whole)?;
+            Ok(true)
+        }
+    }
+}
+
+/// Asks a clause until what is known of its head stands; whether that changed.
+fn settle(
+    alloc: Global,
+    known: &mut Vec<Known>,
+    clause: &Clause,
+    head: &Atom,
+    whole: bool,
+    left: &mut u32,
+) -> Result<bool, Memory> {
+    if !are_reached(known.as_slice(), clause.atoms.as_slice()) {
+        return Ok(false);
+    }
+    for at in 0..MOST_QUERIES {
+        if *left == 0 || !step(alloc, known, clause, head, whole, left)? {
+            return Ok(at > 0);
+        }
+    }
+    Ok(true)
+}
+
+/// Asks each clause with a head; whether anything changed.
+fn round(
+    alloc: Global,
+    known: &mut Vec<Known>,
+    sys: &System,
+    whole: bool,
+    left: &mut u32,
+) -> Result<bool, Memory> {
+    let mut changed = false;
+    for clause in sys.clauses() {
+        if let Some(head) = &clause.head {
+            if settle(alloc, known, clause, head, whole, left)? {
+                changed = true;
+            }
+        }
+    }
+    Ok(changed)
+}
+
+/// Asks round after round until nothing changes; whether it came to that.
+fn rounds(
+    alloc: Global,
+    known: &mut Vec<Known>,
+    sys: &System,
+    whole: bool,
+) -> Result<bool, Memory> {
+    let mut left = MOST_QUERIES;
+    for _ in 0..MOST_QUERIES {
+        if left == 0 {
+            return Ok(false);
+        }
+        if !round(alloc, known, sys, whole, &mut left)? {
+            return Ok(left > 0);
+        }
+    }
+    Ok(false)
+}
+
+fn unknown(alloc: Global, sys: &System) -> Result<Vec<Known>, Memory> {
+    let mut known = Vec::new(alloc);
+    for _ in sys.preds() {
+        known.push(Known::Nothing)?;
+    }
+    Ok(known)
+}
+
+/// Lets all divisibilities go.
+fn lose_divisibilities(alloc: Global, known: &mut Vec<Known>) {
+    for one in known.iter_mut() {
+        match one {
+            Known::Nothing => {}
+            Known::Common(hull) => hull.drop_divisibilities(alloc),
+        }
+    }
+}
+
+/// What the tuples of each predicate have in common, as far as it was found: first equations, then
+/// divisibilities; neither where a few thousand queries didn't settle it.
+pub(crate) fn hulls(alloc: Global, sys: &System) -> Result<Vec<Known>, Memory> {
+    let mut known = unknown(alloc, sys)?;
+    if !rounds(alloc, &mut known, sys, false)? {
+        return unknown(alloc, sys);
+    }
+    if !rounds(alloc, &mut known, sys, true)? {
+        lose_divisibilities(alloc, &mut known);
+    }
+    Ok(known)
+}

@@ -1,0 +1,93 @@
+//! What is guessed of a system before its search.
+
+use crate::bounds::cube_of;
+use crate::hinting::{Known, hulls};
+use crate::hulls::Hull;
+use crate::tightening::residue;
+use base::{Copied, Memory};
+use clause_form::System;
+use cube_forms::Cube;
+use lin_atoms::{Lit, WideStop, denied};
+use std::alloc::Global;
+
+/// What was found of the predicates of a system before its search: guesses, of which none has to be
+/// right.
+#[derive(Drop)]
+pub struct Hints {
+    known: Vec<Known>,
+}
+
+/// What is guessed of the tuples of each predicate of the system: equations and residues that they have
+/// in common.
+pub fn hints_of(alloc: Global, sys: &System) -> Result<Hints, Memory> {
+    Ok(Hints {
+        known: hulls(alloc, sys)?,
+    })
+}
+
+/// The literal with the least residues.
+fn reduced(alloc: Global, lit: &Lit) -> Result<Lit, Memory> {
+    match lit {
+        Lit::NDiv(divisor, lin) => Ok(Lit::NDiv(*divisor, residue(alloc, *divisor, lin)?)),
+        _ => lit.copy(alloc),
+    }
+}
+
+/// Adds a cube of the literal alone, if it is true at the point.
+fn push_at(alloc: Global, cubes: &mut Vec<Cube>, lit: &Lit, point: &[i64]) -> Result<(), Memory> {
+    if !lit.holds(point) {
+        return Ok(());
+    }
+    let mut lits = Vec::new(alloc);
+    lits.push(reduced(alloc, lit)?)?;
+    if let Some(cube) = cube_of(alloc, lits)? {
+        cubes.push(cube)?;
+    }
+    Ok(())
+}
+
+/// Adds cubes of the denial of a literal that is false at the point.
+fn push_denial(
+    alloc: Global,
+    cubes: &mut Vec<Cube>,
+    lit: &Lit,
+    point: &[i64],
+) -> Result<(), Memory> {
+    match denied(alloc, lit) {
+        Ok(lits) => {
+            for one in lits.as_slice() {
+                push_at(alloc, cubes, one, point)?;
+            }
+            Ok(())
+        }
+        Err(WideStop::Wide) => Ok(()),
+        Err(WideStop::Memory) => Err(Memory),
+    }
+}
+
+/// For each literal of the hull that is false at the point a cube that holds the point.
+fn broken_at(alloc: Global, hull: &Hull, point: &[i64], whole: bool) -> Result<Vec<Cube>, Memory> {
+    let mut cubes = Vec::new(alloc);
+    let lits = hull.literals(alloc, whole)?;
+    for lit in lits.as_slice() {
+        push_denial(alloc, &mut cubes, lit, point)?;
+    }
+    Ok(cubes)
+}
+
+impl Hints {
+    /// Cubes that hold the point, and in which no tuple of the predicate lies as far as is known: by the
+    /// equations, and by the residues where these are asked for, too.
+    pub fn cubes(
+        &self,
+        alloc: Global,
+        pred: u32,
+        point: &[i64],
+        whole: bool,
+    ) -> Result<Vec<Cube>, Memory> {
+        match self.known.as_slice().get(pred as usize) {
+            Some(Known::Common(hull)) => broken_at(alloc, hull, point, whole),
+            _ => Ok(Vec::new(alloc)),
+        }
+    }
+}

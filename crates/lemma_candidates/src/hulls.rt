@@ -1,0 +1,374 @@
+//! What all tuples of a predicate that were met have in common: linear equations, and residues of
+//! simple forms.
+
+use crate::tightening::primitive;
+use crate::values::{combined, value_at};
+use base::{Copied, Memory};
+use lin_atoms::{Divisor, Lin, Lit, gcd};
+use std::alloc::Global;
+
+/// How many arguments a predicate has at most, for a hull.
+const MOST_PLACES: usize = 64;
+
+/// How many for residues.
+const MOST_WITH_RESIDUES: usize = 10;
+
+/// Of how many arguments the residues of pairs are kept.
+const MOST_IN_PAIRS: u32 = 8;
+
+/// How many arguments a predicate has at most for residues of triples.
+const MOST_WITH_TRIPLES: usize = 5;
+
+/// The widest coefficient of an equation.
+const WIDEST: i64 = 1 << 40;
+
+/// A form, and a number that divides its value at each tuple: 0 as long as each value is 0.
+#[derive(Drop)]
+struct Residue {
+    lin: Lin,
+    modulus: i64,
+}
+
+/// What the tuples of a predicate have in common.
+#[derive(Drop)]
+pub(crate) struct Hull {
+    /// Forms that are 0 at each tuple.
+    equations: Vec<Lin>,
+    residues: Vec<Residue>,
+}
+
+/// The form of these variables, each with a sign, that is 0 at the tuple.
+fn form_at(alloc: Global, tuple: &[i64], terms: &[(u32, i64)]) -> Result<Option<Lin>, Memory> {
+    let mut kept = Vec::new(alloc);
+    for term in terms {
+        kept.push(*term)?;
+    }
+    let lin = match Lin::new(kept, 0) {
+        Ok(lin) => lin,
+        Err(_) => return Ok(None),
+    };
+    match value_at(&lin, tuple) {
+        Some(value) => match value.checked_neg() {
+            Some(less) => Ok(lin.plus(less)),
+            None => Ok(None),
+        },
+        None => Ok(None),
+    }
+}
+
+/// Adds the residue of a form, before a second tuple is known.
+fn push_residue(
+    alloc: Global,
+    residues: &mut Vec<Residue>,
+    tuple: &[i64],
+    terms: &[(u32, i64)],
+) -> Result<(), Memory> {
+    if let Some(lin) = form_at(alloc, tuple, terms)? {
+        residues.push(Residue { lin, modulus: 0 })?;
+    }
+    Ok(())
+}
+
+/// Adds the residues of sums and differences of three places.
+fn push_triples(
+    alloc: Global,
+    residues: &mut Vec<Residue>,
+    tuple: &[i64],
+    i: u32,
+    j: u32,
+    end: u32,
+) -> Result<(), Memory> {
+    for k in j..end {
+        if k > j {
+            push_residue(alloc, residues, tuple, &[(i, 1), (j, 1), (k, 1)])?;
+            push_residue(alloc, residues, tuple, &[(i, 1), (j, 1), (k, -1)])?;
+            push_residue(alloc, residues, tuple, &[(i, 1), (j, -1), (k, 1)])?;
+            push_residue(alloc, residues, tuple, &[(i, 1), (j, -1), (k, -1)])?;
+        }
+    }
+    Ok(())
+}
+
+/// Adds the residues of a place alone, and with later ones.
+fn push_residues(
+    alloc: Global,
+    residues: &mut Vec<Residue>,
+    tuple: &[i64],
+    i: u32,
+    end: u32,
+) -> Result<(), Memory> {
+    push_residue(alloc, residues, tuple, &[(i, 1)])?;
+    for j in i..end {
+        if j > i {
+            push_residue(alloc, residues, tuple, &[(i, 1), (j, 1)])?;
+            push_residue(alloc, residues, tuple, &[(i, 1), (j, -1)])?;
+            if tuple.len() <= MOST_WITH_TRIPLES {
+                push_triples(alloc, residues, tuple, i, j, end)?;
+            }
+        }
+    }
+    Ok(())
+}
+
+fn residues_at(alloc: Global, tuple: &[i64]) -> Result<Vec<Residue>, Memory> {
+    let mut residues = Vec::new(alloc);
+    if tuple.len() > MOST_WITH_RESIDUES {
+        return Ok(residues);
+    }
+    let end = match u32::try_from(tuple.len()) {
+        Ok(count) => count.min(MOST_IN_PAIRS),
+        Err(_) => MOST_IN_PAIRS,
+    };
+    for i in 0..end {
+        push_residues(alloc, &mut residues, tuple, i, end)?;
+    }
+    Ok(residues)
+}
+
+fn equations_at(alloc: Global, tuple: &[i64]) -> Result<Vec<Lin>, Memory> {
+    let mut equations = Vec::new(alloc);
+    let end = match u32::try_from(tuple.len()) {
+        Ok(count) => count,
+        Err(_) => 0,
+    };
+    for i in 0..end {
+        if let Some(lin) = form_at(alloc, tuple, &[(i, 1)])? {
+            equations.push(lin)?;
+        }
+    }
+    Ok(equations)
+}
+
+/// The hull of one tuple, where it has few places.
+pub(crate) fn hull_of(alloc: Global, tuple: &[i64]) -> Result<Hull, Memory> {
+    if tuple.len() > MOST_PLACES {
+        return Ok(Hull {
+            equations: Vec::new(alloc),
+            residues: Vec::new(alloc),
+        });
+    }
+    Ok(Hull {
+        equations: equations_at(alloc, tuple)?,
+        residues: residues_at(alloc, tuple)?,
+    })
+}
+
+fn is_narrow(lin: &Lin) -> bool {
+    for (_, coefficient) in lin.terms() {
+        if *coefficient > WIDEST || *coefficient < -WIDEST {
+            return false;
+        }
+    }
+    true
+}
+
+/// The first equation that is broken at the tuple, and its value there.
+fn first_broken(equations: &[Lin], tuple: &[i64]) -> Option<(usize, i64)> {
+    for (at, lin) in equations.iter().enumerate() {
+        match value_at(lin, tuple) {
+            Some(0) => {}
+            Some(value) => return Some((at, value)),
+            None => {}
+        }
+    }
+    None
+}
+
+/// The equation with a multiple of a broken one, so that it holds at the tuple, if numbers have room.
+fn mended(
+    alloc: Global,
+    lin: &Lin,
+    broken: &Lin,
+    value: i64,
+    tuple: &[i64],
+) -> Result<Option<Lin>, Memory> {
+    match value_at(lin, tuple) {
+        Some(0) => Ok(Some(lin.copy(alloc)?)),
+        Some(own) => {
+            let less = match own.checked_neg() {
+                Some(less) => less,
+                None => return Ok(None),
+            };
+            match combined(alloc, value, lin, less, broken)? {
+                Some(made) => {
+                    let made = primitive(alloc, &made)?;
+                    if is_narrow(&made) && made.terms().len() > 0 {
+                        Ok(Some(made))
+                    } else {
+                        Ok(None)
+                    }
+                }
+                None => Ok(None),
+            }
+        }
+        None => Ok(None),
+    }
+}
+
+/// The equations that hold at the tuple, too.
+fn with_tuple(alloc: Global, equations: &[Lin], tuple: &[i64]) -> Result<Vec<Lin>, Memory> {
+    let mut made = Vec::new(alloc);
+    let broken = first_broken(equations, tuple);
+    for (at, lin) in equations.iter().enumerate() {
+        match broken {
+            None => made.push(lin.copy(alloc)?)?,
+            Some((first, value)) => {
+                if at != first {
+                    match equations.get(first) {
+                        Some(of) => {
+                            if let Some(lin) = mended(alloc, lin, of, value, tuple)? {
+                                made.push(lin)?;
+                            }
+                        }
+                        None => {}
+                    }
+                }
+            }
+        }
+    }
+    Ok(made)
+}
+
+/// The modulus that divides the value at one more tuple.
+fn narrowed(residue: &Residue, tuple: &[i64]) -> i64 {
+    match value_at(&residue.lin, tuple) {
+        Some(value) => {
+            let both = gcd(
+                u128::from(residue.modulus.unsigned_abs()),
+                u128::from(value.unsigned_abs()),
+            );
+            match i64::try_from(both) {
+                Ok(modulus) => modulus,
+                Err(_) => 1,
+            }
+        }
+        None => 1,
+    }
+}
+
+/// A list without the item at a place.
+fn equations_without(alloc: Global, equations: &[Lin], at: usize) -> Result<Vec<Lin>, Memory> {
+    let mut made = Vec::new(alloc);
+    for (i, lin) in equations.iter().enumerate() {
+        if i != at {
+            made.push(lin.copy(alloc)?)?;
+        }
+    }
+    Ok(made)
+}
+
+/// The residues at one more tuple, without those that are 1 then.
+fn residues_with(
+    alloc: Global,
+    residues: &[Residue],
+    tuple: &[i64],
+) -> Result<Vec<Residue>, Memory> {
+    let mut made = Vec::new(alloc);
+    for residue in residues {
+        let modulus = narrowed(residue, tuple);
+        if modulus != 1 {
+            let lin = residue.lin.copy(alloc)?;
+            made.push(Residue { lin, modulus })?;
+        }
+    }
+    Ok(made)
+}
+
+/// The residues but the one at a place among those that say something.
+fn residues_without(
+    alloc: Global,
+    residues: &[Residue],
+    at: usize,
+) -> Result<Vec<Residue>, Memory> {
+    let mut made = Vec::new(alloc);
+    let mut count: usize = 0;
+    for residue in residues {
+        if residue.modulus > 1 {
+            if count != at {
+                let lin = residue.lin.copy(alloc)?;
+                made.push(Residue {
+                    lin,
+                    modulus: residue.modulus,
+                })?;
+            }
+            count = count.saturating_add(1);
+        }
+    }
+    Ok(made)
+}
+
+/// The equations as literals.
+fn push_equations(alloc: Global, lits: &mut Vec<Lit>, equations: &[Lin]) -> Result<(), Memory> {
+    for lin in equations {
+        lits.push(Lit::Eq(lin.copy(alloc)?))?;
+    }
+    Ok(())
+}
+
+/// The residues that say something as literals.
+fn push_divisibilities(
+    alloc: Global,
+    lits: &mut Vec<Lit>,
+    residues: &[Residue],
+) -> Result<(), Memory> {
+    for residue in residues {
+        if residue.modulus > 1 {
+            if let Some(divisor) = Divisor::new(residue.modulus) {
+                lits.push(Lit::Div(divisor, residue.lin.copy(alloc)?))?;
+            }
+        }
+    }
+    Ok(())
+}
+
+impl Hull {
+    /// Takes one more tuple in.
+    pub(crate) fn add(&mut self, alloc: Global, tuple: &[i64]) -> Result<(), Memory> {
+        let equations = with_tuple(alloc, self.equations.as_slice(), tuple)?;
+        let residues = residues_with(alloc, self.residues.as_slice(), tuple)?;
+        self.equations = equations;
+        self.residues = residues;
+        Ok(())
+    }
+
+    /// Lets the equation at a place go.
+    pub(crate) fn drop_equation(&mut self, alloc: Global, at: usize) -> Result<(), Memory> {
+        self.equations = equations_without(alloc, self.equations.as_slice(), at)?;
+        Ok(())
+    }
+
+    /// Lets the divisibility at a place go.
+    pub(crate) fn drop_divisibility(&mut self, alloc: Global, at: usize) -> Result<(), Memory> {
+        self.residues = residues_without(alloc, self.residues.as_slice(), at)?;
+        Ok(())
+    }
+
+    /// Lets all divisibilities go.
+    pub(crate) fn drop_divisibilities(&mut self, alloc: Global) {
+        self.residues = Vec::new(alloc);
+    }
+
+    /// The equations.
+    pub(crate) fn equations(&self, alloc: Global) -> Result<Vec<Lit>, Memory> {
+        let mut lits = Vec::new(alloc);
+        push_equations(alloc, &mut lits, self.equations.as_slice())?;
+        Ok(lits)
+    }
+
+    /// The divisibilities.
+    pub(crate) fn divisibilities(&self, alloc: Global) -> Result<Vec<Lit>, Memory> {
+        let mut lits = Vec::new(alloc);
+        push_divisibilities(alloc, &mut lits, self.residues.as_slice())?;
+        Ok(lits)
+    }
+
+    /// The equations, and the divisibilities where these are asked for, too.
+    pub(crate) fn literals(&self, alloc: Global, whole: bool) -> Result<Vec<Lit>, Memory> {
+        let mut lits = Vec::new(alloc);
+        push_equations(alloc, &mut lits, self.equations.as_slice())?;
+        if whole {
+            push_divisibilities(alloc, &mut lits, self.residues.as_slice())?;
+        }
+        Ok(lits)
+    }
+}

@@ -1,0 +1,50 @@
+//! Values of forms, and what is made of them, where numbers have room.
+
+ghost use Rattle.std.specs.Prelude.{◌<ℤ◌, pos};
+
+use base::{Copied, Memory};
+use lin_atoms::{Lin, WideStop};
+use std::alloc::Global;
+
+/// What a variable stands for at a point: 0 past the end.
+fn variable_at(point: &[i64], variable: u32) -> i64 {
+    match point.get(variable as usize) {
+        Some(value) => *value,
+        None => 0,
+    }
+}
+
+/// The value of the form at the point, where it and each sum on the way have room.
+pub(crate) fn value_at(lin: &Lin, point: &[i64]) -> Option<i64> {
+    let mut total = lin.constant();
+    for (variable, coefficient) in lin.terms() {
+        let value = i128::from(variable_at(point, *variable));
+        let product = i128::from(*coefficient).checked_mul(value)?;
+        total = total.checked_add(product)?;
+    }
+    match i64::try_from(total) {
+        Ok(value) => Some(value),
+        Err(_) => None,
+    }
+}
+
+/// The form a number of times, and another one a number of times, where it has room.
+pub(crate) fn combined(
+    alloc: Global,
+    k: i64,
+    x: &Lin,
+    m: i64,
+    y: &Lin,
+) -> Result<Option<Lin>, Memory> {
+    match combine(alloc, k, x, m, y) {
+        Ok(lin) => Ok(Some(lin)),
+        Err(WideStop::Wide) => Ok(None),
+        Err(WideStop::Memory) => Err(Memory),
+    }
+}
+
+fn combine(alloc: Global, k: i64, x: &Lin, m: i64, y: &Lin) -> Result<Lin, WideStop> {
+    let first = x.scaled(alloc, k)?;
+    let second = y.scaled(alloc, m)?;
+    first.added(alloc, &second)
+}
