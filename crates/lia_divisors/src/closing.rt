@@ -45,9 +45,9 @@ fn checked(
 /// into parts by what columns may be, so many parts at the most, and a part is closed where its bounds
 /// contradict or where a common divisor of a row leaves no integers: a number divides the entries of
 /// all columns but some that lie between two bounds, and no multiple of it lies between what these add
-/// up to at least and at most. With one part the node is closed by a common divisor alone. The tree
-/// stands where so many literals are known; `reasons` has for each literal of the node the number of
-/// the first of those that give its bounds, as for `close`.
+/// up to at least and at most. With one part the node is closed by a common divisor alone, and with
+/// none it isn't looked at. The tree stands where so many literals are known; `reasons` has for each
+/// literal of the node the number of the first of those that give its bounds, as for `close`.
 pub fn close_by_parts(
     alloc: Global,
     lits: &[Lit],
@@ -62,6 +62,9 @@ pub fn close_by_parts(
     requires each { length reasons.now ≡ length lits.now }
     ensures { IfOk result (λ found. IfSome found (λ tree. (place : Place) → length place.known ≡ known → AreReasons place.known end lits.now reasons.now → IsSoundAt end place tree)) }
 {
+    if parts == 0 {
+        return Ok(None);
+    }
     let said = all_said(alloc, lits, reasons, end)?;
     match guessed(alloc, lits, end, said.as_slice(), known, parts)? {
         Some(moves) => {

@@ -73,13 +73,16 @@ pub(crate) enum Turn {
     Over(End),
 }
 
-/// How many parts a node with a fraction is split into at the most, after so many inner nodes. Mostly it
-/// is looked at whole; each time that the inner nodes have doubled, a tree of parts is looked for.
+/// How many parts a node with a fraction is split into at the most, after so many inner nodes. Each time
+/// that the inner nodes have doubled, a tree of parts is looked for; in between the node is looked at
+/// whole, at fewer nodes the more there are.
 fn parts_at(count: u32) -> u32 {
     if count >= FEW_NODES && count.is_power_of_two() {
-        MOST_PARTS
-    } else {
-        1
+        return MOST_PARTS;
+    }
+    match count.checked_rem((count / 16).saturating_add(1)) {
+        Some(0) => 1,
+        _ => 0,
     }
 }
 
