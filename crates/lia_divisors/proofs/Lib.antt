@@ -1,2 +1,3 @@
 pub mod ThereLemmas
 pub mod MovedLemmas
+pub mod PlainLemmas

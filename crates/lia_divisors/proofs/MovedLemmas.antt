@@ -1,4 +1,4 @@
--- A chain that is legal by what a node knows is legal where all is known.
+-- A tree without quotients and cases that is legal by what a node knows is legal where all is known.
 use Rattle.std.proofs.Common.{◌≡◌, ℕ, zero, suc, ◌+◌, List, [], ◌∷◌, ◌++◌, length, refl, ap, ap₂, sym, ◌∙◌, subst, arith, true, false, Bool, ◌&&◌, Option, None, Some, ◌⊎◌, inl, inr}
 use Rattle.std.specs.Prelude.{ℤ, pos, int_le, slice_get}
 use Rattle.std.specs.List.{list_all}
@@ -13,18 +13,17 @@ use Rattle.lin_atoms.specs.declared.lit.Lit.TheVariants.{Le}
 use Rattle.lin_atoms.specs.declared.form.Form.{Form}
 use Rattle.lin_atoms.proofs.Public.{both_true}
 use Rattle.int_rows.specs.Ready.{rounded}
-use Rattle.farkas_proof.specs.Combination.{are_multipliers, combined, is_above_zero, is_divided_by, is_multiplier, linear_at, may_be_multiplied}
+use Rattle.farkas_proof.specs.Combination.{are_multipliers, combined, is_above_zero, is_divided_by, is_multiplier, linear_at, may_be_multiplied, one_minus}
 use Rattle.farkas_proof.specs.Flatten.{disjunctions, literals}
-use Rattle.farkas_proof.specs.Refutation.{Finding, Judge, Sound, Illegal, Wide, checked, form_end, is_sound, judge_step, judged, judged_at}
+use Rattle.farkas_proof.specs.Refutation.{Finding, Judge, Sound, Illegal, Wide, checked, followed_by, form_end, is_sound, judge_step, judged, judged_at}
 use Rattle.farkas_proof.specs.declared.tree.Refutation.{Refutation, map-Refutation}
 use Rattle.farkas_proof.specs.declared.tree.Refutation.TheOpen.{Refutation-F}
-use Rattle.farkas_proof.specs.declared.tree.Refutation.TheViews.{Round, roll-Refutation}
-use Rattle.farkas_proof.specs.declared.tree.Refutation.TheVariants.{Leaf, rolls-Round}
-use Rattle.farkas_proof.specs.declared.tree.Refutation.TheFolds.{fold-roll-Refutation}
+use Rattle.farkas_proof.specs.declared.tree.Refutation.TheViews.{roll-Refutation}
+use Rattle.farkas_proof.specs.declared.tree.Refutation.TheVariants.{Leaf, rolls-Round, rolls-Split}
+use Rattle.farkas_proof.specs.declared.tree.Refutation.TheFolds.{fold-roll-Refutation, ind-Refutation}
 use Rattle.lia_close.specs.Placed.{IsSoundAt, Place, with_known}
-use Rattle.lia_close.proofs.PlacedLemmas.{sound-leaf, sound-round}
-use Rattle.lia_divisors.specs.declared.chain.Rounding.{Rounding}
-use Rattle.lia_divisors.specs.machinery.Chain.{chained}
+use Rattle.lia_close.proofs.PlacedLemmas.{sound-leaf, sound-round, sound-split}
+use Rattle.lia_divisors.specs.machinery.Plain.{is_plain, plain_step}
 use Rattle.lia_divisors.specs.machinery.There.{StandsFor}
 
 -- a multiplier of what stands in its place
@@ -77,44 +76,80 @@ longer [] x = refl
 longer (y ∷ xs) x = ap suc (longer xs x)
 
 -- what a sound node says
-judged-leaf : (end : ℕ) (lits : List Lit) (cases : List (List Form)) (at : ℕ) (ms : List (ℕ × ℤ)) → judged_at lit_fits end (Leaf ms) lits cases at ≡ checked (are_multipliers lits ms && is_above_zero (combined lits ms)) true at (Sound (at + 1))
+rolls-leaf : (ms : List (ℕ × ℤ)) → roll-Refutation (Refutation-F.Leaf ms) ≡ Leaf ms
 unfolding roll-Refutation roll
-judged-leaf end lits cases at ms = ap (λ (j : Judge). j lits cases at) (fold-roll-Refutation Judge (judge_step lit_fits end) (Refutation-F.Leaf ms))
+rolls-leaf ms = refl
 
-judged-round : (end : ℕ) (lits : List Lit) (cases : List (List Form)) (at : ℕ) (ms : List (ℕ × ℤ)) (d : ℤ) (sub : Refutation) → judged_at lit_fits end (Round ms d sub) lits cases at
-    ≡ checked (are_multipliers lits ms && (int_le (pos 1) d && is_divided_by d (combined lits ms))) (lit_fits (Le (rounded d (combined lits ms)))) at (judged_at lit_fits end sub (lits ++ Le (rounded d (combined lits ms)) ∷ []) cases (at + 1))
-judged-round end lits cases at ms d sub =
-    ap (λ (t : Refutation). judged_at lit_fits end t lits cases at) (sym (rolls-Round ms d sub)) ∙ ap (λ (j : Judge). j lits cases at) (fold-roll-Refutation Judge (judge_step lit_fits end) (Refutation-F.Round ms d sub))
+long-last : (filled known : List Lit) (lit : Lit) → length filled ≡ length known → length (filled ++ lit ∷ []) ≡ length (known ++ lit ∷ [])
+long-last filled known lit long = longer filled lit ∙ ap suc long ∙ sym (longer known lit)
+
+sound-both : (first : Finding) (judge : ℕ → Finding) → is_sound (followed_by first judge) ≡ true → (n : ℕ) × ((is_sound first ≡ true) × (is_sound (judge n) ≡ true))
+sound-both (Sound n) judge h = (n, (refl, h))
+sound-both (Illegal n) judge h = absurd (cc)
+sound-both (Wide n) judge h = absurd (cc)
 
 sound-says : (legal room : Bool) (at : ℕ) (below : Finding) → is_sound (checked legal room at below) ≡ true → (legal ≡ true) × (room ≡ true) × (is_sound below ≡ true)
 sound-says true true at below sound = (refl, refl, sound)
 sound-says true false at below sound = absurd (cc)
 sound-says false room at below sound = absurd (cc)
 
-pub chain-moved : (rs : List Rounding) (ms : List (ℕ × ℤ)) (e end at : ℕ) (filled : List Lit) (cases : List (List Form)) (place : Place) → StandsFor filled place.known → length filled ≡ length place.known
-    → is_sound (judged_at lit_fits e (chained rs (Leaf ms)) filled cases at) ≡ true → IsSoundAt end place (chained rs (Leaf ms))
-chain-moved [] ms e end at filled cases place stands long sound =
-    let says = sound-says _ true at (Sound (at + 1)) (ap is_sound (sym (judged-leaf e filled cases at ms)) ∙ sound) in
+-- what is sound by what the node knows, among literals that stand in its place, is sound where all is known
+abbrev Moves : ℕ → Refutation → Type 0
+Moves e tree = is_plain tree ≡ true → (end at : ℕ) (filled : List Lit) (cases : List (List Form)) (place : Place) → StandsFor filled place.known → length filled ≡ length place.known
+    → is_sound (judged_at lit_fits e tree filled cases at) ≡ true → IsSoundAt end place tree
+
+abbrev Sub : ℕ → Type 0
+Sub e = (tree : Refutation) × Moves e tree
+
+node-moves : (e : ℕ) (y : Refutation-F (Sub e)) → plain_step (map-Refutation Refutation Bool is_plain (map-Refutation (Sub e) Refutation (λ s. s.0) y)) ≡ true
+    → (end at : ℕ) (filled : List Lit) (cases : List (List Form)) (place : Place) → StandsFor filled place.known → length filled ≡ length place.known
+    → is_sound (judge_step lit_fits e (map-Refutation Refutation Judge (judged_at lit_fits e) (map-Refutation (Sub e) Refutation (λ s. s.0) y)) filled cases at) ≡ true
+    → IsSoundAt end place (roll-Refutation (map-Refutation (Sub e) Refutation (λ s. s.0) y))
+node-moves e (Refutation-F.Leaf ms) plain end at filled cases place stands long sound =
+    let says = sound-says (are_multipliers filled ms && is_above_zero (combined filled ms)) true at (Sound (at + 1)) sound in
     let both = both_true (are_multipliers filled ms) _ says.0 in
     let moved = all-moved filled place.known ms stands both.0 in
-    sound-leaf end place ms moved.0 (ap is_above_zero moved.1 ∙ both.1)
-chain-moved (r ∷ rs) ms e end at filled cases place stands long sound =
-    let sub = chained rs (Leaf ms) in
-    let own = combined filled r.multipliers.items in
-    let derived = Le (rounded r.divisor own) in
-    let says = sound-says _ (lit_fits derived) at (judged_at lit_fits e sub (filled ++ derived ∷ []) cases (at + 1)) (ap is_sound (sym (judged-round e filled cases at r.multipliers.items r.divisor sub)) ∙ sound) in
-    let both = both_true (are_multipliers filled r.multipliers.items) _ says.0 in
-    let divides = both_true (int_le (pos 1) r.divisor) _ both.1 in
-    let moved = all-moved filled place.known r.multipliers.items stands both.0 in
-    let below = chain-moved rs ms e end (at + 1) (filled ++ derived ∷ []) cases (with_known place (derived ∷ [])) (stands-last filled place.known derived long stands) (longer filled derived ∙ ap suc long ∙ sym (longer place.known derived)) says.2 in
-    sound-round end place r.multipliers.items r.divisor sub moved.0 divides.0 (ap (is_divided_by r.divisor) moved.1 ∙ divides.1) (ap (λ (l : Linear). lit_fits (Le (rounded r.divisor l))) moved.1 ∙ says.1)
-    (subst (λ (l : Linear). IsSoundAt end (with_known place (Le (rounded r.divisor l) ∷ [])) sub) (sym moved.1) below)
+    subst (IsSoundAt end place) (sym (rolls-leaf ms)) (sound-leaf end place ms moved.0 (ap is_above_zero moved.1 ∙ both.1))
+node-moves e (Refutation-F.Round ms d s) plain end at filled cases place stands long sound =
+    let own = combined filled ms in
+    let derived = Le (rounded d own) in
+    let says = sound-says (are_multipliers filled ms && (int_le (pos 1) d && is_divided_by d own)) (lit_fits derived) at (judged_at lit_fits e s.0 (filled ++ derived ∷ []) cases (at + 1)) sound in
+    let both = both_true (are_multipliers filled ms) _ says.0 in
+    let divides = both_true (int_le (pos 1) d) _ both.1 in
+    let moved = all-moved filled place.known ms stands both.0 in
+    let below = s.1 plain end (at + 1) (filled ++ derived ∷ []) cases (with_known place (derived ∷ [])) (stands-last filled place.known derived long stands) (long-last filled place.known derived long) says.2 in
+    subst (IsSoundAt end place) (sym (rolls-Round ms d s.0))
+    (sound-round end place ms d s.0 moved.0 divides.0 (ap (is_divided_by d) moved.1 ∙ divides.1) (ap (λ (l : Linear). lit_fits (Le (rounded d l))) moved.1 ∙ says.1)
+    (subst (λ (l : Linear). IsSoundAt end (with_known place (Le (rounded d l) ∷ [])) s.0) (sym moved.1) below))
+node-moves e (Refutation-F.Split lin s u) plain end at filled cases place stands long sound =
+    let low = Le lin in
+    let high = Le (one_minus lin) in
+    let first = judged_at lit_fits e s.0 (filled ++ low ∷ []) cases (at + 1) in
+    let second = judged_at lit_fits e u.0 (filled ++ high ∷ []) cases in
+    let says = sound-says true (lit_fits low && lit_fits high) at (followed_by first second) sound in
+    let room = both_true (lit_fits low) _ says.1 in
+    let plains = both_true (is_plain s.0) _ plain in
+    let both-sides = sound-both first second says.2 in
+    let below = s.1 plains.0 end (at + 1) (filled ++ low ∷ []) cases (with_known place (low ∷ [])) (stands-last filled place.known low long stands) (long-last filled place.known low long) both-sides.1.0 in
+    let above = u.1 plains.1 end both-sides.0 (filled ++ high ∷ []) cases (with_known place (high ∷ [])) (stands-last filled place.known high long stands) (long-last filled place.known high long) both-sides.1.1 in
+    subst (IsSoundAt end place) (sym (rolls-Split lin s.0 u.0)) (sound-split end place lin s.0 u.0 room.0 room.1 below above)
+node-moves e (Refutation-F.Cases which subs) plain end at filled cases place stands long sound = absurd (cc)
+node-moves e (Refutation-F.Quotient lit s) plain end at filled cases place stands long sound = absurd (cc)
+
+from-node : (e : ℕ) (x : Refutation-F Refutation)
+    → (plain_step (map-Refutation Refutation Bool is_plain x) ≡ true → (end at : ℕ) (filled : List Lit) (cases : List (List Form)) (place : Place) → StandsFor filled place.known → length filled ≡ length place.known
+    → is_sound (judge_step lit_fits e (map-Refutation Refutation Judge (judged_at lit_fits e) x) filled cases at) ≡ true → IsSoundAt end place (roll-Refutation x))
+    → Moves e (roll-Refutation x)
+from-node e x f plain end at filled cases place stands long sound =
+    f (sym (fold-roll-Refutation Bool plain_step x) ∙ plain) end at filled cases place stands long
+    (sym (ap (λ (j : Judge). is_sound (j filled cases at)) (fold-roll-Refutation Judge (judge_step lit_fits e) x)) ∙ sound)
+
+moves : (e : ℕ) (tree : Refutation) → Moves e tree
+moves e = ind-Refutation (Moves e) (λ x y is. subst (λ z. Moves e (roll-Refutation z)) is (from-node e _ (node-moves e y)))
 
 -- a tree that is sound for a conjunction of what the node knows
-pub tree-moved : (form : Form) (tree : Refutation) (rs : List Rounding) (ms : List (ℕ × ℤ)) (filled : List Lit) (end : ℕ) (place : Place) → literals form ≡ filled → tree ≡ chained rs (Leaf ms) → StandsFor filled place.known → length filled ≡ length place.known
+pub tree-moved : (form : Form) (tree : Refutation) (filled : List Lit) (end : ℕ) (place : Place) → literals form ≡ filled → is_plain tree ≡ true → StandsFor filled place.known → length filled ≡ length place.known
     → is_sound (judged lit_fits form tree) ≡ true → IsSoundAt end place tree
-tree-moved form tree rs ms filled end place own is stands long sound =
-    subst (IsSoundAt end place) (sym is)
-    (chain-moved rs ms (form_end form) end 0 filled (disjunctions form) place stands long
-    (subst (λ (ls : List Lit). is_sound (judged_at lit_fits (form_end form) (chained rs (Leaf ms)) ls (disjunctions form) 0) ≡ true) own
-    (subst (λ (t : Refutation). is_sound (judged lit_fits form t) ≡ true) is sound)))
+tree-moved form tree filled end place own plain stands long sound =
+    moves (form_end form) tree plain end 0 filled (disjunctions form) place stands long
+    (subst (λ (ls : List Lit). is_sound (judged_at lit_fits (form_end form) tree ls (disjunctions form) 0) ≡ true) own sound)

@@ -1,13 +1,18 @@
-//! Nodes of a search that a common divisor closes: a row of the tableau whose entries it divides but
-//! for those of columns between bounds, and no multiple of it lies between what these add up to.
+//! Nodes of a search without an integer point, at a vertex with a fraction: a tree of parts that common
+//! divisors of rows and bounds close, where one is found.
 #![tactic(auto)]
 
 mod chain;
 mod closing;
 mod columns;
+mod conflicts;
 mod filled;
+mod parts;
 mod rows;
 mod said;
 mod sides;
+mod splits;
+mod values;
+mod written;
 
-pub use closing::close_by_divisor;
+pub use closing::close_by_parts;

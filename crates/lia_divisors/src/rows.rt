@@ -1,22 +1,14 @@
 //! Rows whose entries have a common divisor.
 
-ghost use Rattle.std.specs.Prelude.{◌≡◌, ◌<◌, ◌^◌, true};
-ghost use Rattle.std.specs.List.{list_all};
-ghost use Rattle.node_rows.specs.Known.{are_known, has_short_constant};
-
 use crate::chain::Chain;
-use crate::columns::forms;
-use crate::said::Said;
-use crate::sides::{Bound, Sides, all_sides};
+use crate::sides::{Bound, Sides};
 use base::Memory;
-use int_rows::{RowStop, Tableau};
-use lin_atoms::{Lit, gcd};
-use node_rows::node_tableau;
-use simplex_core::{Feasible, feasible};
+use int_rows::Tableau;
+use lin_atoms::gcd;
 use std::alloc::Global;
 
 /// Both bounds of a column that has both.
-fn both(sides: &[Sides], column: usize) -> Option<(Bound, Bound)> {
+pub(crate) fn both(sides: &[Sides], column: usize) -> Option<(Bound, Bound)> {
     match sides.get(column) {
         Some(
             Sides {
@@ -153,7 +145,7 @@ fn refuting(entries: &[i64], sides: &[Sides]) -> Option<i64> {
 }
 
 /// A bound is taken so many times, rounded by itself first where it has to be.
-fn take(
+pub(crate) fn take(
     alloc: Global,
     chain: &mut Chain,
     sum: &mut Vec<(u32, i64)>,
@@ -226,7 +218,7 @@ fn chain_of(
 }
 
 /// The first row that a number refutes.
-fn of_rows(
+pub(crate) fn of_rows(
     alloc: Global,
     tableau: &Tableau,
     sides: &[Sides],
@@ -240,39 +232,4 @@ fn of_rows(
         }
     }
     Ok(None)
-}
-
-/// The rows of the tableau at its vertex.
-fn at_vertex(
-    alloc: Global,
-    tableau: &mut Tableau,
-    said: &[Said],
-    known: usize,
-) -> Result<Option<Chain>, Memory> {
-    let forms = forms(alloc, tableau)?;
-    let sides = all_sides(alloc, said, forms.as_slice(), tableau.columns())?;
-    match feasible(alloc, tableau)? {
-        Feasible::Vertex(_) => of_rows(alloc, tableau, sides.as_slice(), known),
-        Feasible::Conflict(_) => Ok(None),
-        Feasible::Wide(_) => Ok(None),
-    }
-}
-
-/// A chain that may refute the literals, by one row of their tableau at a vertex.
-pub(crate) fn guessed(
-    alloc: Global,
-    lits: &[Lit],
-    end: u32,
-    said: &[Said],
-    known: usize,
-) -> Result<Option<Chain>, Memory>
-    requires known { are_known end lits.now ≡ true }
-    requires short { list_all has_short_constant lits.now ≡ true }
-    requires few { end < 2 ^ 31 }
-{
-    match node_tableau(alloc, lits, end) {
-        Ok(mut tableau) => at_vertex(alloc, &mut tableau, said, known),
-        Err(RowStop::Memory) => Err(Memory),
-        Err(RowStop::TooMany) => Ok(None),
-    }
 }

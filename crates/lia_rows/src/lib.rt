@@ -10,3 +10,5 @@ mod divisors;
 mod lemmas;
 #[cfg(test)]
 mod literals;
+#[cfg(test)]
+mod parts;

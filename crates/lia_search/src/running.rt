@@ -22,11 +22,17 @@ use crate::waiting::Open;
 use base::Memory;
 use farkas_proof::{Evidence, Refutation};
 use lia_close::{Step, close, numbered, tree_of};
-use lia_divisors::close_by_divisor;
+use lia_divisors::close_by_parts;
 use lia_node::{Examined, examine};
 use lin_atoms::Form;
 use node_rows::are_legal;
 use std::alloc::Global;
+
+/// So many parts a node is split into at the most.
+const MOST_PARTS: u32 = 400;
+
+/// A node is looked at whole before so many inner nodes.
+const FEW_NODES: u32 = 4;
 
 /// A search of a form, and how far it has come.
 #[derive(Drop)]
@@ -65,6 +71,19 @@ pub(crate) enum Turn {
     /// A node is split.
     Split,
     Over(End),
+}
+
+/// How many parts a node with a fraction is split into at the most, after so many inner nodes. Each time
+/// that the inner nodes have doubled, a tree of parts is looked for; in between the node is looked at
+/// whole, at fewer nodes the more there are.
+fn parts_at(count: u32) -> u32 {
+    if count >= FEW_NODES && count.is_power_of_two() {
+        return MOST_PARTS;
+    }
+    match count.checked_rem((count / 16).saturating_add(1)) {
+        Some(0) => 1,
+        _ => 0,
+    }
 }
 
 impl<'a> Search<'a> {
@@ -116,8 +135,8 @@ impl<'a> Search<'a> {
         Ok(())
     }
 
-    /// The node is closed by a common divisor of a row, where there is one, and otherwise split by a
-    /// branch.
+    /// The node is closed by common divisors of rows and by parts, where such a tree is found, and
+    /// otherwise split by a branch.
     fn branch(
         &mut self,
         alloc: Global,
@@ -134,12 +153,13 @@ impl<'a> Search<'a> {
     {
         let mut waiting = waiting;
         self.name(&mut waiting)?;
-        let found = close_by_divisor(
+        let found = close_by_parts(
             alloc,
             waiting.lits.as_slice(),
             waiting.reasons.as_slice(),
             waiting.known,
             self.end,
+            parts_at(self.count),
         )?;
         if let Some(tree) = found {
             self.steps.push(Step::Closed(tree))?;
