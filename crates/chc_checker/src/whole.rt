@@ -1,0 +1,36 @@
+//! Whole answers.
+
+ghost use Rattle.std.specs.Prelude.{◌<◌, IfOk};
+ghost use Rattle.horn_shape.specs.Clause.{IsLegalScript};
+ghost use Rattle.chc_checker.specs.Verdicts.{IsCheckable, IsNormalScript, Says};
+
+use crate::derivation::check_steps;
+use crate::model::check_model;
+use crate::verdict::Verdict;
+use answer_text::Answer;
+use base::Memory;
+use std::alloc::Global;
+use term_tree::Script;
+
+/// Whether an answer to the script is right. Assertions and steps are taken in order, and the first
+/// that isn't right, or can't be told, decides. The formula of the instances that make an assertion
+/// false is given up after `nodes` inner nodes of a split tree, at least 1; the values of a step's terms
+/// are exact up to 128 bits.
+pub fn check_answer(
+    alloc: Global,
+    script: &Script,
+    answer: &Answer,
+    nodes: u32,
+) -> Result<Verdict, Memory>
+    requires legal { IsLegalScript script.now }
+    requires normal { IsNormalScript script.now }
+    requires answer { IsCheckable script.now answer.now }
+    requires some { 0 < nodes }
+    ensures { IfOk result (Says nodes script.now answer.now) }
+{
+    match answer {
+        Answer::Sat(definitions) => check_model(alloc, script, definitions.as_slice(), nodes),
+        Answer::Unsat(lines) => check_steps(alloc, script, lines.as_slice()),
+        Answer::Unknown { .. } => unreachable!(),
+    }
+}
