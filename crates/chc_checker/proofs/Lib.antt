@@ -1,4 +1,5 @@
 pub mod DefinitionLemmas
+pub mod ExactLemmas
 pub mod FormLemmas
 pub mod GuardLemmas
 pub mod JudgeLemmas

@@ -1,5 +1,5 @@
 -- What a verdict on an answer to a script says. Assertions are numbered from 1 here, as they are printed.
-use Rattle.std.specs.Prelude.{◌≡◌, ℕ, suc, ℤ, List, [], ◌∷◌, take, Some, None, true, nat_lt, slice_get}
+use Rattle.std.specs.Prelude.{◌≡◌, ℕ, suc, ℤ, List, [], ◌∷◌, take, Some, None, true, nat_lt, slice_get, ◌⊎◌}
 use Rattle.std.specs.List.{AllByRecursion}
 use Rattle.term_tree.specs.declared.definition.Definition.{Definition}
 use Rattle.term_tree.specs.declared.scalar.Value.{Value as Given}
@@ -17,8 +17,10 @@ use Rattle.clause_normal.specs.Normal.{first_without_room, normal_clause}
 use Rattle.clause_laws.specs.Defined.{breaking_form, breaking_variables, breaking_wide}
 use Rattle.clause_laws.specs.Point.{numbers}
 use Rattle.lia_search.specs.Decides.{CountsTo}
+use Rattle.answer_text.specs.Read.{IsBad, Spells}
 use Rattle.answer_text.specs.declared.answer.Answer.{Answer}
 use Rattle.answer_text.specs.declared.answer.Answer.TheVariants.{Sat, Unsat, Unknown}
+use Rattle.answer_text.specs.declared.answer.Line.{Line}
 use Rattle.derivation_lines.specs.Claims.{DeriveFalse}
 use Rattle.derivation_check.specs.Findings.{IsWideAt, IsWrongAt}
 use Rattle.chc_checker.specs.declared.verdict.Hidden.{Hidden}
@@ -110,3 +112,12 @@ abbrev pub Says : ℕ → Script → Answer → Verdict → Type 0
 Says nodes script answer Valid = IsValid script answer
 Says nodes script answer (Wrong place) = IsWrong script answer place
 Says nodes script answer (NotShown place evidence) = IsNotShown nodes script answer place evidence
+
+-- what the verdict says of a text: that of the answer which it spells, or that it spells none, and where its first fault is
+abbrev pub Judges : ℕ → Script → List ℕ → Verdict → Type 0
+Judges nodes script text verdict =
+    ((answer : Answer) × Spells script.preds text answer × Says nodes script answer verdict) ⊎ ((offset : ℕ) × IsBad script.preds text offset × (verdict ≡ Wrong (Byte offset)))
+
+-- at the values of each step whose predecessors are right every number has room, as far as they are of the right sorts
+abbrev pub HaveRoom : Script → List Line → Type 0
+HaveRoom script lines = (number term : ℕ) → IsWideAt script lines number term → ⊥

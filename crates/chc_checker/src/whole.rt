@@ -1,13 +1,14 @@
 //! Whole answers.
 
-ghost use Rattle.std.specs.Prelude.{◌<◌, IfOk};
+ghost use Rattle.std.specs.Prelude.{◌<◌, ◌^◌, IfOk, length};
 ghost use Rattle.horn_shape.specs.Clause.{IsLegalScript};
-ghost use Rattle.chc_checker.specs.Verdicts.{IsCheckable, IsNormalScript, Says};
+ghost use Rattle.chc_checker.specs.Verdicts.{IsCheckable, IsNormalScript, Judges, Says};
 
 use crate::derivation::check_steps;
 use crate::model::check_model;
-use crate::verdict::Verdict;
-use answer_text::Answer;
+use crate::reading::is_checkable;
+use crate::verdict::{Place, Verdict};
+use answer_text::{Answer, AnswerStop, read_answer};
 use base::Memory;
 use std::alloc::Global;
 use term_tree::Script;
@@ -32,5 +33,31 @@ pub fn check_answer(
         Answer::Sat(definitions) => check_model(alloc, script, definitions.as_slice(), nodes),
         Answer::Unsat(lines) => check_steps(alloc, script, lines.as_slice()),
         Answer::Unknown { .. } => unreachable!(),
+    }
+}
+
+/// Whether a text is a right answer to the script: `check_answer` of the sat or unsat answer that it
+/// spells, or wrong at its first fault. Bytes count from the start of the text.
+pub fn check_text(
+    alloc: Global,
+    script: &Script,
+    text: &[u8],
+    nodes: u32,
+) -> Result<Verdict, Memory>
+    requires legal { IsLegalScript script.now }
+    requires normal { IsNormalScript script.now }
+    requires short { length text.now < 2 ^ 32 }
+    requires some { 0 < nodes }
+    ensures { IfOk result (Judges nodes script.now text.now) }
+{
+    match read_answer(alloc, script, text) {
+        Ok(answer) => {
+            is_checkable(script, &answer);
+            check_answer(alloc, script, &answer, nodes)
+        }
+        Err(AnswerStop::BadAnswer { offset }) => Ok(Verdict::Wrong {
+            place: Place::Byte(offset),
+        }),
+        Err(AnswerStop::Memory) => Err(Memory),
     }
 }

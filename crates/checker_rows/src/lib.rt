@@ -3,6 +3,12 @@
 #![tactic(auto)]
 
 #[cfg(test)]
-mod answers;
+mod faults;
+#[cfg(test)]
+mod models;
+#[cfg(test)]
+mod steps;
 #[cfg(test)]
 mod texts;
+#[cfg(test)]
+mod told;
