@@ -24,7 +24,7 @@ fn a_text_that_spells_no_answer_is_wrong_at_its_first_fault(rt: HostRuntime) -> 
         ),
         (
             "sat ((define-fun q () Bool true) (define-fun p ((x0 Int)) Bool (q)))",
-            "wrong at byte 63",
+            "wrong at byte 64",
         ),
         (
             "sat ((define-fun q () Bool true) (define-fun p ((x0 Int)) Bool (< x0 y)))",

@@ -4,7 +4,7 @@ ghost use Rattle.std.specs.Prelude.{◌≡◌, ◌<◌, ◌^◌, length, IfOk};
 ghost use Rattle.horn_shape.specs.Clause.{IsLegalScript};
 
 use base::Memory;
-use chc_checker::{Verdict, check_text, systems_can_be_checked};
+use chc_checker::{Verdict, check_text as check_answer_text, systems_can_be_checked};
 use clause_normal::{ClauseStop, read_clauses};
 use sort_check::{assertions_are_legal, check_text, scripts_are_within_limits};
 use std::alloc::Global;
@@ -37,7 +37,7 @@ pub fn verdict(
     systems_can_be_checked();
     match read_clauses(alloc, &checked) {
         Ok(_) => {
-            let verdict = check_text(alloc, &checked.script, answer, nodes)?;
+            let verdict = check_answer_text(alloc, &checked.script, answer, nodes)?;
             Ok(Some(verdict))
         }
         Err(ClauseStop::Refused(_)) => Ok(None),
