@@ -14,9 +14,8 @@ use Rattle.horn_shape.specs.Shape.{Content, Reading}
 use Rattle.answer_text.specs.declared.answer.Line.{Line}
 use Rattle.derivation_lines.specs.Claims.{IsLine}
 use Rattle.derivation_check.specs.Findings.{AreRightBefore, HasWide, IsPartOf, IsReached, IsWideAt, IsWrongAt}
-use Rattle.derivation_check.specs.machinery.Tests.{AreClausesOf, IsJudged, agree, fits, is_right, unless_right}
-use Rattle.derivation_check.proofs.RightLemmas.{is_right_by, right_is}
-use Rattle.derivation_check.proofs.TestLemmas.{fits_are}
+use Rattle.derivation_check.specs.machinery.Tests.{AreClausesOf, IsJudged, is_right, is_shaped, unless_right}
+use Rattle.derivation_check.proofs.RightLemmas.{is_right_by, right_is, shape_is}
 
 differs : true ≡ false → ⊥
 differs e = absurd (cc)
@@ -42,16 +41,19 @@ module _ (script : Script) (lines : List Line) (number : ℕ) (line : Line) (cla
   told_found reached true h = right_found h
   told_found reached false h = wrong_found reached h
 
-  pub wide_found : (term : ℕ) → IsReached script lines number line → agree fits clause.vars line.values ≡ true
+  pub wide_found : (term : ℕ) → IsReached script lines number line → is_shaped number line clause ≡ true
       → (part : Part) × IsPartOf clause part × HasWide script.terms.nodes (environment_of line.values) part term → IsWideAt script lines number term
-  wide_found term reached sorts found = record {
+  wide_found term reached shaped found = let shape = shape_is number reached.place line clause reached.numbered shaped in record {
     line = line;
     reached = reached;
     assertion = named.0;
     names = named.1;
     clause = clause;
     clause_is = named.2;
-    sorts = fits_are clause.vars line.values sorts;
+    place_is = shape.place_is;
+    counted = shape.counted;
+    earlier = shape.earlier;
+    sorts = shape.sorts;
     part = found.0;
     of_clause = found.1;
     wide = found.2;

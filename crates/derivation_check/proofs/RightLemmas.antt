@@ -1,12 +1,13 @@
 -- A step passes the tests by the clause of its assertion exactly where its line is right.
-use Rattle.std.proofs.Common.{◌≡◌, ℕ, suc, ◌==◌, List, length, Bool, true, false, ◌&&◌, refl, ap, sym, ◌∙◌, subst, arith}
+use Rattle.std.proofs.Common.{◌≡◌, ℕ, suc, ◌≤◌, ◌==◌, List, length, Bool, true, false, ◌&&◌, refl, ap, sym, ◌∙◌, subst, arith}
 use Rattle.std.proofs.lemmas.Bool.{and_from}
 use Rattle.std.proofs.lemmas.Bool.Decides.{nat_tests}
 use Rattle.std.specs.Prelude.{Some, Ok}
-use Rattle.std.specs.List.{list_all}
+use Rattle.std.specs.List.{All, list_all}
 use Rattle.term_tree.specs.declared.node.Node.{Node}
 use Rattle.term_tree.specs.declared.script.Assertion.{Assertion}
 use Rattle.term_tree.specs.declared.script.Script.{Script}
+use Rattle.term_tree.specs.Truth.{HaveSorts}
 use Rattle.term_tree.specs.Value.{Environment, environment_of}
 use Rattle.term_tree.proofs.Public.{both_true}
 use Rattle.horn_shape.specs.declared.clause.HornClause.{HornClause}
@@ -41,6 +42,27 @@ clause_once script index a b x y =
     let contents : content_of a ≡ content_of b = same_content (content_of a) (content_of b) (sym x.reading ∙ ap (assertion_reading script) same ∙ y.reading) in
     ap (λ (n : ℕ). clause_by n (content_of a)) x.number ∙ ap (λ (c : Content). clause_by index c) contents ∙ ap (λ (n : ℕ). clause_by n (content_of b)) (sym y.number)
 
+-- what can be told without a term's value
+pub record IsShaped (number place : ℕ) (line : Line) (clause : HornClause) : Type 0 where
+  pub place_is : line.number ≡ number
+  pub counted : length line.premises ≡ length clause.atoms
+  pub earlier : All (λ p. (1 ≤ p) × (p ≤ place)) line.premises
+  pub sorts : HaveSorts clause.vars line.values
+
+pub shape_is : (number place : ℕ) (line : Line) (clause : HornClause) → number ≡ suc place → is_shaped number line clause ≡ true → IsShaped number place line clause
+shape_is number place line clause numbered h =
+    let counted : Bool = (length line.premises == length clause.atoms) in
+    let earlier : Bool = list_all (is_earlier number) line.premises in
+    let t = both_true ((line.number == number) && counted && earlier) (agree fits clause.vars line.values) h in
+    let s = both_true ((line.number == number) && counted) earlier t.0 in
+    let r = both_true (line.number == number) counted s.0 in
+    record {
+      place_is = eq_of line.number number r.0;
+      counted = eq_of (length line.premises) (length clause.atoms) r.1;
+      earlier = earlier_are number place line.premises numbered s.1;
+      sorts = fits_are clause.vars line.values t.1;
+    }
+
 module _ (script : Script) (lines : List Line) (number place : ℕ) (line : Line) (numbered : number ≡ suc place) where
   abbrev nodes : List Node
   nodes = script.terms.nodes
@@ -56,19 +78,15 @@ module _ (script : Script) (lines : List Line) (number place : ℕ) (line : Line
       let d = both_true (shaped && met && given) (is_head nodes env clause.head line.head) h in
       let c = both_true (shaped && met) given d.0 in
       let b = both_true shaped met c.0 in
-      let counted : Bool = (length line.premises == length clause.atoms) in
-      let earlier : Bool = list_all (is_earlier number) line.premises in
-      let t = both_true ((line.number == number) && counted && earlier) (agree fits clause.vars line.values) b.0 in
-      let s = both_true ((line.number == number) && counted) earlier t.0 in
-      let r = both_true (line.number == number) counted s.0 in
+      let shape = shape_is number place line clause numbered b.0 in
       record {
-        number = eq_of line.number number r.0 ∙ numbered;
+        number = shape.place_is ∙ numbered;
         assertion = index;
         names = names;
         clause = clause;
         clause_is = is;
-        instance = record { sorts = fits_are clause.vars line.values t.1; guards = b.1 };
-        earlier = earlier_are number place line.premises numbered s.1;
+        instance = record { sorts = shape.sorts; guards = b.1 };
+        earlier = shape.earlier;
         premises = given_are nodes env lines clause.atoms line.premises c.1;
         conclusion = head_is nodes env clause.head line.head d.1;
       }

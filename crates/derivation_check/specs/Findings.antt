@@ -1,7 +1,7 @@
 -- What is found of the lines of an unsat answer: that they derive false, the first step that is wrong, or the first that can't
 -- be evaluated in 128 bits. Steps are numbered from 1, as they are printed.
-use Rattle.std.specs.Prelude.{◌≡◌, ◌<◌, ℕ, suc, List, [], ◌∷◌, ◌++◌, length, Some, None, slice_get, ◌⊎◌}
-use Rattle.std.specs.List.{Contains}
+use Rattle.std.specs.Prelude.{◌≡◌, ◌<◌, ◌≤◌, ℕ, suc, List, [], ◌∷◌, ◌++◌, length, Some, None, slice_get, ◌⊎◌}
+use Rattle.std.specs.List.{All, Contains}
 use Rattle.term_tree.specs.declared.node.Node.{Node}
 use Rattle.term_tree.specs.declared.script.Assertion.{Assertion}
 use Rattle.term_tree.specs.declared.script.Script.{Script}
@@ -62,7 +62,8 @@ IsPartOf clause part = Contains clause.guards part ⊎ ((atom : AtomUse) × (Con
 abbrev pub HasWide : List Node → Environment → Part → ℕ → Type 0
 HasWide nodes env part term = IsSubterm nodes part.term.0 term × IsWideTerm nodes term env
 
--- a term of the step's assertion doesn't fit at the step's values, which are of the sorts of its variables
+-- a term of the step's assertion doesn't fit at the step's values. All that can be told without a term's value is right: the
+-- number, the assertion, as many premises as body atoms, each among the steps before, and values of the sorts of the variables
 pub record IsWideAt (script : Script) (lines : List Line) (number term : ℕ) : Type 0 where
   pub line : Line
   pub reached : IsReached script lines number line
@@ -70,6 +71,9 @@ pub record IsWideAt (script : Script) (lines : List Line) (number term : ℕ) : 
   pub names : line.assertion ≡ suc assertion
   pub clause : HornClause
   pub clause_is : IsClauseOf script assertion clause
+  pub place_is : line.number ≡ number
+  pub counted : length line.premises ≡ length clause.atoms
+  pub earlier : All (λ p. (1 ≤ p) × (p ≤ reached.place)) line.premises
   pub sorts : HaveSorts clause.vars line.values
   pub part : Part
   pub of_clause : IsPartOf clause part

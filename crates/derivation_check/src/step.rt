@@ -4,7 +4,7 @@ ghost use Rattle.std.specs.Prelude.{◌≡◌, ◌<◌, ◌≤◌, ℕ, suc, len
 ghost use Rattle.std.specs.List.{All, Contains, list_all};
 ghost use Rattle.term_tree.specs.Value.{environment_of};
 ghost use Rattle.derivation_check.specs.Findings.{HasWide, IsPartOf};
-ghost use Rattle.derivation_check.specs.machinery.Tests.{AreThere, IsThere, agree, fits, is_atom, is_earlier, is_given, is_head, is_right, is_shaped};
+ghost use Rattle.derivation_check.specs.machinery.Tests.{AreThere, IsThere, agree, is_atom, is_earlier, is_given, is_head, is_right, is_shaped};
 
 use crate::parts::{are_arguments, are_met};
 use crate::values::all_fit;
@@ -143,7 +143,7 @@ pub(crate) fn is_right(
     requires parts { IsThere terms.now.nodes clause.now }
     requires there { number ≤ length lines.now }
     ensures is { IfOk result (λ right. right ≡ is_right terms.now.nodes lines.now number line.now clause.now) }
-    ensures sorts { (term : TermId) → IsErrOf result (ValueStop.ValueWide term) → IsTrue (agree fits clause.now.vars line.now.values) }
+    ensures shaped { (term : TermId) → IsErrOf result (ValueStop.ValueWide term) → IsTrue (is_shaped number line.now clause.now) }
     ensures wide { (term : TermId) → IsErrOf result (ValueStop.ValueWide term) → (part : Part) × IsPartOf clause.now part × HasWide terms.now.nodes (environment_of line.now.values) part term.0 }
 {
     let values = line.values.as_slice();

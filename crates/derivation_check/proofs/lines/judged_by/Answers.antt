@@ -24,4 +24,4 @@ pub returns-in-Err-ValueWide : goal.returns-in-Err-ValueWide
 returns-in-Err-ValueWide c =
     let term = c.in-Err-ValueWide.term in
     let told : IsErrOf c.is_right.result (ValueWide term) = search rules in
-    wide_found c.args.script.now c.args.lines.now c.args.number c.args.line.now c.args.clause.now c.requires.clause term.0 c.requires.reached (c.is_right.ensures.sorts term told) (c.is_right.ensures.wide term told)
+    wide_found c.args.script.now c.args.lines.now c.args.number c.args.line.now c.args.clause.now c.requires.clause term.0 c.requires.reached (c.is_right.ensures.shaped term told) (c.is_right.ensures.wide term told)
