@@ -2,6 +2,7 @@
 
 ghost use Rattle.std.specs.Prelude.{◌<◌, ◌^◌, IfOk, length};
 ghost use Rattle.horn_shape.specs.Clause.{IsLegalScript};
+ghost use Rattle.answer_text.specs.Read.{Spells};
 ghost use Rattle.chc_checker.specs.Verdicts.{IsCheckable, IsNormalScript, Judges, Says};
 
 use crate::derivation::check_steps;
@@ -36,6 +37,26 @@ pub fn check_answer(
     }
 }
 
+/// The verdict on an answer that the text spells.
+fn judged(
+    alloc: Global,
+    script: &Script,
+    text: &[u8],
+    answer: &Answer,
+    nodes: u32,
+) -> Result<Verdict, Memory>
+    requires legal { IsLegalScript script.now }
+    requires normal { IsNormalScript script.now }
+    requires spelled { Spells script.now.preds text.now answer.now }
+    requires some { 0 < nodes }
+    ensures { IfOk result (Judges nodes script.now text.now) }
+{
+    let _text = text;
+    is_checkable(script, answer);
+    let verdict = check_answer(alloc, script, answer, nodes)?;
+    Ok(verdict)
+}
+
 /// Whether a text is a right answer to the script: `check_answer` of the sat or unsat answer that it
 /// spells, or wrong at its first fault. Bytes count from the start of the text.
 pub fn check_text(
@@ -51,10 +72,7 @@ pub fn check_text(
     ensures { IfOk result (Judges nodes script.now text.now) }
 {
     match read_answer(alloc, script, text) {
-        Ok(answer) => {
-            is_checkable(script, &answer);
-            check_answer(alloc, script, &answer, nodes)
-        }
+        Ok(answer) => judged(alloc, script, text, &answer, nodes),
         Err(AnswerStop::BadAnswer { offset }) => Ok(Verdict::Wrong {
             place: Place::Byte(offset),
         }),
