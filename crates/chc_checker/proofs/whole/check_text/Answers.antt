@@ -1,10 +1,10 @@
-use Rattle.std.proofs.Common.{inr, refl, arith, rules}
+use Rattle.std.proofs.Common.{◌≤◌, length, inr, refl, arith, rules}
 use Rattle.std.specs.Prelude.{IsErrOf}
 use Rattle.answer_text.specs.declared.stop.AnswerStop.TheVariants.{BadAnswer}
 use Rattle.chc_checker.proofs.whole.check_text.Goals as goal
 
 pub read_answer-requires-clause-preds : goal.read_answer-requires-clause-preds
-read_answer-requires-clause-preds c = let few = c.requires.legal.few_preds in omega (arith, few)
+read_answer-requires-clause-preds c = let few : length c.args.script.now.preds ≤ 4096 = c.requires.legal.few_preds in omega (arith, few)
 
 pub returns-in-Err-BadAnswer : goal.returns-in-Err-BadAnswer
 returns-in-Err-BadAnswer c =
