@@ -38,7 +38,8 @@ fn is_marker(rest: &[u8]) -> bool
 
 /// How many bytes end the line, where it ends at once.
 fn line_end(rest: &[u8]) -> Option<usize>
-    ensures { result ≡ line_end rest.now }
+    ensures is { result ≡ line_end rest.now }
+    ensures within { IfSome result (λ count. count ≤ length rest.now) }
 {
     match rest {
         [] => Some(0),
@@ -51,7 +52,8 @@ fn line_end(rest: &[u8]) -> Option<usize>
 /// Where the next line begins behind the marker's line, if that begins here.
 fn behind_marker(input: &[u8], at: usize) -> Option<usize>
     requires { at < length input.now }
-    ensures { result ≡ behind_marker input.now at }
+    ensures is { result ≡ behind_marker input.now at }
+    ensures within { IfSome result (λ answer. answer ≤ length input.now) }
 {
     if !begins_line(input, at) {
         return None;
@@ -68,6 +70,8 @@ fn behind_marker(input: &[u8], at: usize) -> Option<usize>
 /// Cuts the input at the marker, the first line that is exactly `;;answer`; nothing where no line is.
 pub fn cut_at_marker(input: &[u8]) -> Option<Cut>
     ensures cut { IfSome result (λ cut. IsCut input.now cut.script cut.answer) }
+    ensures script_within { IfSome result (λ cut. cut.script ≤ length input.now) }
+    ensures answer_within { IfSome result (λ cut. cut.answer ≤ length input.now) }
     ensures none { result ≡ None → HasNoMarker input.now }
 {
     for at in 0..input.len() {
