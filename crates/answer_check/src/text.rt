@@ -1,9 +1,10 @@
 //! Verdicts, printed.
 
-ghost use Rattle.std.specs.Prelude.{◌≡◌, ◌++◌, [], codes, decimal, IfOk, OnOk, ℕ, List};
+ghost use Rattle.std.specs.Prelude.{◌≡◌, ◌<◌, ◌≤◌, ◌++◌, [], codes, decimal, length, suc, IfOk, OnOk, ℕ, List};
 ghost use Rattle.term_tree.specs.declared.script.Script.{Script as AScript};
 ghost use Rattle.term_tree.specs.declared.sort.Sort.{Sort as ASort};
-ghost use Rattle.horn_shape.specs.Clause.{IsLegalScript};
+ghost use Rattle.horn_shape.specs.Clause.{IsClauseOf, IsLegalScript};
+ghost use Rattle.derivation_check.specs.machinery.Tests.{AreClausesOf};
 ghost use Rattle.answer_text.specs.Names.{spaced, value_text};
 ghost use Rattle.chc_checker.specs.Verdicts.{IsNormalScript, Judges};
 ghost use Rattle.answer_check.specs.Texts.{AreSortsFor, AreSortsOf, IsAssertionOf, IsVerdictText, hidden_text, place_text, values_at, verdict_text};
@@ -12,6 +13,7 @@ use crate::pieces::{push_numeral, push_sum, push_values, values_at};
 use base::Memory;
 use chc_checker::{Hidden, Place, Verdict};
 use derivation_check::clauses_of;
+use horn_shape::HornClause;
 use std::alloc::Global;
 use term_tree::{Script, Sort};
 
@@ -110,6 +112,15 @@ fn plain_text(alloc: Global, start: u64, verdict: &Verdict) -> Result<Vec<u8>, M
     Ok(text)
 }
 
+/// The clause of the assertion of that number, from 1.
+fn clause_at(clauses: &[HornClause], assertion: u32) -> &HornClause
+    requires from_one { 0 < assertion }
+    requires within { assertion ≤ length clauses.now }
+    ensures { (script : AScript) (index : ℕ) → AreClausesOf script clauses.now → assertion ≡ suc index → IsClauseOf script index result.now }
+{
+    &clauses[assertion as usize - 1]
+}
+
 /// The text of a verdict that tells an instance of the assertion of that number, from 1.
 fn instance_text(
     alloc: Global,
@@ -124,7 +135,7 @@ fn instance_text(
     ensures { ((sorts : List ASort) → AreSortsOf script.now assertion sorts → AreSortsFor script.now verdict.now sorts) → IfOk result (λ text. IsVerdictText script.now start verdict.now text.items) }
 {
     let clauses = clauses_of(alloc, script)?;
-    let clause = &clauses.as_slice()[assertion as usize - 1];
+    let clause = clause_at(clauses.as_slice(), assertion);
     let text = verdict_text(alloc, start, clause.vars.as_slice(), verdict)?;
     Ok(text)
 }
@@ -143,13 +154,15 @@ pub(crate) fn text_of(
 {
     match verdict {
         Verdict::Valid => plain_text(alloc, start, verdict),
-        Verdict::Wrong { place } => match place {
-            Place::Byte(_) => plain_text(alloc, start, verdict),
-            Place::Step(_) => plain_text(alloc, start, verdict),
-            Place::Instance { assertion, .. } => {
-                instance_text(alloc, script, start, verdict, *assertion)
-            }
-        },
+        Verdict::Wrong {
+            place: Place::Byte(_),
+        } => plain_text(alloc, start, verdict),
+        Verdict::Wrong {
+            place: Place::Step(_),
+        } => plain_text(alloc, start, verdict),
+        Verdict::Wrong {
+            place: Place::Instance { assertion, .. },
+        } => instance_text(alloc, script, start, verdict, *assertion),
         Verdict::NotShown { .. } => plain_text(alloc, start, verdict),
     }
 }
