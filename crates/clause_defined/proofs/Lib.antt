@@ -1,7 +1,8 @@
-mod AlikeLemmas
+pub mod AlikeLemmas
 mod ClassLemmas
-mod ClauseLemmas
+pub mod ClauseLemmas
 mod JudgeLemmas
+pub mod Public
 mod RoomLemmas
-mod UseLemmas
+pub mod UseLemmas
 mod WholeLemmas

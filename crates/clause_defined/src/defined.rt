@@ -5,7 +5,7 @@ ghost use Rattle.term_tree.specs.Solution.{AreFormulas, DefinesEach};
 ghost use Rattle.horn_shape.specs.Clause.{IsClauseOf, IsLegalScript};
 ghost use Rattle.clause_form.specs.System.{most_variables};
 ghost use Rattle.clause_normal.specs.Normal.{auxiliaries, first_without_room, normal_clause, top_of};
-ghost use Rattle.clause_normal.specs.machinery.Making.{IsGiven};
+ghost use Rattle.clause_normal.specs.machinery.Making.{AreTablesOf, IsGiven};
 ghost use Rattle.clause_laws.specs.Defined.{HasTooManyAt, breaking_form, breaking_variables, breaking_wide};
 
 use crate::judging::{MOST_VARIABLES, judge_all};
@@ -48,7 +48,8 @@ fn clause_with_room(
 /// its number of variables: the guard, then what each body atom's definition says at its arguments,
 /// then that the head's definition is false there. Each has auxiliary variables of its own. `TooWide`
 /// names the first term of a definition without room, where the coefficients of an argument that stands
-/// at several places add up; `Count` comes after it: more than 2,048 variables.
+/// at several places add up; `Count` comes after it: more than 2,048 variables. For every assertion of a
+/// script in turn `with_tables` looks at each term once.
 pub fn with_definitions(
     alloc: Global,
     script: &Script,
@@ -67,11 +68,35 @@ pub fn with_definitions(
     ensures wide { (offset : ℕ) → IsErrOf result (NormalStop.TooWide offset) → breaking_wide defs.now (normal_clause script.now clause.now) ≡ Some offset }
     ensures count { (offset : ℕ) → IsErrOf result (NormalStop.Count offset) → HasTooManyAt script.now clause.now defs.now offset }
 {
-    script.terms.is_arena();
     let tables = tables_of(alloc, script.preds.as_slice(), &script.terms)?;
+    with_tables(alloc, script, &tables, clause, defs)
+}
+
+/// The same, where it is known which sorts and constant values the terms of the script have.
+pub fn with_tables(
+    alloc: Global,
+    script: &Script,
+    tables: &Tables,
+    clause: &HornClause,
+    defs: &[Definition],
+) -> Result<(Form, u32), NormalStop>
+    requires legal { IsLegalScript script.now }
+    requires tables { AreTablesOf script.now tables.now }
+    requires clause { IsClauseOf script.now clause.now.assertion clause.now }
+    requires narrow { first_without_room script.now clause.now ≡ None }
+    requires defined { DefinesEach 0 script.now.preds defs.now }
+    requires formulas { AreFormulas script.now.preds defs.now }
+    ensures form { IfOk result (λ made. made.0 ≡ breaking_form defs.now (normal_clause script.now clause.now)) }
+    ensures variables { IfOk result (λ made. made.1 ≡ breaking_variables defs.now (normal_clause script.now clause.now)) }
+    ensures room { OnOk result (breaking_wide defs.now (normal_clause script.now clause.now) ≡ None) }
+    ensures few { OnOk result (nat_lt most_variables (breaking_variables defs.now (normal_clause script.now clause.now)) ≡ false) }
+    ensures wide { (offset : ℕ) → IsErrOf result (NormalStop.TooWide offset) → breaking_wide defs.now (normal_clause script.now clause.now) ≡ Some offset }
+    ensures count { (offset : ℕ) → IsErrOf result (NormalStop.Count offset) → HasTooManyAt script.now clause.now defs.now offset }
+{
+    script.terms.is_arena();
     let assertion = assertion_of(script, clause);
     let top = assertion.term;
-    let placed = auxiliaries(alloc, script, &tables, clause, top)?;
+    let placed = auxiliaries(alloc, script, tables, clause, top)?;
     let placed = placed.as_slice();
     let count = judge_all(alloc, &script.terms, clause, placed.len(), defs)?;
     if count > MOST_VARIABLES {
@@ -79,7 +104,7 @@ pub fn with_definitions(
             offset: assertion.offset,
         });
     }
-    let whole = clause_with_room(alloc, script, &tables, clause, placed, top)?;
+    let whole = clause_with_room(alloc, script, tables, clause, placed, top)?;
     let made = put_all(alloc, defs, whole)?;
     Ok(made)
 }

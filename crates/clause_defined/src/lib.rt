@@ -6,4 +6,4 @@ mod defined;
 mod judging;
 mod putting;
 
-pub use defined::with_definitions;
+pub use defined::{with_definitions, with_tables};

@@ -5,7 +5,7 @@ use Rattle.clause_normal.specs.declared.stop.NormalStop.TheVariants.{Count, TooW
 use Rattle.clause_laws.specs.Defined.{HasTooManyAt, breaking_wide}
 use Rattle.clause_defined.proofs.ClauseLemmas.{can_judge}
 use Rattle.clause_defined.proofs.WholeLemmas.{can_put, few_own, few_told, many_here, stands_here, wide_here}
-use Rattle.clause_defined.proofs.defined.with_definitions.Goals as goal
+use Rattle.clause_defined.proofs.defined.with_tables.Goals as goal
 
 pub judge_all-requires : goal.judge_all-requires
 judge_all-requires c = can_judge c.args.script.now c.args.clause.now c.is_arena.ensures.arena c.requires.legal c.requires.clause c.args.defs.now c.requires.defined c.requires.formulas

@@ -1,0 +1,3 @@
+-- What the code keeps for itself: no rule cites it.
+pub mod Judging
+pub mod Reading
