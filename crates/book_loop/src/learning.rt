@@ -8,7 +8,8 @@ ghost use Rattle.book_loop.specs.machinery.Steps.{IsTaken};
 
 use crate::older::excluding;
 use base::Memory;
-use lemma_candidates::{propose, tidy, widen};
+use bound_hints::Bounds;
+use lemma_candidates::{propose, propose_bounds, tidy, widen};
 use lemma_general::{Tries, generalise, raise};
 use step_rules::{LemmaPart, Lent, Step};
 
@@ -35,21 +36,22 @@ fn again(lent: &Lent, tries: &mut Tries, nodes: u32) -> Result<bool, Memory>
 
 /// A more general lemma in its place: its literals are brought into their simplest form, those that it
 /// needn't have are dropped, and sums of two bounds and wider bounds are tried.
-fn guessed(lent: &Lent, part: LemmaPart, nodes: u32) -> Result<LemmaPart, Memory>
+fn guessed(lent: &Lent, part: LemmaPart, bounds: &Bounds, nodes: u32) -> Result<LemmaPart, Memory>
     requires goes_on { GoesOn lent.now }
     requires some { 0 < nodes }
     requires learnt { IsLearnt lent.now part }
     ensures { IfOk result (IsLearnt lent.now) }
 {
     let tidied = tidy(lent, part, nodes)?;
-    let general = generalise(lent, tidied, nodes)?;
+    let bounded = propose_bounds(lent, tidied, bounds, nodes)?;
+    let general = generalise(lent, bounded, nodes)?;
     let proposed = propose(lent, general, nodes)?;
     let widened = widen(lent, proposed, nodes)?;
     Ok(widened)
 }
 
 /// A more general lemma in its place. At low levels of the book literals are dropped, and nothing else.
-fn general(lent: &Lent, part: LemmaPart, nodes: u32) -> Result<LemmaPart, Memory>
+fn general(lent: &Lent, part: LemmaPart, bounds: &Bounds, nodes: u32) -> Result<LemmaPart, Memory>
     requires goes_on { GoesOn lent.now }
     requires some { 0 < nodes }
     requires learnt { IsLearnt lent.now part }
@@ -59,13 +61,13 @@ fn general(lent: &Lent, part: LemmaPart, nodes: u32) -> Result<LemmaPart, Memory
         let plain = generalise(lent, part, nodes)?;
         Ok(plain)
     } else {
-        let guessed = guessed(lent, part, nodes)?;
+        let guessed = guessed(lent, part, bounds, nodes)?;
         Ok(guessed)
     }
 }
 
 /// An old lemma in the lemma's place, if one holds at its level, and else a more general one.
-fn served(lent: &Lent, part: LemmaPart, nodes: u32) -> Result<LemmaPart, Memory>
+fn served(lent: &Lent, part: LemmaPart, bounds: &Bounds, nodes: u32) -> Result<LemmaPart, Memory>
     requires goes_on { GoesOn lent.now }
     requires some { 0 < nodes }
     requires learnt { IsLearnt lent.now part }
@@ -77,24 +79,24 @@ fn served(lent: &Lent, part: LemmaPart, nodes: u32) -> Result<LemmaPart, Memory>
     if shown {
         return Ok(part);
     }
-    let general = general(lent, part, nodes)?;
+    let general = general(lent, part, bounds, nodes)?;
     Ok(general)
 }
 
 /// The lemma that is learnt in the end: an old one or a more general one, at the highest level.
-fn learnt(lent: &Lent, part: LemmaPart, nodes: u32) -> Result<LemmaPart, Memory>
+fn learnt(lent: &Lent, part: LemmaPart, bounds: &Bounds, nodes: u32) -> Result<LemmaPart, Memory>
     requires goes_on { GoesOn lent.now }
     requires some { 0 < nodes }
     requires learnt { IsLearnt lent.now part }
     ensures { IfOk result (IsLearnt lent.now) }
 {
-    let served = served(lent, part, nodes)?;
+    let served = served(lent, part, bounds, nodes)?;
     let raised = raise(lent, served, nodes)?;
     Ok(raised)
 }
 
 /// The step with the lemma that is learnt in the end in place of its own; any other step as it is.
-pub(crate) fn improved(lent: &Lent, step: Step, nodes: u32) -> Result<Step, Memory>
+pub(crate) fn improved(lent: &Lent, step: Step, bounds: &Bounds, nodes: u32) -> Result<Step, Memory>
     requires goes_on { GoesOn lent.now }
     requires some { 0 < nodes }
     requires taken { IsTaken lent.now nodes step }
@@ -102,7 +104,7 @@ pub(crate) fn improved(lent: &Lent, step: Step, nodes: u32) -> Result<Step, Memo
 {
     match step {
         Step::LemmaStep(part) => {
-            let made = learnt(lent, part, nodes)?;
+            let made = learnt(lent, part, bounds, nodes)?;
             Ok(Step::LemmaStep(made))
         }
         step => Ok(step),

@@ -15,6 +15,7 @@ use crate::learning::improved;
 use crate::lifting::{lift_after, pass_of};
 use crate::taking::{has_ended, lend, take};
 use base::Memory;
+use bound_hints::Bounds;
 use chc_core::Book;
 use clause_form::System;
 use obligation_turn::turn;
@@ -22,7 +23,7 @@ use std::alloc::Global;
 use step_rules::Step;
 
 /// The step of the next turn. A lemma is first made more general and raised.
-fn next_step(book: &Book, nodes: u32) -> Result<Step, Memory>
+fn next_step(book: &Book, bounds: &mut Bounds, nodes: u32) -> Result<Step, Memory>
     requires can_run { CanRun book.now.system }
     requires some { 0 < nodes }
     requires goes_on { end (state_of book.now) ≡ None }
@@ -31,8 +32,9 @@ fn next_step(book: &Book, nodes: u32) -> Result<Step, Memory>
 {
     let job = next_job(book);
     let lent = lend(book);
+    bounds.renew(lent.alloc, lent.system, lent.level, lent.spent)?;
     let step = turn(&lent, job, nodes)?;
-    let served = improved(&lent, step, nodes)?;
+    let served = improved(&lent, step, bounds, nodes)?;
     Ok(served)
 }
 
@@ -51,7 +53,7 @@ fn serve(book: &mut Book, step: Step, nodes: u32) -> Result<(), Memory>
 
 /// One turn: a step for the obligation that is asked next, and the lifts that come with it. A journal
 /// has at most an entry for each unit, and one for each obligation that was stalled.
-fn advance(book: &mut Book, nodes: u32) -> Result<(), Memory>
+fn advance(book: &mut Book, bounds: &mut Bounds, nodes: u32) -> Result<(), Memory>
     requires can_run { CanRun book.old.system }
     requires some { 0 < nodes }
     requires goes_on { end (state_of book.old) ≡ None }
@@ -60,7 +62,7 @@ fn advance(book: &mut Book, nodes: u32) -> Result<(), Memory>
     ensures grown { OnOk result (length book.old.journal < length book.new.journal) }
     ensures room { OnOk result (length book.new.journal ≤ book.new.given + book.new.given + 1) }
 {
-    let step = next_step(book, nodes)?;
+    let step = next_step(book, bounds, nodes)?;
     let pass = pass_of(book, &step);
     serve(book, step, nodes)?;
     lift_after(book, pass, nodes)?;
@@ -82,8 +84,9 @@ pub fn search(book: &mut Book, nodes: u32) -> Result<(), Memory>
     ensures own { AllOf (IsOwn nodes) book.new.journal }
     ensures narrow { IsNarrow (standing_of book.new) }
 {
+    let mut bounds = Bounds::new();
     'turns: while !has_ended(book) {
-        advance(book, nodes)?;
+        advance(book, &mut bounds, nodes)?;
     }
     Ok(())
 }

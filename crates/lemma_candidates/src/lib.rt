@@ -3,6 +3,7 @@
 #![tactic(auto)]
 
 mod bounds;
+mod excluding;
 mod moving;
 mod proposing;
 mod sums;
@@ -10,6 +11,7 @@ mod tidying;
 mod tightening;
 mod widening;
 
+pub use excluding::propose_bounds;
 pub use proposing::propose;
 pub use tidying::tidy;
 pub use widening::widen;
