@@ -9,7 +9,7 @@ ghost use Rattle.book_loop.specs.machinery.Steps.{IsTaken};
 use crate::older::excluding;
 use base::Memory;
 use bound_hints::Bounds;
-use lemma_candidates::{propose, propose_bounds, tidy, widen};
+use lemma_candidates::{propose, tidy, try_bounds, widen};
 use lemma_general::{Tries, generalise, raise};
 use step_rules::{LemmaPart, Lent, Step};
 
@@ -34,24 +34,37 @@ fn again(lent: &Lent, tries: &mut Tries, nodes: u32) -> Result<bool, Memory>
     }
 }
 
+/// Whether a cube that is known holds at the part's level, and so stands in its place: that of an old
+/// lemma, or one that bounds exclude.
+fn ready(lent: &Lent, tries: &mut Tries, bounds: &Bounds, nodes: u32) -> Result<bool, Memory>
+    requires goes_on { GoesOn lent.now }
+    requires some { 0 < nodes }
+    requires trying { IsTrying lent.now tries.old }
+    ensures { OnOk result (IsTrying lent.now tries.new) }
+{
+    if again(lent, tries, nodes)? {
+        return Ok(true);
+    }
+    try_bounds(lent, tries, bounds, nodes)
+}
+
 /// A more general lemma in its place: its literals are brought into their simplest form, those that it
 /// needn't have are dropped, and sums of two bounds and wider bounds are tried.
-fn guessed(lent: &Lent, part: LemmaPart, bounds: &Bounds, nodes: u32) -> Result<LemmaPart, Memory>
+fn guessed(lent: &Lent, part: LemmaPart, nodes: u32) -> Result<LemmaPart, Memory>
     requires goes_on { GoesOn lent.now }
     requires some { 0 < nodes }
     requires learnt { IsLearnt lent.now part }
     ensures { IfOk result (IsLearnt lent.now) }
 {
     let tidied = tidy(lent, part, nodes)?;
-    let bounded = propose_bounds(lent, tidied, bounds, nodes)?;
-    let general = generalise(lent, bounded, nodes)?;
+    let general = generalise(lent, tidied, nodes)?;
     let proposed = propose(lent, general, nodes)?;
     let widened = widen(lent, proposed, nodes)?;
     Ok(widened)
 }
 
 /// A more general lemma in its place. At low levels of the book literals are dropped, and nothing else.
-fn general(lent: &Lent, part: LemmaPart, bounds: &Bounds, nodes: u32) -> Result<LemmaPart, Memory>
+fn general(lent: &Lent, part: LemmaPart, nodes: u32) -> Result<LemmaPart, Memory>
     requires goes_on { GoesOn lent.now }
     requires some { 0 < nodes }
     requires learnt { IsLearnt lent.now part }
@@ -61,12 +74,12 @@ fn general(lent: &Lent, part: LemmaPart, bounds: &Bounds, nodes: u32) -> Result<
         let plain = generalise(lent, part, nodes)?;
         Ok(plain)
     } else {
-        let guessed = guessed(lent, part, bounds, nodes)?;
+        let guessed = guessed(lent, part, nodes)?;
         Ok(guessed)
     }
 }
 
-/// An old lemma in the lemma's place, if one holds at its level, and else a more general one.
+/// An old lemma or a bound in the lemma's place, if one holds at its level, and else a more general one.
 fn served(lent: &Lent, part: LemmaPart, bounds: &Bounds, nodes: u32) -> Result<LemmaPart, Memory>
     requires goes_on { GoesOn lent.now }
     requires some { 0 < nodes }
@@ -74,12 +87,12 @@ fn served(lent: &Lent, part: LemmaPart, bounds: &Bounds, nodes: u32) -> Result<L
     ensures { IfOk result (IsLearnt lent.now) }
 {
     let mut tries = Tries::new(lent.alloc, part);
-    let shown = again(lent, &mut tries, nodes)?;
+    let shown = ready(lent, &mut tries, bounds, nodes)?;
     let part = tries.into_part();
     if shown {
         return Ok(part);
     }
-    let general = general(lent, part, bounds, nodes)?;
+    let general = general(lent, part, nodes)?;
     Ok(general)
 }
 

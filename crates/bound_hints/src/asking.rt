@@ -45,7 +45,7 @@ pub(crate) enum Answer {
     GivenUp,
 }
 
-fn decided(alloc: Global, form: Form, vars: u32) -> Result<Decided, Memory> {
+fn solved(alloc: Global, form: Form, vars: u32) -> Result<Decided, Memory> {
     if vars > MOST_VARIABLES || !form.is_below(vars as usize) || !has_short_multiples(&form) {
         return Ok(Decided::GivenUp);
     }
@@ -127,7 +127,7 @@ fn asked(
         return Ok(Decided::GivenUp);
     }
     *left = left.saturating_sub(cost);
-    let answer = decided(alloc, Form::And(parts), vars)?;
+    let answer = solved(alloc, Form::And(parts), vars)?;
     if let Decided::GivenUp = answer {
         *left = left.saturating_sub(GIVEN_UP);
     }

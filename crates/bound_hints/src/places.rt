@@ -147,7 +147,7 @@ fn push_arm(
 }
 
 /// The literals of all arms on atoms of the predicate.
-pub(crate) fn guarded(
+pub(crate) fn guards_of(
     alloc: Global,
     sys: &System,
     arms: &[Arm],

@@ -14,7 +14,7 @@ use std::alloc::Global;
 const WORK_OF_A_UNIT: u32 = 40;
 
 /// The least that a round may take.
-const LEAST_WORK: u32 = 1_000;
+const LEAST_WORK: u32 = 2_000;
 
 /// The most.
 const MOST_WORK: u32 = 60_000;
@@ -39,9 +39,9 @@ pub struct Bounds {
 /// The level of the book from which on the round comes.
 fn level_of(round: u32) -> u32 {
     match round {
-        0 => 6,
-        1 => 12,
-        _ => 24,
+        0 => 4,
+        1 => 10,
+        _ => 20,
     }
 }
 
@@ -92,7 +92,7 @@ fn found_in(
     }))
 }
 
-fn found(alloc: Global, sys: &System, size: Size, left: u32) -> Result<Option<Found>, Memory> {
+fn round_of(alloc: Global, sys: &System, size: Size, left: u32) -> Result<Option<Found>, Memory> {
     match table_of(alloc, sys, size)? {
         Some(table) => found_in(alloc, table, sys, left),
         None => Ok(None),
@@ -130,7 +130,7 @@ impl Bounds {
         if !is_due || self.are_safe() {
             return Ok(());
         }
-        match found(alloc, sys, size_of(self.round), work_of(units))? {
+        match round_of(alloc, sys, size_of(self.round), work_of(units))? {
             Some(found) => {
                 self.found = Some(found);
                 self.round = self.round.saturating_add(1);

@@ -6,7 +6,7 @@ use crate::conditions::conditions;
 use crate::forms::{copied, part_of};
 use crate::increments::increments;
 use crate::parts::parts_of;
-use crate::places::{Guarded, guarded};
+use crate::places::{Guarded, guards_of};
 use base::{Copied, Memory, Same};
 use clause_form::System;
 use lin_atoms::{Lin, Lit};
@@ -126,7 +126,7 @@ fn push_pred(
     places: usize,
     size: Size,
 ) -> Result<(), Memory> {
-    let own = guarded(alloc, sys, table.arms.as_slice(), pred)?;
+    let own = guards_of(alloc, sys, table.arms.as_slice(), pred)?;
     if places > 0 && places <= MOST_PLACES && table.bounds.len() < MOST_BOUNDS {
         let steps = increments(alloc, sys, table.arms.as_slice(), pred)?;
         let parts = parts_of(alloc, own.as_slice(), steps.as_slice(), places)?;

@@ -1,41 +1,49 @@
 //! Cubes that bounds exclude, in a lemma's place.
 
-ghost use Rattle.std.specs.Prelude.{◌<◌, IfOk, OnOk};
+ghost use Rattle.std.specs.Prelude.{◌<◌, OnOk};
 ghost use Rattle.obligation_turn.specs.Turns.{GoesOn};
-ghost use Rattle.lemma_general.specs.Generals.{IsLearnt};
-ghost use Rattle.lemma_candidates.specs.Candidates.{IsInPlaceOf};
+ghost use Rattle.lemma_general.specs.Tries.{IsTrying};
+ghost use Rattle.lemma_candidates.specs.machinery.Tried.{IsTriedOn};
 
 use crate::proposing::try_each;
 use base::Memory;
 use bound_hints::Bounds;
 use cube_forms::Cube;
 use lemma_general::Tries;
+use std::alloc::Global;
 use step_rules::{LemmaPart, Lent};
+
+/// Whether bounds are tried now: those that don't refute each query at every second unit alone, as they
+/// crowd out the lemmas of a system that has no solution.
+fn are_tried(lent: &Lent, bounds: &Bounds) -> bool {
+    bounds.are_safe() || lent.spent % 2 == 0
+}
 
 /// The cubes that are tried in the lemma's place.
 fn cubes_for(lent: &Lent, part: &LemmaPart, bounds: &Bounds) -> Result<Vec<Cube>, Memory>
     requires goes_on { GoesOn lent.now }
-    requires learnt { IsLearnt lent.now part.now }
+    requires trying { IsTrying lent.now part.now }
 {
+    if !are_tried(lent, bounds) {
+        return Ok(Vec::new(lent.alloc));
+    }
     let obligation = lent.tree.obligation(part.target);
     bounds.cubes(lent.alloc, part.pred, obligation.point.as_slice())
 }
 
-/// A lemma of a cube in its place that one of the bounds excludes, if the frame below implies one. Else
-/// the lemma as it is.
-pub fn propose_bounds(
+/// Puts a lemma of a cube in its place that one of the bounds excludes, if the frame below implies one;
+/// whether it does.
+pub fn try_bounds(
     lent: &Lent,
-    part: LemmaPart,
+    tries: &mut Tries,
     bounds: &Bounds,
     nodes: u32,
-) -> Result<LemmaPart, Memory>
+) -> Result<bool, Memory>
     requires goes_on { GoesOn lent.now }
-    requires learnt { IsLearnt lent.now part }
     requires some { 0 < nodes }
-    ensures { IfOk result (IsInPlaceOf lent.now part) }
+    requires trying { IsTrying lent.now tries.old }
+    ensures { OnOk result (IsTriedOn lent.now tries.old tries.new) }
 {
-    let cubes = cubes_for(lent, &part, bounds)?;
-    let mut tries = Tries::new(lent.alloc, part);
-    try_each(lent, &mut tries, cubes.as_slice(), nodes)?;
-    Ok(tries.into_part())
+    let cubes = cubes_for(lent, tries.part(), bounds)?;
+    try_each(lent, tries, cubes.as_slice(), nodes)
 }

@@ -11,7 +11,7 @@ mod tidying;
 mod tightening;
 mod widening;
 
-pub use excluding::propose_bounds;
+pub use excluding::try_bounds;
 pub use proposing::propose;
 pub use tidying::tidy;
 pub use widening::widen;
