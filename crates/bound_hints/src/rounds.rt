@@ -144,7 +144,7 @@ impl Bounds {
     }
 
     /// Cubes to try as lemmas of the predicate for the point: those of bounds that the point breaks,
-    /// needed ones first, and one of the first literals of all of them.
+    /// needed ones first.
     pub fn cubes(&self, alloc: Global, pred: u32, point: &[i64]) -> Result<Vec<Cube>, Memory> {
         match &self.found {
             Some(found) => cubes_at(

@@ -10,8 +10,7 @@ use base::Memory;
 use bound_hints::Bounds;
 use cube_forms::Cube;
 use lemma_general::Tries;
-use std::alloc::Global;
-use step_rules::{LemmaPart, Lent};
+use step_rules::Lent;
 
 /// Whether bounds are tried now: those that don't refute each query at every second unit alone, as they
 /// crowd out the lemmas of a system that has no solution.
@@ -20,13 +19,14 @@ fn are_tried(lent: &Lent, bounds: &Bounds) -> bool {
 }
 
 /// The cubes that are tried in the lemma's place.
-fn cubes_for(lent: &Lent, part: &LemmaPart, bounds: &Bounds) -> Result<Vec<Cube>, Memory>
+fn cubes_for(lent: &Lent, tries: &Tries, bounds: &Bounds) -> Result<Vec<Cube>, Memory>
     requires goes_on { GoesOn lent.now }
-    requires trying { IsTrying lent.now part.now }
+    requires trying { IsTrying lent.now tries.now }
 {
     if !are_tried(lent, bounds) {
         return Ok(Vec::new(lent.alloc));
     }
+    let part = tries.part();
     let obligation = lent.tree.obligation(part.target);
     bounds.cubes(lent.alloc, part.pred, obligation.point.as_slice())
 }
@@ -44,6 +44,6 @@ pub fn try_bounds(
     requires trying { IsTrying lent.now tries.old }
     ensures { OnOk result (IsTriedOn lent.now tries.old tries.new) }
 {
-    let cubes = cubes_for(lent, tries.part(), bounds)?;
+    let cubes = cubes_for(lent, tries, bounds)?;
     try_each(lent, tries, cubes.as_slice(), nodes)
 }
