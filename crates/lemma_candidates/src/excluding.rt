@@ -12,10 +12,10 @@ use cube_forms::Cube;
 use lemma_general::Tries;
 use step_rules::Lent;
 
-/// Whether bounds are tried now: those that don't refute each query at every second unit alone, as they
+/// Whether bounds are tried now: those that don't refute each query at every third unit alone, as they
 /// crowd out the lemmas of a system that has no solution.
 fn are_tried(lent: &Lent, bounds: &Bounds) -> bool {
-    bounds.are_safe() || lent.spent % 2 == 0
+    bounds.are_safe() || lent.spent % 3 == 0
 }
 
 /// The cubes that are tried in the lemma's place.
