@@ -8,7 +8,7 @@ ghost use Rattle.book_loop.specs.machinery.Steps.{IsTaken};
 
 use crate::older::excluding;
 use base::Memory;
-use lemma_candidates::{Hints, propose, propose_alike, propose_hulls, tidy, widen};
+use lemma_candidates::{Hints, propose, propose_alike, propose_hulls, tidy, try_bounds, widen};
 use lemma_general::{Tries, generalise, raise};
 use step_rules::{LemmaPart, Lent, Step};
 
@@ -34,6 +34,21 @@ fn again(lent: &Lent, tries: &mut Tries, nodes: u32) -> Result<bool, Memory>
         Some(id) => tries.try_cube(lent, lent.frames.lemma(id).cube(), nodes),
         None => Ok(false),
     }
+}
+
+/// Whether a cube that is known holds at the part's level, and so stands in its place: that of an old
+/// lemma, or one that bounds exclude.
+fn ready(lent: &Lent, tries: &mut Tries, hints: &Hints, nodes: u32) -> Result<bool, Memory>
+    requires goes_on { GoesOn lent.now }
+    requires some { 0 < nodes }
+    requires trying { IsTrying lent.now tries.old }
+    ensures { OnOk result (IsTrying lent.now tries.new) }
+{
+    if again(lent, tries, nodes)? {
+        return Ok(true);
+    }
+    let shown = try_bounds(lent, tries, hints, nodes)?;
+    Ok(shown)
 }
 
 /// A more general lemma in its place: its literals are brought into their simplest form, what was guessed
@@ -82,7 +97,7 @@ fn general(lent: &Lent, part: LemmaPart, hints: &Hints, nodes: u32) -> Result<Le
     }
 }
 
-/// An old lemma in the lemma's place, if one holds at its level, and else a more general one.
+/// An old lemma or a bound in the lemma's place, if one holds at its level, and else a more general one.
 fn served(lent: &Lent, part: LemmaPart, hints: &Hints, nodes: u32) -> Result<LemmaPart, Memory>
     requires goes_on { GoesOn lent.now }
     requires some { 0 < nodes }
@@ -90,7 +105,7 @@ fn served(lent: &Lent, part: LemmaPart, hints: &Hints, nodes: u32) -> Result<Lem
     ensures { IfOk result (IsLearnt lent.now) }
 {
     let mut tries = Tries::new(lent.alloc, part);
-    let shown = again(lent, &mut tries, nodes)?;
+    let shown = ready(lent, &mut tries, hints, nodes)?;
     let part = tries.into_part();
     if shown {
         return Ok(part);

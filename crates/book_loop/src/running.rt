@@ -23,7 +23,7 @@ use std::alloc::Global;
 use step_rules::Step;
 
 /// The step of the next turn. A lemma is first made more general and raised.
-fn next_step(book: &Book, hints: &Hints, nodes: u32) -> Result<Step, Memory>
+fn next_step(book: &Book, hints: &mut Hints, nodes: u32) -> Result<Step, Memory>
     requires can_run { CanRun book.now.system }
     requires some { 0 < nodes }
     requires goes_on { end (state_of book.now) ≡ None }
@@ -32,6 +32,7 @@ fn next_step(book: &Book, hints: &Hints, nodes: u32) -> Result<Step, Memory>
 {
     let job = next_job(book);
     let lent = lend(book);
+    hints.renew(lent.alloc, lent.system, lent.level, lent.spent)?;
     let step = turn(&lent, job, nodes)?;
     let served = improved(&lent, step, hints, nodes)?;
     Ok(served)
@@ -52,7 +53,7 @@ fn serve(book: &mut Book, step: Step, nodes: u32) -> Result<(), Memory>
 
 /// One turn: a step for the obligation that is asked next, and the lifts that come with it. A journal
 /// has at most an entry for each unit, and one for each obligation that was stalled.
-fn advance(book: &mut Book, hints: &Hints, nodes: u32) -> Result<(), Memory>
+fn advance(book: &mut Book, hints: &mut Hints, nodes: u32) -> Result<(), Memory>
     requires can_run { CanRun book.old.system }
     requires some { 0 < nodes }
     requires goes_on { end (state_of book.old) ≡ None }
@@ -83,9 +84,9 @@ pub fn search(book: &mut Book, nodes: u32) -> Result<(), Memory>
     ensures own { AllOf (IsOwn nodes) book.new.journal }
     ensures narrow { IsNarrow (standing_of book.new) }
 {
-    let hints = hints_of(book.lend().alloc, book.system())?;
+    let mut hints = hints_of(book.lend().alloc, book.system())?;
     'turns: while !has_ended(book) {
-        advance(book, &hints, nodes)?;
+        advance(book, &mut hints, nodes)?;
     }
     Ok(())
 }

@@ -5,16 +5,18 @@ use crate::hinting::{Known, hulls};
 use crate::hulls::Hull;
 use crate::tightening::residue;
 use base::{Copied, Memory};
+use bound_hints::Bounds;
 use clause_form::System;
 use cube_forms::Cube;
 use lin_atoms::{Lit, WideStop, denied};
 use std::alloc::Global;
 
-/// What was found of the predicates of a system before its search: guesses, of which none has to be
-/// right.
+/// What was found of the predicates of a system, before its search and in rounds beside it: guesses, of
+/// which none has to be right.
 #[derive(Drop)]
 pub struct Hints {
     known: Vec<Known>,
+    bounds: Bounds,
 }
 
 /// What is guessed of the tuples of each predicate of the system: equations and residues that they have
@@ -22,6 +24,7 @@ pub struct Hints {
 pub fn hints_of(alloc: Global, sys: &System) -> Result<Hints, Memory> {
     Ok(Hints {
         known: hulls(alloc, sys)?,
+        bounds: Bounds::new(),
     })
 }
 
@@ -76,6 +79,23 @@ fn broken_at(alloc: Global, hull: &Hull, point: &[i64], whole: bool) -> Result<V
 }
 
 impl Hints {
+    /// Looks for bounds that hold together, where the level of the book and the units that were spent say
+    /// so.
+    pub fn renew(
+        &mut self,
+        alloc: Global,
+        sys: &System,
+        level: u32,
+        units: u32,
+    ) -> Result<(), Memory> {
+        self.bounds.renew(alloc, sys, level, units)
+    }
+
+    /// The bounds that were found so far.
+    pub(crate) fn bounds(&self) -> &Bounds {
+        &self.bounds
+    }
+
     /// Cubes that hold the point, and in which no tuple of the predicate lies as far as is known: by the
     /// equations, and by the residues where these are asked for, too.
     pub fn cubes(

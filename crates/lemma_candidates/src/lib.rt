@@ -3,6 +3,7 @@
 #![tactic(auto)]
 
 mod bounds;
+mod excluding;
 mod hinting;
 mod hints;
 mod hull_queries;
@@ -16,6 +17,7 @@ mod tightening;
 mod values;
 mod widening;
 
+pub use excluding::try_bounds;
 pub use hints::{Hints, hints_of};
 pub use proposing::{propose, propose_alike, propose_hulls};
 pub use tidying::tidy;

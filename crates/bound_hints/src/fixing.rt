@@ -1,0 +1,431 @@
+//! Bounds are raised until each clause keeps all of them.
+
+use crate::arms::Arm;
+use crate::asking::{Answer, visit};
+use crate::bound::{Bound, Limit, Memo, Use, stands};
+use crate::conditions::thresholds;
+use crate::table::{About, Table};
+use base::Memory;
+use clause_form::{Atom, Clause, System};
+use cube_forms::{Lemma, Tuple};
+use lin_atoms::{Lit, WideStop};
+use std::alloc::Global;
+
+/// From which rise on a bound goes to a threshold.
+const TO_THRESHOLDS: u32 = 4;
+
+/// The rise at which a bound is given up.
+const MOST_RISES: u32 = 30;
+
+/// How often all clauses are gone through.
+const MOST_PASSES: u32 = 200;
+
+/// Whether a tuple of each atom's predicate was met.
+pub(crate) fn are_reached(reached: &[bool], atoms: &[Atom]) -> bool {
+    for atom in atoms {
+        match reached.get(atom.pred as usize) {
+            Some(true) => {}
+            _ => return false,
+        }
+    }
+    true
+}
+
+/// The least of the thresholds that isn't below the value.
+fn least_from(thresholds: &[i64], value: i64) -> Option<i64> {
+    let mut least = None;
+    for threshold in thresholds {
+        if *threshold >= value {
+            least = match least {
+                Some(other) => {
+                    if *threshold < other {
+                        Some(*threshold)
+                    } else {
+                        Some(other)
+                    }
+                }
+                None => Some(*threshold),
+            };
+        }
+    }
+    least
+}
+
+/// The limit of a bound that was asked for, after one more rise.
+fn risen(
+    alloc: Global,
+    about: &[About],
+    bound: &Bound,
+    wanted: Limit,
+    rises: u32,
+) -> Result<Limit, Memory> {
+    let value = match wanted {
+        Limit::At(value) => value,
+        other => return Ok(other),
+    };
+    if rises < TO_THRESHOLDS {
+        return Ok(wanted);
+    }
+    if rises >= MOST_RISES {
+        return Ok(Limit::Top);
+    }
+    match about.get(bound.pred as usize) {
+        Some(about) => {
+            let near = thresholds(alloc, about.guarded.as_slice(), &bound.part)?;
+            match least_from(near.as_slice(), value) {
+                Some(limit) => Ok(Limit::At(limit)),
+                None => Ok(Limit::Top),
+            }
+        }
+        None => Ok(Limit::Top),
+    }
+}
+
+/// Raises one bound, if the tuple breaks it.
+fn raise_one(
+    alloc: Global,
+    about: &[About],
+    bound: &mut Bound,
+    tuple: &[i64],
+    is_asked: bool,
+) -> Result<(), Memory> {
+    let wanted = match bound.wanted(tuple) {
+        Some(wanted) => wanted,
+        None => return Ok(()),
+    };
+    if !is_asked {
+        return bound.put(alloc, wanted);
+    }
+    let rises = bound.rises.saturating_add(1);
+    bound.rises = rises;
+    let limit = risen(alloc, about, bound, wanted, rises)?;
+    bound.put(alloc, limit)
+}
+
+/// Raises all bounds of the predicate that the tuple breaks.
+fn raise(
+    alloc: Global,
+    table: &mut Table,
+    pred: u32,
+    tuple: &[i64],
+    asked: Option<usize>,
+) -> Result<(), Memory> {
+    if let Some(place) = table.reached.as_mut_slice().get_mut(pred as usize) {
+        *place = true;
+    }
+    let about = table.about.as_slice();
+    for (at, bound) in table.bounds.iter_mut().enumerate() {
+        if bound.pred == pred {
+            raise_one(alloc, about, bound, tuple, asked == Some(at))?;
+        }
+    }
+    Ok(())
+}
+
+/// Whether the bounds are as they were.
+fn are_unchanged(bounds: &[Bound], uses: &[Use]) -> bool {
+    for one in uses {
+        match bounds.get(one.bound) {
+            Some(bound) => {
+                if bound.version != one.version {
+                    return false;
+                }
+            }
+            None => return false,
+        }
+    }
+    true
+}
+
+/// What the arm refuted the bound with last.
+fn memo_of(bound: &Bound, arm: usize) -> Option<&Memo> {
+    for memo in bound.memos.as_slice() {
+        if memo.arm == arm {
+            return Some(memo);
+        }
+    }
+    None
+}
+
+/// Whether the arm refuted the bound as it is, with bounds that haven't changed.
+fn is_kept(bounds: &[Bound], bound: &Bound, arm: usize) -> bool {
+    match memo_of(bound, arm) {
+        Some(memo) => {
+            memo.version == bound.version && are_unchanged(bounds, memo.uses.as_slice())
+        }
+        None => false,
+    }
+}
+
+/// The bounds that the arm refuted the bound with last, as they are now.
+fn first_uses(
+    alloc: Global,
+    bounds: &[Bound],
+    bound: &Bound,
+    arm: usize,
+) -> Result<Vec<Use>, Memory> {
+    let mut made = Vec::new(alloc);
+    let memo = match memo_of(bound, arm) {
+        Some(memo) => memo,
+        None => return Ok(made),
+    };
+    for one in memo.uses.as_slice() {
+        if let Some(used) = bounds.get(one.bound) {
+            if stands(bounds, used) {
+                made.push(Use {
+                    bound: one.bound,
+                    atom: one.atom,
+                    version: used.version,
+                })?;
+            }
+        }
+    }
+    Ok(made)
+}
+
+/// The memos without that of the arm.
+fn forgotten(alloc: Global, memos: Vec<Memo>, arm: usize) -> Result<Vec<Memo>, Memory> {
+    let mut made = Vec::new(alloc);
+    for memo in memos {
+        if memo.arm != arm {
+            made.push(memo)?;
+        }
+    }
+    Ok(made)
+}
+
+/// Remembers what the arm refuted the bound with.
+fn remember(alloc: Global, bound: &mut Bound, arm: usize, uses: Vec<Use>) -> Result<(), Memory> {
+    let memos = std::mem::replace(&mut bound.memos, Vec::new(alloc));
+    let mut memos = forgotten(alloc, memos, arm)?;
+    memos.push(Memo {
+        arm,
+        version: bound.version,
+        uses,
+    })?;
+    bound.memos = memos;
+    Ok(())
+}
+
+/// What a lemma denies, at arguments.
+fn goal_of(alloc: Global, lemma: &Lemma, args: &[u32]) -> Result<Option<Vec<Lit>>, Memory> {
+    match lemma.cube().at(alloc, args) {
+        Ok(lits) => {
+            let goal = crate::forms::copied(alloc, lits.as_slice())?;
+            Ok(Some(goal))
+        }
+        Err(WideStop::Wide) => Ok(None),
+        Err(WideStop::Memory) => Err(Memory),
+    }
+}
+
+/// Asks the arm whether it keeps the bound.
+fn ask_of(
+    alloc: Global,
+    bounds: &[Bound],
+    clause: &Clause,
+    arm: (usize, &Arm),
+    head: &Atom,
+    bound: &Bound,
+    left: &mut u32,
+) -> Result<Answer, Memory> {
+    let lemma = match &bound.lemma {
+        Some(lemma) => lemma,
+        None => return Ok(Answer::GivenUp),
+    };
+    let goal = match goal_of(alloc, lemma, head.args.as_slice())? {
+        Some(goal) => goal,
+        None => return Ok(Answer::GivenUp),
+    };
+    let first = first_uses(alloc, bounds, bound, arm.0)?;
+    visit(alloc, clause, arm.1, bounds, goal.as_slice(), first, left)
+}
+
+/// What becomes of a bound that was asked for; whether something changed.
+fn taken(
+    alloc: Global,
+    table: &mut Table,
+    number: usize,
+    head: &Atom,
+    at: usize,
+    answer: Answer,
+) -> Result<bool, Memory> {
+    match answer {
+        Answer::Met(point) => {
+            let tuple = Tuple::at(alloc, point.as_slice(), head.args.as_slice())?;
+            raise(alloc, table, head.pred, tuple.as_slice(), Some(at))?;
+            Ok(true)
+        }
+        Answer::Refuted(uses) => {
+            if let Some(bound) = table.bounds.as_mut_slice().get_mut(at) {
+                remember(alloc, bound, number, uses)?;
+            }
+            Ok(false)
+        }
+        Answer::GivenUp => {
+            if let Some(bound) = table.bounds.as_mut_slice().get_mut(at) {
+                bound.put(alloc, Limit::Top)?;
+            }
+            Ok(true)
+        }
+    }
+}
+
+/// Asks the arm once about a bound; whether something changed.
+fn ask_once(
+    alloc: Global,
+    table: &mut Table,
+    clause: &Clause,
+    number: usize,
+    head: &Atom,
+    at: usize,
+    left: &mut u32,
+) -> Result<bool, Memory> {
+    let bounds = table.bounds.as_slice();
+    let answer = match (bounds.get(at), table.arms.as_slice().get(number)) {
+        (Some(bound), Some(arm)) => {
+            if bound.pred != head.pred || !stands(bounds, bound) || is_kept(bounds, bound, number) {
+                return Ok(false);
+            }
+            ask_of(alloc, bounds, clause, (number, arm), head, bound, left)?
+        }
+        _ => return Ok(false),
+    };
+    taken(alloc, table, number, head, at, answer)
+}
+
+/// Asks the arm about a bound until it keeps it; whether something changed.
+fn settle_one(
+    alloc: Global,
+    table: &mut Table,
+    clause: &Clause,
+    number: usize,
+    head: &Atom,
+    at: usize,
+    left: &mut u32,
+) -> Result<bool, Memory> {
+    for turn in 0..MOST_RISES {
+        if *left == 0 || !ask_once(alloc, table, clause, number, head, at, left)? {
+            return Ok(turn > 0);
+        }
+    }
+    Ok(true)
+}
+
+/// Asks the arm about each bound of its head; whether something changed.
+fn settle_all(
+    alloc: Global,
+    table: &mut Table,
+    clause: &Clause,
+    number: usize,
+    head: &Atom,
+    left: &mut u32,
+) -> Result<bool, Memory> {
+    let mut changed = false;
+    for at in 0..table.bounds.len() {
+        if settle_one(alloc, table, clause, number, head, at, left)? {
+            changed = true;
+        }
+    }
+    Ok(changed)
+}
+
+/// Asks the arm for any tuple of its head; whether there is one.
+fn reach(
+    alloc: Global,
+    table: &mut Table,
+    clause: &Clause,
+    number: usize,
+    head: &Atom,
+    left: &mut u32,
+) -> Result<bool, Memory> {
+    let bounds = table.bounds.as_slice();
+    let answer = match table.arms.as_slice().get(number) {
+        Some(arm) => {
+            let first = Vec::new(alloc);
+            visit(alloc, clause, arm, bounds, &[], first, left)?
+        }
+        None => return Ok(false),
+    };
+    match answer {
+        Answer::Met(point) => {
+            let tuple = Tuple::at(alloc, point.as_slice(), head.args.as_slice())?;
+            raise(alloc, table, head.pred, tuple.as_slice(), None)?;
+            Ok(true)
+        }
+        _ => Ok(false),
+    }
+}
+
+/// Lets one arm raise the bounds of its head; whether something changed.
+fn settle(
+    alloc: Global,
+    table: &mut Table,
+    clause: &Clause,
+    number: usize,
+    head: &Atom,
+    left: &mut u32,
+) -> Result<bool, Memory> {
+    if !are_reached(table.reached.as_slice(), clause.atoms.as_slice()) {
+        return Ok(false);
+    }
+    let mut changed = false;
+    if let Some(false) = table.reached.as_slice().get(head.pred as usize) {
+        if !reach(alloc, table, clause, number, head, left)? {
+            return Ok(false);
+        }
+        changed = true;
+    }
+    let more = settle_all(alloc, table, clause, number, head, left)?;
+    Ok(changed || more)
+}
+
+fn pass_one(
+    alloc: Global,
+    table: &mut Table,
+    sys: &System,
+    number: usize,
+    left: &mut u32,
+) -> Result<bool, Memory> {
+    let at = match table.arms.as_slice().get(number) {
+        Some(arm) => arm.clause,
+        None => return Ok(false),
+    };
+    match sys.clauses().get(at) {
+        Some(clause) => match &clause.head {
+            Some(head) => settle(alloc, table, clause, number, head, left),
+            None => Ok(false),
+        },
+        None => Ok(false),
+    }
+}
+
+/// Goes through all arms once; whether something changed.
+fn pass(alloc: Global, table: &mut Table, sys: &System, left: &mut u32) -> Result<bool, Memory> {
+    let mut changed = false;
+    for number in 0..table.arms.len() {
+        if pass_one(alloc, table, sys, number, left)? {
+            changed = true;
+        }
+    }
+    Ok(changed)
+}
+
+/// Raises bounds until each clause keeps all of them; whether it came to that.
+pub(crate) fn fix(
+    alloc: Global,
+    table: &mut Table,
+    sys: &System,
+    left: &mut u32,
+) -> Result<bool, Memory> {
+    for _ in 0..MOST_PASSES {
+        let changed = pass(alloc, table, sys, left)?;
+        if *left == 0 {
+            return Ok(false);
+        }
+        if !changed {
+            return Ok(true);
+        }
+    }
+    Ok(false)
+}

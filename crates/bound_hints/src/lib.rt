@@ -1,0 +1,20 @@
+//! Upper bounds of linear parts of a predicate's places, plain or under conditions, that hold together
+//! as far as a system's clauses were asked: guesses for lemmas, of which none has to be right.
+#![tactic(auto)]
+
+mod arms;
+mod asking;
+mod bound;
+mod candidates;
+mod conditions;
+mod fixing;
+mod forms;
+mod increments;
+mod needing;
+mod parts;
+mod places;
+mod rounds;
+mod table;
+
+pub use candidates::Needed;
+pub use rounds::Bounds;

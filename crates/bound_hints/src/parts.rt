@@ -1,0 +1,188 @@
+//! Linear parts over the places of a predicate, of which bounds are looked for.
+
+use crate::forms::{has_lin, lin_of, part_of};
+use crate::increments::Increment;
+use crate::places::Guarded;
+use base::{Copied, Memory};
+use lin_atoms::{Lin, Lit};
+use std::alloc::Global;
+
+/// How many parts the literals of guards give.
+const MOST_OF_GUARDS: usize = 80;
+
+/// How many parts increments give beyond.
+const MOST_OF_INCREMENTS: usize = 130;
+
+/// How many parts there are.
+const MOST_PARTS: usize = 250;
+
+/// Of how many places all pairs are parts.
+const MOST_IN_PAIRS: usize = 8;
+
+/// The greatest coefficient of a part.
+const GREATEST: i64 = 1_000_000_000;
+
+fn push_new(parts: &mut Vec<Lin>, part: Lin, most: usize) -> Result<(), Memory> {
+    if parts.len() < most && !has_lin(parts.as_slice(), &part) {
+        parts.push(part)?;
+    }
+    Ok(())
+}
+
+/// Adds the form's part, and its negative.
+fn push_both(alloc: Global, parts: &mut Vec<Lin>, lin: &Lin, most: usize) -> Result<(), Memory> {
+    if let Some(part) = part_of(alloc, lin)? {
+        let other = part.negated(alloc)?;
+        push_new(parts, part, most)?;
+        push_new(parts, other, most)?;
+    }
+    Ok(())
+}
+
+/// Adds the part of these terms, of which none is 0, and its negative.
+fn push_terms(
+    alloc: Global,
+    parts: &mut Vec<Lin>,
+    terms: &[(u32, i64)],
+    most: usize,
+) -> Result<(), Memory> {
+    let mut kept = Vec::new(alloc);
+    for term in terms {
+        kept.push(*term)?;
+    }
+    match Lin::new(kept, 0) {
+        Ok(lin) => push_both(alloc, parts, &lin, most),
+        Err(_) => Ok(()),
+    }
+}
+
+fn push_units(alloc: Global, parts: &mut Vec<Lin>, places: u32) -> Result<(), Memory> {
+    for place in 0..places {
+        push_terms(alloc, parts, &[(place, 1)], MOST_PARTS)?;
+    }
+    Ok(())
+}
+
+fn push_lits(alloc: Global, parts: &mut Vec<Lin>, lits: &[Lit]) -> Result<(), Memory> {
+    for lit in lits {
+        match lit {
+            Lit::Le(_) => push_both(alloc, parts, lin_of(lit), MOST_OF_GUARDS)?,
+            Lit::Eq(_) => push_both(alloc, parts, lin_of(lit), MOST_OF_GUARDS)?,
+            _ => {}
+        }
+    }
+    Ok(())
+}
+
+fn push_guards(alloc: Global, parts: &mut Vec<Lin>, guarded: &[Guarded]) -> Result<(), Memory> {
+    for of in guarded {
+        push_lits(alloc, parts, of.lits.as_slice())?;
+    }
+    Ok(())
+}
+
+fn is_step(step: i64) -> bool {
+    step != 0 && step <= GREATEST && step >= -GREATEST
+}
+
+/// Adds the part of two places that an increment leaves as it is.
+fn push_kept(
+    alloc: Global,
+    parts: &mut Vec<Lin>,
+    first: (u32, i64),
+    second: (u32, i64),
+) -> Result<(), Memory> {
+    if !is_step(first.1) || !is_step(second.1) {
+        return Ok(());
+    }
+    let own = second.1.saturating_neg();
+    push_terms(
+        alloc,
+        parts,
+        &[(first.0, own), (second.0, first.1)],
+        MOST_OF_INCREMENTS,
+    )
+}
+
+/// Adds the parts of this place and of later ones.
+fn push_with(
+    alloc: Global,
+    parts: &mut Vec<Lin>,
+    steps: &[Option<i64>],
+    first: (u32, i64),
+) -> Result<(), Memory> {
+    for (place, step) in steps.iter().enumerate() {
+        match (u32::try_from(place), step) {
+            (Ok(place), Some(step)) => {
+                if first.0 < place {
+                    push_kept(alloc, parts, first, (place, *step))?;
+                }
+            }
+            _ => {}
+        }
+    }
+    Ok(())
+}
+
+fn push_increment(
+    alloc: Global,
+    parts: &mut Vec<Lin>,
+    steps: &[Option<i64>],
+) -> Result<(), Memory> {
+    for (place, step) in steps.iter().enumerate() {
+        match (u32::try_from(place), step) {
+            (Ok(place), Some(step)) => push_with(alloc, parts, steps, (place, *step))?,
+            _ => {}
+        }
+    }
+    Ok(())
+}
+
+fn push_increments(
+    alloc: Global,
+    parts: &mut Vec<Lin>,
+    increments: &[Increment],
+) -> Result<(), Memory> {
+    for increment in increments {
+        push_increment(alloc, parts, increment.steps.as_slice())?;
+    }
+    Ok(())
+}
+
+fn push_pairs(alloc: Global, parts: &mut Vec<Lin>, places: u32, first: u32) -> Result<(), Memory> {
+    for second in 0..places {
+        if first < second {
+            push_terms(alloc, parts, &[(first, 1), (second, -1)], MOST_PARTS)?;
+            push_terms(alloc, parts, &[(first, 1), (second, 1)], MOST_PARTS)?;
+        }
+    }
+    Ok(())
+}
+
+fn push_all_pairs(alloc: Global, parts: &mut Vec<Lin>, places: u32) -> Result<(), Memory> {
+    for first in 0..places {
+        push_pairs(alloc, parts, places, first)?;
+    }
+    Ok(())
+}
+
+/// The parts of a predicate with so many places.
+pub(crate) fn parts_of(
+    alloc: Global,
+    guarded: &[Guarded],
+    increments: &[Increment],
+    places: usize,
+) -> Result<Vec<Lin>, Memory> {
+    let mut parts = Vec::new(alloc);
+    let count = match u32::try_from(places) {
+        Ok(count) => count,
+        Err(_) => 0,
+    };
+    push_units(alloc, &mut parts, count)?;
+    push_guards(alloc, &mut parts, guarded)?;
+    push_increments(alloc, &mut parts, increments)?;
+    if places <= MOST_IN_PAIRS {
+        push_all_pairs(alloc, &mut parts, count)?;
+    }
+    Ok(parts)
+}

@@ -1,0 +1,158 @@
+//! When bounds are looked for, and what was found.
+
+use crate::bound::Bound;
+use crate::candidates::{Needed, cubes_at, needed_of};
+use crate::fixing::fix;
+use crate::needing::{Needs, needs_of};
+use crate::table::{Size, Table, table_of};
+use base::Memory;
+use clause_form::System;
+use cube_forms::Cube;
+use std::alloc::Global;
+
+/// The work that a round may take for each unit that was spent.
+const WORK_OF_A_UNIT: u32 = 12;
+
+/// The least that a round may take.
+const LEAST_WORK: u32 = 500;
+
+/// The most.
+const MOST_WORK: u32 = 60_000;
+
+/// What was found in a round.
+#[derive(Drop)]
+struct Found {
+    bounds: Vec<Bound>,
+    needs: Needs,
+}
+
+/// Bounds of a system's predicates that were found so far: guesses, of which none has to be right.
+#[derive(Drop)]
+pub struct Bounds {
+    found: Option<Found>,
+    /// The next round.
+    round: u32,
+    /// How many units have to be spent before it.
+    wait: u32,
+}
+
+/// The level of the book from which on the round comes.
+fn level_of(round: u32) -> u32 {
+    match round {
+        0 => 4,
+        1 => 10,
+        _ => 20,
+    }
+}
+
+fn size_of(round: u32) -> Size {
+    match round {
+        0 => Size {
+            conditions: 6,
+            bounds: 250,
+            is_whole: false,
+        },
+        1 => Size {
+            conditions: 12,
+            bounds: 500,
+            is_whole: true,
+        },
+        _ => Size {
+            conditions: 24,
+            bounds: 1_000,
+            is_whole: true,
+        },
+    }
+}
+
+/// How much work a round may take.
+fn work_of(units: u32) -> u32 {
+    units
+        .saturating_mul(WORK_OF_A_UNIT)
+        .max(LEAST_WORK)
+        .min(MOST_WORK)
+}
+
+/// What a round over the table finds, if it comes to an end.
+fn found_in(alloc: Global, table: Table, sys: &System, left: u32) -> Result<Option<Found>, Memory> {
+    let mut table = table;
+    let mut left = left;
+    if !fix(alloc, &mut table, sys, &mut left)? {
+        return Ok(None);
+    }
+    let needs = needs_of(alloc, &table, sys, &mut left)?;
+    Ok(Some(Found {
+        bounds: table.bounds,
+        needs,
+    }))
+}
+
+fn round_of(alloc: Global, sys: &System, size: Size, left: u32) -> Result<Option<Found>, Memory> {
+    match table_of(alloc, sys, size)? {
+        Some(table) => found_in(alloc, table, sys, left),
+        None => Ok(None),
+    }
+}
+
+impl Bounds {
+    /// Nothing was found yet.
+    pub fn new() -> Bounds {
+        Bounds {
+            found: None,
+            round: 0,
+            wait: 0,
+        }
+    }
+
+    /// Whether the bounds refute each query, as far as is known.
+    pub fn are_safe(&self) -> bool {
+        match &self.found {
+            Some(found) => found.needs.is_safe,
+            None => false,
+        }
+    }
+
+    /// Looks for more bounds, where the level of the book and the units that were spent say so. Not
+    /// more work is spent than so many units ask for.
+    pub fn renew(
+        &mut self,
+        alloc: Global,
+        sys: &System,
+        level: u32,
+        units: u32,
+    ) -> Result<(), Memory> {
+        let is_due = level >= level_of(self.round) && units >= self.wait && self.round < 3;
+        if !is_due || self.are_safe() {
+            return Ok(());
+        }
+        match round_of(alloc, sys, size_of(self.round), work_of(units))? {
+            Some(found) => {
+                self.found = Some(found);
+                self.round = self.round.saturating_add(1);
+                self.wait = units.saturating_mul(2);
+            }
+            None => {
+                self.wait = units.saturating_mul(3).max(1);
+            }
+        }
+        Ok(())
+    }
+
+    /// The cubes that needed bounds exclude, those that rest on nothing first; none where the bounds
+    /// don't refute each query.
+    pub fn needed(&self, alloc: Global) -> Result<Vec<Needed>, Memory> {
+        match &self.found {
+            Some(found) => needed_of(alloc, found.bounds.as_slice(), &found.needs),
+            None => Ok(Vec::new(alloc)),
+        }
+    }
+
+    /// Cubes to try as lemmas of the predicate for the point: those of bounds that the point breaks,
+    /// needed ones first.
+    pub fn cubes(&self, alloc: Global, pred: u32, point: &[i64]) -> Result<Vec<Cube>, Memory> {
+        match &self.found {
+            Some(found) => cubes_at(alloc, found.bounds.as_slice(), &found.needs, pred, point),
+            None => Ok(Vec::new(alloc)),
+        }
+    }
+}

@@ -1,0 +1,175 @@
+//! The bounds that are looked for.
+
+use crate::arms::{Arm, Way, arms_of};
+use crate::bound::{Bound, new_bound};
+use crate::conditions::conditions;
+use crate::forms::{copied, part_of};
+use crate::increments::increments;
+use crate::parts::parts_of;
+use crate::places::{Guarded, guards_of};
+use base::{Copied, Memory, Same};
+use clause_form::System;
+use lin_atoms::{Lin, Lit};
+use std::alloc::Global;
+
+/// How many places a predicate has at most, for bounds.
+const MOST_PLACES: usize = 30;
+
+/// How many bounds there are in all.
+const MOST_BOUNDS: usize = 4_000;
+
+/// From how many places on a predicate has no conditions.
+const MANY_PLACES: usize = 9;
+
+/// How much is looked for.
+#[derive(Clone, Copy)]
+pub(crate) struct Size {
+    /// How many conditions a predicate has.
+    pub(crate) conditions: usize,
+    /// How many bounds.
+    pub(crate) bounds: usize,
+    /// Whether predicates with many places have conditions, too.
+    pub(crate) is_whole: bool,
+}
+
+/// The literals on one predicate.
+#[derive(Drop)]
+pub(crate) struct About {
+    pub(crate) guarded: Vec<Guarded>,
+}
+
+/// All bounds of a system, and what they are made of.
+#[derive(Drop)]
+pub(crate) struct Table {
+    pub(crate) arms: Vec<Arm>,
+    pub(crate) bounds: Vec<Bound>,
+    /// What guards say of each predicate.
+    pub(crate) about: Vec<About>,
+    /// Whether a tuple of each predicate was met.
+    pub(crate) reached: Vec<bool>,
+}
+
+/// Adds the bound of each part, without a condition.
+fn push_plain(
+    alloc: Global,
+    bounds: &mut Vec<Bound>,
+    pred: u32,
+    parts: &[Lin],
+) -> Result<(), Memory> {
+    for part in parts {
+        let condition = Vec::new(alloc);
+        bounds.push(new_bound(alloc, pred, condition, part.copy(alloc)?, None)?)?;
+    }
+    Ok(())
+}
+
+/// Whether the condition is a bound of this part.
+fn is_about(alloc: Global, condition: &[Lit], part: &Lin) -> Result<bool, Memory> {
+    let lin = match condition {
+        [Lit::Le(lin)] => lin,
+        _ => return Ok(false),
+    };
+    match part_of(alloc, lin)? {
+        Some(own) => Ok(own.equals(part)),
+        None => Ok(false),
+    }
+}
+
+/// Adds the bound of each part under the condition.
+fn push_under(
+    alloc: Global,
+    bounds: &mut Vec<Bound>,
+    pred: u32,
+    condition: &[Lit],
+    parts: &[Lin],
+    first: usize,
+    most: usize,
+) -> Result<(), Memory> {
+    for (at, part) in parts.iter().enumerate() {
+        if bounds.len() < most && !is_about(alloc, condition, part)? {
+            let plain = Some(first.saturating_add(at));
+            let own = copied(alloc, condition)?;
+            bounds.push(new_bound(alloc, pred, own, part.copy(alloc)?, plain)?)?;
+        }
+    }
+    Ok(())
+}
+
+/// Adds the bounds under each condition.
+fn push_conditional(
+    alloc: Global,
+    bounds: &mut Vec<Bound>,
+    pred: u32,
+    conditions: &[Way],
+    parts: &[Lin],
+    first: usize,
+    most: usize,
+) -> Result<(), Memory> {
+    for way in conditions {
+        let condition = way.lits.as_slice();
+        if bounds.len() < most {
+            let none = Lin::of_constant(alloc, 0);
+            let own = copied(alloc, condition)?;
+            bounds.push(new_bound(alloc, pred, own, none, None)?)?;
+            push_under(alloc, bounds, pred, condition, parts, first, most)?;
+        }
+    }
+    Ok(())
+}
+
+/// Adds the bounds of a predicate, and what guards say of it.
+fn push_pred(
+    alloc: Global,
+    table: &mut Table,
+    sys: &System,
+    pred: u32,
+    places: usize,
+    size: Size,
+) -> Result<(), Memory> {
+    let own = guards_of(alloc, sys, table.arms.as_slice(), pred)?;
+    if places > 0 && places <= MOST_PLACES && table.bounds.len() < MOST_BOUNDS {
+        let steps = increments(alloc, sys, table.arms.as_slice(), pred)?;
+        let parts = parts_of(alloc, own.as_slice(), steps.as_slice(), places)?;
+        let first = table.bounds.len();
+        push_plain(alloc, &mut table.bounds, pred, parts.as_slice())?;
+        let count = if places < MANY_PLACES || size.is_whole {
+            size.conditions
+        } else {
+            0
+        };
+        let under = conditions(alloc, own.as_slice(), count)?;
+        push_conditional(
+            alloc,
+            &mut table.bounds,
+            pred,
+            under.as_slice(),
+            parts.as_slice(),
+            first,
+            first.saturating_add(size.bounds),
+        )?;
+    }
+    table.about.push(About { guarded: own })?;
+    table.reached.push(false)?;
+    Ok(())
+}
+
+/// The bounds that are looked for in a system, none of which was asked for yet; none where it has too many
+/// ways through its clauses.
+pub(crate) fn table_of(alloc: Global, sys: &System, size: Size) -> Result<Option<Table>, Memory> {
+    let arms = match arms_of(alloc, sys)? {
+        Some(arms) => arms,
+        None => return Ok(None),
+    };
+    let mut table = Table {
+        arms,
+        bounds: Vec::new(alloc),
+        about: Vec::new(alloc),
+        reached: Vec::new(alloc),
+    };
+    for (pred, sorts) in sys.preds().iter().enumerate() {
+        if let Ok(pred) = u32::try_from(pred) {
+            push_pred(alloc, &mut table, sys, pred, sorts.len(), size)?;
+        }
+    }
+    Ok(Some(table))
+}
