@@ -11,13 +11,19 @@ use cube_forms::Cube;
 use std::alloc::Global;
 
 /// The work that a round may take for each unit that was spent.
-const WORK_OF_A_UNIT: u32 = 12;
+const WORK_OF_A_UNIT: u32 = 8;
 
-/// The least that a round may take.
-const LEAST_WORK: u32 = 500;
+/// The least that the first round may take.
+const FIRST_WORK: u32 = 1_500;
+
+/// The least that another may take.
+const LEAST_WORK: u32 = 700;
 
 /// The most.
 const MOST_WORK: u32 = 60_000;
+
+/// How many rounds there are.
+const ROUNDS: u32 = 4;
 
 /// What was found in a round.
 #[derive(Drop)]
@@ -40,36 +46,32 @@ pub struct Bounds {
 fn level_of(round: u32) -> u32 {
     match round {
         0 => 4,
-        1 => 10,
-        _ => 20,
+        1 => 6,
+        2 => 12,
+        _ => 24,
     }
 }
 
 fn size_of(round: u32) -> Size {
-    match round {
-        0 => Size {
-            conditions: 6,
-            bounds: 250,
-            is_whole: false,
-        },
-        1 => Size {
-            conditions: 12,
-            bounds: 500,
-            is_whole: true,
-        },
-        _ => Size {
-            conditions: 24,
-            bounds: 1_000,
-            is_whole: true,
-        },
+    let (conditions, bounds) = match round {
+        0 => (0, 150),
+        1 => (6, 250),
+        2 => (12, 500),
+        _ => (24, 1_000),
+    };
+    Size {
+        conditions,
+        bounds,
+        is_whole: round > 1,
     }
 }
 
 /// How much work a round may take.
-fn work_of(units: u32) -> u32 {
+fn work_of(round: u32, units: u32) -> u32 {
+    let least = if round == 0 { FIRST_WORK } else { LEAST_WORK };
     units
         .saturating_mul(WORK_OF_A_UNIT)
-        .max(LEAST_WORK)
+        .max(least)
         .min(MOST_WORK)
 }
 
@@ -80,7 +82,7 @@ fn found_in(alloc: Global, table: Table, sys: &System, left: u32) -> Result<Opti
     if !fix(alloc, &mut table, sys, &mut left)? {
         return Ok(None);
     }
-    let needs = needs_of(alloc, &table, sys, &mut left)?;
+    let needs = needs_of(alloc, &mut table, sys, &mut left)?;
     Ok(Some(Found {
         bounds: table.bounds,
         needs,
@@ -121,11 +123,11 @@ impl Bounds {
         level: u32,
         units: u32,
     ) -> Result<(), Memory> {
-        let is_due = level >= level_of(self.round) && units >= self.wait && self.round < 3;
+        let is_due = level >= level_of(self.round) && units >= self.wait && self.round < ROUNDS;
         if !is_due || self.are_safe() {
             return Ok(());
         }
-        match round_of(alloc, sys, size_of(self.round), work_of(units))? {
+        match round_of(alloc, sys, size_of(self.round), work_of(self.round, units))? {
             Some(found) => {
                 self.found = Some(found);
                 self.round = self.round.saturating_add(1);
