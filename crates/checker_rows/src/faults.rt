@@ -31,7 +31,7 @@ fn a_text_that_spells_no_answer_is_wrong_at_its_first_fault(rt: HostRuntime) -> 
             "wrong at byte 69",
         ),
         ("unsat (derivation (step 1 1 () (p 0)))", "wrong at byte 18"),
-        ("unsat (derivation", "wrong at byte 17"),
+        ("unsat (derivation", "wrong at byte 6"),
     ];
     for (answer, awaited) in table {
         check(&rt, a, TWO, answer, 1, awaited);
