@@ -8,7 +8,7 @@ ghost use Rattle.book_loop.specs.machinery.Steps.{IsTaken};
 
 use crate::older::excluding;
 use base::Memory;
-use lemma_candidates::{Hints, propose, propose_hulls, tidy, widen};
+use lemma_candidates::{Hints, propose, propose_alike, propose_hulls, tidy, widen};
 use lemma_general::{Tries, generalise, raise};
 use step_rules::{LemmaPart, Lent, Step};
 
@@ -50,7 +50,20 @@ fn guessed(lent: &Lent, part: LemmaPart, hints: &Hints, nodes: u32) -> Result<Le
     Ok(widened)
 }
 
-/// A more general lemma in its place. At low levels of the book literals are dropped, and nothing else.
+/// A more general lemma in its place: of what was guessed of the predicate only what is of the cube's
+/// kind is tried, and literals that it needn't have are dropped.
+fn plain(lent: &Lent, part: LemmaPart, hints: &Hints, nodes: u32) -> Result<LemmaPart, Memory>
+    requires goes_on { GoesOn lent.now }
+    requires some { 0 < nodes }
+    requires learnt { IsLearnt lent.now part }
+    ensures { IfOk result (IsLearnt lent.now) }
+{
+    let hulled = propose_alike(lent, part, hints, nodes)?;
+    let general = generalise(lent, hulled, nodes)?;
+    Ok(general)
+}
+
+/// A more general lemma in its place. At low levels of the book less is tried.
 fn general(lent: &Lent, part: LemmaPart, hints: &Hints, nodes: u32) -> Result<LemmaPart, Memory>
     requires goes_on { GoesOn lent.now }
     requires some { 0 < nodes }
@@ -58,7 +71,7 @@ fn general(lent: &Lent, part: LemmaPart, hints: &Hints, nodes: u32) -> Result<Le
     ensures { IfOk result (IsLearnt lent.now) }
 {
     if lent.level < GUESS_LEVEL {
-        let plain = generalise(lent, part, nodes)?;
+        let plain = plain(lent, part, hints, nodes)?;
         Ok(plain)
     } else {
         let guessed = guessed(lent, part, hints, nodes)?;

@@ -66,9 +66,9 @@ fn push_denial(
 }
 
 /// For each literal of the hull that is false at the point a cube that holds the point.
-fn broken_at(alloc: Global, hull: &Hull, point: &[i64]) -> Result<Vec<Cube>, Memory> {
+fn broken_at(alloc: Global, hull: &Hull, point: &[i64], whole: bool) -> Result<Vec<Cube>, Memory> {
     let mut cubes = Vec::new(alloc);
-    let lits = hull.literals(alloc, true)?;
+    let lits = hull.literals(alloc, whole)?;
     for lit in lits.as_slice() {
         push_denial(alloc, &mut cubes, lit, point)?;
     }
@@ -76,10 +76,17 @@ fn broken_at(alloc: Global, hull: &Hull, point: &[i64]) -> Result<Vec<Cube>, Mem
 }
 
 impl Hints {
-    /// Cubes that hold the point, and in which no tuple of the predicate lies as far as is known.
-    pub fn cubes(&self, alloc: Global, pred: u32, point: &[i64]) -> Result<Vec<Cube>, Memory> {
+    /// Cubes that hold the point, and in which no tuple of the predicate lies as far as is known: by the
+    /// equations, and by the residues where these are asked for, too.
+    pub fn cubes(
+        &self,
+        alloc: Global,
+        pred: u32,
+        point: &[i64],
+        whole: bool,
+    ) -> Result<Vec<Cube>, Memory> {
         match self.known.as_slice().get(pred as usize) {
-            Some(Known::Common(hull)) => broken_at(alloc, hull, point),
+            Some(Known::Common(hull)) => broken_at(alloc, hull, point, whole),
             _ => Ok(Vec::new(alloc)),
         }
     }

@@ -17,6 +17,6 @@ mod values;
 mod widening;
 
 pub use hints::{Hints, hints_of};
-pub use proposing::{propose, propose_hulls};
+pub use proposing::{propose, propose_alike, propose_hulls};
 pub use tidying::tidy;
 pub use widening::widen;

@@ -12,6 +12,7 @@ use crate::sums::pair_sums;
 use base::Memory;
 use cube_forms::Cube;
 use lemma_general::{Tries, generalise};
+use lin_atoms::Lit;
 use step_rules::{LemmaPart, Lent};
 
 /// Tries one cube after another, until one is taken; whether one was.
@@ -30,12 +31,71 @@ fn try_each(lent: &Lent, tries: &mut Tries, cubes: &[Cube], nodes: u32) -> Resul
 }
 
 /// Cubes that hold the point of the lemma's obligation, by what was guessed.
-fn shut_out(lent: &Lent, part: &LemmaPart, hints: &Hints) -> Result<Vec<Cube>, Memory> {
+fn shut_out(
+    lent: &Lent,
+    part: &LemmaPart,
+    hints: &Hints,
+    whole: bool,
+) -> Result<Vec<Cube>, Memory> {
     if part.target >= lent.tree.count() {
         return Ok(Vec::new(lent.alloc));
     }
     let obligation = lent.tree.obligation(part.target);
-    hints.cubes(lent.alloc, part.pred, obligation.point.as_slice())
+    hints.cubes(lent.alloc, part.pred, obligation.point.as_slice(), whole)
+}
+
+/// Whether the literal is a bound.
+fn is_bound(lit: &Lit) -> bool {
+    match lit {
+        Lit::Le(_) => true,
+        _ => false,
+    }
+}
+
+/// Whether the literal says something of residues.
+fn is_of_residues(lit: &Lit) -> bool {
+    match lit {
+        Lit::Div(_, _) => true,
+        Lit::NDiv(_, _) => true,
+        _ => false,
+    }
+}
+
+/// Whether all literals are bounds.
+fn are_bounds(lits: &[Lit]) -> bool {
+    for lit in lits {
+        if !is_bound(lit) {
+            return false;
+        }
+    }
+    true
+}
+
+/// The same of the kind that the lemma's cube has: of one literal about residues none, and by residues
+/// only where the cube has more than bounds.
+fn shut_out_alike(lent: &Lent, part: &LemmaPart, hints: &Hints) -> Result<Vec<Cube>, Memory> {
+    let lits = part.lemma.cube().lits();
+    if lits.len() == 1 && is_of_residues(&lits[0]) {
+        return Ok(Vec::new(lent.alloc));
+    }
+    shut_out(lent, part, hints, !are_bounds(lits))
+}
+
+/// The lemma with the first of the cubes that is taken, else as it is.
+fn with_one_of(
+    lent: &Lent,
+    part: LemmaPart,
+    cubes: &[Cube],
+    nodes: u32,
+) -> Result<LemmaPart, Memory>
+    requires goes_on { GoesOn lent.now }
+    requires learnt { IsLearnt lent.now part }
+    requires some { 0 < nodes }
+    ensures { IfOk result (IsInPlaceOf lent.now part) }
+{
+    let mut tries = Tries::new(lent.alloc, part);
+    try_each(lent, &mut tries, cubes, nodes)?;
+    Ok(tries.into_part())
 }
 
 /// A lemma of another cube in the lemma's place, if the frame below implies one of those that hold the
@@ -51,10 +111,25 @@ pub fn propose_hulls(
     requires some { 0 < nodes }
     ensures { IfOk result (IsInPlaceOf lent.now part) }
 {
-    let mut tries = Tries::new(lent.alloc, part);
-    let cubes = shut_out(lent, tries.part(), hints)?;
-    try_each(lent, &mut tries, cubes.as_slice(), nodes)?;
-    Ok(tries.into_part())
+    let cubes = shut_out(lent, &part, hints, true)?;
+    with_one_of(lent, part, cubes.as_slice(), nodes)
+}
+
+/// The same with fewer cubes, for a lemma as its turn gave it: a cube of one literal about residues stays,
+/// and residues are tried only in the place of a cube that has more than bounds.
+pub fn propose_alike(
+    lent: &Lent,
+    part: LemmaPart,
+    hints: &Hints,
+    nodes: u32,
+) -> Result<LemmaPart, Memory>
+    requires goes_on { GoesOn lent.now }
+    requires learnt { IsLearnt lent.now part }
+    requires some { 0 < nodes }
+    ensures { IfOk result (IsInPlaceOf lent.now part) }
+{
+    let cubes = shut_out_alike(lent, &part, hints)?;
+    with_one_of(lent, part, cubes.as_slice(), nodes)
 }
 
 /// A lemma of another cube in the lemma's place, made more general, if the frame below implies one of

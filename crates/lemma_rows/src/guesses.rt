@@ -21,7 +21,7 @@ fn guessed(rt: &impl Abort, alloc: Global) -> Hints {
 }
 
 fn check_cubes(rt: &impl Abort, alloc: Global, hints: &Hints, point: &[i64], expected: &str) {
-    let cubes = hints.cubes(alloc, 0, point).expect(rt, "memory");
+    let cubes = hints.cubes(alloc, 0, point, true).expect(rt, "memory");
     let shown = shown_cubes(alloc, cubes.as_slice()).expect(rt, "memory");
     assert!(rt; shown.as_str() == expected, "{shown}");
 }
