@@ -12,9 +12,12 @@ use lemma_candidates::{Hints, propose, propose_alike, propose_hulls, tidy, widen
 use lemma_general::{Tries, generalise, raise};
 use step_rules::{LemmaPart, Lent, Step};
 
-/// From this level of the book on more than parts of a lemma's cube is tried: few systems that end below
-/// it need more, and their lemmas stay as they were found.
+/// From this level of the book on all guesses are tried: few systems that end below it need more than
+/// parts of a lemma's cube, and their lemmas stay as they were found.
 const GUESS_LEVEL: u32 = 5;
+
+/// They are tried at each level for a cube of so many literals.
+const MANY_LITERALS: usize = 4;
 
 /// Whether an old lemma that excludes the obligation's point holds at the part's level, too, and so
 /// stands in its place. One is tried: the newest of the highest level.
@@ -63,14 +66,14 @@ fn plain(lent: &Lent, part: LemmaPart, hints: &Hints, nodes: u32) -> Result<Lemm
     Ok(general)
 }
 
-/// A more general lemma in its place. At low levels of the book less is tried.
+/// A more general lemma in its place. At low levels of the book less is tried for short cubes.
 fn general(lent: &Lent, part: LemmaPart, hints: &Hints, nodes: u32) -> Result<LemmaPart, Memory>
     requires goes_on { GoesOn lent.now }
     requires some { 0 < nodes }
     requires learnt { IsLearnt lent.now part }
     ensures { IfOk result (IsLearnt lent.now) }
 {
-    if lent.level < GUESS_LEVEL {
+    if lent.level < GUESS_LEVEL && part.lemma.cube().lits().len() < MANY_LITERALS {
         let plain = plain(lent, part, hints, nodes)?;
         Ok(plain)
     } else {
