@@ -1,7 +1,5 @@
 //! Values of forms, and what is made of them, where numbers have room.
 
-ghost use Rattle.std.specs.Prelude.{◌<ℤ◌, pos};
-
 use base::{Copied, Memory};
 use lin_atoms::{Lin, WideStop};
 use std::alloc::Global;
