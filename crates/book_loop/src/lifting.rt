@@ -1,18 +1,20 @@
 //! Lemmas that are lifted after a step for the root.
 
-ghost use Rattle.std.specs.Prelude.{◌≡◌, ◌<◌, None, length, IfOk, IfSome};
+ghost use Rattle.std.specs.Prelude.{◌≡◌, ◌<◌, None, length, IfOk, IfSome, OnOk};
 ghost use Rattle.std.specs.Bool.{OnTrue};
 ghost use Rattle.lemma_frames.specs.Frames.{level_of};
 ghost use Rattle.book_rules.specs.Legal.{end};
 ghost use Rattle.chc_core.specs.Views.{standing_of, state_of};
 ghost use Rattle.obligation_turn.specs.Turns.{IsNarrow};
+ghost use Rattle.obligation_turn.specs.Workspaces.{IsWorkspaceFor};
 ghost use Rattle.book_loop.specs.Runs.{CanRun};
 ghost use Rattle.book_loop.specs.machinery.Steps.{IsFurther, IsTaken};
 
 use crate::taking::{has_ended, lend, take};
 use base::Memory;
 use chc_core::Book;
-use lemma_general::lift;
+use lemma_general::lift_in;
+use obligation_turn::Workspace;
 use step_rules::Step;
 
 /// Which lemmas are lifted: those from a number on, of at least a level.
@@ -52,17 +54,19 @@ fn is_below(book: &Book, id: u32, least: u32) -> bool
 }
 
 /// The Lift of the lemma, if the frame of its level implies it.
-fn lift_of(book: &Book, id: u32, nodes: u32) -> Result<Option<Step>, Memory>
+fn lift_of(book: &Book, id: u32, nodes: u32, work: &mut Workspace) -> Result<Option<Step>, Memory>
     requires can_run { CanRun book.now.system }
     requires some { 0 < nodes }
     requires goes_on { end (state_of book.now) ≡ None }
     requires narrow { IsNarrow (standing_of book.now) }
     requires there { id < length book.now.frames.lemmas }
     requires below { level_of book.now.frames.lemmas id < book.now.level }
-    ensures { IfOk result (λ found. IfSome found (IsTaken (standing_of book.now) nodes)) }
+    requires work { IsWorkspaceFor book.now.system work.old }
+    ensures taken { IfOk result (λ found. IfSome found (IsTaken (standing_of book.now) nodes)) }
+    ensures work { OnOk result (IsWorkspaceFor book.now.system work.new) }
 {
     let lent = lend(book);
-    match lift(&lent, id, nodes)? {
+    match lift_in(&lent, id, nodes, work)? {
         Some(part) => Ok(Some(Step::LiftStep(part))),
         None => Ok(None),
     }
@@ -70,11 +74,19 @@ fn lift_of(book: &Book, id: u32, nodes: u32) -> Result<Option<Step>, Memory>
 
 /// Lifts the lemma by one level, if it is of at least a level, below that of the book, and the frame of
 /// its own implies it. Whether it was lifted.
-fn lift_once(book: &mut Book, id: u32, least: u32, nodes: u32) -> Result<bool, Memory>
+fn lift_once(
+    book: &mut Book,
+    id: u32,
+    least: u32,
+    nodes: u32,
+    work: &mut Workspace,
+) -> Result<bool, Memory>
     requires can_run { CanRun book.old.system }
     requires some { 0 < nodes }
     requires narrow { IsNarrow (standing_of book.old) }
-    ensures { IsFurther nodes book.old book.new }
+    requires work { IsWorkspaceFor book.old.system work.old }
+    ensures further { IsFurther nodes book.old book.new }
+    ensures work { OnOk result (IsWorkspaceFor book.old.system work.new) }
 {
     if has_ended(book) {
         return Ok(false);
@@ -82,7 +94,7 @@ fn lift_once(book: &mut Book, id: u32, least: u32, nodes: u32) -> Result<bool, M
     if !is_below(book, id, least) {
         return Ok(false);
     }
-    match lift_of(book, id, nodes)? {
+    match lift_of(book, id, nodes, work)? {
         Some(step) => {
             take(book, step, nodes)?;
             Ok(true)
@@ -92,14 +104,22 @@ fn lift_once(book: &mut Book, id: u32, least: u32, nodes: u32) -> Result<bool, M
 }
 
 /// Lifts the lemma as far as it goes.
-fn lift_up(book: &mut Book, id: u32, least: u32, nodes: u32) -> Result<(), Memory>
+fn lift_up(
+    book: &mut Book,
+    id: u32,
+    least: u32,
+    nodes: u32,
+    work: &mut Workspace,
+) -> Result<(), Memory>
     requires can_run { CanRun book.old.system }
     requires some { 0 < nodes }
     requires narrow { IsNarrow (standing_of book.old) }
-    ensures { IsFurther nodes book.old book.new }
+    requires work { IsWorkspaceFor book.old.system work.old }
+    ensures further { IsFurther nodes book.old book.new }
+    ensures work { OnOk result (IsWorkspaceFor book.old.system work.new) }
 {
     for _ in least..book.level() {
-        if !lift_once(book, id, least, nodes)? {
+        if !lift_once(book, id, least, nodes, work)? {
             return Ok(());
         }
     }
@@ -107,27 +127,36 @@ fn lift_up(book: &mut Book, id: u32, least: u32, nodes: u32) -> Result<(), Memor
 }
 
 /// Lifts the lemmas of the pass in order of number, each as far as it goes.
-fn lift_all(book: &mut Book, pass: Pass, nodes: u32) -> Result<(), Memory>
+fn lift_all(book: &mut Book, pass: Pass, nodes: u32, work: &mut Workspace) -> Result<(), Memory>
     requires can_run { CanRun book.old.system }
     requires some { 0 < nodes }
     requires narrow { IsNarrow (standing_of book.old) }
-    ensures { IsFurther nodes book.old book.new }
+    requires work { IsWorkspaceFor book.old.system work.old }
+    ensures further { IsFurther nodes book.old book.new }
+    ensures work { OnOk result (IsWorkspaceFor book.old.system work.new) }
 {
     for id in pass.first..book.frames().count() {
-        lift_up(book, id, pass.least, nodes)?;
+        lift_up(book, id, pass.least, nodes, work)?;
     }
     Ok(())
 }
 
 /// Lifts the lemmas of the pass, if there is one.
-pub(crate) fn lift_after(book: &mut Book, pass: Option<Pass>, nodes: u32) -> Result<(), Memory>
+pub(crate) fn lift_after(
+    book: &mut Book,
+    pass: Option<Pass>,
+    nodes: u32,
+    work: &mut Workspace,
+) -> Result<(), Memory>
     requires can_run { CanRun book.old.system }
     requires some { 0 < nodes }
     requires narrow { IsNarrow (standing_of book.old) }
-    ensures { IsFurther nodes book.old book.new }
+    requires work { IsWorkspaceFor book.old.system work.old }
+    ensures further { IsFurther nodes book.old book.new }
+    ensures work { OnOk result (IsWorkspaceFor book.old.system work.new) }
 {
     match pass {
-        Some(pass) => lift_all(book, pass, nodes),
+        Some(pass) => lift_all(book, pass, nodes, work),
         None => Ok(()),
     }
 }

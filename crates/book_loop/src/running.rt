@@ -6,6 +6,7 @@ ghost use Rattle.book_rules.specs.Walks.{AllOf};
 ghost use Rattle.chc_core.specs.Openings.{most_units};
 ghost use Rattle.chc_core.specs.Views.{standing_of, state_of};
 ghost use Rattle.obligation_turn.specs.Turns.{IsNarrow};
+ghost use Rattle.obligation_turn.specs.Workspaces.{IsWorkspaceFor};
 ghost use Rattle.book_loop.specs.Runs.{CanRun, IsOwn};
 ghost use Rattle.book_loop.specs.machinery.Steps.{IsFurther, IsTaken};
 
@@ -18,22 +19,29 @@ use base::Memory;
 use chc_core::Book;
 use clause_form::System;
 use lemma_candidates::{Hints, hints_of};
-use obligation_turn::turn;
+use obligation_turn::{Workspace, turn_in};
 use std::alloc::Global;
 use step_rules::Step;
 
 /// The step of the next turn. A lemma is first made more general and raised.
-fn next_step(book: &Book, hints: &mut Hints, nodes: u32) -> Result<Step, Memory>
+fn next_step(
+    book: &Book,
+    hints: &mut Hints,
+    nodes: u32,
+    work: &mut Workspace,
+) -> Result<Step, Memory>
     requires can_run { CanRun book.now.system }
     requires some { 0 < nodes }
     requires goes_on { end (state_of book.now) ≡ None }
     requires narrow { IsNarrow (standing_of book.now) }
-    ensures { IfOk result (IsTaken (standing_of book.now) nodes) }
+    requires work { IsWorkspaceFor book.now.system work.old }
+    ensures taken { IfOk result (IsTaken (standing_of book.now) nodes) }
+    ensures work { OnOk result (IsWorkspaceFor book.now.system work.new) }
 {
     let job = next_job(book);
     let lent = lend(book);
     hints.renew(lent.alloc, lent.system, lent.level, lent.spent)?;
-    let step = turn(&lent, job, nodes)?;
+    let step = turn_in(&lent, job, nodes, work)?;
     let served = improved(&lent, step, hints, nodes)?;
     Ok(served)
 }
@@ -53,19 +61,26 @@ fn serve(book: &mut Book, step: Step, nodes: u32) -> Result<(), Memory>
 
 /// One turn: a step for the obligation that is asked next, and the lifts that come with it. A journal
 /// has at most an entry for each unit, and one for each obligation that was stalled.
-fn advance(book: &mut Book, hints: &mut Hints, nodes: u32) -> Result<(), Memory>
+fn advance(
+    book: &mut Book,
+    hints: &mut Hints,
+    nodes: u32,
+    work: &mut Workspace,
+) -> Result<(), Memory>
     requires can_run { CanRun book.old.system }
     requires some { 0 < nodes }
     requires goes_on { end (state_of book.old) ≡ None }
     requires narrow { IsNarrow (standing_of book.old) }
+    requires work { IsWorkspaceFor book.old.system work.old }
     ensures further { IsFurther nodes book.old book.new }
+    ensures work { OnOk result (IsWorkspaceFor book.old.system work.new) }
     ensures grown { OnOk result (length book.old.journal < length book.new.journal) }
     ensures room { OnOk result (length book.new.journal ≤ book.new.given + book.new.given + 1) }
 {
-    let step = next_step(book, hints, nodes)?;
+    let step = next_step(book, hints, nodes, work)?;
     let pass = pass_of(book, &step);
     serve(book, step, nodes)?;
-    lift_after(book, pass, nodes)?;
+    lift_after(book, pass, nodes, work)?;
     book.is_replayed();
     Ok(())
 }
@@ -85,8 +100,9 @@ pub fn search(book: &mut Book, nodes: u32) -> Result<(), Memory>
     ensures narrow { IsNarrow (standing_of book.new) }
 {
     let mut hints = hints_of(book.lend().alloc, book.system())?;
+    let mut work = Workspace::new(book.lend().alloc);
     'turns: while !has_ended(book) {
-        advance(book, &mut hints, nodes)?;
+        advance(book, &mut hints, nodes, &mut work)?;
     }
     Ok(())
 }

@@ -1,22 +1,15 @@
 -- A cube in a lemma's place, a lemma at the next level, and a lemma's lift, as the code has them in hand.
-use Rattle.std.proofs.Common.{◌≡◌, ℕ, ◌+◌, ◌-◌, ◌<◌, ◌≤◌, zero, suc, List, [], ◌∷◌, Bool, true, false, inl, inr, length, Some, refl, ap, sym, ◌∙◌, subst, arith}
+use Rattle.std.proofs.Common.{◌≡◌, ℕ, ◌+◌, ◌-◌, ◌<◌, ◌≤◌, List, Bool, true, false, inl, inr, length, Some, refl, ap, sym, ◌∙◌, subst, arith}
 use Rattle.std.specs.Prelude.{nat_le}
 use Rattle.std.specs.List.{list_any}
 use Rattle.std.proofs.lemmas.Bool.Decides.{nat_tests}
 use Rattle.lin_atoms.specs.declared.lit.Lit.{Lit}
 use Rattle.cube_forms.specs.Cubes.{cube_holds}
 use Rattle.lemma_frames.specs.Frames.{lemma_of, level_of, pred_of as pred_at}
-use Rattle.lemma_frames.specs.declared.framed.Framed.{Framed as KeptLemma}
 use Rattle.chc_tokens.specs.declared.goal.Goal.TheVariants.{Holds}
 use Rattle.chc_tokens.specs.declared.refuting.Shown.{Shown}
 use Rattle.chc_tokens.specs.declared.seeing.Seen.{Seen}
-use Rattle.book_rules.specs.Areas.{is_wide}
-use Rattle.book_rules.specs.Frames.{Framed}
-use Rattle.book_rules.specs.Places.{is_over}
 use Rattle.book_rules.specs.Walks.{AllOf}
-use Rattle.book_rules.proofs.ListLemmas.{all_of-at}
-use Rattle.cube_rules.specs.Views.{framed_at, lemmas_of}
-use Rattle.cube_rules.proofs.Public.{framed_of-at}
 use Rattle.clause_queries.specs.Answers.{IsHit, IsLost}
 use Rattle.clause_queries.specs.Kept.{is_kept}
 use Rattle.clause_queries.specs.declared.lost.Lost.{Lost}
@@ -107,50 +100,17 @@ not-raised b nodes old against = (refl, inr against)
 
 -- a lemma of the book
 
-narrow-at : (fs : List KeptLemma) (id : ℕ) → id < length fs → AllOf (λ (f : KeptLemma). is_wide f.lemma ≡ false) fs → is_wide (lemma_of fs id) ≡ false
-narrow-at [] id within all = absurd (omega arith)
-narrow-at (f ∷ fs) zero within all = all.0
-narrow-at (f ∷ fs) (suc id) within all = narrow-at fs id (omega arith) all.1
-
-pub kept-cube : (b : Standing) (id : ℕ) → GoesOn b → id < length b.frames.lemmas → IsCubeOf b (pred_at b.frames.lemmas id) (lemma_of b.frames.lemmas id)
-kept-cube b id goes within = record {
-  over = all_of-at (λ (e : Framed). is_over b.system.preds e.lemma.pred e.lemma.cube ≡ true) (lemmas_of b.frames.lemmas) id (framed_at b.frames.lemmas id) (framed_of-at b.frames.lemmas id within) ((goes.standing).over).lemmas;
-  narrow = narrow-at b.frames.lemmas id within (goes.narrow).lemmas;
-}
-
 pub lifted-of : (b : Standing) (id : ℕ) (proofs : List Shown) → GoesOn b → id < length b.frames.lemmas → level_of b.frames.lemmas id < b.level → AreProofsOf b (pred_at b.frames.lemmas id) (lemma_of b.frames.lemmas id) (level_of b.frames.lemmas id) proofs
     → IsLiftOf b id (record { lemma = id; from = level_of b.frames.lemmas id; proofs = proofs })
 lifted-of b id proofs goes within below are = let legal = lifts b id proofs goes within below are in record { unbroken = legal.unbroken; made = legal.made; places = legal.places; lemma = refl }
 
 -- the same of what the code has in hand, over what is lent
 
-pred-lent : (a b : Standing) (id pred : ℕ) → a ≡ b → pred ≡ pred_at a.frames.lemmas id → pred ≡ pred_at b.frames.lemmas id
-pred-lent a b id pred same is = is ∙ ap (λ (x : Standing). pred_at x.frames.lemmas id) same
-
-cube-lent : (a b : Standing) (id : ℕ) (cube : List Lit) → a ≡ b → cube ≡ lemma_of a.frames.lemmas id → cube ≡ lemma_of b.frames.lemmas id
-cube-lent a b id cube same is = is ∙ ap (λ (x : Standing). lemma_of x.frames.lemmas id) same
-
-level-lent : (a b : Standing) (id k : ℕ) → a ≡ b → k ≡ level_of a.frames.lemmas id → k ≡ level_of b.frames.lemmas id
-level-lent a b id k same is = is ∙ ap (λ (x : Standing). level_of x.frames.lemmas id) same
-
-pub kept-lent : (a b : Standing) (id pred : ℕ) (cube : List Lit) → a ≡ b → GoesOn b → id < length b.frames.lemmas → pred ≡ pred_at a.frames.lemmas id → cube ≡ lemma_of a.frames.lemmas id → IsCubeOf b pred cube
-kept-lent a b id pred cube same goes within of_pred is =
-    subst (λ (p : ℕ). IsCubeOf b p cube) (sym (pred-lent a b id pred same of_pred)) (subst (IsCubeOf b (pred_at b.frames.lemmas id)) (sym (cube-lent a b id cube same is)) (kept-cube b id goes within))
-
-pub lift-lent : (a b : Standing) (id pred k : ℕ) (cube : List Lit) (proofs : List Shown) → a ≡ b → GoesOn b → id < length b.frames.lemmas → level_of b.frames.lemmas id < b.level → pred ≡ pred_at a.frames.lemmas id → cube ≡ lemma_of a.frames.lemmas id
-    → k ≡ level_of a.frames.lemmas id → AreProofsOf b pred cube k proofs → IsLiftOf b id (record { lemma = id; from = k; proofs = proofs })
-lift-lent a b id pred k cube proofs same goes within below of_pred is level are =
-    let own = level-lent a b id k same level in
-    let its : AreProofsOf b (pred_at b.frames.lemmas id) (lemma_of b.frames.lemmas id) (level_of b.frames.lemmas id) proofs =
-    subst (λ (p : ℕ). AreProofsOf b p (lemma_of b.frames.lemmas id) (level_of b.frames.lemmas id) proofs) (pred-lent a b id pred same of_pred)
-    (subst (λ (c : List Lit). AreProofsOf b pred c (level_of b.frames.lemmas id) proofs) (cube-lent a b id cube same is) (subst (λ (m : ℕ). AreProofsOf b pred cube m proofs) own are)) in
-    subst (λ (m : ℕ). IsLiftOf b id (record { lemma = id; from = m; proofs = proofs })) (sym own) (lifted-of b id proofs goes within below its)
-
-pub none-lent : (a b : Standing) (id pred k nodes : ℕ) (cube : List Lit) → a ≡ b → pred ≡ pred_at a.frames.lemmas id → cube ≡ lemma_of a.frames.lemmas id → k ≡ level_of a.frames.lemmas id → IsAgainst b pred k nodes cube
-    → IsAgainst b (pred_at b.frames.lemmas id) (level_of b.frames.lemmas id) nodes (lemma_of b.frames.lemmas id)
-none-lent a b id pred k nodes cube same of_pred is level against =
-    subst (λ (p : ℕ). IsAgainst b p (level_of b.frames.lemmas id) nodes (lemma_of b.frames.lemmas id)) (pred-lent a b id pred same of_pred)
-    (subst (λ (m : ℕ). IsAgainst b pred m nodes (lemma_of b.frames.lemmas id)) (level-lent a b id k same level) (subst (IsAgainst b pred k nodes) (cube-lent a b id cube same is) against))
+pub lift-lent : (a b : Standing) (id k : ℕ) (proofs : List Shown) → a ≡ b → GoesOn b → id < length b.frames.lemmas → level_of b.frames.lemmas id < b.level → k ≡ level_of a.frames.lemmas id
+    → AreProofsOf b (pred_at b.frames.lemmas id) (lemma_of b.frames.lemmas id) (level_of b.frames.lemmas id) proofs → IsLiftOf b id (record { lemma = id; from = k; proofs = proofs })
+lift-lent a b id k proofs same goes within below level are =
+    let own : k ≡ level_of b.frames.lemmas id = level ∙ ap (λ (x : Standing). level_of x.frames.lemmas id) same in
+    subst (λ (m : ℕ). IsLiftOf b id (record { lemma = id; from = m; proofs = proofs })) (sym own) (lifted-of b id proofs goes within below are)
 
 pub level-below : (a b : Standing) (level : ℕ) → a ≡ b → level < a.level → level < b.level
 level-below a b level same low = subst (λ (x : Standing). level < x.level) same low

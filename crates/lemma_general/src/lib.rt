@@ -13,6 +13,6 @@ mod showing;
 mod trying;
 
 pub use dropping::generalise;
-pub use lifting::lift;
+pub use lifting::{lift, lift_in};
 pub use raising::raise;
 pub use trying::Tries;

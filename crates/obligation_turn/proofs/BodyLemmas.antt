@@ -23,7 +23,7 @@ use Rattle.clause_queries.specs.Uses.{use_of, uses}
 use Rattle.clause_queries.proofs.Public.{uses-back, uses_on-back}
 use Rattle.obligation_turn.proofs.ListLemmas.{all-map, none-mapped, none-told}
 
-passed-is : (point : List ℤ) (clause : Clause) (i : ℕ) (atom : Atom) (f : KeptLemma) → slice_get clause.atoms i ≡ Some atom → is_passed point clause (use_of i f) ≡ not (cube_holds (tuple_at point atom.args) f.lemma)
+pub passed-is : (point : List ℤ) (clause : Clause) (i : ℕ) (atom : Atom) (f : KeptLemma) → slice_get clause.atoms i ≡ Some atom → is_passed point clause (use_of i f) ≡ not (cube_holds (tuple_at point atom.args) f.lemma)
 passed-is point clause i atom f there = ap (accepts f.lemma) (slice_get-map (token_atom_at point) clause.atoms i ∙ ap (option_map (token_atom_at point)) there)
 
 accepted-at : (point : List ℤ) (clause : Clause) (k : ℕ) (fs : List KeptLemma) (i : ℕ) (atom : Atom) → slice_get clause.atoms i ≡ Some atom → list_all (is_passed point clause) (uses k fs clause) ≡ true

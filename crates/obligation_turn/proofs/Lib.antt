@@ -18,3 +18,5 @@ pub mod PremiseLemmas
 pub mod TurnLemmas
 pub mod OpenedLemmas
 pub mod FoundLemmas
+pub mod HitLemmas
+pub mod MemoLemmas

@@ -55,7 +55,7 @@ use Rattle.obligation_turn.proofs.RuleLemmas.{has-of, kept, passed, told-of, unm
 
 -- an instance that breaks the lemma
 
-broken-of : (lemma : List Lit) (point : List ℤ) (head : Option Atom) → has_places head lemma ≡ true → accepts lemma (option_map (token_atom_at point) head) ≡ false → is_broken lemma (option_map (token_atom_at point) head) ≡ true
+pub broken-of : (lemma : List Lit) (point : List ℤ) (head : Option Atom) → has_places head lemma ≡ true → accepts lemma (option_map (token_atom_at point) head) ≡ false → is_broken lemma (option_map (token_atom_at point) head) ≡ true
 broken-of lemma point None places h = absurd (true≢false (sym places))
 broken-of lemma point (Some atom) places h = by (is_broken lemma (Some (token_atom_at point atom))) h
   where

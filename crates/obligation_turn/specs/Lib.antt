@@ -1,3 +1,4 @@
 pub mod Turns
 pub mod Counts
+pub mod Workspaces
 pub mod machinery

@@ -3,9 +3,15 @@
 //! Chaki, "SMT-based model checking for recursive programs").
 #![tactic(auto)]
 
+mod finding;
+mod hitting;
 mod lifting;
 mod opening;
 mod premises;
 mod turning;
+mod workspace;
 
-pub use turning::turn;
+pub use finding::found_of_lemma;
+pub use hitting::is_hit;
+pub use turning::{turn, turn_in};
+pub use workspace::Workspace;

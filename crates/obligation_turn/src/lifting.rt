@@ -4,11 +4,14 @@ ghost use Rattle.std.specs.Prelude.{◌≡◌, ◌<◌, ℕ, None, length, IfOk}
 ghost use Rattle.lemma_frames.specs.Frames.{level_of};
 ghost use Rattle.obligation_turn.specs.Turns.{GoesOn, IsOpenLeaf, IsTurn};
 ghost use Rattle.obligation_turn.specs.machinery.Jobs.{AreJobProofs, job_of};
-ghost use Rattle.obligation_turn.specs.machinery.Lifts.{AreKept, AreProofsOf, IsFoundOf, IsHitOf, IsKeptAt, IsLegalLift, IsLifted, IsLostOf, IsNext};
+ghost use Rattle.obligation_turn.specs.Workspaces.{IsHitOf, IsWorkspaceFor};
+ghost use Rattle.obligation_turn.specs.machinery.Lifts.{AreKept, AreProofsOf, IsKeptAt, IsLegalLift, IsLifted, IsLostOf, IsNext};
 
+use crate::finding::found_of_lemma;
+use crate::workspace::Workspace;
 use base::{Copied, Items, Memory};
-use chc_tokens::{Goal, NoLift, Seen, Shown, Why, no_lift_by};
-use clause_queries::{Found, Lost, ask_all};
+use chc_tokens::{NoLift, Seen, Shown, Why, no_lift_by};
+use clause_queries::{Found, Lost};
 use step_rules::{Lent, LiftPart, RaisePart, Step};
 
 /// What was found of a lemma.
@@ -50,29 +53,6 @@ fn unknown(lent: &Lent, id: u32, lost: Lost, nodes: u32) -> Result<NoLift, Memor
     Ok(kept)
 }
 
-/// Asks whether the frame of its level implies the lemma through every clause.
-fn ask_lemma(lent: &Lent, id: u32, nodes: u32) -> Result<Found, Memory>
-    requires goes_on { GoesOn lent.now }
-    requires there { id < length lent.now.frames.lemmas }
-    requires some { 0 < nodes }
-    ensures { IfOk result (IsFoundOf lent.now nodes id) }
-{
-    let level = lent.frames.level_of(id);
-    let pred = lent.frames.pred_of(id);
-    let lemma = lent.frames.lemma(id).copy(lent.alloc)?;
-    let goal = Goal::Holds(lemma);
-    let found = ask_all(
-        lent.alloc,
-        lent.system,
-        lent.frames,
-        Some(pred),
-        &goal,
-        level,
-        nodes,
-    )?;
-    Ok(found)
-}
-
 /// The Lift of a lemma that the frame of its level implies.
 fn lift(lent: &Lent, id: u32, proofs: Items<Shown>) -> LiftPart
     requires goes_on { GoesOn lent.now }
@@ -90,14 +70,16 @@ fn lift(lent: &Lent, id: u32, proofs: Items<Shown>) -> LiftPart
 }
 
 /// A lift of the lemma, or what keeps it where it is.
-fn lift_of(lent: &Lent, id: u32, nodes: u32) -> Result<Lifted, Memory>
+fn lift_of(lent: &Lent, id: u32, nodes: u32, work: &mut Workspace) -> Result<Lifted, Memory>
     requires goes_on { GoesOn lent.now }
     requires there { id < length lent.now.frames.lemmas }
     requires below { level_of lent.now.frames.lemmas id < lent.now.level }
     requires some { 0 < nodes }
-    ensures { IfOk result (IsLifted lent.now nodes id) }
+    requires work { IsWorkspaceFor lent.now.system work.old }
+    ensures lifted { IfOk result (IsLifted lent.now nodes id) }
+    ensures work { IsWorkspaceFor lent.now.system work.new }
 {
-    let found = ask_lemma(lent, id, nodes)?;
+    let found = found_of_lemma(lent, id, nodes, work)?;
     match found {
         Found::Instance(seen) => Ok(Lifted::Kept(broken(lent, id, seen)?)),
         Found::GivenUp(lost) => Ok(Lifted::Kept(unknown(lent, id, lost, nodes)?)),
@@ -112,17 +94,20 @@ fn next(
     id: u32,
     kept: &mut Items<NoLift>,
     nodes: u32,
+    work: &mut Workspace,
 ) -> Result<Option<LiftPart>, Memory>
     requires goes_on { GoesOn lent.now }
     requires there { id < length lent.now.frames.lemmas }
     requires some { 0 < nodes }
     requires kept { AreKept lent.now nodes id kept.old }
-    ensures { IfOk result (IsNext lent.now nodes id kept.new) }
+    requires work { IsWorkspaceFor lent.now.system work.old }
+    ensures next { IfOk result (IsNext lent.now nodes id kept.new) }
+    ensures work { IsWorkspaceFor lent.now.system work.new }
 {
     if lent.frames.level_of(id) >= lent.level {
         return Ok(None);
     }
-    let lifted = lift_of(lent, id, nodes)?;
+    let lifted = lift_of(lent, id, nodes, work)?;
     match lifted {
         Lifted::Lift(lift) => Ok(Some(lift)),
         Lifted::Kept(no_lift) => {
@@ -139,18 +124,21 @@ pub(crate) fn root_step(
     job: u32,
     closed: Items<Shown>,
     nodes: u32,
+    work: &mut Workspace,
 ) -> Result<Step, Memory>
     requires goes_on { GoesOn lent.now }
     requires leaf { IsOpenLeaf lent.now job }
     requires root { (job_of lent.now job).pred ≡ None }
     requires proofs { AreJobProofs lent.now job closed }
     requires some { 0 < nodes }
-    ensures { IfOk result (IsTurn lent.now job nodes) }
+    requires work { IsWorkspaceFor lent.now.system work.old }
+    ensures turn { IfOk result (IsTurn lent.now job nodes) }
+    ensures work { IsWorkspaceFor lent.now.system work.new }
 {
     let _job = job;
     let mut kept = Items::new(lent.alloc);
     for id in 0..lent.frames.count() {
-        if let Some(lift) = next(lent, id, &mut kept, nodes)? {
+        if let Some(lift) = next(lent, id, &mut kept, nodes, work)? {
             return Ok(Step::LiftStep(lift));
         }
     }

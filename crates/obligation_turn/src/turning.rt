@@ -2,11 +2,13 @@
 
 ghost use Rattle.std.specs.Prelude.{◌<◌, ◌≡◌, ℕ, IfOk};
 ghost use Rattle.obligation_turn.specs.Turns.{GoesOn, IsOpenLeaf, IsTurn};
+ghost use Rattle.obligation_turn.specs.Workspaces.{IsWorkspaceFor};
 ghost use Rattle.obligation_turn.specs.machinery.Jobs.{AreJobProofs, IsJobHit, goal_for};
 
 use crate::lifting::root_step;
 use crate::opening::opened;
 use crate::premises::{Premises, premises_at};
+use crate::workspace::Workspace;
 use base::{Items, Memory};
 use chc_tokens::{Goal, Seen, Shown};
 use clause_queries::{Found, ask_all};
@@ -55,12 +57,20 @@ fn step_at(lent: &Lent, job: u32, seen: Seen) -> Result<Step, Memory>
 
 /// The step where every clause is refuted: a lemma that excludes the obligation's cube, and for the
 /// root a lift or a raise.
-fn refuted(lent: &Lent, job: u32, proofs: Items<Shown>, nodes: u32) -> Result<Step, Memory>
+fn refuted(
+    lent: &Lent,
+    job: u32,
+    proofs: Items<Shown>,
+    nodes: u32,
+    work: &mut Workspace,
+) -> Result<Step, Memory>
     requires goes_on { GoesOn lent.now }
     requires leaf { IsOpenLeaf lent.now job }
     requires proofs { AreJobProofs lent.now job proofs }
     requires some { 0 < nodes }
-    ensures { IfOk result (IsTurn lent.now job nodes) }
+    requires work { IsWorkspaceFor lent.now.system work.old }
+    ensures turn { IfOk result (IsTurn lent.now job nodes) }
+    ensures work { IsWorkspaceFor lent.now.system work.new }
 {
     let obligation = lent.tree.obligation(job);
     match obligation.pred {
@@ -74,19 +84,18 @@ fn refuted(lent: &Lent, job: u32, proofs: Items<Shown>, nodes: u32) -> Result<St
                 proofs,
             }))
         }
-        None => root_step(lent, job, proofs, nodes),
+        None => root_step(lent, job, proofs, nodes, work),
     }
 }
 
-/// A step that the book takes, for a live obligation without live children that isn't stalled. An
-/// instance of its cube is recorded or asked for further; where there is none, the cube is excluded
-/// by a lemma, and for the root a lemma is lifted or the level raised; where a query is given up, with
-/// so many inner nodes, and no other has an instance, the obligation is stalled.
-pub fn turn(lent: &Lent, job: u32, nodes: u32) -> Result<Step, Memory>
+/// The same as `turn`, with what earlier turns of the book kept.
+pub fn turn_in(lent: &Lent, job: u32, nodes: u32, work: &mut Workspace) -> Result<Step, Memory>
     requires goes_on { GoesOn lent.now }
     requires leaf { IsOpenLeaf lent.now job }
     requires some { 0 < nodes }
-    ensures { IfOk result (IsTurn lent.now job nodes) }
+    requires work { IsWorkspaceFor lent.now.system work.old }
+    ensures turn { IfOk result (IsTurn lent.now job nodes) }
+    ensures work { IsWorkspaceFor lent.now.system work.new }
 {
     let obligation = lent.tree.obligation(job);
     let goal = goal_of(lent.alloc, obligation)?;
@@ -102,7 +111,7 @@ pub fn turn(lent: &Lent, job: u32, nodes: u32) -> Result<Step, Memory>
     )?;
     match found {
         Found::Instance(seen) => step_at(lent, job, seen),
-        Found::Refuted(proofs) => refuted(lent, job, proofs, nodes),
+        Found::Refuted(proofs) => refuted(lent, job, proofs, nodes, work),
         Found::GivenUp(lost) => Ok(Step::StallStep(StallPart {
             target: job,
             clause: lost.clause,
@@ -110,4 +119,18 @@ pub fn turn(lent: &Lent, job: u32, nodes: u32) -> Result<Step, Memory>
             evidence: lost.evidence,
         })),
     }
+}
+
+/// A step that the book takes, for a live obligation without live children that isn't stalled. An
+/// instance of its cube is recorded or asked for further; where there is none, the cube is excluded
+/// by a lemma, and for the root a lemma is lifted or the level raised; where a query is given up, with
+/// so many inner nodes, and no other has an instance, the obligation is stalled.
+pub fn turn(lent: &Lent, job: u32, nodes: u32) -> Result<Step, Memory>
+    requires goes_on { GoesOn lent.now }
+    requires leaf { IsOpenLeaf lent.now job }
+    requires some { 0 < nodes }
+    ensures { IfOk result (IsTurn lent.now job nodes) }
+{
+    let mut work = Workspace::new(lent.alloc);
+    turn_in(lent, job, nodes, &mut work)
 }

@@ -8,7 +8,6 @@ use Rattle.chc_tokens.specs.Tokens.{IsNoLift}
 use Rattle.chc_tokens.specs.declared.goal.Goal.TheVariants.{Holds}
 use Rattle.chc_tokens.specs.declared.keeping.NoLift.{NoLift}
 use Rattle.chc_tokens.specs.declared.refuting.Shown.{Shown}
-use Rattle.chc_tokens.specs.declared.seeing.Seen.{Seen}
 use Rattle.book_rules.specs.Frames.{Framed}
 use Rattle.book_rules.specs.Places.{no_lift_has_places}
 use Rattle.book_rules.specs.RaiseRules.{below_from, evidence_outside, is_no_lift_of, seen_outside}
@@ -16,8 +15,7 @@ use Rattle.book_rules.specs.Rules.{broken}
 use Rattle.book_rules.specs.State.{State}
 use Rattle.book_rules.specs.Steps.{NoLift as PlainNoLift}
 use Rattle.book_rules.specs.Walks.{AllOf}
-use Rattle.clause_queries.specs.Answers.{AreProofs, IsFound, IsHit, IsLost}
-use Rattle.clause_queries.specs.declared.finding.Found.{Found}
+use Rattle.clause_queries.specs.Answers.{AreProofs, IsLost}
 use Rattle.clause_queries.specs.declared.lost.Lost.{Lost}
 use Rattle.step_rules.specs.Standing.{Standing, state_of}
 use Rattle.step_rules.specs.Taken.{IsMadeFor, step_of}
@@ -27,15 +25,9 @@ use Rattle.step_rules.specs.declared.lift_part.LiftPart.{LiftPart}
 use Rattle.step_rules.specs.declared.step.Step.TheVariants.{LiftStep}
 use Rattle.book_rules.specs.Places.{has_places}
 use Rattle.obligation_turn.specs.Turns.{WhyCounts}
+pub use Rattle.obligation_turn.specs.Workspaces.{IsFoundOf, IsHitOf}
 use Rattle.obligation_turn.specs.declared.lifting.Lifted.{Lifted}
 use Rattle.obligation_turn.specs.declared.lifting.Lifted.TheVariants.{Lift, Kept}
-
--- what is found of the lemma of a number, under F of its level
-abbrev pub IsFoundOf : Standing → ℕ → ℕ → Found → Type 0
-IsFoundOf b nodes id found = IsFound b.system b.frames.lemmas (Some (pred_of b.frames.lemmas id)) (Holds (lemma_of b.frames.lemmas id)) (level_of b.frames.lemmas id) nodes found
-
-abbrev pub IsHitOf : Standing → ℕ → Seen → Type 0
-IsHitOf b id seen = IsHit b.system b.frames.lemmas (Some (pred_of b.frames.lemmas id)) (Holds (lemma_of b.frames.lemmas id)) (level_of b.frames.lemmas id) seen
 
 abbrev pub AreProofsOf : Standing → ℕ → List Shown → Type 0
 AreProofsOf b id proofs = AreProofs b.system b.frames.lemmas (Some (pred_of b.frames.lemmas id)) (Holds (lemma_of b.frames.lemmas id)) (level_of b.frames.lemmas id) proofs

@@ -1,19 +1,27 @@
 use Rattle.std.proofs.Common.{sym, subst, arith}
+use Rattle.clause_form.specs.System.{Clauses}
+use Rattle.obligation_turn.specs.Workspaces.{IsWorkspaceFor}
 use Rattle.book_loop.specs.Runs.{CanRun}
 use Rattle.book_loop.proofs.FurtherLemmas.{further-none, further-then}
 use Rattle.book_loop.proofs.running.search.Goals as goal
 
 pub turns-init : goal.turns-init
-turns-init c = further-none c.args.nodes c.args.book.now
+turns-init c = record { further = further-none c.args.nodes c.args.book.now; work = c.new-work.ensures (c.args.book.now).system }
 
 pub advance-requires-clause-can_run : goal.advance-requires-clause-can_run
-advance-requires-clause-can_run c = subst CanRun (sym c.turns.invariant.system) c.requires.can_run
+advance-requires-clause-can_run c = subst CanRun (sym c.turns.invariant.further.system) c.requires.can_run
 
 pub advance-requires-clause-narrow : goal.advance-requires-clause-narrow
-advance-requires-clause-narrow c = c.turns.invariant.narrow c.requires.narrow
+advance-requires-clause-narrow c = c.turns.invariant.further.narrow c.requires.narrow
+
+pub advance-requires-clause-work : goal.advance-requires-clause-work
+advance-requires-clause-work c = subst (λ (sys : Clauses). IsWorkspaceFor sys c.turns.work) (sym c.turns.invariant.further.system) c.turns.invariant.work
 
 pub turns-preserved : goal.turns-preserved
-turns-preserved c = further-then c.args.nodes c.args.book.now c.turns.book c.advance.new.book c.turns.invariant c.in_ok-advance.ensures.further
+turns-preserved c = record {
+  further = further-then c.args.nodes c.args.book.now c.turns.book c.advance.new.book c.turns.invariant.further c.in_ok-advance.ensures.further;
+  work = subst (λ (sys : Clauses). IsWorkspaceFor sys c.advance.new.work) c.turns.invariant.further.system c.in_ok-advance.ensures.work;
+}
 
 pub turns-smaller : goal.turns-smaller
 turns-smaller c =

@@ -1,10 +1,14 @@
 use Rattle.std.proofs.Common.{◌+◌, ◌-◌, length}
+use Rattle.obligation_turn.specs.Workspaces.{IsWorkspaceFor}
 use Rattle.book_loop.specs.machinery.Steps.{IsFurther}
 use Rattle.book_loop.proofs.running.search.Given as goal
 
 -- the steps so far
 abbrev pub invariant-turns : goal.invariant-turns
-invariant-turns l = IsFurther l.nodes l.initial.book l.book
+invariant-turns l = record {
+  further : IsFurther l.nodes l.initial.book l.book;
+  work : IsWorkspaceFor (l.initial.book).system l.work;
+}
 
 -- the entries for which there is room
 abbrev pub decreases-turns : goal.decreases-turns

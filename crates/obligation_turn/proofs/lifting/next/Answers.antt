@@ -6,8 +6,8 @@ use Rattle.obligation_turn.proofs.lifting.next.Goals as goal
 pub level_of-requires : goal.level_of-requires
 level_of-requires c = there-lent _ c.args.lent.now c.args.id c.lent.view_is c.requires.there
 
-pub returns-then-level_of-lent : goal.returns-then-level_of-lent
-returns-then-level_of-lent c =
+pub returns-then-level_of-lent-clause-next : goal.returns-then-level_of-lent-clause-next
+returns-then-level_of-lent-clause-next c =
     let high : c.lent.inside.level ≤ c.level_of.result = omega arith in
     above-lent _ c.args.lent.now c.args.nodes c.args.id c.level_of.result c.args.kept.now c.lent.view_is c.requires.there c.level_of.ensures high c.requires.kept
 
@@ -16,8 +16,8 @@ lift_of-requires-clause-below c =
     let low : c.level_of.result < c.lent.inside.level = omega arith in
     lower-lent _ c.args.lent.now c.args.id c.level_of.result c.lent.view_is c.level_of.ensures low
 
-pub returns-in_ok-push-in-Kept : goal.returns-in_ok-push-in-Kept
-returns-in_ok-push-in-Kept c =
+pub returns-in_ok-push-in-Kept-clause-next : goal.returns-in_ok-push-in-Kept-clause-next
+returns-in_ok-push-in-Kept-clause-next c =
     let low : c.level_of.result < c.lent.inside.level = omega arith in
-    let one = subst (IsLifted c.args.lent.now c.args.nodes c.args.id) c.in-Kept.is c.in_ok-lifted.ensures in
+    let one = subst (IsLifted c.args.lent.now c.args.nodes c.args.id) c.in-Kept.is c.in_ok-lifted.ensures.lifted in
     below-lent _ c.args.lent.now c.args.nodes c.args.id c.level_of.result c.args.kept.now c.in-Kept.no_lift _ c.lent.view_is c.requires.there c.level_of.ensures low c.in_ok-push-in-Kept.ensures.ok one c.requires.kept

@@ -3,7 +3,7 @@ use Rattle.std.specs.Prelude.{List}
 use Rattle.lin_atoms.specs.declared.lit.Lit.{Lit}
 use Rattle.chc_tokens.specs.declared.goal.Goal.TheVariants.{Holds}
 use Rattle.obligation_turn.proofs.FoundLemmas.{asks-lent, found-of, there-lent}
-use Rattle.obligation_turn.proofs.lifting.ask_lemma.Goals as goal
+use Rattle.obligation_turn.proofs.finding.ask_lemma.Goals as goal
 
 pub level_of-level-requires : goal.level_of-level-requires
 level_of-level-requires c = there-lent _ c.args.lent.now c.args.id c.lent.view_is c.requires.there
