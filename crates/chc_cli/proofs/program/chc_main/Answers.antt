@@ -33,6 +33,6 @@ returns-in-Err-2-clause-writes_part_of_memory g c =
     let kind : c.kind.result ≡ error_kind c.in-Err.error = search rules in
     let other : c.eq.result ≡ false = c.if-eq.false in
     rw c.in-Err.is (λ same four.
-        let is : c.kind.result ≡ ErrorKind.OutOfMemory = kind ∙ same in
-        let yes : c.eq.result ≡ true = rw (c.eq.ensures, is) refl in
-        absurd (cc))
+    let is : c.kind.result ≡ ErrorKind.OutOfMemory = kind ∙ same in
+    let yes : c.eq.result ≡ true = rw (c.eq.ensures, is) refl in
+    absurd (cc))
