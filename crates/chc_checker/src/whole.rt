@@ -1,8 +1,10 @@
 //! Whole answers.
 
-ghost use Rattle.std.specs.Prelude.{◌<◌, ◌^◌, IfOk, length};
+ghost use Rattle.std.specs.Prelude.{◌≡◌, ◌<◌, ◌^◌, ℕ, List, IfOk, length};
+ghost use Rattle.term_tree.specs.declared.script.Script.{Script as AScript};
 ghost use Rattle.horn_shape.specs.Clause.{IsLegalScript};
-ghost use Rattle.answer_text.specs.Read.{Spells};
+ghost use Rattle.answer_text.specs.declared.stop.AnswerStop.TheVariants.{BadAnswer};
+ghost use Rattle.answer_text.specs.Read.{IsBad, Spells};
 ghost use Rattle.chc_checker.specs.Verdicts.{IsCheckable, IsNormalScript, Judges, Says};
 
 use crate::derivation::check_steps;
@@ -57,6 +59,25 @@ fn judged(
     Ok(verdict)
 }
 
+/// The verdict on a text that spells no answer, by its first fault.
+fn wrong_at(offset: u64) -> Verdict
+    ensures { (nodes : ℕ) (script : AScript) (text : List ℕ) → IsBad script.preds text offset → Judges nodes script text result }
+{
+    Verdict::Wrong {
+        place: Place::Byte(offset),
+    }
+}
+
+/// The verdict on a text that gave no answer.
+fn stopped(stop: AnswerStop) -> Result<Verdict, Memory>
+    ensures { (nodes : ℕ) (script : AScript) (text : List ℕ) → ((offset : ℕ) → stop ≡ BadAnswer offset → IsBad script.preds text offset) → IfOk result (Judges nodes script text) }
+{
+    match stop {
+        AnswerStop::BadAnswer { offset } => Ok(wrong_at(offset)),
+        AnswerStop::Memory => Err(Memory),
+    }
+}
+
 /// Whether a text is a right answer to the script: `check_answer` of the sat or unsat answer that it
 /// spells, or wrong at its first fault. Bytes count from the start of the text.
 pub fn check_text(
@@ -73,9 +94,6 @@ pub fn check_text(
 {
     match read_answer(alloc, script, text) {
         Ok(answer) => judged(alloc, script, text, &answer, nodes),
-        Err(AnswerStop::BadAnswer { offset }) => Ok(Verdict::Wrong {
-            place: Place::Byte(offset),
-        }),
-        Err(AnswerStop::Memory) => Err(Memory),
+        Err(stop) => stopped(stop),
     }
 }
