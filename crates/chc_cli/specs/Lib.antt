@@ -1,3 +1,4 @@
 pub mod Clauses
+pub mod Commands
 pub mod Headline
 pub mod machinery

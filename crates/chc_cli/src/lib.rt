@@ -6,6 +6,7 @@ mod lines;
 mod plan;
 mod program;
 mod run;
+mod solve;
 mod words;
 
 pub use program::chc_main;

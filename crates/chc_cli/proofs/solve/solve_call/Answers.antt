@@ -5,8 +5,8 @@ use Rattle.answer_text.specs.declared.answer.UnknownCause.TheVariants.{NoMemory}
 use Rattle.chc_cli.specs.Headline.{wanting_text}
 use Rattle.chc_cli.specs.Headline.IsMeant.{answer, error, memory}
 use Rattle.chc_cli.proofs.PlanLemmas.{answered_only, answered_system, appended, refused_read, refused_long, written_part}
-use Rattle.chc_cli.proofs.run.chc_run.Goals.{in-Ok-write_all, in-Err-write_all, in-Ok-write_all-2, in-Err-write_all-2, in-Ok-write_all-5, in-Err-write_all-5}
-use Rattle.chc_cli.proofs.run.chc_run.Goals as goal
+use Rattle.chc_cli.proofs.solve.solve_call.Goals.{in-Ok-write_all, in-Err-write_all, in-Ok-write_all-2, in-Err-write_all-2, in-Ok-write_all-5, in-Err-write_all-5}
+use Rattle.chc_cli.proofs.solve.solve_call.Goals as goal
 
 pub returns-in-None-clause-solves : goal.returns-in-None-clause-solves
 returns-in-None-clause-solves g c = λ limits call two. c.in-None.ensures.read limits call
