@@ -25,7 +25,13 @@ fn other_words_are_answered_with_the_usage_line(rt: HostRuntime) {
         "solve --workers 65",
         &["solve", "--workers", "65"],
     );
-    check_usage(&rt, rt.alloc(), "check", &["check"]);
+    check_usage(
+        &rt,
+        rt.alloc(),
+        "check without nodes",
+        &["check", "--nodes", "0"],
+    );
+    check_usage(&rt, rt.alloc(), "check and a word", &["check", "more"]);
     check_usage(&rt, rt.alloc(), "solv", &["solv"]);
     check_usage(&rt, rt.alloc(), "solve and an empty word", &["solve", ""]);
 }

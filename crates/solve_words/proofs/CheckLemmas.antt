@@ -1,5 +1,5 @@
 -- Words are read as the nodes of a check exactly where they are a call of it with these nodes.
-use Rattle.std.proofs.Common.{◌≡◌, ◌≢◌, ℕ, ◌≤◌, List, [], ◌∷◌, ◌++◌, Bool, true, false, Some, None, refl, sym, ◌∙◌, ap}
+use Rattle.std.proofs.Common.{◌≡◌, ℕ, ◌≤◌, List, [], ◌∷◌, ◌++◌, Bool, true, false, Some, None, refl, sym, subst, ◌∙◌, ap}
 use Rattle.std.specs.Prelude.{Option, IfSome, if◌then◌else◌, codes}
 use Rattle.std.specs.Str.{bytes_eq}
 use Rattle.std.proofs.lemmas.Slice.Eq.{bytes_eq-Decides}
@@ -36,7 +36,7 @@ call_read words nodes h =
     record { option = found.0; are = found.2; given = subst_nodes found.0 found.1.nodes nodes found.4 (nodes_read default_units found.0 found.1 found.3).1 }
   where
     subst_nodes : (rest : List (List ℕ)) (n k : ℕ) → n ≡ k → AreNodes rest n → AreNodes rest k
-    subst_nodes rest n k same h = rw same h
+    subst_nodes rest n k same h = subst (AreNodes rest) same h
 
 call_found : (words : List (List ℕ)) (nodes : ℕ) → IsCheckCall words nodes → check_nodes_of words ≡ Some nodes
 call_found words nodes call = ap check_nodes_of call.are ∙ ap nodes_alone (nodes_found default_units call.option nodes call.given)
@@ -44,8 +44,12 @@ call_found words nodes call = ap check_nodes_of call.are ∙ ap nodes_alone (nod
 pub one_number : (words : List (List ℕ)) (first second : ℕ) → IsCheckCall words first → IsCheckCall words second → first ≡ second
 one_number words first second a b = some_same first second (sym (call_found words first a) ∙ call_found words second b)
 
+abbrev begins_solve : List (List ℕ) → Bool
+begins_solve [] = false
+begins_solve (word ∷ words) = bytes_eq word (codes "solve")
+
 words_differ : (first second : List (List ℕ)) → codes "solve" ∷ first ≡ codes "check" ∷ second → ⊥
-words_differ first second h = cc
+words_differ first second h = let differ : true ≡ false = ap begins_solve h in absurd (cc)
 
 pub apart : (words : List (List ℕ)) (l : Limits) (nodes : ℕ) → IsCall words l → IsCheckCall words nodes → ⊥
 apart words l nodes call check = words_differ (call.first ++ call.second) check.option (sym call.are ∙ check.are)
