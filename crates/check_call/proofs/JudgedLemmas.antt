@@ -1,6 +1,7 @@
 -- A script that has clauses isn't refused: the bytes before the marker spell it.
-use Rattle.std.proofs.Common.{◌≡◌, ℕ, ◌≤◌, List, take, length, ap, refl, ◌∙◌}
+use Rattle.std.proofs.Common.{◌≡◌, ℕ, ◌≤◌, List, take, length, ap, refl, arith, ◌∙◌}
 use Rattle.std.specs.Prelude.{Option, Some, None, Result, Ok, Err}
+use Rattle.std.proofs.lemmas.List.{length-take}
 use Rattle.base.specs.Limits.{most_bytes}
 use Rattle.term_tree.specs.declared.refusal.Refusal.{Refusal}
 use Rattle.term_tree.specs.declared.refusal.Checked.{Checked}
@@ -22,6 +23,9 @@ not_stopped checked sys h = by checked.stop (all_clauses checked.script 0 checke
     by None read made = refl
     by (Some stop) (Err refusal) made = absurd (cc)
     by (Some stop) (Ok clauses) made = absurd (cc)
+
+pub part_is_short : (bytes : List ℕ) → length bytes ≤ most_bytes → (n : ℕ) → length (take n bytes) ≤ most_bytes
+part_is_short bytes short n = let long = length-take n bytes in omega (arith, short, long)
 
 judged : (nodes : ℕ) (bytes : List ℕ) (status : ℕ) (text : List ℕ) → ((n : ℕ) → length (take n bytes) ≤ most_bytes) → HasVerdict nodes bytes status text → IsJudged nodes bytes status text
 judged nodes bytes status text short (verdict, judges, is) =

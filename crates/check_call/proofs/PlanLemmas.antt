@@ -7,7 +7,7 @@ use Rattle.outside_io.specs.Bytes.{Appends, TakesCount}
 use Rattle.outside_io.specs.Counts.{counted}
 use Rattle.term_tree.specs.declared.refusal.Refusal.{Refusal}
 use Rattle.term_tree.specs.declared.refusal.Kind.TheVariants.{TooLong}
-use Rattle.check_call.specs.Calls.{Checks, IsJudged, IsMeant, IsRefusal, RefusesLeft, WritesPart}
+use Rattle.check_call.specs.Calls.{IsMeant, IsRefusal, RefusesLeft, WritesPart}
 use Rattle.check_call.specs.declared.plan.Plan.{Plan}
 use Rattle.check_call.specs.declared.plan.Plan.TheVariants.{Valid, Wrong, NotShown, Refused, Overlong, ReadFault, OutOfMemory}
 use Rattle.check_call.specs.machinery.Plans.{IsPlan}
@@ -50,10 +50,6 @@ of_too_long nodes old (Some rest) limit plan is h told untold =
 -- what was written is the text that was meant, or a part of it
 pub appended : (text written : List ℕ) (old new : Option (List ℕ)) → written ≡ text → Appends written old new → Appends text old new
 appended text written old new same held = subst (λ (t : List ℕ). Appends t old new) same held
-
-pub checks : (nodes : ℕ) (left : Option (List ℕ)) (read : List ℕ) (status : ℕ) (old new : Option (List ℕ)) (text written : List ℕ) → IsJudged nodes read status text → IfSome left (λ bytes. read ≡ bytes)
-    → written ≡ text → Appends written old new → Checks nodes left read status old new
-checks nodes left read status old new text written judged whole same held = record { text = text; judged = judged; whole = whole; held = appended text written old new same held }
 
 pub written_part : (nodes : ℕ) (left : Option (List ℕ)) (ends after : ℕ) (read : List ℕ) (old new : Option (List ℕ)) (text written : List ℕ) → IsMeant nodes left ends after read text
     → written ≡ text → (n : ℕ) → n < length written → Appends (take n written) old new → WritesPart nodes left ends after read old new
