@@ -1,5 +1,5 @@
 -- The formula of the instances that make an assertion false can be decided.
-use Rattle.std.proofs.Common.{◌≡◌, ℕ, ◌+◌, ◌<◌, ◌≤◌, ◌^◌, List, [], ◌∷◌, ◌++◌, length, Bool, true, refl, ap, sym, ◌∙◌, subst, arith}
+use Rattle.std.proofs.Common.{◌≡◌, ℕ, ◌+◌, ◌<◌, ◌≤◌, ◌^◌, List, [], ◌∷◌, length, Bool, true, refl, arith}
 use Rattle.std.specs.Prelude.{slice_get, Option, Some, None, option_map}
 use Rattle.std.specs.List.{AllByRecursion, list_all}
 use Rattle.term_tree.specs.declared.definition.Definition.{Definition}
@@ -25,9 +25,8 @@ use Rattle.clause_normal.specs.machinery.Making.{HasFewArguments}
 use Rattle.clause_normal.proofs.MadeLemmas.{subterm_most}
 use Rattle.clause_normal.proofs.PassLemmas.{passes}
 use Rattle.clause_laws.specs.Defined.{breaking_form, breaking_variables, breaking_wide, count_of, defined_forms, definition_at, definition_forms, definition_places, definition_wide, naming_at, use_forms, uses_of, variables_after}
-use Rattle.clause_laws.proofs.DefinitionLemmas.{body_there}
 use Rattle.clause_laws.proofs.PointLemmas.{count_is}
-use Rattle.clause_defined.specs.machinery.Uses.{CanBePut, CanRestBePut, IsDefinedFor}
+use Rattle.clause_defined.specs.machinery.Uses.{CanRestBePut, IsDefinedFor}
 use Rattle.clause_defined.proofs.Public.{all_below, all_defined, at_least, can_next, can_rest}
 use Rattle.chc_checker.specs.machinery.Judging.{HaveFewArguments}
 use Rattle.chc_checker.proofs.DefinitionLemmas.{forms_below, forms_short}

@@ -1,24 +1,22 @@
 -- The guard of an assertion's normal clause with room: its variables are below a total, and constants of divisibilities are short.
-use Rattle.std.proofs.Common.{◌≡◌, ℕ, ◌+◌, ◌<◌, ◌≤◌, ◌==◌, ◌^◌, List, [], ◌∷◌, ◌++◌, length, map, Bool, true, not, ◌&&◌, refl, ap, sym, ◌∙◌, subst, arith}
+use Rattle.std.proofs.Common.{◌≡◌, ℕ, ◌+◌, ◌<◌, ◌≤◌, ◌==◌, ◌^◌, List, [], ◌∷◌, ◌++◌, length, map, Bool, true, not, refl, subst, arith}
 use Rattle.std.proofs.lemmas.Bool.{lt-ltb}
 use Rattle.std.specs.Prelude.{slice_get, position, Some, None, negsuc, nat_lt}
 use Rattle.std.specs.List.{AllByRecursion, list_all}
 use Rattle.term_tree.specs.declared.node.TermId.{TermId}
 use Rattle.term_tree.specs.declared.node.OpKind.{OpKind}
 use Rattle.term_tree.specs.declared.node.Node.{Node}
-use Rattle.term_tree.specs.declared.node.Node.TheVariants.{Op, Pred}
+use Rattle.term_tree.specs.declared.node.Node.TheVariants.{Op}
 use Rattle.term_tree.specs.declared.script.Script.{Script}
 use Rattle.term_tree.specs.declared.sort.Sort.{Sort}
 use Rattle.term_tree.specs.declared.sort.Sort.TheVariants.{Int, Bool as BoolSort}
 use Rattle.term_tree.specs.Arena.{IsArena}
 use Rattle.term_tree.specs.Constants.{constant_of}
-use Rattle.term_tree.specs.Subterms.{IsSubterm, inside, is_part, itself}
-use Rattle.horn_shape.specs.declared.clause.AtomUse.{AtomUse}
+use Rattle.term_tree.specs.Subterms.{IsSubterm, inside, itself}
 use Rattle.horn_shape.specs.declared.clause.HornClause.{HornClause}
 use Rattle.horn_shape.specs.declared.clause.Part.{Part}
 use Rattle.horn_shape.specs.Clause.{IsClauseOf, IsLegalScript, content_of}
-use Rattle.horn_shape.specs.Shape.{arguments}
-use Rattle.lin_atoms.specs.Algebra.{added, negated, plus, scaled}
+use Rattle.lin_atoms.specs.Algebra.{negated, plus}
 use Rattle.lin_atoms.specs.Linear.{Linear, lin_all}
 use Rattle.lin_atoms.specs.Truth.{lit_is_below}
 use Rattle.lin_atoms.specs.declared.form.Form.{Form}
@@ -35,7 +33,7 @@ use Rattle.clause_normal.proofs.LowLemmas.{added_all, negated_all, scaled_all}
 use Rattle.clause_normal.proofs.MadeLemmas.{from_moved, low_top, placed_top, room_sub, top_is}
 use Rattle.clause_normal.proofs.PassLemmas.{le_passes, passes}
 use Rattle.clause_normal.proofs.PlaceLemmas.{IsPlaced}
-use Rattle.clause_normal.proofs.ReadLemmas.{clause_holds, is_name}
+use Rattle.clause_normal.proofs.ReadLemmas.{clause_holds}
 use Rattle.chc_checker.proofs.PassLemmas.{append_pass, both_hold, conjunction_pass}
 use Rattle.chc_checker.proofs.TermLemmas.{formula_below, formula_short, place_below, place_short}
 

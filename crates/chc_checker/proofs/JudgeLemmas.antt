@@ -1,17 +1,14 @@
 -- One assertion under definitions, by what is decided of the formula of the instances that make it false.
-use Rattle.std.proofs.Common.{◌≡◌, ℕ, zero, suc, ◌+◌, ◌<◌, List, [], ◌∷◌, length, take, Bool, true, false, ◌&&◌, refl, ap, sym, ◌∙◌, subst, arith}
-use Rattle.std.proofs.lemmas.List.{take_all}
+use Rattle.std.proofs.Common.{◌≡◌, ℕ, zero, suc, List, [], ◌∷◌, length, take, Bool, true, false, ◌&&◌, ap, sym, ◌∙◌, subst, arith}
 use Rattle.std.specs.Prelude.{slice_get, Some, None, ℤ}
-use Rattle.std.specs.List.{AllByRecursion, list_all}
+use Rattle.std.specs.List.{AllByRecursion}
 use Rattle.term_tree.specs.declared.definition.Definition.{Definition}
-use Rattle.term_tree.specs.declared.scalar.Value.{Value}
 use Rattle.term_tree.specs.declared.script.Assertion.{Assertion}
 use Rattle.term_tree.specs.declared.script.Script.{Script}
 use Rattle.term_tree.specs.Arena.{IsArena}
-use Rattle.term_tree.specs.Solution.{AreFormulas, DefinesEach, IsTrueUnder, interpretation_of}
+use Rattle.term_tree.specs.Solution.{AreFormulas, DefinesEach, IsTrueUnder}
 use Rattle.term_tree.proofs.Public.{both_true}
 use Rattle.horn_shape.specs.declared.clause.HornClause.{HornClause}
-use Rattle.horn_shape.specs.Breaking.{Breaks}
 use Rattle.horn_shape.specs.Clause.{IsClauseOf, IsLegalScript}
 use Rattle.horn_shape.proofs.BreakingLemmas.{unbroken_is_true}
 use Rattle.horn_shape.proofs.SolutionLemmas.{own_legal}

@@ -1,25 +1,19 @@
 -- The definitions that a text spells are formulas over the arguments of the predicates, in order.
-use Rattle.std.proofs.Common.{◌≡◌, ℕ, suc, cond, ◌+◌, ◌<◌, ◌≤◌, ◌^◌, List, [], ◌∷◌, length, map, Bool, true, false, refl, sym, ap, subst, ◌∙◌, arith}
-use Rattle.std.proofs.lemmas.Bool.Decides.{nat_tests}
-use Rattle.std.proofs.lemmas.Int.{ints}
+use Rattle.std.proofs.Common.{◌≡◌, ℕ, suc, cond, ◌+◌, ◌<◌, ◌^◌, List, [], ◌∷◌, length, map, Bool, true, false, refl, sym, ap, subst, ◌∙◌, arith}
 use Rattle.std.proofs.lemmas.List.{length-map}
-use Rattle.std.specs.Prelude.{Some, Result, Ok, Err, slice_get, ℤ, pos, negsuc, int_lt, nat_lt}
-use Rattle.std.specs.List.{AllByRecursion}
-use Rattle.sexp_read.specs.declared.tree.Tree.{Tree}
-use Rattle.term_tree.specs.declared.node.TermId.{TermId}
+use Rattle.std.specs.Prelude.{Some, Result, Ok, Err, slice_get, ℤ, pos, negsuc, int_lt}
 use Rattle.term_tree.specs.declared.node.Node.{Node}
-use Rattle.term_tree.specs.declared.node.Node.TheVariants.{Num, True, False, Var, LetVar, Pred as PredNode, Op, Divisible, Let, Forall, Exists}
+use Rattle.term_tree.specs.declared.node.Node.TheVariants.{Divisible}
 use Rattle.term_tree.specs.declared.sort.Sort.{Sort}
 use Rattle.term_tree.specs.declared.sort.Sort.TheVariants.{Int as IntSort, Bool as BoolSort}
 use Rattle.term_tree.specs.declared.script.Name.{Name}
 use Rattle.term_tree.specs.declared.script.Pred.{Pred}
 use Rattle.term_tree.specs.declared.script.Script.{Script}
 use Rattle.term_tree.specs.declared.definition.Definition.{Definition}
-use Rattle.term_tree.specs.Arena.{IsArena}
 use Rattle.term_tree.specs.Constants.{constant_of, is_linear, is_short}
 use Rattle.term_tree.specs.Legal.{IsLegal}
 use Rattle.term_tree.specs.Solution.{AreFormulas, DefinesEach, IsFormula, has_short_divisor}
-use Rattle.term_tree.specs.Subterms.{EverySubterm, IsPlain, IsSubterm}
+use Rattle.term_tree.specs.Subterms.{EverySubterm}
 use Rattle.term_check.specs.declared.part.Fault.{Fault}
 use Rattle.term_check.specs.machinery.Legality.{AreParameters}
 use Rattle.term_check.specs.Formula.{bool_term, params_from}

@@ -1,5 +1,5 @@
 -- The formulas of a term whose variables have numbers below a total: theirs are below it, and constants of divisibilities are short.
-use Rattle.std.proofs.Common.{◌≡◌, ℕ, ◌<◌, ◌≤◌, ◌^◌, List, [], ◌∷◌, length, map, Bool, true, false, not, ◌&&◌, refl, ap, sym, ◌∙◌, arith}
+use Rattle.std.proofs.Common.{◌≡◌, ℕ, ◌<◌, ◌≤◌, ◌^◌, List, length, map, Bool, true, false, not, refl, sym, ◌∙◌, arith}
 use Rattle.std.proofs.lemmas.Bool.{lt-ltb}
 use Rattle.std.specs.Prelude.{slice_get, Option, Some, None, ℤ, nat_abs, nat_lt, if◌then◌else◌}
 use Rattle.term_tree.specs.declared.node.TermId.{TermId}

@@ -5,7 +5,7 @@ use Rattle.farkas_proof.specs.Kept.{form_of}
 use Rattle.farkas_proof.specs.Refutation.{HasNoPoint}
 use Rattle.lia_search.specs.Decides.{Decides}
 use Rattle.lia_search.specs.declared.decision.Decision.{Decision}
-use Rattle.lia_search.specs.declared.decision.Decision.TheVariants.{Model, Refuted}
+use Rattle.lia_search.specs.declared.decision.Decision.TheVariants.{Model}
 use Rattle.clause_normal.specs.Normal.{normal_clause}
 use Rattle.clause_laws.specs.Defined.{breaking_form}
 use Rattle.chc_checker.proofs.JudgeLemmas.{false_here, true_here}
