@@ -14,8 +14,8 @@ ghost use Rattle.chc_cli.specs.Headline.{Answers, EndsOnce, IsBookFor, ReadsInpu
 ghost use Rattle.answer_text.specs.Lines.{usage_text};
 
 use crate::solve::solve_call;
-use check_call::check_call;
 use chc_core::Book;
+use check_call::check_call;
 use outside_io::{Sink, Source};
 use solve_words::{calls_exclude_each_other, check_nodes_of};
 use std::alloc::Global;

@@ -47,7 +47,9 @@ fn definitions_are_valid_or_wrong_at_an_instance_or_a_byte(rt: HostRuntime) {
 
 /// The derivation of false by the counter, whose fourth step names that premise.
 fn derivation(rt: &impl Abort, alloc: Global, premise: u8) -> String {
-    format!(in alloc; ";;answer\nunsat\n(derivation\n(step 1 1 () () (p 0))\n(step 2 2 (0) (1) (p 1))\n(step 3 2 (1) (2) (p 2))\n(step 4 2 (2) ({premise}) (p 3))\n(step 5 3 () (4) false)\n)\n").expect(rt, "memory")
+    format!(in alloc;
+        ";;answer\nunsat\n(derivation\n(step 1 1 () () (p 0))\n(step 2 2 (0) (1) (p 1))\n(step 3 2 (1) (2) (p 2))\n(step 4 2 (2) ({premise}) (p 3))\n(step 5 3 () (4) false)\n)\n"
+    ).expect(rt, "memory")
 }
 
 #[test]

@@ -10,7 +10,7 @@ returns-in-Ok-words_after_name-clause-solves g c =
 pub returns-in-Ok-words_after_name-clause-other_words : goal.returns-in-Ok-words_after_name-clause-other_words
 returns-in-Ok-words_after_name-clause-other_words g c =
     rw c.in-Ok.is (λ none no_check four five.
-        c.chc_run.ensures.other_words (rw (c.as_slice.ensures.value, c.in-Ok-words_after_name.ensures) none) (rw (c.as_slice.ensures.value, c.in-Ok-words_after_name.ensures) no_check) four)
+    c.chc_run.ensures.other_words (rw (c.as_slice.ensures.value, c.in-Ok-words_after_name.ensures) none) (rw (c.as_slice.ensures.value, c.in-Ok-words_after_name.ensures) no_check) four)
 
 pub returns-in-Ok-words_after_name-clause-answered : goal.returns-in-Ok-words_after_name-clause-answered
 returns-in-Ok-words_after_name-clause-answered g c =
@@ -47,7 +47,7 @@ returns-in-Ok-words_after_name-clause-refuses_shapes g c =
 pub returns-in-Ok-words_after_name-clause-unread : goal.returns-in-Ok-words_after_name-clause-unread
 returns-in-Ok-words_after_name-clause-unread g c =
     rw c.in-Ok.is (λ none no_check.
-        c.chc_run.ensures.unread (rw (c.as_slice.ensures.value, c.in-Ok-words_after_name.ensures) none) (rw (c.as_slice.ensures.value, c.in-Ok-words_after_name.ensures) no_check))
+    c.chc_run.ensures.unread (rw (c.as_slice.ensures.value, c.in-Ok-words_after_name.ensures) none) (rw (c.as_slice.ensures.value, c.in-Ok-words_after_name.ensures) no_check))
 
 pub returns-in-Ok-words_after_name-clause-writes_part : goal.returns-in-Ok-words_after_name-clause-writes_part
 returns-in-Ok-words_after_name-clause-writes_part g c =
@@ -63,6 +63,6 @@ returns-in-Err-2-clause-writes_part_of_memory g c =
     let kind : c.kind.result ≡ error_kind c.in-Err.error = search rules in
     let other : c.eq.result ≡ false = c.if-eq.false in
     rw c.in-Err.is (λ same four.
-        let is : c.kind.result ≡ ErrorKind.OutOfMemory = kind ∙ same in
-        let yes : c.eq.result ≡ true = rw (c.eq.ensures, is) refl in
-        absurd (cc))
+    let is : c.kind.result ≡ ErrorKind.OutOfMemory = kind ∙ same in
+    let yes : c.eq.result ≡ true = rw (c.eq.ensures, is) refl in
+    absurd (cc))
