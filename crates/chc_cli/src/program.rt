@@ -37,7 +37,8 @@ pub fn chc_main<S: Source, K: Sink>(
     // The words are all of them: no other list of words is taken for theirs.
     ensures solves { IfOk args (λ args. (limits : Limits) → IsCall (map string_bytes (drop 1 (into_iter_items args))) limits → result.status ≢ 2) }
     ensures checks { IfOk args (λ args. (nodes : ℕ) → IsCheckCall (map string_bytes (drop 1 (into_iter_items args))) nodes → result.status ≢ 2) }
-    ensures other_words { IfOk args (λ args. IsNoCall (map string_bytes (drop 1 (into_iter_items args))) → IsNoCheckCall (map string_bytes (drop 1 (into_iter_items args))) → result.status ≢ 4 → result.status ≢ 5 → result.status ≡ 2) }
+    ensures other_words { IfOk args (λ args. IsNoCall (map string_bytes (drop 1 (into_iter_items args))) → IsNoCheckCall (map string_bytes (drop 1 (into_iter_items args))) → result.status ≢ 4 →
+        result.status ≢ 5 → result.status ≡ 2) }
     ensures no_text { IfErr args (λ e. error_kind e ≢ ErrorKind.OutOfMemory → result.status ≢ 4 → result.status ≡ 2) }
     ensures no_room { IfErr args (λ e. error_kind e ≡ ErrorKind.OutOfMemory → result.status ≢ 4 → result.status ≡ 5) }
     ensures no_words { IfErr args (λ e. S.turns source.new ≡ S.turns source.old) }
@@ -45,19 +46,25 @@ pub fn chc_main<S: Source, K: Sink>(
     // What `chc_run` says of each status, and whatever the status.
     ensures answered { IfOk args (λ args. result.status ≡ 0 → ByCall (map string_bytes (drop 1 (into_iter_items args))) (Answers (map string_bytes (drop 1 (into_iter_items args))) result.read.items result.book (K.held sink.old) (K.held sink.new))
         (λ nodes. Checks nodes (S.left source.old) result.read.items 0 (K.held sink.old) (K.held sink.new))) }
-    ensures wrong { IfOk args (λ args. result.status ≡ 6 → IsOfCheck (map string_bytes (drop 1 (into_iter_items args))) (λ nodes. Checks nodes (S.left source.old) result.read.items 6 (K.held sink.old) (K.held sink.new))) }
-    ensures not_shown { IfOk args (λ args. result.status ≡ 7 → IsOfCheck (map string_bytes (drop 1 (into_iter_items args))) (λ nodes. Checks nodes (S.left source.old) result.read.items 7 (K.held sink.old) (K.held sink.new))) }
+    ensures wrong { IfOk args (λ args. result.status ≡ 6 → IsOfCheck (map string_bytes (drop 1 (into_iter_items args)))
+        (λ nodes. Checks nodes (S.left source.old) result.read.items 6 (K.held sink.old) (K.held sink.new))) }
+    ensures not_shown { IfOk args (λ args. result.status ≡ 7 → IsOfCheck (map string_bytes (drop 1 (into_iter_items args)))
+        (λ nodes. Checks nodes (S.left source.old) result.read.items 7 (K.held sink.old) (K.held sink.new))) }
     ensures answers_all { result.status ≡ 0 → IfSome (S.left source.old) (λ bytes. result.read.items ≡ bytes) }
     ensures refused { IfOk args (λ args. IfSome result.refusal (λ refusal. ByCall (map string_bytes (drop 1 (into_iter_items args))) (Refuses (S.left source.old) (S.ends source.old) (S.ends source.new) result.read.items refusal (K.held sink.old) (K.held sink.new))
         (λ nodes. RefusesCheck (S.left source.old) (S.ends source.old) (S.ends source.new) result.read.items refusal (K.held sink.old) (K.held sink.new)))) }
     ensures refuses_all { IfSome result.refusal (ReadsInput (S.left source.old) result.read.items) }
     ensures refusal { IsSome result.refusal ↔ (result.status ≡ 1) }
     ensures book { IfOk args (λ args. IfSome result.book (λ b. (limits : Limits) × IsCall (map string_bytes (drop 1 (into_iter_items args))) limits × IsBookFor limits result.read.items b)) }
-    ensures answers_scripts { IfOk args (λ args. (limits : Limits) → IsCall (map string_bytes (drop 1 (into_iter_items args))) limits → IfSome (S.left source.old) (λ bytes. IsUnrefused bytes → result.status ≢ 1)) }
-    ensures refuses_others { IfOk args (λ args. (limits : Limits) → IsCall (map string_bytes (drop 1 (into_iter_items args))) limits → IfSome (S.left source.old) (λ bytes. (refusal : Refusal) → IsRefused bytes refusal → result.status ≢ 0)) }
-    ensures refuses_shapes { IfOk args (λ args. (limits : Limits) → IsCall (map string_bytes (drop 1 (into_iter_items args))) limits → IfSome (S.left source.old) (λ bytes. HasNoSystem bytes → result.status ≢ 0)) }
+    ensures answers_scripts { IfOk args (λ args. (limits : Limits) → IsCall (map string_bytes (drop 1 (into_iter_items args))) limits → IfSome (S.left source.old) (λ bytes. IsUnrefused bytes →
+        result.status ≢ 1)) }
+    ensures refuses_others { IfOk args (λ args. (limits : Limits) → IsCall (map string_bytes (drop 1 (into_iter_items args))) limits → IfSome (S.left source.old) (λ bytes. (refusal : Refusal) →
+        IsRefused bytes refusal → result.status ≢ 0)) }
+    ensures refuses_shapes { IfOk args (λ args. (limits : Limits) → IsCall (map string_bytes (drop 1 (into_iter_items args))) limits → IfSome (S.left source.old) (λ bytes. HasNoSystem bytes →
+        result.status ≢ 0)) }
     ensures unopened { IsSome result.refusal → result.book ≡ None }
-    ensures unread { IfOk args (λ args. IsNoCall (map string_bytes (drop 1 (into_iter_items args))) → IsNoCheckCall (map string_bytes (drop 1 (into_iter_items args))) → S.turns source.new ≡ S.turns source.old) }
+    ensures unread { IfOk args (λ args. IsNoCall (map string_bytes (drop 1 (into_iter_items args))) → IsNoCheckCall (map string_bytes (drop 1 (into_iter_items args))) →
+        S.turns source.new ≡ S.turns source.old) }
     ensures other_read { result.status ≡ 2 → result.read.items ≡ [] }
     ensures unwritten { result.status ≡ 3 → K.turns sink.new ≡ K.turns sink.old }
     ensures reads_all { S.ends source.new ≢ S.ends source.old → IfSome (S.left source.old) (λ bytes. result.read.items ≡ bytes) }

@@ -76,7 +76,8 @@ pub fn chc_run<S: Source, K: Sink>(
 
     // Both exactly for `solve`: of bytes that have no refusal none is told, and bytes that are no script, or have no system of clauses, are not answered.
     ensures answers_scripts { (limits : Limits) → IsCall (map string_bytes words.now) limits → IfSome (S.left source.old) (λ bytes. IsUnrefused bytes → result.status ≢ 1) }
-    ensures refuses_others { (limits : Limits) → IsCall (map string_bytes words.now) limits → IfSome (S.left source.old) (λ bytes. (refusal : Refusal) → IsRefused bytes refusal → result.status ≢ 0) }
+    ensures refuses_others { (limits : Limits) → IsCall (map string_bytes words.now) limits → IfSome (S.left source.old) (λ bytes. (refusal : Refusal) → IsRefused bytes refusal →
+        result.status ≢ 0) }
     ensures refuses_shapes { (limits : Limits) → IsCall (map string_bytes words.now) limits → IfSome (S.left source.old) (λ bytes. HasNoSystem bytes → result.status ≢ 0) }
 
     // Whatever the status: the book is one of the script that the bytes read spell, within the limits of the words, and no derivation of false is as low as its closed level.
