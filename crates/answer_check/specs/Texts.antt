@@ -1,5 +1,6 @@
 -- How verdicts are printed. Values of an instance are printed as in a derivation, by the sorts of their variables.
-use Rattle.std.specs.Prelude.{◌≡◌, ℕ, ◌+◌, suc, ℤ, pos, int_eq, List, [], ◌∷◌, ◌++◌, codes, decimal}
+use Rattle.std.specs.Prelude.{◌≡◌, ℕ, ◌+◌, suc, ℤ, pos, List, [], ◌∷◌, ◌++◌, codes, decimal}
+use Rattle.std.specs.Ordering.{int_eq}
 use Rattle.term_tree.specs.declared.scalar.Value.{Value}
 use Rattle.term_tree.specs.declared.scalar.Value.TheVariants.{Int, Bool as Truth}
 use Rattle.term_tree.specs.declared.script.Script.{Script}

@@ -108,7 +108,8 @@ pub(crate) fn values_at(
         if i >= numbers.len() {
             return Ok(values);
         }
-        values.push(value_at(*sort, numbers[i]))?;
+        let value = value_at(*sort, numbers[i]);
+        values.push(value)?;
     }
     Ok(values)
 }

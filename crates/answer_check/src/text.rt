@@ -69,13 +69,14 @@ fn push_hidden(out: &mut Vec<u8>, hidden: &Hidden) -> Result<(), Memory>
         Hidden::Assertion(number) => {
             out.extend_from_slice(b"; assertion ")?;
             push_numeral(out, u64::from(*number))?;
+            out.extend_from_slice(b"\n")?;
         }
         Hidden::Step(number) => {
             out.extend_from_slice(b"; step ")?;
             push_numeral(out, *number)?;
+            out.extend_from_slice(b"\n")?;
         }
     }
-    out.extend_from_slice(b"\n")?;
     Ok(())
 }
 

@@ -4,11 +4,11 @@ use Rattle.derivation_check.specs.machinery.Tests.{AreClausesOf}
 use Rattle.answer_check.proofs.TextLemmas.{index_there}
 use Rattle.answer_check.proofs.text.instance_text.Goals as goal
 
-pub clause_at-requires-clause-from_one : goal.clause_at-requires-clause-from_one
-clause_at-requires-clause-from_one c = let numbered = c.requires.there.2 in omega (arith, numbered)
+pub clause_at-clause-requires-clause-from_one : goal.clause_at-clause-requires-clause-from_one
+clause_at-clause-requires-clause-from_one c = let numbered = c.requires.there.2 in omega (arith, numbered)
 
-pub clause_at-requires-clause-within : goal.clause_at-requires-clause-within
-clause_at-requires-clause-within c =
+pub clause_at-clause-requires-clause-within : goal.clause_at-clause-requires-clause-within
+clause_at-clause-requires-clause-within c =
     let there = c.requires.there in
     let numbered = there.2 in
     let items : c.as_slice.result.now ≡ c.in_ok-clauses.clauses.items = search rules in
@@ -21,6 +21,6 @@ returns c = λ told.
     let there = c.requires.there in
     let items : c.as_slice.result.now ≡ c.in_ok-clauses.clauses.items = search rules in
     let are : AreClausesOf c.args.script.now c.as_slice.result.now = subst (λ (l : List HornClause). AreClausesOf c.args.script.now l) (sym items) c.in_ok-clauses.ensures in
-    let clause = c.clause_at.result.now in
-    let is = c.clause_at.ensures c.args.script.now there.0 are there.2 in
+    let clause = c.clause_at-clause.result.now in
+    let is = c.clause_at-clause.ensures c.args.script.now there.0 are there.2 in
     (clause.vars, told clause.vars (there.0, clause, there.2, is, refl), c.in_ok-text.ensures)

@@ -3,8 +3,8 @@ use Rattle.chc_checker.specs.declared.verdict.Verdict.{Verdict}
 use Rattle.chc_checker.specs.Verdicts.{Judges}
 use Rattle.answer_check.proofs.whole.judged.Goals as goal
 
-pub check_answer_text-requires-clause-normal : goal.check_answer_text-requires-clause-normal
-check_answer_text-requires-clause-normal c = c.systems_can_be_checked.ensures c.args.checked.now c.requires.accepted.0 c.requires.accepted.1
+pub check_text-requires-clause-normal : goal.check_text-requires-clause-normal
+check_text-requires-clause-normal c = c.systems_can_be_checked.ensures c.args.checked.now c.requires.accepted.0 c.requires.accepted.1
 
 pub text_of-requires-clause-normal : goal.text_of-requires-clause-normal
 text_of-requires-clause-normal c = c.systems_can_be_checked.ensures c.args.checked.now c.requires.accepted.0 c.requires.accepted.1
