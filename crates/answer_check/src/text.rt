@@ -136,8 +136,10 @@ fn instance_text(
     ensures { ((sorts : List ASort) → AreSortsOf script.now assertion sorts → AreSortsFor script.now verdict.now sorts) → IfOk result (λ text. IsVerdictText script.now start verdict.now text.items) }
 {
     let clauses = clauses_of(alloc, script)?;
-    let clause = clause_at(clauses.as_slice(), assertion);
-    let text = verdict_text(alloc, start, clause.vars.as_slice(), verdict)?;
+    let list = clauses.as_slice();
+    let clause = clause_at(list, assertion);
+    let sorts = clause.vars.as_slice();
+    let text = verdict_text(alloc, start, sorts, verdict)?;
     Ok(text)
 }
 

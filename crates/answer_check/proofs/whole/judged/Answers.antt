@@ -10,11 +10,11 @@ pub text_of-requires-clause-normal : goal.text_of-requires-clause-normal
 text_of-requires-clause-normal c = c.systems_can_be_checked.ensures c.args.checked.now c.requires.accepted.0 c.requires.accepted.1
 
 pub text_of-requires-clause-judges : goal.text_of-requires-clause-judges
-text_of-requires-clause-judges c = (c.args.nodes, c.index-input.result.now, c.in_ok-verdict.ensures)
+text_of-requires-clause-judges c = (c.args.nodes, _, c.in_ok-verdict.ensures)
 
 pub returns : goal.returns
 returns c =
-    let bytes : c.index-input.result.now ≡ drop c.args.start c.args.input.now = search rules in
+    let bytes : c.index-input-start.result.now ≡ drop c.args.start c.args.input.now = search rules in
     record {
       script = c.args.script;
       answer = c.args.start;
