@@ -10,6 +10,7 @@ mod lifting;
 mod older;
 mod running;
 mod taking;
+mod wishing;
 
 pub use laws::systems_of_scripts_can_be_run;
 pub use running::{begin, search};

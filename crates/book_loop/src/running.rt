@@ -14,11 +14,12 @@ use crate::choosing::next_job;
 use crate::learning::improved;
 use crate::lifting::{lift_after, pass_of};
 use crate::taking::{has_ended, lend, take};
+use crate::wishing::wishes_of;
 use base::Memory;
 use bound_hints::Bounds;
 use chc_core::Book;
 use clause_form::System;
-use obligation_turn::turn;
+use obligation_turn::turn_towards;
 use std::alloc::Global;
 use step_rules::Step;
 
@@ -33,7 +34,8 @@ fn next_step(book: &Book, bounds: &mut Bounds, nodes: u32) -> Result<Step, Memor
     let job = next_job(book);
     let lent = lend(book);
     bounds.renew(lent.alloc, lent.system, lent.level, lent.spent)?;
-    let step = turn(&lent, job, nodes)?;
+    let wishes = wishes_of(lent.alloc, bounds)?;
+    let step = turn_towards(&lent, job, wishes.as_slice(), nodes)?;
     let served = improved(&lent, step, bounds, nodes)?;
     Ok(served)
 }

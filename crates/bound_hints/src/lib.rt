@@ -16,4 +16,5 @@ mod places;
 mod rounds;
 mod table;
 
+pub use candidates::Needed;
 pub use rounds::Bounds;

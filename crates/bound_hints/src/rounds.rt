@@ -1,7 +1,7 @@
 //! When bounds are looked for, and what was found.
 
 use crate::bound::Bound;
-use crate::candidates::cubes_at;
+use crate::candidates::{Needed, cubes_at, needed_of};
 use crate::fixing::fix;
 use crate::needing::{Needs, needs_of};
 use crate::table::{Size, Table, table_of};
@@ -141,6 +141,15 @@ impl Bounds {
             }
         }
         Ok(())
+    }
+
+    /// The cubes that needed bounds exclude, those that rest on nothing first; none where the bounds
+    /// don't refute each query.
+    pub fn needed(&self, alloc: Global) -> Result<Vec<Needed>, Memory> {
+        match &self.found {
+            Some(found) => needed_of(alloc, found.bounds.as_slice(), &found.needs),
+            None => Ok(Vec::new(alloc)),
+        }
     }
 
     /// Cubes to try as lemmas of the predicate for the point: those of bounds that the point breaks,
