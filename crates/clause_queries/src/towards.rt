@@ -96,7 +96,14 @@ pub(crate) fn decide_towards(
     let decision = decide(alloc, &base, forms.as_slice(), vars, nodes)?;
     match decision {
         Decision::Model(point) => {
-            let found = steered(alloc, &base, forms.as_slice(), hopes.as_slice(), point, vars)?;
+            let found = steered(
+                alloc,
+                &base,
+                forms.as_slice(),
+                hopes.as_slice(),
+                point,
+                vars,
+            )?;
             Ok(Decision::Model(found))
         }
         Decision::Refuted(refuted) => Ok(Decision::Refuted(refuted)),

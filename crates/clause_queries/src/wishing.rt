@@ -36,12 +36,7 @@ fn conjunction(alloc: Global, lits: &[Lit]) -> Result<Form, Memory> {
 }
 
 /// Adds the cube at the atom's arguments.
-fn push_cube(
-    alloc: Global,
-    hopes: &mut Vec<Form>,
-    atom: &Atom,
-    cube: &Cube,
-) -> Result<(), Memory> {
+fn push_cube(alloc: Global, hopes: &mut Vec<Form>, atom: &Atom, cube: &Cube) -> Result<(), Memory> {
     match cube.at(alloc, atom.args.as_slice()) {
         Ok(lits) => {
             hopes.push(conjunction(alloc, lits.as_slice())?)?;
