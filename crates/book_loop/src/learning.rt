@@ -45,7 +45,8 @@ fn ready(lent: &Lent, tries: &mut Tries, bounds: &Bounds, nodes: u32) -> Result<
     if again(lent, tries, nodes)? {
         return Ok(true);
     }
-    try_bounds(lent, tries, bounds, nodes)
+    let shown = try_bounds(lent, tries, bounds, nodes)?;
+    Ok(shown)
 }
 
 /// A more general lemma in its place: its literals are brought into their simplest form, those that it

@@ -107,7 +107,7 @@ fn cost(parts: usize, vars: u32) -> u32 {
         Ok(parts) => parts,
         Err(_) => u32::MAX,
     };
-    parts.saturating_mul(vars).saturating_add(100) / 100
+    parts.saturating_mul(vars).saturating_add(50) / 50
 }
 
 /// Asks the solver, and counts the query.
@@ -194,13 +194,7 @@ fn query(
     let mut parts = Items::new(alloc);
     push_lits(alloc, &mut parts, arm.lits.as_slice())?;
     push_lits(alloc, &mut parts, goal)?;
-    push_uses(
-        alloc,
-        &mut parts,
-        bounds,
-        clause.atoms.as_slice(),
-        uses,
-    )?;
+    push_uses(alloc, &mut parts, bounds, clause.atoms.as_slice(), uses)?;
     Ok(parts)
 }
 

@@ -126,12 +126,7 @@ pub(crate) fn conditions(
 }
 
 /// Adds bounds of the part near one that a form says that is at most 0.
-fn push_near(
-    alloc: Global,
-    made: &mut Vec<i64>,
-    lin: &Lin,
-    part: &Lin,
-) -> Result<(), Memory> {
+fn push_near(alloc: Global, made: &mut Vec<i64>, lin: &Lin, part: &Lin) -> Result<(), Memory> {
     let own = match part_of(alloc, lin)? {
         Some(own) => own,
         None => return Ok(()),

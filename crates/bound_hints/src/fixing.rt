@@ -1,7 +1,7 @@
 //! Bounds are raised until each clause keeps all of them.
 
-use crate::asking::{Answer, visit};
 use crate::arms::Arm;
+use crate::asking::{Answer, visit};
 use crate::bound::{Bound, Limit, Memo, Use, stands};
 use crate::conditions::thresholds;
 use crate::table::{About, Table};
@@ -195,12 +195,7 @@ fn forgotten(alloc: Global, memos: Vec<Memo>, arm: usize) -> Result<Vec<Memo>, M
 }
 
 /// Remembers what the arm refuted the bound with.
-fn remember(
-    alloc: Global,
-    bound: &mut Bound,
-    arm: usize,
-    uses: Vec<Use>,
-) -> Result<(), Memory> {
+fn remember(alloc: Global, bound: &mut Bound, arm: usize, uses: Vec<Use>) -> Result<(), Memory> {
     let memos = std::mem::replace(&mut bound.memos, Vec::new(alloc));
     let mut memos = forgotten(alloc, memos, arm)?;
     memos.push(Memo {
@@ -289,10 +284,7 @@ fn ask_once(
     let bounds = table.bounds.as_slice();
     let answer = match (bounds.get(at), table.arms.as_slice().get(number)) {
         (Some(bound), Some(arm)) => {
-            if bound.pred != head.pred
-                || !stands(bounds, bound)
-                || is_kept(bounds, bound, number)
-            {
+            if bound.pred != head.pred || !stands(bounds, bound) || is_kept(bounds, bound, number) {
                 return Ok(false);
             }
             ask_of(alloc, bounds, clause, (number, arm), head, bound, left)?
@@ -409,12 +401,7 @@ fn pass_one(
 }
 
 /// Goes through all arms once; whether something changed.
-fn pass(
-    alloc: Global,
-    table: &mut Table,
-    sys: &System,
-    left: &mut u32,
-) -> Result<bool, Memory> {
+fn pass(alloc: Global, table: &mut Table, sys: &System, left: &mut u32) -> Result<bool, Memory> {
     let mut changed = false;
     for number in 0..table.arms.len() {
         if pass_one(alloc, table, sys, number, left)? {

@@ -189,12 +189,7 @@ fn by_term(
     moved(from, rest, term.1)
 }
 
-fn by_terms(
-    ends: &[Ends],
-    ranges: &[Option<Range>],
-    lin: &Lin,
-    to: (u32, i64),
-) -> Option<Range> {
+fn by_terms(ends: &[Ends], ranges: &[Option<Range>], lin: &Lin, to: (u32, i64)) -> Option<Range> {
     for term in lin.terms() {
         if let Some(range) = by_term(ends, ranges, lin, *term, to) {
             return Some(range);
@@ -260,11 +255,7 @@ pub(crate) struct Increment {
 }
 
 /// The least increments, or the greatest.
-fn chosen(
-    alloc: Global,
-    ranges: &[Option<Range>],
-    least: bool,
-) -> Result<Increment, Memory> {
+fn chosen(alloc: Global, ranges: &[Option<Range>], least: bool) -> Result<Increment, Memory> {
     let mut steps = Vec::new(alloc);
     for range in ranges {
         match range {

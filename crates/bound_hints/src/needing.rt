@@ -99,7 +99,15 @@ fn ask_query(
     let answer = match table.arms.as_slice().get(number) {
         Some(arm) => {
             let first = Vec::new(alloc);
-            visit(alloc, clause, arm, table.bounds.as_slice(), &[], first, left)?
+            visit(
+                alloc,
+                clause,
+                arm,
+                table.bounds.as_slice(),
+                &[],
+                first,
+                left,
+            )?
         }
         None => return Ok(false),
     };

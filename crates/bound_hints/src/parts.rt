@@ -30,12 +30,7 @@ fn push_new(parts: &mut Vec<Lin>, part: Lin, most: usize) -> Result<(), Memory> 
 }
 
 /// Adds the form's part, and its negative.
-fn push_both(
-    alloc: Global,
-    parts: &mut Vec<Lin>,
-    lin: &Lin,
-    most: usize,
-) -> Result<(), Memory> {
+fn push_both(alloc: Global, parts: &mut Vec<Lin>, lin: &Lin, most: usize) -> Result<(), Memory> {
     if let Some(part) = part_of(alloc, lin)? {
         let other = part.negated(alloc)?;
         push_new(parts, part, most)?;

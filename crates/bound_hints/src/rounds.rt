@@ -11,10 +11,10 @@ use cube_forms::Cube;
 use std::alloc::Global;
 
 /// The work that a round may take for each unit that was spent.
-const WORK_OF_A_UNIT: u32 = 40;
+const WORK_OF_A_UNIT: u32 = 12;
 
 /// The least that a round may take.
-const LEAST_WORK: u32 = 2_000;
+const LEAST_WORK: u32 = 500;
 
 /// The most.
 const MOST_WORK: u32 = 60_000;
@@ -74,12 +74,7 @@ fn work_of(units: u32) -> u32 {
 }
 
 /// What a round over the table finds, if it comes to an end.
-fn found_in(
-    alloc: Global,
-    table: Table,
-    sys: &System,
-    left: u32,
-) -> Result<Option<Found>, Memory> {
+fn found_in(alloc: Global, table: Table, sys: &System, left: u32) -> Result<Option<Found>, Memory> {
     let mut table = table;
     let mut left = left;
     if !fix(alloc, &mut table, sys, &mut left)? {
@@ -156,13 +151,7 @@ impl Bounds {
     /// needed ones first.
     pub fn cubes(&self, alloc: Global, pred: u32, point: &[i64]) -> Result<Vec<Cube>, Memory> {
         match &self.found {
-            Some(found) => cubes_at(
-                alloc,
-                found.bounds.as_slice(),
-                &found.needs,
-                pred,
-                point,
-            ),
+            Some(found) => cubes_at(alloc, found.bounds.as_slice(), &found.needs, pred, point),
             None => Ok(Vec::new(alloc)),
         }
     }

@@ -3,30 +3,25 @@
 ghost use Rattle.std.specs.Prelude.{◌<◌, OnOk};
 ghost use Rattle.obligation_turn.specs.Turns.{GoesOn};
 ghost use Rattle.lemma_general.specs.Tries.{IsTrying};
-ghost use Rattle.lemma_candidates.specs.machinery.Tried.{IsTriedOn};
 
 use crate::proposing::try_each;
 use base::Memory;
 use bound_hints::Bounds;
 use cube_forms::Cube;
 use lemma_general::Tries;
-use step_rules::Lent;
+use step_rules::{LemmaPart, Lent};
 
-/// Whether bounds are tried now: those that don't refute each query at every second unit alone, as they
+/// Whether bounds are tried now: those that don't refute each query at every third unit alone, as they
 /// crowd out the lemmas of a system that has no solution.
 fn are_tried(lent: &Lent, bounds: &Bounds) -> bool {
-    bounds.are_safe() || lent.spent % 2 == 0
+    bounds.are_safe() || lent.spent % 3 == 0
 }
 
 /// The cubes that are tried in the lemma's place.
-fn cubes_for(lent: &Lent, tries: &Tries, bounds: &Bounds) -> Result<Vec<Cube>, Memory>
-    requires goes_on { GoesOn lent.now }
-    requires trying { IsTrying lent.now tries.now }
-{
-    if !are_tried(lent, bounds) {
+fn cubes_for(lent: &Lent, part: &LemmaPart, bounds: &Bounds) -> Result<Vec<Cube>, Memory> {
+    if part.target >= lent.tree.count() || !are_tried(lent, bounds) {
         return Ok(Vec::new(lent.alloc));
     }
-    let part = tries.part();
     let obligation = lent.tree.obligation(part.target);
     bounds.cubes(lent.alloc, part.pred, obligation.point.as_slice())
 }
@@ -42,8 +37,9 @@ pub fn try_bounds(
     requires goes_on { GoesOn lent.now }
     requires some { 0 < nodes }
     requires trying { IsTrying lent.now tries.old }
-    ensures { OnOk result (IsTriedOn lent.now tries.old tries.new) }
+    ensures { OnOk result (IsTrying lent.now tries.new) }
 {
-    let cubes = cubes_for(lent, tries, bounds)?;
-    try_each(lent, tries, cubes.as_slice(), nodes)
+    let cubes = cubes_for(lent, tries.part(), bounds)?;
+    let taken = try_each(lent, tries, cubes.as_slice(), nodes)?;
+    Ok(taken)
 }

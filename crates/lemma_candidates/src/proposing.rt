@@ -14,7 +14,12 @@ use lemma_general::{Tries, generalise};
 use step_rules::{LemmaPart, Lent};
 
 /// Tries one cube after another, until one is taken; whether one was.
-pub(crate) fn try_each(lent: &Lent, tries: &mut Tries, cubes: &[Cube], nodes: u32) -> Result<bool, Memory>
+pub(crate) fn try_each(
+    lent: &Lent,
+    tries: &mut Tries,
+    cubes: &[Cube],
+    nodes: u32,
+) -> Result<bool, Memory>
     requires goes_on { GoesOn lent.now }
     requires trying { IsTrying lent.now tries.old }
     requires some { 0 < nodes }

@@ -2,8 +2,8 @@ use Rattle.std.proofs.Common.{subst, sym}
 use Rattle.lemma_general.specs.Generals.{IsLearnt}
 use Rattle.book_loop.proofs.learning.served.Goals as goal
 
-pub again-requires-clause-trying : goal.again-requires-clause-trying
-again-requires-clause-trying c = c.new-tries.ensures.trying c.args.lent.now c.requires.learnt
+pub ready-requires-clause-trying : goal.ready-requires-clause-trying
+ready-requires-clause-trying c = c.new-tries.ensures.trying c.args.lent.now c.requires.learnt
 
 pub returns-then-shown : goal.returns-then-shown
 returns-then-shown c = subst (IsLearnt c.args.lent.now) (sym c.into_part-part.ensures) c.in_ok-shown.ensures.learnt
