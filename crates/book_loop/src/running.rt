@@ -18,7 +18,7 @@ use base::Memory;
 use chc_core::Book;
 use clause_form::System;
 use lemma_candidates::{Hints, hints_of};
-use obligation_turn::turn;
+use obligation_turn::turn_towards;
 use std::alloc::Global;
 use step_rules::Step;
 
@@ -33,7 +33,8 @@ fn next_step(book: &Book, hints: &mut Hints, nodes: u32) -> Result<Step, Memory>
     let job = next_job(book);
     let lent = lend(book);
     hints.renew(lent.alloc, lent.system, lent.level, lent.spent)?;
-    let step = turn(&lent, job, nodes)?;
+    let wishes = hints.wishes(lent.alloc)?;
+    let step = turn_towards(&lent, job, wishes.as_slice(), nodes)?;
     let served = improved(&lent, step, hints, nodes)?;
     Ok(served)
 }

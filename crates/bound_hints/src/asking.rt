@@ -225,3 +225,54 @@ pub(crate) fn visit(
     }
     Ok(Answer::GivenUp)
 }
+
+/// All but the one at a place.
+fn without(alloc: Global, uses: &[Use], at: usize) -> Result<Vec<Use>, Memory> {
+    let mut made = Vec::new(alloc);
+    for (i, one) in uses.iter().enumerate() {
+        if i != at {
+            made.push(*one)?;
+        }
+    }
+    Ok(made)
+}
+
+/// Whether the arm has no point that meets the goal and these bounds.
+fn is_refuted(
+    alloc: Global,
+    clause: &Clause,
+    arm: &Arm,
+    bounds: &[Bound],
+    goal: &[Lit],
+    uses: &[Use],
+    left: &mut u32,
+) -> Result<bool, Memory> {
+    let parts = query(alloc, clause, arm, bounds, goal, uses)?;
+    match asked(alloc, clause, parts, left)? {
+        Decided::Refuted => Ok(true),
+        _ => Ok(false),
+    }
+}
+
+/// Of the bounds with which a query is refuted those that are needed for it: the last ones are left out
+/// first.
+pub(crate) fn core_of(
+    alloc: Global,
+    clause: &Clause,
+    arm: &Arm,
+    bounds: &[Bound],
+    goal: &[Lit],
+    uses: Vec<Use>,
+    left: &mut u32,
+) -> Result<Vec<Use>, Memory> {
+    let mut kept = uses;
+    let mut at = kept.len();
+    for _ in 0..kept.len() {
+        at = at.saturating_sub(1);
+        let fewer = without(alloc, kept.as_slice(), at)?;
+        if is_refuted(alloc, clause, arm, bounds, goal, fewer.as_slice(), left)? {
+            kept = fewer;
+        }
+    }
+    Ok(kept)
+}

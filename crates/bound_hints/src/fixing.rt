@@ -208,7 +208,11 @@ fn remember(alloc: Global, bound: &mut Bound, arm: usize, uses: Vec<Use>) -> Res
 }
 
 /// What a lemma denies, at arguments.
-fn goal_of(alloc: Global, lemma: &Lemma, args: &[u32]) -> Result<Option<Vec<Lit>>, Memory> {
+pub(crate) fn goal_of(
+    alloc: Global,
+    lemma: &Lemma,
+    args: &[u32],
+) -> Result<Option<Vec<Lit>>, Memory> {
     match lemma.cube().at(alloc, args) {
         Ok(lits) => {
             let goal = crate::forms::copied(alloc, lits.as_slice())?;

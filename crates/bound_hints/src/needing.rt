@@ -1,8 +1,9 @@
 //! Which bounds refute the queries, and what they rest on.
 
-use crate::asking::{Answer, visit};
+use crate::arms::Arm;
+use crate::asking::{Answer, core_of, visit};
 use crate::bound::{Bound, Memo, Use};
-use crate::fixing::are_reached;
+use crate::fixing::{are_reached, goal_of};
 use crate::table::Table;
 use base::Memory;
 use clause_form::{Clause, System};
@@ -65,23 +66,118 @@ fn is_marked(needed: &[bool], at: usize) -> bool {
     }
 }
 
-/// Marks what needed bounds rest on; whether something is new.
-fn mark_below(needed: &mut Vec<bool>, bounds: &[Bound]) -> bool {
+/// What an arm refuted the bound with, without what isn't needed for that.
+fn core_memo(
+    alloc: Global,
+    table: &Table,
+    sys: &System,
+    at: usize,
+    memo: Memo,
+    left: &mut u32,
+) -> Result<Option<Memo>, Memory> {
+    let bounds = table.bounds.as_slice();
+    let (bound, arm) = match (bounds.get(at), table.arms.as_slice().get(memo.arm)) {
+        (Some(bound), Some(arm)) => (bound, arm),
+        _ => return Ok(None),
+    };
+    let (clause, lemma) = match (sys.clauses().get(arm.clause), &bound.lemma) {
+        (Some(clause), Some(lemma)) => (clause, lemma),
+        _ => return Ok(None),
+    };
+    let args = match &clause.head {
+        Some(head) => head.args.as_slice(),
+        None => return Ok(None),
+    };
+    let goal = match goal_of(alloc, lemma, args)? {
+        Some(goal) => goal,
+        None => return Ok(None),
+    };
+    let uses = core_of(alloc, clause, arm, bounds, goal.as_slice(), memo.uses, left)?;
+    Ok(Some(Memo {
+        arm: memo.arm,
+        version: memo.version,
+        uses,
+    }))
+}
+
+/// The same of all arms.
+fn core_memos(
+    alloc: Global,
+    table: &Table,
+    sys: &System,
+    at: usize,
+    memos: Vec<Memo>,
+    left: &mut u32,
+) -> Result<Vec<Memo>, Memory> {
+    let mut made = Vec::new(alloc);
+    for memo in memos {
+        if let Some(memo) = core_memo(alloc, table, sys, at, memo, left)? {
+            made.push(memo)?;
+        }
+    }
+    Ok(made)
+}
+
+/// What is remembered of a bound, taken out.
+fn taken(alloc: Global, table: &mut Table, at: usize) -> Vec<Memo> {
+    match table.bounds.as_mut_slice().get_mut(at) {
+        Some(bound) => std::mem::replace(&mut bound.memos, Vec::new(alloc)),
+        None => Vec::new(alloc),
+    }
+}
+
+/// Leaves out of what is remembered of a bound what isn't needed, and marks the rest.
+fn shorten(
+    alloc: Global,
+    table: &mut Table,
+    sys: &System,
+    needed: &mut Vec<bool>,
+    at: usize,
+    left: &mut u32,
+) -> Result<(), Memory> {
+    let memos = taken(alloc, table, at);
+    let memos = core_memos(alloc, table, sys, at, memos, left)?;
+    mark_memos(needed, memos.as_slice());
+    if let Some(bound) = table.bounds.as_mut_slice().get_mut(at) {
+        bound.memos = memos;
+    }
+    Ok(())
+}
+
+/// Does so for needed bounds for which it wasn't done yet; whether there are any.
+fn shorten_needed(
+    alloc: Global,
+    table: &mut Table,
+    sys: &System,
+    needed: &mut Vec<bool>,
+    done: &mut Vec<bool>,
+    left: &mut u32,
+) -> Result<bool, Memory> {
     let mut changed = false;
-    for (at, bound) in bounds.iter().enumerate() {
-        if is_marked(needed.as_slice(), at) && mark_memos(needed, bound.memos.as_slice()) {
+    for at in 0..table.bounds.len() {
+        if is_marked(needed.as_slice(), at) && mark(done, at) {
+            shorten(alloc, table, sys, needed, at, left)?;
             changed = true;
         }
     }
-    changed
+    Ok(changed)
 }
 
-fn mark_all_below(needed: &mut Vec<bool>, bounds: &[Bound]) {
+/// Marks what needed bounds rest on.
+fn mark_below(
+    alloc: Global,
+    table: &mut Table,
+    sys: &System,
+    needed: &mut Vec<bool>,
+    left: &mut u32,
+) -> Result<(), Memory> {
+    let mut done = none(alloc, table.bounds.as_slice())?;
     for _ in 0..MOST_PASSES {
-        if !mark_below(needed, bounds) {
-            return;
+        if !shorten_needed(alloc, table, sys, needed, &mut done, left)? {
+            return Ok(());
         }
     }
+    Ok(())
 }
 
 /// Asks an arm of a query; whether the bounds refute it.
@@ -89,31 +185,19 @@ fn ask_query(
     alloc: Global,
     table: &Table,
     clause: &Clause,
-    number: usize,
+    arm: &Arm,
     needed: &mut Vec<bool>,
     left: &mut u32,
 ) -> Result<bool, Memory> {
     if !are_reached(table.reached.as_slice(), clause.atoms.as_slice()) {
         return Ok(true);
     }
-    let answer = match table.arms.as_slice().get(number) {
-        Some(arm) => {
-            let first = Vec::new(alloc);
-            visit(
-                alloc,
-                clause,
-                arm,
-                table.bounds.as_slice(),
-                &[],
-                first,
-                left,
-            )?
-        }
-        None => return Ok(false),
-    };
-    match answer {
+    let bounds = table.bounds.as_slice();
+    let first = Vec::new(alloc);
+    match visit(alloc, clause, arm, bounds, &[], first, left)? {
         Answer::Refuted(uses) => {
-            mark_uses(needed, uses.as_slice());
+            let core = core_of(alloc, clause, arm, bounds, &[], uses, left)?;
+            mark_uses(needed, core.as_slice());
             Ok(true)
         }
         _ => Ok(false),
@@ -129,9 +213,9 @@ fn ask_queries(
     left: &mut u32,
 ) -> Result<bool, Memory> {
     let mut is_safe = true;
-    for (number, arm) in table.arms.iter().enumerate() {
+    for arm in table.arms.as_slice() {
         if let Some(clause) = sys.clauses().get(arm.clause) {
-            if clause.head.is_none() && !ask_query(alloc, table, clause, number, needed, left)? {
+            if clause.head.is_none() && !ask_query(alloc, table, clause, arm, needed, left)? {
                 is_safe = false;
             }
         }
@@ -193,15 +277,16 @@ fn none(alloc: Global, bounds: &[Bound]) -> Result<Vec<bool>, Memory> {
 /// Whether the bounds refute the queries, and which of them are needed for that.
 pub(crate) fn needs_of(
     alloc: Global,
-    table: &Table,
+    table: &mut Table,
     sys: &System,
     left: &mut u32,
 ) -> Result<Needs, Memory> {
-    let bounds = table.bounds.as_slice();
-    let mut needed = none(alloc, bounds)?;
+    let mut needed = none(alloc, table.bounds.as_slice())?;
     let is_safe = ask_queries(alloc, table, sys, &mut needed, left)?;
-    mark_all_below(&mut needed, bounds);
-    let ranks = ranks_of(alloc, bounds)?;
+    if is_safe {
+        mark_below(alloc, table, sys, &mut needed, left)?;
+    }
+    let ranks = ranks_of(alloc, table.bounds.as_slice())?;
     Ok(Needs {
         is_safe,
         needed,

@@ -80,7 +80,7 @@ fn found_in(alloc: Global, table: Table, sys: &System, left: u32) -> Result<Opti
     if !fix(alloc, &mut table, sys, &mut left)? {
         return Ok(None);
     }
-    let needs = needs_of(alloc, &table, sys, &mut left)?;
+    let needs = needs_of(alloc, &mut table, sys, &mut left)?;
     Ok(Some(Found {
         bounds: table.bounds,
         needs,

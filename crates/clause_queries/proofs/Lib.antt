@@ -2,6 +2,7 @@ pub mod BoolLemmas
 pub mod UseLemmas
 pub mod FormLemmas
 pub mod AskLemmas
+pub mod TowardsLemmas
 pub mod ChoiceLemmas
 pub mod LoopLemmas
 pub mod AnswerLemmas

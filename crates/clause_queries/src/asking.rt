@@ -9,10 +9,12 @@ ghost use Rattle.chc_tokens.specs.Tokens.{is_seen};
 ghost use Rattle.clause_queries.specs.machinery.Asking.{IsAnswer, MayAsk};
 
 use crate::lost::Lost;
+use crate::towards::decide_towards;
+use crate::wishing::{Wish, hopes_at};
 use base::{Items, Memory};
 use chc_tokens::{Goal, Seen, Shown, TokenStop, Used, base_of, forms_of, seen, shown_by};
 use clause_form::{Clause, System};
-use lia_cases::{Decision, decide_owned};
+use lia_cases::Decision;
 use std::alloc::Global;
 
 /// What was found of a query.
@@ -52,13 +54,15 @@ fn variables(clause: &Clause) -> u32
     clause.sorts.len() as u32
 }
 
-/// Asks whether the clause has an instance that meets the goal and whose body the used lemmas accept.
+/// Asks whether the clause has an instance that meets the goal and whose body the used lemmas accept:
+/// one that meets a wish, if there is one.
 pub(crate) fn ask(
     alloc: Global,
     sys: &System,
     clause: u32,
     goal: Goal,
     used: Vec<Used>,
+    wishes: &[Wish],
     nodes: u32,
 ) -> Result<Asked, Memory>
     requires asks { MayAsk sys.now clause goal used.items }
@@ -69,7 +73,8 @@ pub(crate) fn ask(
     let forms = forms_of(alloc, sys, clause, used.as_slice())?;
     let own = sys.clause(clause as usize);
     let vars = variables(own);
-    let decision = decide_owned(alloc, base, forms, vars, nodes)?;
+    let hopes = hopes_at(alloc, own, &used, wishes)?;
+    let decision = decide_towards(alloc, base, forms, &hopes, vars, nodes)?;
     match decision {
         Decision::Model(point) => Ok(Asked::Instance(instance(sys, clause, point))),
         Decision::Refuted(proof) => Ok(Asked::Refuted(shown_by(sys, clause, goal, used, proof))),

@@ -10,6 +10,7 @@ use crate::choosing::asked_clauses;
 use crate::keeping::{frames_are_kept, goal_is_kept};
 use crate::lost::Lost;
 use crate::using::frame_used;
+use crate::wishing::Wish;
 use base::{Copied, Items, Memory};
 use chc_tokens::{Goal, Seen, Shown};
 use clause_form::System;
@@ -44,6 +45,7 @@ fn ask_clause(
     pred: Option<u32>,
     goal: &Goal,
     k: u32,
+    wishes: &[Wish],
     nodes: u32,
 ) -> Result<Asked, Memory>
     requires asks { MayAskAll sys.now frames.now.lemmas pred goal.now }
@@ -56,7 +58,7 @@ fn ask_clause(
     let clause = sys.clause(number as usize);
     let used = frame_used(alloc, frames, k, clause.atoms.as_slice())?;
     let goal = goal.copy(alloc)?;
-    let asked = ask(alloc, sys, number, goal, used, nodes)?;
+    let asked = ask(alloc, sys, number, goal, used, wishes, nodes)?;
     Ok(asked)
 }
 
@@ -100,6 +102,37 @@ fn answered(gathered: Gathered) -> Found
 
 /// Asks the goal of each clause whose head is of the predicate, or false for none, under lemmas of
 /// level k or more; at level 0 of those without a body. A search has at most so many inner nodes. An
+/// instance comes first, one that meets a wish if there is one; else the first query that was given up.
+pub fn ask_towards(
+    alloc: Global,
+    sys: &System,
+    frames: &Frames,
+    pred: Option<u32>,
+    goal: &Goal,
+    k: u32,
+    wishes: &[Wish],
+    nodes: u32,
+) -> Result<Found, Memory>
+    requires asks { MayAskAll sys.now frames.now.lemmas pred goal.now }
+    requires some { 0 < nodes }
+    ensures { IfOk result (IsFound sys.now frames.now.lemmas pred goal.now k nodes) }
+{
+    let numbers = asked_clauses(alloc, sys, pred, k)?;
+    let mut gathered = Gathered {
+        proofs: Items::new(alloc),
+        lost: None,
+    };
+    for number in numbers.as_slice() {
+        let asked = ask_clause(alloc, sys, frames, *number, pred, goal, k, wishes, nodes)?;
+        if let Some(seen) = note(&mut gathered, asked)? {
+            return Ok(Found::Instance(seen));
+        }
+    }
+    Ok(answered(gathered))
+}
+
+/// Asks the goal of each clause whose head is of the predicate, or false for none, under lemmas of
+/// level k or more; at level 0 of those without a body. A search has at most so many inner nodes. An
 /// instance comes first; else the first query that was given up.
 pub fn ask_all(
     alloc: Global,
@@ -114,16 +147,5 @@ pub fn ask_all(
     requires some { 0 < nodes }
     ensures { IfOk result (IsFound sys.now frames.now.lemmas pred goal.now k nodes) }
 {
-    let numbers = asked_clauses(alloc, sys, pred, k)?;
-    let mut gathered = Gathered {
-        proofs: Items::new(alloc),
-        lost: None,
-    };
-    for number in numbers.as_slice() {
-        let asked = ask_clause(alloc, sys, frames, *number, pred, goal, k, nodes)?;
-        if let Some(seen) = note(&mut gathered, asked)? {
-            return Ok(Found::Instance(seen));
-        }
-    }
-    Ok(answered(gathered))
+    ask_towards(alloc, sys, frames, pred, goal, k, &[], nodes)
 }

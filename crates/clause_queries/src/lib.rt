@@ -8,8 +8,11 @@ mod choosing;
 mod finding;
 mod keeping;
 mod lost;
+mod towards;
 mod using;
+mod wishing;
 
-pub use finding::{Found, ask_all};
+pub use finding::{Found, ask_all, ask_towards};
 pub use keeping::{frames_are_kept, is_kept};
 pub use lost::Lost;
+pub use wishing::Wish;

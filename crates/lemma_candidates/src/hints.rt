@@ -4,9 +4,11 @@ use crate::bounds::cube_of;
 use crate::hinting::{Known, hulls};
 use crate::hulls::Hull;
 use crate::tightening::residue;
+use crate::wishing::wishes_of;
 use base::{Copied, Memory};
 use bound_hints::Bounds;
 use clause_form::System;
+use clause_queries::Wish;
 use cube_forms::Cube;
 use lin_atoms::{Lit, WideStop, denied};
 use std::alloc::Global;
@@ -94,6 +96,11 @@ impl Hints {
     /// The bounds that were found so far.
     pub(crate) fn bounds(&self) -> &Bounds {
         &self.bounds
+    }
+
+    /// What is wished for of the points of obligations.
+    pub fn wishes(&self, alloc: Global) -> Result<Vec<Wish>, Memory> {
+        wishes_of(alloc, &self.bounds)
     }
 
     /// Cubes that hold the point, and in which no tuple of the predicate lies as far as is known: by the

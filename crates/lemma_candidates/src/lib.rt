@@ -16,6 +16,7 @@ mod tidying;
 mod tightening;
 mod values;
 mod widening;
+mod wishing;
 
 pub use excluding::try_bounds;
 pub use hints::{Hints, hints_of};

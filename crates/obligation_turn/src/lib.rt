@@ -8,4 +8,4 @@ mod opening;
 mod premises;
 mod turning;
 
-pub use turning::turn;
+pub use turning::{turn, turn_towards};

@@ -9,7 +9,7 @@ use crate::opening::opened;
 use crate::premises::{Premises, premises_at};
 use base::{Items, Memory};
 use chc_tokens::{Goal, Seen, Shown};
-use clause_queries::{Found, ask_all};
+use clause_queries::{Found, Wish, ask_towards};
 use cube_forms::negate;
 use obligation_tree::Obligation;
 use std::alloc::Global;
@@ -81,8 +81,9 @@ fn refuted(lent: &Lent, job: u32, proofs: Items<Shown>, nodes: u32) -> Result<St
 /// A step that the book takes, for a live obligation without live children that isn't stalled. An
 /// instance of its cube is recorded or asked for further; where there is none, the cube is excluded
 /// by a lemma, and for the root a lemma is lifted or the level raised; where a query is given up, with
-/// so many inner nodes, and no other has an instance, the obligation is stalled.
-pub fn turn(lent: &Lent, job: u32, nodes: u32) -> Result<Step, Memory>
+/// so many inner nodes, and no other has an instance, the obligation is stalled. Of the instances of a
+/// clause one is taken that meets a wish, if there is one.
+pub fn turn_towards(lent: &Lent, job: u32, wishes: &[Wish], nodes: u32) -> Result<Step, Memory>
     requires goes_on { GoesOn lent.now }
     requires leaf { IsOpenLeaf lent.now job }
     requires some { 0 < nodes }
@@ -91,13 +92,14 @@ pub fn turn(lent: &Lent, job: u32, nodes: u32) -> Result<Step, Memory>
     let obligation = lent.tree.obligation(job);
     let goal = goal_of(lent.alloc, obligation)?;
     let k = obligation.level.saturating_sub(1);
-    let found = ask_all(
+    let found = ask_towards(
         lent.alloc,
         lent.system,
         lent.frames,
         obligation.pred,
         &goal,
         k,
+        wishes,
         nodes,
     )?;
     match found {
@@ -110,4 +112,14 @@ pub fn turn(lent: &Lent, job: u32, nodes: u32) -> Result<Step, Memory>
             evidence: lost.evidence,
         })),
     }
+}
+
+/// The same without a wish.
+pub fn turn(lent: &Lent, job: u32, nodes: u32) -> Result<Step, Memory>
+    requires goes_on { GoesOn lent.now }
+    requires leaf { IsOpenLeaf lent.now job }
+    requires some { 0 < nodes }
+    ensures { IfOk result (IsTurn lent.now job nodes) }
+{
+    turn_towards(lent, job, &[], nodes)
 }

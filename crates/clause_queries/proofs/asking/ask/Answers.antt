@@ -13,20 +13,20 @@ clause-own-requires c = base-within c.args.sys.now c.args.clause c.args.goal c.r
 pub variables-vars-requires : goal.variables-vars-requires
 variables-vars-requires c = (keeps c.args.sys.now.preds c.clause-own.result.now c.clause-own.ensures.legal).few
 
-pub decide_owned-requires-clause-below : goal.decide_owned-requires-clause-below
-decide_owned-requires-clause-below c =
+pub decide_towards-requires-clause-below : goal.decide_towards-requires-clause-below
+decide_towards-requires-clause-below c =
     ap (λ n. is_below n c.in_ok-base.base) c.variables-vars.ensures ∙ base-below c.args.sys.now c.args.clause c.clause-own.result.now c.args.goal c.in_ok-base.base c.clause-own.ensures.legal c.clause-own.ensures.is c.in_ok-base.ensures
 
-pub decide_owned-requires-clause-lemmas_below : goal.decide_owned-requires-clause-lemmas_below
-decide_owned-requires-clause-lemmas_below c =
+pub decide_towards-requires-clause-forms_below : goal.decide_towards-requires-clause-forms_below
+decide_towards-requires-clause-forms_below c =
     ap (λ n. list_all (is_below n) c.in_ok-forms.forms) c.variables-vars.ensures
     ∙ forms-below c.args.sys.now c.args.clause c.clause-own.result.now c.as_slice.result.now c.in_ok-forms.forms c.clause-own.ensures.legal c.clause-own.ensures.is c.in_ok-forms.ensures
 
-pub decide_owned-requires-clause-short : goal.decide_owned-requires-clause-short
-decide_owned-requires-clause-short c = base-short c.args.sys.now c.args.clause c.clause-own.result.now c.args.goal c.in_ok-base.base c.clause-own.ensures.legal c.clause-own.ensures.is c.in_ok-base.ensures c.requires.asks.goal_short
+pub decide_towards-requires-clause-short : goal.decide_towards-requires-clause-short
+decide_towards-requires-clause-short c = base-short c.args.sys.now c.args.clause c.clause-own.result.now c.args.goal c.in_ok-base.base c.clause-own.ensures.legal c.clause-own.ensures.is c.in_ok-base.ensures c.requires.asks.goal_short
 
-pub decide_owned-requires-clause-lemmas_short : goal.decide_owned-requires-clause-lemmas_short
-decide_owned-requires-clause-lemmas_short c =
+pub decide_towards-requires-clause-forms_short : goal.decide_towards-requires-clause-forms_short
+decide_towards-requires-clause-forms_short c =
     forms-short c.args.sys.now c.args.clause c.clause-own.result.now c.args.used.items c.in_ok-forms.forms c.clause-own.ensures.is (ap (forms_at c.args.sys.now c.args.clause) (sym c.as_slice.ensures.value) ∙ c.in_ok-forms.ensures) c.requires.asks.used_short
 
 pub returns-in-Model : goal.returns-in-Model

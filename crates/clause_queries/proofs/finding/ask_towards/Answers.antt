@@ -5,7 +5,7 @@ use Rattle.book_rules.specs.Walks.{has}
 use Rattle.clause_queries.specs.Answers.{IsFound}
 use Rattle.clause_queries.specs.Uses.{is_asked}
 use Rattle.clause_queries.proofs.GatheredLemmas.{IsNext, all-default, asked-at, gone-through, noted-at}
-use Rattle.clause_queries.proofs.finding.ask_all.Goals as goal
+use Rattle.clause_queries.proofs.finding.ask_towards.Goals as goal
 
 pub ask_clause-requires-clause-asked : goal.ask_clause-requires-clause-asked
 ask_clause-requires-clause-asked c =

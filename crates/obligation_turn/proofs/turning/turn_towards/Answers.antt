@@ -1,9 +1,9 @@
 use Rattle.obligation_turn.proofs.StallLemmas.{stalled}
 use Rattle.obligation_turn.proofs.TurnLemmas.{asked-lent, found-lent}
-use Rattle.obligation_turn.proofs.turning.turn.Goals as goal
+use Rattle.obligation_turn.proofs.turning.turn_towards.Goals as goal
 
-pub ask_all-requires-clause-asks : goal.ask_all-requires-clause-asks
-ask_all-requires-clause-asks c =
+pub ask_towards-requires-clause-asks : goal.ask_towards-requires-clause-asks
+ask_towards-requires-clause-asks c =
     asked-lent _ c.args.lent.now c.args.job c.obligation-obligation.result.now c.in_ok-goal.goal c.lent.view_is c.requires.goes_on c.requires.leaf c.obligation-obligation.ensures c.in_ok-goal.ensures
 
 pub step_at-requires-clause-hit : goal.step_at-requires-clause-hit
