@@ -14,10 +14,13 @@ use std::alloc::Global;
 const WORK_OF_A_UNIT: u32 = 12;
 
 /// The least that a round may take.
-const LEAST_WORK: u32 = 500;
+const LEAST_WORK: u32 = 1_000;
 
 /// The most.
 const MOST_WORK: u32 = 60_000;
+
+/// How many rounds there are.
+const ROUNDS: u32 = 4;
 
 /// What was found in a round.
 #[derive(Drop)]
@@ -40,28 +43,23 @@ pub struct Bounds {
 fn level_of(round: u32) -> u32 {
     match round {
         0 => 4,
-        1 => 10,
-        _ => 20,
+        1 => 6,
+        2 => 12,
+        _ => 24,
     }
 }
 
 fn size_of(round: u32) -> Size {
-    match round {
-        0 => Size {
-            conditions: 6,
-            bounds: 250,
-            is_whole: false,
-        },
-        1 => Size {
-            conditions: 12,
-            bounds: 500,
-            is_whole: true,
-        },
-        _ => Size {
-            conditions: 24,
-            bounds: 1_000,
-            is_whole: true,
-        },
+    let (conditions, bounds) = match round {
+        0 => (0, 150),
+        1 => (6, 250),
+        2 => (12, 500),
+        _ => (24, 1_000),
+    };
+    Size {
+        conditions,
+        bounds,
+        is_whole: round > 1,
     }
 }
 
@@ -121,7 +119,7 @@ impl Bounds {
         level: u32,
         units: u32,
     ) -> Result<(), Memory> {
-        let is_due = level >= level_of(self.round) && units >= self.wait && self.round < 3;
+        let is_due = level >= level_of(self.round) && units >= self.wait && self.round < ROUNDS;
         if !is_due || self.are_safe() {
             return Ok(());
         }
