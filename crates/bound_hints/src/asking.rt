@@ -107,7 +107,7 @@ fn cost(parts: usize, vars: u32) -> u32 {
         Ok(parts) => parts,
         Err(_) => u32::MAX,
     };
-    parts.saturating_mul(vars).saturating_add(50) / 50
+    parts.saturating_mul(vars).saturating_add(100) / 100
 }
 
 /// Asks the solver, and counts the query.

@@ -11,10 +11,10 @@ use cube_forms::Cube;
 use std::alloc::Global;
 
 /// The work that a round may take for each unit that was spent.
-const WORK_OF_A_UNIT: u32 = 12;
+const WORK_OF_A_UNIT: u32 = 25;
 
 /// The least that a round may take.
-const LEAST_WORK: u32 = 1_000;
+const LEAST_WORK: u32 = 1_500;
 
 /// The most.
 const MOST_WORK: u32 = 60_000;
