@@ -44,10 +44,10 @@ fn ready(lent: &Lent, tries: &mut Tries, hints: &Hints, nodes: u32) -> Result<bo
     requires trying { IsTrying lent.now tries.old }
     ensures { OnOk result (IsTrying lent.now tries.new) }
 {
-    if again(lent, tries, nodes)? {
+    if try_bounds(lent, tries, hints, nodes)? {
         return Ok(true);
     }
-    let shown = try_bounds(lent, tries, hints, nodes)?;
+    let shown = again(lent, tries, nodes)?;
     Ok(shown)
 }
 

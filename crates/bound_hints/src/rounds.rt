@@ -11,10 +11,20 @@ use cube_forms::Cube;
 use std::alloc::Global;
 
 /// The work that a round may take for each unit that was spent.
+<<<<<<< HEAD
 const WORK_OF_A_UNIT: u32 = 25;
 
 /// The least that a round may take.
 const LEAST_WORK: u32 = 1_500;
+=======
+const WORK_OF_A_UNIT: u32 = 8;
+
+/// The least that the first round may take.
+const FIRST_WORK: u32 = 1_500;
+
+/// The least that another may take.
+const LEAST_WORK: u32 = 700;
+>>>>>>> a4de034074b4d0863235fd072cae4d8a1b64ba28
 
 /// The most.
 const MOST_WORK: u32 = 60_000;
@@ -64,10 +74,11 @@ fn size_of(round: u32) -> Size {
 }
 
 /// How much work a round may take.
-fn work_of(units: u32) -> u32 {
+fn work_of(round: u32, units: u32) -> u32 {
+    let least = if round == 0 { FIRST_WORK } else { LEAST_WORK };
     units
         .saturating_mul(WORK_OF_A_UNIT)
-        .max(LEAST_WORK)
+        .max(least)
         .min(MOST_WORK)
 }
 
@@ -123,7 +134,7 @@ impl Bounds {
         if !is_due || self.are_safe() {
             return Ok(());
         }
-        match round_of(alloc, sys, size_of(self.round), work_of(units))? {
+        match round_of(alloc, sys, size_of(self.round), work_of(self.round, units))? {
             Some(found) => {
                 self.found = Some(found);
                 self.round = self.round.saturating_add(1);
