@@ -11,20 +11,13 @@ use cube_forms::Cube;
 use std::alloc::Global;
 
 /// The work that a round may take for each unit that was spent.
-<<<<<<< HEAD
-const WORK_OF_A_UNIT: u32 = 25;
-
-/// The least that a round may take.
-const LEAST_WORK: u32 = 1_500;
-=======
-const WORK_OF_A_UNIT: u32 = 8;
+const WORK_OF_A_UNIT: u32 = 14;
 
 /// The least that the first round may take.
 const FIRST_WORK: u32 = 1_500;
 
 /// The least that another may take.
 const LEAST_WORK: u32 = 700;
->>>>>>> a4de034074b4d0863235fd072cae4d8a1b64ba28
 
 /// The most.
 const MOST_WORK: u32 = 60_000;
