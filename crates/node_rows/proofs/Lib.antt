@@ -4,6 +4,7 @@ pub mod ExtendLemmas
 pub mod FitLemmas
 pub mod GatherLemmas
 pub mod HoldLemmas
+pub mod MeetLemmas
 pub mod NodeLemmas
 pub mod PointLemmas
 pub mod Public

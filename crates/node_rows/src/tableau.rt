@@ -10,21 +10,21 @@ ghost use Rattle.node_rows.specs.Nodes.{node_table, table_of};
 ghost use Rattle.node_rows.specs.machinery.Columns.{is_said_below};
 
 use crate::columns::{all_sides, forms, set_all};
-use crate::gathering::gather;
+use crate::gathering::{Gathered, gather};
 use base::Memory;
 use int_rows::{Bounded, RowStop, Tableau};
 use lin_atoms::Lit;
 use std::alloc::Global;
 
 /// The tableau of what is said of so many variables and quotients.
-fn tableau_of(alloc: Global, bounds: &[Bounded], variables: u32) -> Result<Tableau, Memory>
-    requires fit { list_all bounded_fits bounds.now ≡ true }
-    requires below { list_all (is_said_below variables) bounds.now ≡ true }
-    requires few { length (in_rows bounds.now) ≤ most_rows }
-    ensures { IfOk result (λ tableau. tableau ≡ table_of (system_of variables bounds.now)) }
+fn tableau_of(alloc: Global, bounds: Vec<Bounded>, variables: u32) -> Result<Tableau, Memory>
+    requires fit { list_all bounded_fits bounds.items ≡ true }
+    requires below { list_all (is_said_below variables) bounds.items ≡ true }
+    requires few { length (in_rows bounds.items) ≤ most_rows }
+    ensures { IfOk result (λ tableau. tableau ≡ table_of (system_of variables bounds.items)) }
 {
+    let sides = all_sides(alloc, bounds.as_slice(), variables)?;
     let forms = forms(alloc, bounds)?;
-    let sides = all_sides(alloc, bounds, variables)?;
     match Tableau::new(alloc, forms.as_slice(), variables as usize) {
         Ok(mut tableau) => {
             set_all(&mut tableau, sides.as_slice());
@@ -50,7 +50,8 @@ pub fn node_tableau(alloc: Global, lits: &[Lit], end: u32) -> Result<Tableau, Ro
 {
     match gather(alloc, lits, end) {
         Ok(made) => {
-            let tableau = tableau_of(alloc, made.bounds.as_slice(), made.variables)?;
+            let Gathered { bounds, variables } = made;
+            let tableau = tableau_of(alloc, bounds, variables)?;
             Ok(tableau)
         }
         Err(stop) => Err(stop),

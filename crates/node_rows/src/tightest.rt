@@ -1,15 +1,14 @@
-//! The tightest bounds on a variable.
+//! What is said of a variable, and the tighter of two bounds.
 
 ghost use Rattle.std.specs.Prelude.{◌≡◌, ◌^◌, ◌<◌, neg_ℤ, nat_abs, pos, length, true, if◌then◌else◌, ◌==◌};
-ghost use Rattle.std.specs.List.{list_all};
 ghost use Rattle.std.specs.Option.{option_map};
-ghost use Rattle.int_rows.specs.Node.{coefficient, greater, greatest_lower, least_upper, lesser, lower_on, upper_on};
+ghost use Rattle.int_rows.specs.Node.{coefficient, greater, lesser, lower_on, upper_on};
 ghost use Rattle.int_rows.specs.Ready.{bound_fits, bounded_fits};
 
 use int_rows::Bounded;
 
 /// The greater of two lower bounds, where there are any.
-fn greater(a: Option<i128>, b: Option<i128>) -> Option<i128>
+pub(crate) fn greater(a: Option<i128>, b: Option<i128>) -> Option<i128>
     requires a { bound_fits a ≡ true }
     requires b { bound_fits b ≡ true }
     ensures is { result ≡ greater a b }
@@ -23,7 +22,7 @@ fn greater(a: Option<i128>, b: Option<i128>) -> Option<i128>
 }
 
 /// The lesser of two upper bounds, where there are any.
-fn lesser(a: Option<i128>, b: Option<i128>) -> Option<i128>
+pub(crate) fn lesser(a: Option<i128>, b: Option<i128>) -> Option<i128>
     requires a { bound_fits a ≡ true }
     requires b { bound_fits b ≡ true }
     ensures is { result ≡ lesser a b }
@@ -59,7 +58,7 @@ fn lone(bounded: &Bounded, variable: u32) -> i64
 }
 
 /// What is said of the variable from below.
-fn lower_on(variable: u32, bounded: &Bounded) -> Option<i128>
+pub(crate) fn lower_on(variable: u32, bounded: &Bounded) -> Option<i128>
     requires { bounded_fits bounded.now ≡ true }
     ensures is { result ≡ lower_on variable bounded.now }
     ensures fits { bound_fits result ≡ true }
@@ -75,7 +74,7 @@ fn lower_on(variable: u32, bounded: &Bounded) -> Option<i128>
 }
 
 /// What is said of the variable from above.
-fn upper_on(variable: u32, bounded: &Bounded) -> Option<i128>
+pub(crate) fn upper_on(variable: u32, bounded: &Bounded) -> Option<i128>
     requires { bounded_fits bounded.now ≡ true }
     ensures is { result ≡ upper_on variable bounded.now }
     ensures fits { bound_fits result ≡ true }
@@ -88,34 +87,4 @@ fn upper_on(variable: u32, bounded: &Bounded) -> Option<i128>
     } else {
         minus(bounded.lower)
     }
-}
-
-/// The greatest lower bound on the variable.
-pub(crate) fn greatest_lower(bounds: &[Bounded], variable: u32) -> Option<i128>
-    requires { list_all bounded_fits bounds.now ≡ true }
-    ensures is { result ≡ greatest_lower bounds.now variable }
-    ensures fits { bound_fits result ≡ true }
-{
-    let mut tightest = None;
-    let mut at = bounds.len();
-    'put: while at > 0 {
-        at -= 1;
-        tightest = greater(lower_on(variable, &bounds[at]), tightest);
-    }
-    tightest
-}
-
-/// The least upper bound on the variable.
-pub(crate) fn least_upper(bounds: &[Bounded], variable: u32) -> Option<i128>
-    requires { list_all bounded_fits bounds.now ≡ true }
-    ensures is { result ≡ least_upper bounds.now variable }
-    ensures fits { bound_fits result ≡ true }
-{
-    let mut tightest = None;
-    let mut at = bounds.len();
-    'put: while at > 0 {
-        at -= 1;
-        tightest = lesser(upper_on(variable, &bounds[at]), tightest);
-    }
-    tightest
 }

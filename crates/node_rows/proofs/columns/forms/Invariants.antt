@@ -1,7 +1,10 @@
-use Rattle.std.proofs.Common.{◌≡◌, map, take}
+use Rattle.std.proofs.Common.{◌≡◌, ◌++◌, length, map, reverse}
 use Rattle.int_rows.specs.Node.{in_rows}
 use Rattle.node_rows.proofs.columns.forms.Given as goal
 
--- the forms so far
-abbrev pub invariant-loop-bounded : goal.invariant-loop-bounded
-invariant-loop-bounded l = l.made.items ≡ map (λ b. b.form) (in_rows (take l.bounded-index l.bounds))
+-- those that are left, and the forms so far from the last on
+abbrev pub invariant-forms : goal.invariant-forms
+invariant-forms l = map (λ b. b.form) (in_rows l.left.items) ++ reverse l.made.items ≡ map (λ b. b.form) (in_rows l.fn.bounds.items)
+
+abbrev pub decreases-forms : goal.decreases-forms
+decreases-forms l = length l.left.items

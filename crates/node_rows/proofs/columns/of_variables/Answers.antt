@@ -1,22 +1,18 @@
-use Rattle.std.proofs.Common.{◌≡◌, ◌∙◌, ◌++◌, ◌∷◌, [], ap, sym, refl, map, List, ℕ, ◌+◌, arith}
-use Rattle.std.specs.List.{list_all, range_with_len}
+use Rattle.std.proofs.Common.{◌≡◌, ◌∙◌, ◌<◌, ◌∷◌, ap, sym, List, ℕ, ◌+◌, arith, length, drop, ◌-◌}
 use Rattle.std.specs.Prelude.{Option, ℤ}
-use Rattle.std.proofs.lemmas.Bool.{and_from}
-use Rattle.std.proofs.lemmas.List.{map-append}
-use Rattle.std.proofs.lemmas.List.Folds.{list_all-append}
-use Rattle.int_rows.proofs.Public.{range-more}
-use Rattle.node_rows.specs.machinery.Columns.{sides_fit, sides_on}
+use Rattle.int_rows.specs.declared.bounds.Bounded.{Bounded}
+use Rattle.node_rows.specs.machinery.Columns.{is_said_below}
+use Rattle.node_rows.proofs.ColumnLemmas.{all-at}
+use Rattle.node_rows.proofs.MeetLemmas.{length-bounds}
 use Rattle.node_rows.proofs.columns.of_variables.Goals as goal
 
-pub loop-variable-preserved : goal.loop-variable-preserved
-loop-variable-preserved c =
+pub meet-requires-clause-below : goal.meet-requires-clause-below
+meet-requires-clause-below c =
     let bs = c.args.bounds.now in
-    let v = c.loop-variable.variable in
-    let old : List (Option ℤ × Option ℤ) = c.loop-variable.made.items in
-    let here : v ≡ 0 + v = omega arith in
-    let pushed = c.in_ok-put_variable.ensures.is in
-    record {
-      is = pushed ∙ ap (λ (made : List (Option ℤ × Option ℤ)). made ++ sides_on bs v ∷ []) c.loop-variable.invariant.is
-          ∙ sym (map-append (sides_on bs) (range_with_len 0 v) (v ∷ [])) ∙ ap (map (sides_on bs)) (ap (λ (k : ℕ). range_with_len 0 v ++ k ∷ []) here ∙ sym (range-more 0 v));
-      fit = ap (list_all sides_fit) pushed ∙ list_all-append sides_fit old (sides_on bs v ∷ []) ∙ and_from _ _ c.loop-variable.invariant.fit (and_from _ _ c.put_variable.ensures.fit refl);
-    }
+    let n = c.args.variables in
+    let some = c.each-test.true in
+    let within = c.each.invariant.within in
+    let less : c.each.at - 1 < length bs = omega (arith, some, within) in
+    let long : length c.as_mut_slice.result.now ≡ n =
+    ap (λ (l : List (Option ℤ × Option ℤ)). length l) (c.as_mut_slice.ensures.value ∙ c.each.invariant.is) ∙ length-bounds (drop c.each.at bs) n in
+    ap (λ (k : ℕ). is_said_below k c.index-bounds-at.result) long ∙ ap (is_said_below n) c.index-bounds-at.is ∙ all-at (is_said_below n) bs (c.each.at - 1) _ less c.requires.below

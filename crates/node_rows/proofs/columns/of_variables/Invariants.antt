@@ -1,11 +1,15 @@
-use Rattle.std.proofs.Common.{◌≡◌, true, map}
+use Rattle.std.proofs.Common.{◌≡◌, ◌≤◌, drop, length, map, true}
 use Rattle.std.specs.List.{list_all, range_with_len}
 use Rattle.node_rows.specs.machinery.Columns.{sides_fit, sides_on}
 use Rattle.node_rows.proofs.columns.of_variables.Given as goal
 
--- the bounds of the first variables
-abbrev pub invariant-loop-variable : goal.invariant-loop-variable
-invariant-loop-variable l = record {
-  is : l.made.items ≡ map (sides_on l.bounds) (range_with_len 0 l.variable);
+-- the bounds that the rest gives
+abbrev pub invariant-each : goal.invariant-each
+invariant-each l = record {
+  within : l.at ≤ length l.bounds;
+  is : l.made.items ≡ map (sides_on (drop l.at l.bounds)) (range_with_len 0 l.variables);
   fit : list_all sides_fit l.made.items ≡ true;
 }
+
+abbrev pub decreases-each : goal.decreases-each
+decreases-each l = l.at
