@@ -1,6 +1,6 @@
 -- What is said of one variable changes its bounds alone.
-use Rattle.std.proofs.Common.{◌≡◌, ℕ, zero, suc, List, [], ◌∷◌, ◌++◌, refl, ap, ap₂, sym, ◌∙◌, subst, arith, ◌<◌, ◌≤◌, ◌+◌, true, false, Bool, ◌&&◌, cond, ◌==◌, length, map, reverse, set, get_or, append_assoc}
-use Rattle.std.specs.Prelude.{ℤ, Option, None, nat_lt, not, nat_abs, pos}
+use Rattle.std.proofs.Common.{◌≡◌, ℕ, zero, suc, List, [], ◌∷◌, ◌++◌, refl, ap, ap₂, sym, ◌∙◌, arith, ◌<◌, ◌≤◌, ◌+◌, true, false, Bool, ◌&&◌, cond, ◌==◌, length, map, reverse, set, get_or, append_assoc}
+use Rattle.std.specs.Prelude.{ℤ, Option, nat_lt, not, nat_abs, pos}
 use Rattle.std.specs.List.{list_all, range_with_len}
 use Rattle.std.proofs.lemmas.Bool.{and_from, eqb-true, ltb-true}
 use Rattle.std.proofs.lemmas.List.{length-map, map-append, reverse-append}
@@ -40,10 +40,6 @@ on-other : (b : Bounded) (x v : ℕ) (a : ℤ) → b.form.terms ≡ (x, a) ∷ [
 on-other b x v a is other =
     ap (λ (ts : List (ℕ × ℤ)). (length ts == 1) && not (nat_abs (coefficient ts v) == 0)) is ∙ off-step a (x == v) (same-test x v (x == v) refl other)
 
-on-none : (b : Bounded) (v : ℕ) (one : Bool) → (length b.form.terms == 1) ≡ one → one ≡ false → is_on v b ≡ false
-on-none b v true e no = absurd (cc)
-on-none b v false e _ = rw e refl
-
 sides-same : (b : Bounded) (bs : List Bounded) (v : ℕ) → is_on v b ≡ false → sides_on (b ∷ bs) v ≡ sides_on bs v
 sides-same b bs v off = rw off refl
 
@@ -63,10 +59,6 @@ one-met b bs n x a old new was now d is there at met put all =
     let made : now ≡ sides_on (b ∷ bs) (0 + x) = met ∙ ap (λ (s : Both). (greater (lower_on x b) s.0, lesser (upper_on x b) s.1)) here ∙ ap (sides_on (b ∷ bs)) (omega arith) in
     put ∙ ap (λ (l : List Both). set l x now) all
     ∙ set-range (sides_on (b ∷ bs)) (sides_on bs) 0 n x now less made (λ v other. sides-same b bs v (on-other b x v a is (λ e. other (omega (arith, e)))))
-
--- nothing is said of a variable alone
-pub none-met : (b : Bounded) (bs : List Bounded) (n : ℕ) (old : List Both) → (length b.form.terms == 1) ≡ false → old ≡ map (sides_on bs) (range_with_len 0 n) → old ≡ map (sides_on (b ∷ bs)) (range_with_len 0 n)
-none-met b bs n old none all = all ∙ map-agree (sides_on bs) (sides_on (b ∷ bs)) 0 n (λ v le. sym (sides-same b bs v (on-none b v _ refl none)))
 
 pub lone-below : (b : Bounded) (n x : ℕ) (a : ℤ) → b.form.terms ≡ (x, a) ∷ [] → is_said_below n b ≡ true → x < n
 lone-below b n x a is below = ltb-true x n (both_true (nat_lt x n) true (sym (ap (list_all (λ (t : ℕ × ℤ). nat_lt t.0 n)) is) ∙ below)).0

@@ -100,7 +100,7 @@ pub(crate) fn gather(alloc: Global, lits: &[Lit], end: u32) -> Result<Gathered, 
     ensures within { IfOk result (λ made. length (in_rows made.bounds.items) ≤ most_rows) }
     ensures too_many { IsErrOf result RowStop.TooMany → most_rows < length (in_rows (all_bounds end lits.now)) }
 {
-    let mut bounds = Vec::new(alloc);
+    let mut bounds = Vec::with_capacity(alloc, lits.len()).map_err(Memory::from)?;
     let mut variables = end;
     let mut rows = 0;
     for lit in lits {

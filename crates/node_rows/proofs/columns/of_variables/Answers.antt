@@ -1,6 +1,5 @@
-use Rattle.std.proofs.Common.{◌≡◌, ◌∙◌, ◌<◌, ◌∷◌, ap, sym, List, ℕ, ◌+◌, arith, length, drop, ◌-◌}
+use Rattle.std.proofs.Common.{◌≡◌, ◌∙◌, ◌<◌, ap, List, ℕ, arith, length, drop, ◌-◌}
 use Rattle.std.specs.Prelude.{Option, ℤ}
-use Rattle.int_rows.specs.declared.bounds.Bounded.{Bounded}
 use Rattle.node_rows.specs.machinery.Columns.{is_said_below}
 use Rattle.node_rows.proofs.ColumnLemmas.{all-at}
 use Rattle.node_rows.proofs.MeetLemmas.{length-bounds}
