@@ -1,8 +1,9 @@
 -- A divisibility is true exactly where its quotient has a value that keeps the rest within its bounds.
 use Rattle.std.proofs.Common.{◌≡◌, ℕ, List, [], ◌∷◌, ◌++◌, refl, ap, sym, ◌∙◌, arith, ◌<◌, true, false, Bool, cond, ◌==◌, length}
-use Rattle.std.specs.Prelude.{ℤ, pos, neg_ℤ, nat_abs, ◌+ℤ◌, ◌-ℤ◌, ◌*ℤ◌, ◌≤ℤ◌, ◌<ℤ◌, int_le, nat_lt, not, ◌↔◌}
+use Rattle.std.specs.Prelude.{ℤ, pos, negsuc, neg_ℤ, nat_abs, ◌+ℤ◌, ◌-ℤ◌, ◌*ℤ◌, ◌≤ℤ◌, ◌<ℤ◌, int_le, nat_lt, not, ◌↔◌}
 use Rattle.std.specs.Int.{int_div_euclid, int_rem_euclid}
 use Rattle.std.proofs.Math.IntN.{*ℤ_comm}
+use Rattle.std.proofs.Math.Nat.{div-one}
 use Rattle.std.proofs.lemmas.Int.{ints}
 use Rattle.std.proofs.lemmas.Bool.{ltb-true, eqb-true}
 use Rattle.std.proofs.lemmas.List.{get_or_append_left, get_or_at}
@@ -122,3 +123,11 @@ ready-div q n p lin some long h = div-cases q n p lin (length lin.terms == 0) re
 
 pub ready-ndiv : (q n : ℕ) (p : List ℤ) (lin : Linear) → 0 < n → length p ≡ q → lin_is_below q lin ≡ true → (lit_truth p (NDiv n lin) ≡ true) ↔ HasQuotient q p (NDiv n lin)
 ready-ndiv q n p lin some long h = ndiv-cases q n p lin (length lin.terms == 0) refl some long h
+
+over-one : (z : ℤ) → int_div_euclid z (pos 1) ≡ z
+over-one (pos a) = ap pos (div-one a)
+over-one (negsuc a) = ap negsuc (div-one a)
+
+-- a number divided by 1 is itself
+pub by-one : (z d : ℤ) → d ≡ pos 1 → z ≡ int_div_euclid z d
+by-one z d one = sym (ap (int_div_euclid z) one ∙ over-one z)

@@ -10,21 +10,23 @@ ghost use Rattle.int_rows.specs.Rows.{content};
 ghost use Rattle.int_rows.specs.Ready.{between, bounded, bounded_fits, has_no_variable, least, less_multiple, lin_content, most, ready, ready_fits, tightened, without_constant};
 
 use crate::bounds::{Bounded, Ready};
-use crate::content::content;
 use crate::stop::ReadyStop;
 use base::Memory;
-use lin_atoms::{Divisor, Lin, Lit};
+use lin_atoms::{Divisor, Lin, Lit, gcd};
 use std::alloc::Global;
 
-/// The coefficients alone.
-fn coefficients(alloc: Global, terms: &[(u32, i64)]) -> Result<Vec<i64>, Memory>
-    ensures { IfOk result (λ made. made.items ≡ map (λ t. t.1) terms.now) }
+/// The greatest common divisor of the coefficients. It ends early at 1.
+fn terms_content(terms: &[(u32, i64)]) -> u128
+    ensures { result ≡ content (map (λ t. t.1) terms.now) }
 {
-    let mut made = Vec::with_capacity(alloc, terms.len())?;
+    let mut divisor: u128 = 0;
     for (_, coefficient) in terms {
-        made.push(*coefficient)?;
+        if divisor == 1 {
+            return 1;
+        }
+        divisor = gcd(divisor, u128::from(coefficient.unsigned_abs()));
     }
-    Ok(made)
+    divisor
 }
 
 /// A number that has room.
@@ -36,14 +38,24 @@ fn signed(n: u128) -> i64
 }
 
 /// The greatest common divisor of a form's coefficients.
-fn lin_content(alloc: Global, lin: &Lin) -> Result<i64, Memory>
+fn lin_content(lin: &Lin) -> i64
     requires { 0 < length lin.now.terms }
-    ensures is { IfOk result (λ divisor. divisor ≡ pos (lin_content lin.now)) }
-    ensures positive { IfOk result (λ divisor. pos 0 <ℤ divisor) }
+    ensures is { result ≡ pos (lin_content lin.now) }
+    ensures positive { pos 0 <ℤ result }
 {
-    let coefficients = coefficients(alloc, lin.terms())?;
-    let divisor = content(coefficients.as_slice());
-    Ok(signed(divisor))
+    signed(terms_content(lin.terms()))
+}
+
+/// A coefficient divided and rounded down. Mostly the divisor is 1, and nothing is divided.
+fn part(coefficient: i64, divisor: i64) -> i64
+    requires { pos 0 <ℤ divisor }
+    ensures { result ≡ int_div_euclid coefficient divisor }
+{
+    if divisor == 1 {
+        coefficient
+    } else {
+        coefficient.div_euclid(divisor)
+    }
 }
 
 /// The terms with each coefficient divided.
@@ -53,19 +65,23 @@ fn divided(alloc: Global, terms: &[(u32, i64)], divisor: i64) -> Result<Vec<(u32
 {
     let mut made = Vec::with_capacity(alloc, terms.len())?;
     for (variable, coefficient) in terms {
-        made.push((*variable, coefficient.div_euclid(divisor)))?;
+        made.push((*variable, part(*coefficient, divisor)))?;
     }
     Ok(made)
 }
 
-/// The quotient of a form's constant, rounded down.
+/// The quotient of a form's constant, rounded down. Mostly the divisor is 1, and nothing is divided.
 fn quotient(constant: i128, divisor: i64) -> i128
     requires positive { pos 0 <ℤ divisor }
     requires small { nat_abs constant < 2 ^ 64 }
     ensures is { result ≡ int_div_euclid constant divisor }
     ensures small { nat_abs result < 2 ^ 64 }
 {
-    constant.div_euclid(i128::from(divisor))
+    if divisor == 1 {
+        constant
+    } else {
+        constant.div_euclid(i128::from(divisor))
+    }
 }
 
 /// The form without its constant, divided by the greatest common divisor of its coefficients.
@@ -107,7 +123,7 @@ fn of_le(alloc: Global, lin: &Lin) -> Result<Bounded, Memory>
     ensures made { IfOk result (λ made. made ≡ bounded 0 (Le lin.now)) }
     ensures within { OnOk result (bounded_fits (bounded 0 (Le lin.now)) ≡ true) }
 {
-    let divisor = lin_content(alloc, lin)?;
+    let divisor = lin_content(lin);
     let form = tightened(alloc, lin, divisor)?;
     let _constant = form.constant();
     Ok(Bounded {
@@ -123,7 +139,7 @@ fn of_eq(alloc: Global, lin: &Lin) -> Result<Bounded, Memory>
     ensures made { IfOk result (λ made. made ≡ bounded 0 (Eq lin.now)) }
     ensures within { OnOk result (bounded_fits (bounded 0 (Eq lin.now)) ≡ true) }
 {
-    let divisor = lin_content(alloc, lin)?;
+    let divisor = lin_content(lin);
     let form = tightened(alloc, lin, divisor)?;
     let _constant = form.constant();
     Ok(Bounded {

@@ -10,17 +10,17 @@ use Rattle.int_rows.proofs.making.lin_content.Goals as goal
 pub signed-requires : goal.signed-requires
 signed-requires c =
     let bounds = coefficients-content c.args.lin.now c.requires c.terms.ensures.legal in
-    let is : c.content-divisor.result ≡ lin_content c.args.lin.now = c.content-divisor.ensures ∙ ap content (c.as_slice.ensures.value ∙ c.in_ok-coefficients.ensures ∙ ap (map (λ (t : ℕ × ℤ). t.1)) c.terms.ensures.is) in
+    let is : c.terms_content.result ≡ lin_content c.args.lin.now = c.terms_content.ensures ∙ ap content (ap (map (λ (t : ℕ × ℤ). t.1)) c.terms.ensures.is) in
     omega (arith, ints, is, bounds)
 
 pub returns-clause-is : goal.returns-clause-is
 returns-clause-is c =
-    let is : c.content-divisor.result ≡ lin_content c.args.lin.now = c.content-divisor.ensures ∙ ap content (c.as_slice.ensures.value ∙ c.in_ok-coefficients.ensures ∙ ap (map (λ (t : ℕ × ℤ). t.1)) c.terms.ensures.is) in
+    let is : c.terms_content.result ≡ lin_content c.args.lin.now = c.terms_content.ensures ∙ ap content (ap (map (λ (t : ℕ × ℤ). t.1)) c.terms.ensures.is) in
     let fits : FitsSigned w64 c.signed.result = search rules in
     simp to_z-of_z (c.signed.ensures ∙ ap pos is)
 
 pub returns-clause-positive : goal.returns-clause-positive
 returns-clause-positive c =
     let bounds = coefficients-content c.args.lin.now c.requires c.terms.ensures.legal in
-    let is : c.content-divisor.result ≡ lin_content c.args.lin.now = c.content-divisor.ensures ∙ ap content (c.as_slice.ensures.value ∙ c.in_ok-coefficients.ensures ∙ ap (map (λ (t : ℕ × ℤ). t.1)) c.terms.ensures.is) in
+    let is : c.terms_content.result ≡ lin_content c.args.lin.now = c.terms_content.ensures ∙ ap content (ap (map (λ (t : ℕ × ℤ). t.1)) c.terms.ensures.is) in
     omega (arith, ints, is, bounds, c.signed.ensures)
