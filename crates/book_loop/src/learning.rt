@@ -19,6 +19,17 @@ const GUESS_LEVEL: u32 = 5;
 /// They are tried at each level for a cube of so many literals.
 const MANY_LITERALS: usize = 4;
 
+/// A search for a guess has at most so many inner nodes: what holds is mostly shown by few.
+const GUESS_NODES: u32 = 100;
+
+/// So many inner nodes for a guess.
+fn few(nodes: u32) -> u32
+    requires { 0 < nodes }
+    ensures { 0 < result }
+{
+    if nodes < GUESS_NODES { nodes } else { GUESS_NODES }
+}
+
 /// Whether an old lemma that excludes the obligation's point holds at the part's level, too, and so
 /// stands in its place. One is tried: the newest of the highest level.
 fn again(lent: &Lent, tries: &mut Tries, nodes: u32) -> Result<bool, Memory>
@@ -114,14 +125,15 @@ fn served(lent: &Lent, part: LemmaPart, hints: &Hints, nodes: u32) -> Result<Lem
     Ok(general)
 }
 
-/// The lemma that is learnt in the end: an old one or a more general one, at the highest level.
+/// The lemma that is learnt in the end: an old one or a more general one, at the highest level. Guesses
+/// are searched with few nodes.
 fn learnt(lent: &Lent, part: LemmaPart, hints: &Hints, nodes: u32) -> Result<LemmaPart, Memory>
     requires goes_on { GoesOn lent.now }
     requires some { 0 < nodes }
     requires learnt { IsLearnt lent.now part }
     ensures { IfOk result (IsLearnt lent.now) }
 {
-    let served = served(lent, part, hints, nodes)?;
+    let served = served(lent, part, hints, few(nodes))?;
     let raised = raise(lent, served, nodes)?;
     Ok(raised)
 }
