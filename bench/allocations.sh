@@ -2,13 +2,14 @@
 # Refuses each allocation of a whole run of the program in turn, for each script given, or for the
 # examples, with a search that is short (5 units of work and 3 nodes of a query, or as UNITS and NODES
 # say). Each run must end as it does when none is refused, or with status 5 and what is written for want
-# of memory: the error line, or `unknown` with the level that was closed where there was a book.
+# of memory: the error line, or `unknown` with the level that was closed where there was a book. CHC names
+# a program to be run in place of the one that ./chc builds.
 set -e
 top=$(cd "$(dirname "$0")/.." && pwd)
-program=$top/crates/chc/out/chc
+program=${CHC:-$top/crates/chc/out/chc}
 units=${UNITS:-5}
 nodes=${NODES:-3}
-[ -x "$program" ] || (cd "$top/crates/chc" && rt run -- solve <stdin >/dev/null)
+[ -x "$program" ] || "$top/chc" solve </dev/null >/dev/null || [ -x "$program" ]
 work=$(mktemp -d)
 trap 'rm -rf "$work"' EXIT
 cc -O2 -shared -fPIC -o "$work/refuse.so" "$top/bench/allocations.c" -ldl

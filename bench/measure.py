@@ -5,6 +5,7 @@ which other work on the machine hardly changes; seconds by the clock; and the pe
 system gave it. Ratios are those of processor time."""
 
 import os
+import resource
 import shutil
 import subprocess
 import sys
@@ -34,17 +35,35 @@ class Ran(NamedTuple):
     output: bytes
 
 
-def run(words, path):
-    """Runs these words on the script."""
-    with open(path, "rb") as script, tempfile.TemporaryFile() as out:
+def run(words, path, seconds=None):
+    """Runs these words on the script, with at most so many seconds of processor time."""
+    with open(path, "rb") as script:
+        return run_on(words, script, seconds)
+
+
+def run_on(words, script, seconds=None):
+    """Runs these words on an open file. A run past its seconds is ended by the signal 9."""
+
+    def limit():
+        resource.setrlimit(resource.RLIMIT_CPU, (seconds, seconds))
+
+    with tempfile.TemporaryFile() as out:
         begun = time.perf_counter()
-        child = subprocess.Popen(words, stdin=script, stdout=out)
+        child = subprocess.Popen(words, stdin=script, stdout=out, preexec_fn=limit if seconds else None)
         _, status, usage = os.wait4(child.pid, 0)
         clock = time.perf_counter() - begun
         child.returncode = os.waitstatus_to_exitcode(status)
         out.seek(0)
-        seconds = usage.ru_utime + usage.ru_stime
-        return Ran(seconds, clock, usage.ru_maxrss * 1024, child.returncode, out.read())
+        used = usage.ru_utime + usage.ru_stime
+        return Ran(used, clock, usage.ru_maxrss * 1024, child.returncode, out.read())
+
+
+def chc_program():
+    """The program that CHC names, or else the one that the launcher builds, built where it is missing."""
+    if "CHC" in os.environ:
+        return os.path.abspath(os.environ["CHC"])
+    subprocess.run([os.path.join(TOP, "chc"), "solve"], stdin=subprocess.DEVNULL, stdout=subprocess.DEVNULL)
+    return os.path.join(TOP, "crates", "chc", "out", "chc")
 
 
 def measure(name, words, path, runs):
@@ -62,10 +81,7 @@ def measure(name, words, path, runs):
 
 def compare(path, runs):
     """Measures chc some times and z3 once, where it is installed."""
-    chc = os.path.join(TOP, "chc")
-    # The first start may build the program, which is no part of what is measured.
-    subprocess.run([chc, "solve"], stdin=subprocess.DEVNULL, stdout=subprocess.DEVNULL)
-    ours, peak = measure("chc", [chc, "solve"], path, runs)
+    ours, peak = measure("chc", [chc_program(), "solve"], path, runs)
     if shutil.which("z3") is None:
         print("z3 is not installed, so there is no ratio")
         return Measured(ours, peak, None)

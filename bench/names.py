@@ -1,10 +1,13 @@
 #!/usr/bin/env python3
-"""Measures `chc solve` on scripts with many names that begin alike, against z3 where that is installed.
+"""Measures `chc solve` on scripts with many names that are hard to tell apart, against z3 where that is
+installed.
 
 Each script declares 4,096 predicates, binds names by one `let` of an assertion, and uses each of them
-once. All names share a long prefix, so that whoever orders them compares as many bytes as it can be made
-to. Half as many names are measured too, and the ratio of the two times tells whether time grows with the
-script alone, whichever names are chosen."""
+once. The names are of one of two kinds: all begin alike, so that whoever orders them compares as many
+bytes as it can be made to; or all have the same length and the same sum of powers of 31, which many hash
+tables go by, and so whoever has such a table finds them all in one place of it. Half as many names are
+measured too, and the ratio of the two times tells whether time grows with the script alone, whichever
+names are chosen."""
 
 import argparse
 import tempfile
@@ -14,15 +17,25 @@ from measure import compare
 PREDICATES = 4_096
 
 
-def write_script(file, names, prefix):
+def alike(number):
+    """The name of that number, which begins as all do."""
+    return "x" * 40 + f"{number:07}"
+
+
+def colliding(number):
+    """The name of that number, whose sum of powers of 31 is that of all: `Aa` and `BB` have the same."""
+    return "".join(("Aa", "BB")[number >> place & 1] for place in range(20))
+
+
+def write_script(file, names, name):
     """Writes the script with that many bound names, and returns its length."""
-    start = "x" * prefix
+    declared = [name(names + i) for i in range(PREDICATES)]
+    bound = " ".join(f"({name(i)} true)" for i in range(names))
+    used = " ".join(name(i) for i in range(names - 1, -1, -1))
     parts = ["(set-logic HORN)\n"]
-    parts += [f"(declare-const {start}p{i} Bool)\n" for i in range(PREDICATES)]
-    bound = " ".join(f"({start}{i:07} true)" for i in range(names))
-    used = " ".join(f"{start}{i:07}" for i in range(names - 1, -1, -1))
-    parts.append(f"(assert (=> (let ({bound}) (and {used})) {start}p{PREDICATES - 1}))\n")
-    parts += [f"(assert {start}p{i})\n" for i in range(PREDICATES)]
+    parts += [f"(declare-const {it} Bool)\n" for it in declared]
+    parts.append(f"(assert (=> (let ({bound}) (and {used})) {declared[-1]}))\n")
+    parts += [f"(assert {it})\n" for it in declared]
     parts.append("(check-sat)\n")
     text = "".join(parts)
     file.write(text)
@@ -33,14 +46,14 @@ def write_script(file, names, prefix):
 def main():
     words = argparse.ArgumentParser(description=__doc__, formatter_class=argparse.RawDescriptionHelpFormatter)
     words.add_argument("--names", type=int, default=100_000, help="bound in the longer script")
-    words.add_argument("--prefix", type=int, default=40, help="bytes that all names begin with")
     words.add_argument("--runs", type=int, default=3, help="of chc; z3 runs once")
     words = words.parse_args()
-    for names in (words.names // 2, words.names):
-        with tempfile.NamedTemporaryFile("w", encoding="ascii", suffix=".smt2") as file:
-            length = write_script(file, names, words.prefix)
-            print(f"{names} bound names in {length} bytes")
-            compare(file.name, words.runs)
+    for kind, name in (("that begin alike", alike), ("of one sum of powers of 31", colliding)):
+        for names in (words.names // 2, words.names):
+            with tempfile.NamedTemporaryFile("w", encoding="ascii", suffix=".smt2") as file:
+                length = write_script(file, names, name)
+                print(f"{names} bound names {kind} in {length} bytes")
+                compare(file.name, words.runs)
 
 
 if __name__ == "__main__":
