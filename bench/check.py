@@ -1,0 +1,244 @@
+#!/usr/bin/env python3
+"""Solves every script of a folder, and sees that `chc check` finds the printed answers right and spoilt
+ones wrong.
+
+Prints a row for each script: the answer, how many steps or definitions it has, and the seconds of processor
+time of `solve` and of `check`. Each printed answer must be valid.
+
+Then each answer is spoilt some times (`--spoilt`), one number moved by one or one premise made another, as a
+seeded generator chooses. What `check` says of it is held to this:
+
+- of a derivation, `wrong` at the very step that was spoilt, since those before it are as they were;
+- of definitions, `wrong` at an assertion that z3 finds false under them, at the values that are told, and
+  none before it;
+- `valid`, where z3 finds the spoilt step or all assertions true;
+- `wrong` at a byte, where the spoilt text is no answer: a number that is none there, or is too large;
+- `not shown`, which claims nothing and is counted.
+
+Without z3 what needs it is counted as not looked at. Fails at a printed answer that isn't valid, or at
+anything else said of a spoilt one."""
+
+import argparse
+import os
+import random
+import re
+import shutil
+import subprocess
+import sys
+import tempfile
+
+from measure import chc_program, run, run_on
+
+MARKER = b"\n;;answer\n"
+NUMBER = re.compile(r"\(- \d+\)|(?<![^\s()])\d+(?![^\s()])")
+STEP = re.compile(r"\(step (\d+) (\d+) \((.*?)\) \(([\d ]*)\) (.*)\)")
+WRONG = re.compile(r"wrong\n; (?:step (\d+)|assertion (\d+) at \((.*)\)|byte (\d+))\n")
+TOKEN = re.compile(r'\s+|;[^\n]*|"(?:[^"]|"")*"|\|[^|]*\||[()]|[^\s()|";]+')
+
+
+def trees(text):
+    """The trees of a text up to its first fault: atoms are texts, and lists are lists."""
+    stack = [[]]
+    for token in TOKEN.findall(text):
+        if token == "(":
+            stack.append([])
+        elif token == ")" and len(stack) == 1:
+            break
+        elif token == ")":
+            done = stack.pop()
+            stack[-1].append(done)
+        elif not token.isspace() and not token.startswith(";"):
+            stack[-1].append(token)
+    return stack[0]
+
+
+def shown(tree):
+    """A tree as text."""
+    return tree if isinstance(tree, str) else "(" + " ".join(map(shown, tree)) + ")"
+
+
+def items(text):
+    """The values that stand in a list, each as text."""
+    return [shown(it) for it in trees(text)]
+
+
+def instance(assertion, values):
+    """The assertion with these values for its variables, or itself where its quantifiers don't stand in front."""
+    if assertion[0] == "forall" and len(assertion[1]) == len(values):
+        bound = " ".join(f"({name} {value})" for (name, _), value in zip(assertion[1], values))
+        return f"(let ({bound}) {shown(assertion[2])})"
+    if assertion[0] == "not" and assertion[1][0] == "exists" and len(assertion[1][1]) == len(values):
+        return f"(not {instance(['forall', *assertion[1][1:]], values)})"
+    return shown(assertion)
+
+
+class Script:
+    """A script's declarations and assertions, and what z3 says over them."""
+
+    def __init__(self, path, solver):
+        with open(path, encoding="utf-8") as file:
+            self.text = file.read()
+        commands = trees(self.text)
+        if ["exit"] in commands:
+            commands = commands[: commands.index(["exit"])]
+        self.declared = [shown(it) for it in commands if it[0] in ("declare-fun", "declare-const")]
+        self.asserted = [it[1] for it in commands if it[0] == "assert"]
+        self.solver = solver
+
+    def is_sure(self, head, claims):
+        """Whether z3 finds these claims to be contradictory; None where it can't tell or isn't there."""
+        if not self.solver:
+            return None
+        text = "\n".join([*head, *(f"(assert {it})" for it in claims), "(check-sat)\n"])
+        ran = subprocess.run([self.solver, "-in", "-T:5"], input=text, capture_output=True, text=True)
+        said = ran.stdout.split("\n")[0]
+        return {"unsat": True, "sat": False}.get(said)
+
+    def is_true(self, definitions, number):
+        """Whether the assertion of that number is true under the definitions."""
+        return self.is_sure(definitions, [f"(not {shown(self.asserted[number - 1])})"])
+
+    def is_false_at(self, definitions, number, values):
+        """Whether the assertion is false under the definitions at these values."""
+        return self.is_sure(definitions, [instance(self.asserted[number - 1], values)])
+
+    def follows(self, line, heads):
+        """Whether the step's conclusion follows from those of its premises by its assertion at its values."""
+        _, assertion, values, premises, head = STEP.fullmatch(line).groups()
+        known = [heads[int(it) - 1] for it in premises.split()]
+        return self.is_sure(self.declared, [*known, instance(self.asserted[int(assertion) - 1], items(values)), f"(not {head})"])
+
+
+def moved(text, chance):
+    """The text with one of its numbers moved by one; None where it has none."""
+    found = list(NUMBER.finditer(text))
+    if not found:
+        return None
+    it = chance.choice(found)
+    number = int(it[0].replace("(- ", "-").rstrip(")")) + chance.choice((-1, 1))
+    return text[: it.start()] + (str(number) if number >= 0 else f"(- {-number})") + text[it.end() :]
+
+
+def other_premise(line, chance):
+    """The step with one premise made another of the steps before it; None where there is none."""
+    number, assertion, values, premises, head = STEP.fullmatch(line).groups()
+    premises = premises.split()
+    others = [it for it in range(1, int(number))]
+    if not premises or len(others) < 2:
+        return None
+    at = chance.randrange(len(premises))
+    premises[at] = str(chance.choice([it for it in others if str(it) != premises[at]]))
+    return f"(step {number} {assertion} ({values}) ({' '.join(premises)}) {head})"
+
+
+def spoil(lines, chance):
+    """The lines of an answer with one of them spoilt, and its number among them; None where that can't be."""
+    at = chance.choice([number for number, it in enumerate(lines) if it.startswith(("(step ", "(define-fun "))])
+    line = lines[at]
+    if line.startswith("(step "):
+        new = other_premise(line, chance) if chance.random() < 0.3 else moved(line, chance)
+    else:
+        # (the names of its parameters have numbers too, and may not be moved)
+        head, middle, body = line.partition(") Bool ")
+        new = moved(body, chance)
+        new = new and head + middle + new
+    return (at, [*lines[:at], new, *lines[at + 1 :]]) if new and new != line else None
+
+
+def judge_steps(script, at, lines, said):
+    """What is to be said of a derivation whose step in this line is spoilt: a word, and whether it is right."""
+    wrong = WRONG.fullmatch(said)
+    if said == "valid\n":
+        heads = [STEP.fullmatch(it)[5] for it in lines if it.startswith("(step ")]
+        return "valid", script.follows(lines[at], heads)
+    if wrong and wrong[1]:
+        return "step", int(wrong[1]) == at - 1
+    return ("byte", True) if wrong and wrong[4] else (said.strip(), said.startswith("not shown\n"))
+
+
+def judge_definitions(script, lines, said):
+    """What is to be said of definitions of which one is spoilt: a word, and whether it is right."""
+    definitions, wrong = [it for it in lines if it.startswith("(define-fun ")], WRONG.fullmatch(said)
+    if said == "valid\n":
+        found = [script.is_true(definitions, it) for it in range(1, len(script.asserted) + 1)]
+        return "valid", False if False in found else None if None in found else True
+    if wrong and wrong[2]:
+        number = int(wrong[2])
+        found = [script.is_true(definitions, it) for it in range(1, number)]
+        found.append(script.is_false_at(definitions, number, items(wrong[3])))
+        return "instance", False if False in found else None if None in found else True
+    return ("byte", True) if wrong and wrong[4] else (said.strip(), said.startswith("not shown\n"))
+
+
+def checked(program, script, answer, seconds):
+    """The run of `check` on this answer to the script."""
+    with tempfile.TemporaryFile() as given:
+        given.write(script.encode() + MARKER + answer.encode())
+        given.seek(0)
+        return run_on([program, "check"], given, seconds)
+
+
+def try_spoilt(words, name, script, answer, counts):
+    """Spoils an answer some times, counts what is said of it, and prints what is not right."""
+    chance = random.Random(f"{words.seed} {name}")
+    lines = answer.split("\n")
+    if not any(it.startswith(("(step ", "(define-fun ")) for it in lines):
+        return 0
+    faults = 0
+    for _ in range(words.spoilt):
+        spoilt = spoil(lines, chance)
+        if spoilt is None:
+            continue
+        at, new = spoilt
+        ran = checked(words.program, script.text, "\n".join(new), words.seconds)
+        said = ran.output.decode()
+        if ran.status in (-9, -24):
+            said = "not shown\n"
+        word, is_right = judge_steps(script, at, new, said) if answer.startswith("unsat") else judge_definitions(script, new, said)
+        word = "not shown" if word.startswith("not shown") else word
+        key = word if is_right else f"{word}, not looked at" if is_right is None else "not right"
+        counts[key] = counts.get(key, 0) + 1
+        if is_right is False:
+            faults += 1
+            print(f"{name}: {new[at]}\n    was {lines[at]}\n    and check says {said!r}")
+    return faults
+
+
+def try_script(words, path, solver, counts):
+    """Solves one script, has the answer checked, prints the row, and returns how much isn't right."""
+    name = os.path.basename(path).removesuffix(".smt2")
+    solved = run([words.program, "solve"], path, words.seconds)
+    answer = solved.output.decode()
+    kind = answer.split("\n", 1)[0]
+    if solved.status != 0 or kind not in ("sat", "unsat"):
+        print(f"{name:32} no answer to check")
+        return 0
+    script = Script(path, solver)
+    ran = checked(words.program, script.text, answer, words.seconds)
+    said = ran.output.decode().replace("\n", " ").strip()
+    said = "time" if ran.status in (-9, -24) else said
+    parts = answer.count("\n(step ") or answer.count("\n(define-fun ")
+    print(f"{name:32} {kind:>6} {parts:>7} {solved.seconds:8.2f} {ran.seconds:8.2f}  {said}", flush=True)
+    return int(said != "valid") + try_spoilt(words, name, script, answer, counts)
+
+
+def main():
+    words = argparse.ArgumentParser(description=__doc__, formatter_class=argparse.RawDescriptionHelpFormatter)
+    words.add_argument("folder", help="of scripts, files that end in .smt2")
+    words.add_argument("--seconds", type=int, default=10, help="of processor time for each run")
+    words.add_argument("--only", default="", help="scripts whose names have this")
+    words.add_argument("--spoilt", type=int, default=5, help="times that each answer is spoilt")
+    words.add_argument("--seed", type=int, default=1, help="of what is spoilt")
+    words = words.parse_args()
+    words.program = chc_program()
+    solver, counts, faults = shutil.which("z3"), {}, 0
+    print(f"{'script':32} {'answer':>6} {'parts':>7} {'solve s':>8} {'check s':>8}  check")
+    for name in sorted(it for it in os.listdir(words.folder) if it.endswith(".smt2") and words.only in it):
+        faults += try_script(words, os.path.join(words.folder, name), solver, counts)
+    print("spoilt answers:", ", ".join(f"{number} {what}" for what, number in sorted(counts.items())) or "none")
+    if faults:
+        sys.exit(f"{faults} not right")
+
+
+if __name__ == "__main__":
+    main()
