@@ -6,6 +6,7 @@ mod chain;
 mod closing;
 mod columns;
 mod conflicts;
+mod equations;
 mod filled;
 mod parts;
 mod rows;

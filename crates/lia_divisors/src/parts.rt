@@ -11,6 +11,7 @@ ghost use Rattle.node_rows.specs.Known.{are_known, has_short_constant};
 use crate::chain::Chain;
 use crate::columns::forms;
 use crate::conflicts::of_conflict;
+use crate::equations::of_equations;
 use crate::rows::of_rows;
 use crate::said::Said;
 use crate::sides::{Bound, Sides, all_sides};
@@ -104,6 +105,9 @@ fn at_vertex(
     }
     let sides = part.sides.as_slice();
     if let Some(chain) = of_rows(alloc, tableau, sides, part.known)? {
+        return Ok(Told::Closed(chain));
+    }
+    if let Some(chain) = of_equations(alloc, forms, tableau.columns(), sides, part.known)? {
         return Ok(Told::Closed(chain));
     }
     let Some(place) = place(sides, ratios) else {

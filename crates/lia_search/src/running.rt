@@ -24,6 +24,7 @@ use farkas_proof::{Evidence, Refutation};
 use lia_close::{Step, close, numbered, tree_of};
 use lia_divisors::close_by_parts;
 use lia_node::{Examined, examine};
+use lia_points::point_near;
 use lin_atoms::Form;
 use node_rows::are_legal;
 use std::alloc::Global;
@@ -248,6 +249,28 @@ impl<'a> Search<'a> {
         }
     }
 
+    /// At a vertex with a fraction the node is met at a point near it, where one is found, and otherwise
+    /// closed or split.
+    fn near(
+        &mut self,
+        alloc: Global,
+        waiting: Open,
+        variable: u32,
+        floor: i64,
+    ) -> Result<Turn, Memory>
+        requires is { Waits self.old waiting }
+        requires solution { HasSolution self.old.end waiting.lits }
+        requires vertex { HasVertexBetween (system self.old.end waiting.lits) variable floor }
+        requires few { end_of_quotients self.old.end waiting.lits ≤ self.old.end + most_rows }
+        requires room { self.old.count < self.old.nodes }
+        ensures { Turns self.old waiting self.new result }
+    {
+        match point_near(alloc, waiting.lits.as_slice(), self.end)? {
+            Some(point) => self.meet(alloc, waiting, point),
+            None => self.branch(alloc, waiting, variable, floor),
+        }
+    }
+
     /// A number of the node has no room. At the first node the form is given up at once; at a later one
     /// the evidence is kept, and the search goes on elsewhere.
     fn give_up(&mut self, waiting: &Open, evidence: Evidence, is_first: bool) -> Turn
@@ -285,7 +308,7 @@ impl<'a> Search<'a> {
                 Ok(Turn::WentOn)
             }
             Examined::Model(point) => self.meet(alloc, waiting, point),
-            Examined::Fraction { variable, floor } => self.branch(alloc, waiting, variable, floor),
+            Examined::Fraction { variable, floor } => self.near(alloc, waiting, variable, floor),
             Examined::Wide(evidence) => Ok(self.give_up(&waiting, evidence, is_first)),
         }
     }
