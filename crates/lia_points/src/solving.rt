@@ -83,6 +83,9 @@ fn take(free: &mut Vec<Column>, row: usize) -> Result<Taken, Memory> {
         let Some(at) = least(free.as_slice(), row) else {
             return Ok(Taken::Dependent);
         };
+        if at >= free.len() {
+            return Ok(Taken::Lost);
+        }
         let mut pivot = free.swap_remove(at);
         match all_reduced(free.as_mut_slice(), row, &mut pivot) {
             Some(true) => return Ok(Taken::Pivot(pivot)),

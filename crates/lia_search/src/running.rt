@@ -265,7 +265,11 @@ impl<'a> Search<'a> {
         requires room { self.old.count < self.old.nodes }
         ensures { Turns self.old waiting self.new result }
     {
-        match point_near(alloc, waiting.lits.as_slice(), self.end)? {
+        if parts_at(self.count) == 0 {
+            return self.branch(alloc, waiting, variable, floor);
+        }
+        let found = point_near(alloc, waiting.lits.as_slice(), self.end)?;
+        match found {
             Some(point) => self.meet(alloc, waiting, point),
             None => self.branch(alloc, waiting, variable, floor),
         }
