@@ -42,24 +42,24 @@ fn add_row(rt: &impl Abort, alloc: Global, lits: &mut Vec<Lit>, row: Row) {
         .expect(rt, "memory");
 }
 
-/// What is decided of the rows with one inner node at the most.
-fn decided(rt: &impl Abort, alloc: Global, rows: &[Row]) -> Decision {
+/// What is decided of the rows with so many inner nodes at the most.
+fn decided(rt: &impl Abort, alloc: Global, rows: &[Row], nodes: u32) -> Decision {
     let mut lits = Vec::new(alloc);
     for row in rows {
         add_row(rt, alloc, &mut lits, *row);
     }
     assert!(rt; are_below(lits.as_slice(), 4));
     assert!(rt; have_short_constants(lits.as_slice()));
-    decide_all(alloc, lits.as_slice(), 4, 1).expect(rt, "memory")
+    decide_all(alloc, lits.as_slice(), 4, nodes).expect(rt, "memory")
 }
 
 fn is_refuted(rt: &impl Abort, alloc: Global, rows: &[Row]) -> bool {
-    let decision = decided(rt, alloc, rows);
+    let decision = decided(rt, alloc, rows, 1);
     matches!(decision, Decision::Refuted(_))
 }
 
 fn has_point(rt: &impl Abort, alloc: Global, rows: &[Row]) -> bool {
-    let decision = decided(rt, alloc, rows);
+    let decision = decided(rt, alloc, rows, 8);
     matches!(decision, Decision::Model(_))
 }
 
@@ -145,25 +145,18 @@ const ALL: [&[Row]; 12] = [
     &PARITY, &EVEN, &TIMES, &SUM, &FIVE, &KEPT, &PAIRS, &BOX, &TWICE, &MODULI, &TOGETHER, &WEDGE,
 ];
 
-/// 7x is 1 more than 5y, and x + y is at least 100.
-const LINE: [Row; 2] = [(1, 1, [7, -5, 0, 0], -1), (0, 1, [-1, -1, 0, 0], 100)];
+/// 1009x is 1 more than 1013y, and x + y is at least 100.
+const LINE: [Row; 2] = [(1, 1, [1009, -1013, 0, 0], -1), (0, 1, [-1, -1, 0, 0], 100)];
 
-/// x leaves 2 by 3, 4 by 5 and 5 by 7, and is at least 1000.
+/// x leaves 2 by 101, 4 by 103 and 5 by 107, and is at least 1000.
 const REMAINDERS: [Row; 4] = [
-    (2, 3, [1, 0, 0, 0], -2),
-    (2, 5, [1, 0, 0, 0], -4),
-    (2, 7, [1, 0, 0, 0], -5),
+    (2, 101, [1, 0, 0, 0], -2),
+    (2, 103, [1, 0, 0, 0], -4),
+    (2, 107, [1, 0, 0, 0], -5),
     (0, 1, [-1, 0, 0, 0], 1000),
 ];
 
-/// 5 doesn't divide x, 7 divides 3x + 2y + 1, and x - 3y is 4.
-const LATTICE: [Row; 3] = [
-    (3, 5, [1, 0, 0, 0], 0),
-    (2, 7, [3, 2, 0, 0], 1),
-    (1, 1, [1, -3, 0, 0], -4),
-];
-
-const POINTS: [&[Row]; 3] = [&LINE, &REMAINDERS, &LATTICE];
+const POINTS: [&[Row]; 2] = [&LINE, &REMAINDERS];
 
 #[test]
 fn common_divisors_end(rt: HostRuntime) {

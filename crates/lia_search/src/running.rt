@@ -32,7 +32,7 @@ use std::alloc::Global;
 /// So many parts a node is split into at the most.
 const MOST_PARTS: u32 = 400;
 
-/// A node is looked at whole before so many inner nodes.
+/// Before so many inner nodes a node is looked at whole, and not for a point.
 const FEW_NODES: u32 = 4;
 
 /// A search of a form, and how far it has come.
@@ -249,8 +249,9 @@ impl<'a> Search<'a> {
         }
     }
 
-    /// At a vertex with a fraction the node is met at a point near it, where one is found, and otherwise
-    /// closed or split.
+    /// At a vertex with a fraction the node is met at a point near it, where one is looked for and found,
+    /// and otherwise closed or split. None is looked for before a few inner nodes: branches then find
+    /// points at vertices.
     fn near(
         &mut self,
         alloc: Global,
@@ -265,7 +266,7 @@ impl<'a> Search<'a> {
         requires room { self.old.count < self.old.nodes }
         ensures { Turns self.old waiting self.new result }
     {
-        if parts_at(self.count) == 0 {
+        if self.count < FEW_NODES || parts_at(self.count) == 0 {
             return self.branch(alloc, waiting, variable, floor);
         }
         let found = point_near(alloc, waiting.lits.as_slice(), self.end)?;
