@@ -6,6 +6,7 @@ mod chain;
 mod closing;
 mod columns;
 mod conflicts;
+mod cuts;
 mod equations;
 mod filled;
 mod parts;

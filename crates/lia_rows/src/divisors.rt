@@ -134,8 +134,15 @@ const MODULI: [Row; 2] = [(2, 4, [1, 0, 0, 0], 2), (1, 1, [1, 0, -12, 0], -1)];
 /// z is odd and even: no row of the first vertex says both.
 const TOGETHER: [Row; 2] = [(1, 1, [2, 0, 1, 0], -1), (1, 1, [0, 2, 1, 0], 0)];
 
-const ALL: [&[Row]; 11] = [
-    &PARITY, &EVEN, &TIMES, &SUM, &FIVE, &KEPT, &PAIRS, &BOX, &TWICE, &MODULI, &TOGETHER,
+/// z is at least 1, and at most twice x - y and 2 less than that: two cuts put x - y above 0 and below 1.
+const WEDGE: [Row; 3] = [
+    (0, 1, [-2, 2, 1, 0], 0),
+    (0, 1, [2, -2, 1, 0], -2),
+    (0, 1, [0, 0, -1, 0], 1),
+];
+
+const ALL: [&[Row]; 12] = [
+    &PARITY, &EVEN, &TIMES, &SUM, &FIVE, &KEPT, &PAIRS, &BOX, &TWICE, &MODULI, &TOGETHER, &WEDGE,
 ];
 
 /// 1009x is 1 more than 1013y, and x + y is at least 100.
