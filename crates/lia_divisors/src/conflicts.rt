@@ -20,7 +20,17 @@ pub(crate) fn of_conflict(
     sides: &[Sides],
     known: usize,
 ) -> Result<Option<Chain>, Memory> {
-    let mut chain = Chain::new(alloc, known);
+    of_conflict_under(alloc, Chain::new(alloc, known), multipliers, sides)
+}
+
+/// The same, below the roundings of a chain.
+pub(crate) fn of_conflict_under(
+    alloc: Global,
+    chain: Chain,
+    multipliers: &[i64],
+    sides: &[Sides],
+) -> Result<Option<Chain>, Memory> {
+    let mut chain = chain;
     let mut sum = Vec::new(alloc);
     for (at, times) in multipliers.iter().enumerate() {
         if *times != 0 {

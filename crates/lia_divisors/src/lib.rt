@@ -6,6 +6,8 @@ mod chain;
 mod closing;
 mod columns;
 mod conflicts;
+mod cuts;
+mod equations;
 mod filled;
 mod parts;
 mod rows;

@@ -11,6 +11,8 @@ ghost use Rattle.node_rows.specs.Known.{are_known, has_short_constant};
 use crate::chain::Chain;
 use crate::columns::forms;
 use crate::conflicts::of_conflict;
+use crate::cuts::of_cuts;
+use crate::equations::of_equations;
 use crate::rows::of_rows;
 use crate::said::Said;
 use crate::sides::{Bound, Sides, all_sides};
@@ -73,7 +75,7 @@ fn set_side(tableau: &mut Tableau, column: usize, own: &Sides) {
 }
 
 /// The tableau gets the bounds of a part.
-fn set_sides(tableau: &mut Tableau, sides: &[Sides]) {
+pub(crate) fn set_sides(tableau: &mut Tableau, sides: &[Sides]) {
     for (column, own) in sides.iter().enumerate() {
         set_side(tableau, column, own);
     }
@@ -104,6 +106,9 @@ fn at_vertex(
     }
     let sides = part.sides.as_slice();
     if let Some(chain) = of_rows(alloc, tableau, sides, part.known)? {
+        return Ok(Told::Closed(chain));
+    }
+    if let Some(chain) = of_equations(alloc, forms, tableau.columns(), sides, part.known)? {
         return Ok(Told::Closed(chain));
     }
     let Some(place) = place(sides, ratios) else {
@@ -201,9 +206,29 @@ pub(crate) fn guessed(
     requires short { list_all has_short_constant lits.now ≡ true }
     requires few { end < 2 ^ 31 }
 {
-    match node_tableau(alloc, lits, end) {
-        Ok(mut tableau) => from_tableau(alloc, &mut tableau, said, known, most),
-        Err(RowStop::Memory) => Err(Memory),
-        Err(RowStop::TooMany) => Ok(None),
+    let found = match node_tableau(alloc, lits, end) {
+        Ok(mut tableau) => from_tableau(alloc, &mut tableau, said, known, most)?,
+        Err(RowStop::Memory) => return Err(Memory),
+        Err(RowStop::TooMany) => return Ok(None),
+    };
+    match found {
+        Some(moves) => Ok(Some(moves)),
+        None => by_cuts(alloc, lits, end, said, known),
+    }
+}
+
+/// What the tree of cuts is written in, where they lead to one.
+fn by_cuts(
+    alloc: Global,
+    lits: &[Lit],
+    end: u32,
+    said: &[Said],
+    known: usize,
+) -> Result<Option<Vec<Move>>, Memory>
+    requires { end < 2 ^ 31 }
+{
+    match of_cuts(alloc, lits, end, said, known)? {
+        Some(chain) => Ok(Some(vec![in alloc; Move::Closed(chain)]?)),
+        None => Ok(None),
     }
 }

@@ -192,7 +192,7 @@ fn take_column(
 }
 
 /// The row divided by the number, rounded from above and from below.
-fn chain_of(
+pub(crate) fn chain_of(
     alloc: Global,
     entries: &[i64],
     sides: &[Sides],

@@ -1,4 +1,5 @@
-//! Conjunctions over unbounded variables that no branch ends: a common divisor does.
+//! Conjunctions over unbounded variables that branches don't end: a common divisor of a row or of
+//! equations does, or a point at which equations hold.
 
 use lia_branch::{Decision, are_below, decide_all, have_short_constants};
 use lin_atoms::{Divisor, Lin, Lit};
@@ -41,16 +42,25 @@ fn add_row(rt: &impl Abort, alloc: Global, lits: &mut Vec<Lit>, row: Row) {
         .expect(rt, "memory");
 }
 
-/// Whether the rows are refuted with one inner node at the most.
-fn is_refuted(rt: &impl Abort, alloc: Global, rows: &[Row]) -> bool {
+/// What is decided of the rows with so many inner nodes at the most.
+fn decided(rt: &impl Abort, alloc: Global, rows: &[Row], nodes: u32) -> Decision {
     let mut lits = Vec::new(alloc);
     for row in rows {
         add_row(rt, alloc, &mut lits, *row);
     }
     assert!(rt; are_below(lits.as_slice(), 4));
     assert!(rt; have_short_constants(lits.as_slice()));
-    let decision = decide_all(alloc, lits.as_slice(), 4, 1).expect(rt, "memory");
+    decide_all(alloc, lits.as_slice(), 4, nodes).expect(rt, "memory")
+}
+
+fn is_refuted(rt: &impl Abort, alloc: Global, rows: &[Row]) -> bool {
+    let decision = decided(rt, alloc, rows, 1);
     matches!(decision, Decision::Refuted(_))
+}
+
+fn has_point(rt: &impl Abort, alloc: Global, rows: &[Row]) -> bool {
+    let decision = decided(rt, alloc, rows, 8);
+    matches!(decision, Decision::Model(_))
 }
 
 /// x is twice y, and one more than twice z.
@@ -121,13 +131,43 @@ const TWICE: [Row; 4] = [
 /// 4 divides x + 2 and x is 12z + 1.
 const MODULI: [Row; 2] = [(2, 4, [1, 0, 0, 0], 2), (1, 1, [1, 0, -12, 0], -1)];
 
-const ALL: [&[Row]; 10] = [
-    &PARITY, &EVEN, &TIMES, &SUM, &FIVE, &KEPT, &PAIRS, &BOX, &TWICE, &MODULI,
+/// z is odd and even: no row of the first vertex says both.
+const TOGETHER: [Row; 2] = [(1, 1, [2, 0, 1, 0], -1), (1, 1, [0, 2, 1, 0], 0)];
+
+/// z is at least 1, and at most twice x - y and 2 less than that: two cuts put x - y above 0 and below 1.
+const WEDGE: [Row; 3] = [
+    (0, 1, [-2, 2, 1, 0], 0),
+    (0, 1, [2, -2, 1, 0], -2),
+    (0, 1, [0, 0, -1, 0], 1),
 ];
+
+const ALL: [&[Row]; 12] = [
+    &PARITY, &EVEN, &TIMES, &SUM, &FIVE, &KEPT, &PAIRS, &BOX, &TWICE, &MODULI, &TOGETHER, &WEDGE,
+];
+
+/// 1009x is 1 more than 1013y, and x + y is at least 100.
+const LINE: [Row; 2] = [(1, 1, [1009, -1013, 0, 0], -1), (0, 1, [-1, -1, 0, 0], 100)];
+
+/// x leaves 2 by 101, 4 by 103 and 5 by 107, and is at least 1000.
+const REMAINDERS: [Row; 4] = [
+    (2, 101, [1, 0, 0, 0], -2),
+    (2, 103, [1, 0, 0, 0], -4),
+    (2, 107, [1, 0, 0, 0], -5),
+    (0, 1, [-1, 0, 0, 0], 1000),
+];
+
+const POINTS: [&[Row]; 2] = [&LINE, &REMAINDERS];
 
 #[test]
 fn common_divisors_end(rt: HostRuntime) {
     for rows in ALL {
         assert!(rt; is_refuted(&rt, rt.alloc(), rows));
+    }
+}
+
+#[test]
+fn equations_have_points(rt: HostRuntime) {
+    for rows in POINTS {
+        assert!(rt; has_point(&rt, rt.alloc(), rows));
     }
 }

@@ -24,6 +24,7 @@ use farkas_proof::{Evidence, Refutation};
 use lia_close::{Step, close, numbered, tree_of};
 use lia_divisors::close_by_parts;
 use lia_node::{Examined, examine};
+use lia_points::point_near;
 use lin_atoms::Form;
 use node_rows::are_legal;
 use std::alloc::Global;
@@ -31,7 +32,7 @@ use std::alloc::Global;
 /// So many parts a node is split into at the most.
 const MOST_PARTS: u32 = 400;
 
-/// A node is looked at whole before so many inner nodes.
+/// Before so many inner nodes a node is looked at whole, and not for a point.
 const FEW_NODES: u32 = 4;
 
 /// A search of a form, and how far it has come.
@@ -248,6 +249,33 @@ impl<'a> Search<'a> {
         }
     }
 
+    /// At a vertex with a fraction the node is met at a point near it, where one is looked for and found,
+    /// and otherwise closed or split. None is looked for before a few inner nodes: branches then find
+    /// points at vertices.
+    fn near(
+        &mut self,
+        alloc: Global,
+        waiting: Open,
+        variable: u32,
+        floor: i64,
+    ) -> Result<Turn, Memory>
+        requires is { Waits self.old waiting }
+        requires solution { HasSolution self.old.end waiting.lits }
+        requires vertex { HasVertexBetween (system self.old.end waiting.lits) variable floor }
+        requires few { end_of_quotients self.old.end waiting.lits ≤ self.old.end + most_rows }
+        requires room { self.old.count < self.old.nodes }
+        ensures { Turns self.old waiting self.new result }
+    {
+        if self.count < FEW_NODES || parts_at(self.count) == 0 {
+            return self.branch(alloc, waiting, variable, floor);
+        }
+        let found = point_near(alloc, waiting.lits.as_slice(), self.end)?;
+        match found {
+            Some(point) => self.meet(alloc, waiting, point),
+            None => self.branch(alloc, waiting, variable, floor),
+        }
+    }
+
     /// A number of the node has no room. At the first node the form is given up at once; at a later one
     /// the evidence is kept, and the search goes on elsewhere.
     fn give_up(&mut self, waiting: &Open, evidence: Evidence, is_first: bool) -> Turn
@@ -285,7 +313,7 @@ impl<'a> Search<'a> {
                 Ok(Turn::WentOn)
             }
             Examined::Model(point) => self.meet(alloc, waiting, point),
-            Examined::Fraction { variable, floor } => self.branch(alloc, waiting, variable, floor),
+            Examined::Fraction { variable, floor } => self.near(alloc, waiting, variable, floor),
             Examined::Wide(evidence) => Ok(self.give_up(&waiting, evidence, is_first)),
         }
     }

@@ -63,22 +63,22 @@ meet-requires-clause-few c = told-few c.args.self.now.end _ c.args.waiting.lits 
 pub returns-in-Model : goal.returns-in-Model
 returns-in-Model c = let mid = record c.args.self.now { is_first = false } in turns-after c.args.self.now mid _ c.args.waiting _ (same-first c.args.self.now mid refl) refl refl c.meet.ensures
 
-pub branch-self-requires-clause-is : goal.branch-self-requires-clause-is
-branch-self-requires-clause-is c = moved c.args.self.now _ _ refl c.requires.is
+pub near-requires-clause-is : goal.near-requires-clause-is
+near-requires-clause-is c = moved c.args.self.now _ _ refl c.requires.is
 
-pub branch-self-requires-clause-solution : goal.branch-self-requires-clause-solution
-branch-self-requires-clause-solution c = (told c.args.self.now.end _ c.args.waiting.lits _ _ c.as_slice.ensures c.in-Fraction.is c.in_ok-examined.ensures.tells).0
+pub near-requires-clause-solution : goal.near-requires-clause-solution
+near-requires-clause-solution c = (told c.args.self.now.end _ c.args.waiting.lits _ _ c.as_slice.ensures c.in-Fraction.is c.in_ok-examined.ensures.tells).0
 
-pub branch-self-requires-clause-vertex : goal.branch-self-requires-clause-vertex
-branch-self-requires-clause-vertex c =
+pub near-requires-clause-vertex : goal.near-requires-clause-vertex
+near-requires-clause-vertex c =
     let fits : FitsSigned w64 c.in-Fraction.floor = search rules in
     simp to_z-of_z (told c.args.self.now.end _ c.args.waiting.lits _ _ c.as_slice.ensures c.in-Fraction.is c.in_ok-examined.ensures.tells).1
 
-pub branch-self-requires-clause-few : goal.branch-self-requires-clause-few
-branch-self-requires-clause-few c = told-few c.args.self.now.end _ c.args.waiting.lits _ _ c.as_slice.ensures c.in-Fraction.is refl c.in_ok-examined.ensures.small
+pub near-requires-clause-few : goal.near-requires-clause-few
+near-requires-clause-few c = told-few c.args.self.now.end _ c.args.waiting.lits _ _ c.as_slice.ensures c.in-Fraction.is refl c.in_ok-examined.ensures.small
 
 pub returns-in-Fraction : goal.returns-in-Fraction
-returns-in-Fraction c = let mid = record c.args.self.now { is_first = false } in turns-after c.args.self.now mid _ c.args.waiting _ (same-first c.args.self.now mid refl) refl refl c.branch-self.ensures
+returns-in-Fraction c = let mid = record c.args.self.now { is_first = false } in turns-after c.args.self.now mid _ c.args.waiting _ (same-first c.args.self.now mid refl) refl refl c.near.ensures
 
 pub give_up-requires-clause-is : goal.give_up-requires-clause-is
 give_up-requires-clause-is c = moved c.args.self.now _ _ refl c.requires.is

@@ -1,0 +1,49 @@
+//! A combination of the unknowns of equations.
+
+/// A combination of unknowns, which takes the place of one of them.
+#[derive(Drop)]
+pub(crate) struct Column {
+    /// How often each equation has it.
+    pub(crate) entries: Vec<i128>,
+    /// How often each of the first unknowns has it.
+    pub(crate) parts: Vec<i128>,
+    /// About what it is, scaled.
+    pub(crate) near: i128,
+}
+
+impl Column {
+    /// How often the equation has it.
+    pub(crate) fn entry(&self, row: usize) -> i128 {
+        match self.entries.get(row) {
+            Some(entry) => *entry,
+            None => 0,
+        }
+    }
+
+    /// Another column is taken away so many times. It then stands for so much more.
+    pub(crate) fn take_away(&mut self, times: i128, other: &mut Column) -> Option<()> {
+        subtract(self.entries.as_mut_slice(), times, other.entries.as_slice())?;
+        subtract(self.parts.as_mut_slice(), times, other.parts.as_slice())?;
+        other.near = other.near.checked_add(times.checked_mul(self.near)?)?;
+        Some(())
+    }
+}
+
+/// The difference of a number and a multiple.
+fn less(from: i128, times: i128, other: Option<&i128>) -> Option<i128> {
+    match other {
+        Some(other) => from.checked_sub(times.checked_mul(*other)?),
+        None => None,
+    }
+}
+
+/// A multiple of a list of numbers is taken away from another list.
+fn subtract(from: &mut [i128], times: i128, other: &[i128]) -> Option<()> {
+    for (at, own) in from.iter_mut().enumerate() {
+        match less(*own, times, other.get(at)) {
+            Some(value) => *own = value,
+            None => return None,
+        }
+    }
+    Some(())
+}

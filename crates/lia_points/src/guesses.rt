@@ -1,0 +1,201 @@
+//! Points near a vertex at which equations hold.
+
+ghost use Rattle.std.specs.Prelude.{◌≡◌, ◌<◌, ◌^◌, true};
+ghost use Rattle.std.specs.List.{list_all};
+ghost use Rattle.node_rows.specs.Known.{are_known, has_short_constant};
+
+use crate::column::Column;
+use crate::forms::equations;
+use crate::near::{Way, scaled};
+use crate::solving::{Met, Solving, solved};
+use crate::unknowns::unknowns;
+use base::Memory;
+use int_rows::{RowStop, Tableau};
+use lin_atoms::{Lit, Ratio};
+use node_rows::node_tableau;
+use simplex_core::{Feasible, feasible};
+use std::alloc::Global;
+
+/// The values, scaled.
+fn all_scaled(alloc: Global, ratios: &[Ratio]) -> Result<Option<Vec<i128>>, Memory> {
+    let mut near = Vec::with_capacity(alloc, ratios.len())?;
+    for ratio in ratios {
+        match scaled(ratio) {
+            Some(value) => near.push(value)?,
+            None => return Ok(None),
+        }
+    }
+    Ok(Some(near))
+}
+
+/// Each value rounded by itself.
+fn rounded(alloc: Global, near: &[i128], way: Way) -> Result<Option<Vec<i128>>, Memory> {
+    let mut made = Vec::with_capacity(alloc, near.len())?;
+    for value in near {
+        match way.round(*value) {
+            Some(value) => made.push(value)?,
+            None => return Ok(None),
+        }
+    }
+    Ok(Some(made))
+}
+
+/// The unknown of that number has no value yet.
+fn clear(made: &mut [i128], unknowns: &[u32]) {
+    for unknown in unknowns {
+        if let Some(own) = made.get_mut(*unknown as usize) {
+            *own = 0;
+        }
+    }
+}
+
+/// A number and so many times another one.
+fn more(own: i128, times: i128, part: i128) -> Option<i128> {
+    own.checked_add(times.checked_mul(part)?)
+}
+
+/// An unknown gets its part of a column.
+fn put_part(made: &mut [i128], unknown: u32, times: i128, part: i128) -> Option<()> {
+    let own = made.get_mut(unknown as usize)?;
+    *own = more(*own, times, part)?;
+    Some(())
+}
+
+/// The unknowns get their parts of a column that has that value.
+fn put_column(made: &mut [i128], unknowns: &[u32], column: &Column, value: i128) -> Option<()> {
+    for (unknown, part) in unknowns.iter().zip(column.parts.as_slice()) {
+        if *part != 0 && put_part(made, *unknown, value, *part).is_none() {
+            return None;
+        }
+    }
+    Some(())
+}
+
+/// The unknowns get their parts of the columns that have a value.
+fn put_done(made: &mut [i128], unknowns: &[u32], solving: &Solving) -> Option<()> {
+    for (column, value) in solving.done.iter().zip(solving.values.as_slice()) {
+        if put_column(made, unknowns, column, *value).is_none() {
+            return None;
+        }
+    }
+    Some(())
+}
+
+/// The unknowns get their parts of the columns that are free, each rounded.
+fn put_free(made: &mut [i128], unknowns: &[u32], free: &[Column], way: Way) -> Option<()> {
+    for column in free {
+        let value = way.round(column.near);
+        if put_rounded(made, unknowns, column, value).is_none() {
+            return None;
+        }
+    }
+    Some(())
+}
+
+fn put_rounded(
+    made: &mut [i128],
+    unknowns: &[u32],
+    column: &Column,
+    value: Option<i128>,
+) -> Option<()> {
+    put_column(made, unknowns, column, value?)
+}
+
+/// The numbers, where they are below 2^63 in magnitude.
+fn narrowed(alloc: Global, made: &[i128]) -> Result<Option<Vec<i64>>, Memory> {
+    let mut point = Vec::with_capacity(alloc, made.len())?;
+    for value in made {
+        match i64::try_from(*value) {
+            Ok(value) => point.push(value)?,
+            Err(_) => return Ok(None),
+        }
+    }
+    Ok(Some(point))
+}
+
+/// The point that one way of rounding gives.
+fn guess(
+    alloc: Global,
+    near: &[i128],
+    unknowns: &[u32],
+    solving: &Solving,
+    way: Way,
+) -> Result<Option<Vec<i64>>, Memory> {
+    let Some(mut made) = rounded(alloc, near, way)? else {
+        return Ok(None);
+    };
+    clear(made.as_mut_slice(), unknowns);
+    if put_done(made.as_mut_slice(), unknowns, solving).is_none() {
+        return Ok(None);
+    }
+    let free = solving.free.as_slice();
+    if put_free(made.as_mut_slice(), unknowns, free, way).is_none() {
+        return Ok(None);
+    }
+    narrowed(alloc, made.as_slice())
+}
+
+fn put_guess(
+    alloc: Global,
+    guesses: &mut Vec<Vec<i64>>,
+    near: &[i128],
+    unknowns: &[u32],
+    solving: &Solving,
+    way: Way,
+) -> Result<(), Memory> {
+    if let Some(point) = guess(alloc, near, unknowns, solving, way)? {
+        guesses.push(point)?;
+    }
+    Ok(())
+}
+
+/// The points near a vertex, the last the nearest.
+fn from_vertex(
+    alloc: Global,
+    tableau: &mut Tableau,
+    guesses: &mut Vec<Vec<i64>>,
+) -> Result<(), Memory> {
+    let equations = equations(alloc, tableau)?;
+    let Some(near) = vertex(alloc, tableau)? else {
+        return Ok(());
+    };
+    let near = near.as_slice();
+    let Some(unknowns) = unknowns(alloc, equations.as_slice())? else {
+        return Ok(());
+    };
+    let unknowns = unknowns.as_slice();
+    let (solving, met) = solved(alloc, equations.as_slice(), unknowns, Some(near))?;
+    if let Met::Solved = met {
+        put_guess(alloc, guesses, near, unknowns, &solving, Way::Down)?;
+        put_guess(alloc, guesses, near, unknowns, &solving, Way::Up)?;
+        put_guess(alloc, guesses, near, unknowns, &solving, Way::Near)?;
+    }
+    Ok(())
+}
+
+/// The values of the variables and quotients at a vertex, scaled.
+fn vertex(alloc: Global, tableau: &mut Tableau) -> Result<Option<Vec<i128>>, Memory> {
+    match feasible(alloc, tableau)? {
+        Feasible::Vertex(ratios) => match ratios.as_slice().get(..tableau.columns()) {
+            Some(own) => all_scaled(alloc, own),
+            None => Ok(None),
+        },
+        Feasible::Conflict(_) => Ok(None),
+        Feasible::Wide(_) => Ok(None),
+    }
+}
+
+/// Points at which the literals may be true, the last the likeliest.
+pub(crate) fn guesses(alloc: Global, lits: &[Lit], end: u32) -> Result<Vec<Vec<i64>>, Memory>
+    requires known { are_known end lits.now ≡ true }
+    requires short { list_all has_short_constant lits.now ≡ true }
+    requires few { end < 2 ^ 31 }
+{
+    let mut guesses = Vec::new(alloc);
+    match node_tableau(alloc, lits, end) {
+        Ok(mut tableau) => from_vertex(alloc, &mut tableau, &mut guesses)?,
+        Err(RowStop::Memory) => return Err(Memory),
+        Err(RowStop::TooMany) => {}
+    }
+    Ok(guesses)
+}

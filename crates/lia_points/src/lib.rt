@@ -1,0 +1,17 @@
+//! Integer points of a node whose vertex has a fraction: equations of integers, brought into Hermite
+//! form, and what is left free of them, rounded near the vertex.
+#![tactic(auto)]
+
+mod column;
+mod equation;
+mod forms;
+mod guesses;
+mod judging;
+mod multipliers;
+mod near;
+mod solving;
+mod unknowns;
+
+pub use equation::Equation;
+pub use judging::point_near;
+pub use multipliers::{Unsolvable, no_solution};

@@ -1,0 +1,210 @@
+//! Multiples of equations whose sum no integers solve.
+
+use crate::column::Column;
+use crate::equation::Equation;
+use crate::solving::{Met, Solving, solved};
+use crate::unknowns::unknowns;
+use base::Memory;
+use lin_atoms::gcd;
+use std::alloc::Global;
+
+/// Multipliers of equations: the divisor divides each coefficient of their sum, but not its value.
+#[derive(Debug, Drop)]
+pub struct Unsolvable {
+    /// For each equation its multiplier, from 0 up to below the divisor.
+    pub multipliers: Vec<i64>,
+    /// The divisor.
+    pub divisor: i64,
+}
+
+/// Fractions with one denominator, the last ones of a list.
+#[derive(Drop)]
+struct Fractions {
+    /// The numerators, the last of the list first.
+    nums: Vec<i128>,
+    den: i128,
+}
+
+/// A number less the product of a fraction and an entry.
+fn less(from: i128, num: i128, entry: i128) -> Option<i128> {
+    from.checked_sub(num.checked_mul(entry)?)
+}
+
+fn entry_at(column: &Column, pivots: &[usize], at: usize) -> i128 {
+    match pivots.get(at) {
+        Some(row) => column.entry(*row),
+        None => 0,
+    }
+}
+
+fn scale(nums: &mut [i128], factor: i128) -> Option<()> {
+    for own in nums.iter_mut() {
+        match own.checked_mul(factor) {
+            Some(value) => *own = value,
+            None => return None,
+        }
+    }
+    Some(())
+}
+
+/// The greatest common divisor of two numbers, where it has room.
+fn common(a: i128, b: i128) -> Option<i128> {
+    i128::try_from(gcd(a.unsigned_abs(), b.unsigned_abs())).ok()
+}
+
+impl Fractions {
+    /// What the column has, less what the fractions that are there have of it.
+    fn rest(&self, column: &Column, pivots: &[usize], from: i128) -> Option<i128> {
+        let mut rest = from;
+        let mut at = pivots.len();
+        for num in self.nums.iter() {
+            at = at.saturating_sub(1);
+            match less(rest, *num, entry_at(column, pivots, at)) {
+                Some(value) => rest = value,
+                None => return None,
+            }
+        }
+        Some(rest)
+    }
+
+    /// One fraction more: a number over the denominator, divided by an entry.
+    fn put(&mut self, rest: i128, entry: i128) -> Result<Option<()>, Memory> {
+        match self.scaled(rest, entry) {
+            Some(num) => {
+                self.nums.push(num)?;
+                Ok(Some(()))
+            }
+            None => Ok(None),
+        }
+    }
+
+    /// The denominator gets what the entry has more than the number. The new numerator.
+    fn scaled(&mut self, rest: i128, entry: i128) -> Option<i128> {
+        let divisor = common(rest, entry)?;
+        let size = entry.checked_abs()?.checked_div(divisor)?;
+        scale(self.nums.as_mut_slice(), size)?;
+        self.den = self.den.checked_mul(size)?;
+        let num = rest.checked_div(divisor)?;
+        if entry < 0 {
+            num.checked_neg()
+        } else {
+            Some(num)
+        }
+    }
+
+    /// The denominator, divided by what it has in common with all numerators.
+    fn divisor(&self) -> Option<(i128, i128)> {
+        let mut divisor = self.den.unsigned_abs();
+        for num in self.nums.iter() {
+            divisor = gcd(divisor, num.unsigned_abs());
+        }
+        let divisor = i128::try_from(divisor).ok()?;
+        Some((divisor, self.den.checked_div(divisor)?))
+    }
+}
+
+/// The fraction of each equation, from the last one that was met to the first.
+fn fractions_of(alloc: Global, solving: &Solving) -> Result<Option<Fractions>, Memory> {
+    let mut fractions = Fractions {
+        nums: Vec::new(alloc),
+        den: 1,
+    };
+    let pivots = solving.pivots.as_slice();
+    let mut first = 1;
+    for (column, row) in solving.done.iter().zip(pivots).rev() {
+        let Some(rest) = fractions.rest(column, pivots, first) else {
+            return Ok(None);
+        };
+        if fractions.put(rest, column.entry(*row))?.is_none() {
+            return Ok(None);
+        }
+        first = 0;
+    }
+    Ok(Some(fractions))
+}
+
+/// The multiplier of a fraction: its numerator over the divisor, modulo it.
+fn multiplier(num: i128, common: i128, divisor: i128) -> Option<i64> {
+    let own = num.checked_div(common)?.checked_rem_euclid(divisor)?;
+    i64::try_from(own).ok()
+}
+
+/// Each equation that was met gets its multiplier.
+fn put_all(
+    made: &mut [i64],
+    fractions: &Fractions,
+    pivots: &[usize],
+    common: i128,
+    divisor: i128,
+) -> Option<()> {
+    let mut at = pivots.len();
+    for num in fractions.nums.iter() {
+        at = at.saturating_sub(1);
+        match (pivots.get(at), multiplier(*num, common, divisor)) {
+            (Some(row), Some(own)) => set(made, *row, own),
+            _ => return None,
+        }
+    }
+    Some(())
+}
+
+fn set(made: &mut [i64], row: usize, value: i64) {
+    if let Some(own) = made.get_mut(row) {
+        *own = value;
+    }
+}
+
+/// So many zeros.
+fn zeros(alloc: Global, count: usize) -> Result<Vec<i64>, Memory> {
+    let mut made = Vec::with_capacity(alloc, count)?;
+    for _ in 0..count {
+        made.push(0)?;
+    }
+    Ok(made)
+}
+
+/// The multipliers of the equations up to the one that has no solution.
+fn of_solving(
+    alloc: Global,
+    solving: &Solving,
+    count: usize,
+) -> Result<Option<Unsolvable>, Memory> {
+    let Some(fractions) = fractions_of(alloc, solving)? else {
+        return Ok(None);
+    };
+    let Some((common, divisor)) = fractions.divisor() else {
+        return Ok(None);
+    };
+    let Ok(short) = i64::try_from(divisor) else {
+        return Ok(None);
+    };
+    let mut multipliers = zeros(alloc, count)?;
+    let pivots = solving.pivots.as_slice();
+    match put_all(
+        multipliers.as_mut_slice(),
+        &fractions,
+        pivots,
+        common,
+        divisor,
+    ) {
+        Some(()) => Ok(Some(Unsolvable {
+            multipliers,
+            divisor: short,
+        })),
+        None => Ok(None),
+    }
+}
+
+/// Multipliers that show that no integers solve the equations, where such are found. Nothing is
+/// promised of them.
+pub fn no_solution(alloc: Global, equations: &[Equation]) -> Result<Option<Unsolvable>, Memory> {
+    let Some(unknowns) = unknowns(alloc, equations)? else {
+        return Ok(None);
+    };
+    let (solving, met) = solved(alloc, equations, unknowns.as_slice(), None)?;
+    match met {
+        Met::Unsolvable => of_solving(alloc, &solving, equations.len()),
+        Met::Solved => Ok(None),
+        Met::Lost => Ok(None),
+    }
+}
