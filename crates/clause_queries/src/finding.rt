@@ -1,11 +1,13 @@
 //! The queries of all clauses with a head.
 
-ghost use Rattle.std.specs.Prelude.{◌≡◌, ◌<◌, IfOk};
+ghost use Rattle.std.specs.Prelude.{◌≡◌, ◌<◌, ◌^◌, length, IfOk};
 ghost use Rattle.clause_queries.specs.Answers.{IsFound, MayAskAll};
 ghost use Rattle.clause_queries.specs.Uses.{IsAskedAt};
+ghost use Rattle.clause_queries.specs.machinery.Choices.{AreAsked};
 ghost use Rattle.clause_queries.specs.machinery.Asking.{IsAnswerAt, IsNoted, first_lost, found_of};
 
-use crate::asking::{Asked, ask};
+use crate::asking::{Asked, ask, ask_by};
+use crate::carrying::{Carried, all_carried, carries, taken};
 use crate::choosing::asked_clauses;
 use crate::keeping::{frames_are_kept, goal_is_kept};
 use crate::lost::Lost;
@@ -13,6 +15,7 @@ use crate::using::frame_used;
 use base::{Copied, Items, Memory};
 use chc_tokens::{Goal, Seen, Shown};
 use clause_form::System;
+use farkas_proof::Refutation;
 use lemma_frames::Frames;
 use std::alloc::Global;
 
@@ -121,6 +124,81 @@ pub fn ask_all(
     };
     for number in numbers.as_slice() {
         let asked = ask_clause(alloc, sys, frames, *number, pred, goal, k, nodes)?;
+        if let Some(seen) = note(&mut gathered, asked)? {
+            return Ok(Found::Instance(seen));
+        }
+    }
+    Ok(answered(gathered))
+}
+
+/// The same as `ask_clause`, where a tree that may refute the query is looked at first.
+fn ask_clause_by(
+    alloc: Global,
+    sys: &System,
+    frames: &Frames,
+    number: u32,
+    pred: Option<u32>,
+    goal: &Goal,
+    k: u32,
+    nodes: u32,
+    tree: Option<Refutation>,
+) -> Result<Asked, Memory>
+    requires asks { MayAskAll sys.now frames.now.lemmas pred goal.now }
+    requires asked { IsAskedAt sys.now pred k number }
+    requires some { 0 < nodes }
+    ensures { IfOk result (IsAnswerAt sys.now frames.now.lemmas pred goal.now k nodes number) }
+{
+    frames_are_kept(frames);
+    goal_is_kept(goal);
+    let clause = sys.clause(number as usize);
+    let used = frame_used(alloc, frames, k, clause.atoms.as_slice())?;
+    let goal = goal.copy(alloc)?;
+    let asked = ask_by(alloc, sys, number, goal, used, nodes, tree)?;
+    Ok(asked)
+}
+
+/// The clauses that are asked, those last for whose query there is a tree.
+fn in_order(
+    alloc: Global,
+    sys: &System,
+    pred: Option<u32>,
+    k: u32,
+    trees: &[Carried],
+) -> Result<Vec<u32>, Memory>
+    requires { length sys.now.clauses < 2 ^ 32 }
+    ensures { IfOk result (λ numbers. AreAsked sys.now pred k numbers.items) }
+{
+    let mut numbers = asked_clauses(alloc, sys, pred, k)?;
+    numbers.sort_by_key(|number| carries(trees, *number))?;
+    Ok(numbers)
+}
+
+/// The same as `ask_all`, with proofs of another goal on the same predicate under the same lemmas: those
+/// that are proofs of this one, too, but for the numbers of its literals, need no search. The other
+/// clauses are asked first.
+pub fn ask_all_by(
+    alloc: Global,
+    sys: &System,
+    frames: &Frames,
+    pred: Option<u32>,
+    goal: &Goal,
+    k: u32,
+    nodes: u32,
+    old: &[Shown],
+) -> Result<Found, Memory>
+    requires asks { MayAskAll sys.now frames.now.lemmas pred goal.now }
+    requires some { 0 < nodes }
+    ensures { IfOk result (IsFound sys.now frames.now.lemmas pred goal.now k nodes) }
+{
+    let mut trees = all_carried(alloc, sys, goal, old)?;
+    let numbers = in_order(alloc, sys, pred, k, trees.as_slice())?;
+    let mut gathered = Gathered {
+        proofs: Items::new(alloc),
+        lost: None,
+    };
+    for number in numbers.as_slice() {
+        let tree = taken(&mut trees, *number);
+        let asked = ask_clause_by(alloc, sys, frames, *number, pred, goal, k, nodes, tree)?;
         if let Some(seen) = note(&mut gathered, asked)? {
             return Ok(Found::Instance(seen));
         }

@@ -6,7 +6,7 @@ ghost use Rattle.lemma_general.specs.machinery.Passes.{IsCubeOf, IsFoundOf, IsSh
 
 use base::{Items, Memory};
 use chc_tokens::{Goal, Shown};
-use clause_queries::{Found, ask_all};
+use clause_queries::{Found, ask_all, ask_all_by};
 use cube_forms::{Cube, negate};
 use step_rules::{LemmaPart, Lent};
 
@@ -71,6 +71,17 @@ pub(crate) fn ask_below(
     ensures { IfOk result (IsFoundOf lent.now part.now.pred cube.now (part.now.level - 1) nodes) }
 {
     let k = part.level.saturating_sub(1);
-    let found = ask(lent, part.pred, cube, k, nodes)?;
+    let lemma = negate(lent.alloc, cube)?;
+    let goal = Goal::Holds(lemma);
+    let found = ask_all_by(
+        lent.alloc,
+        lent.system,
+        lent.frames,
+        Some(part.pred),
+        &goal,
+        k,
+        nodes,
+        part.proofs.as_slice(),
+    )?;
     Ok(found)
 }
