@@ -16,6 +16,7 @@ use std::alloc::Global;
 const MOST_DEEP: u32 = 400;
 
 /// How literals are numbered anew: those of the guard come first, then the goal's, then all others.
+#[derive(Drop)]
 pub(crate) struct Places {
     /// How many literals the guard has.
     guard: u32,
