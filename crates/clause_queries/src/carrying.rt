@@ -15,13 +15,22 @@ use std::alloc::Global;
 /// How deep a tree is at most that is carried over.
 const MOST_DEEP: u32 = 400;
 
+/// Where a literal of the old goal stands in the new one.
+#[derive(Clone, Copy)]
+enum Place {
+    At(u32),
+    /// An equation, as two bounds: that the form is at most 0, and that its negative is.
+    Both(u32, u32),
+    Nowhere,
+}
+
 /// How literals are numbered anew: those of the guard come first, then the goal's, then all others.
 #[derive(Drop)]
 pub(crate) struct Places {
     /// How many literals the guard has.
     guard: u32,
     /// Where the old goal's literals stand in the new one.
-    goal: Vec<Option<u32>>,
+    goal: Vec<Place>,
     /// How many literals the new goal has.
     count: u32,
 }
@@ -47,28 +56,61 @@ fn count_all(parts: &[Form]) -> u32 {
     count
 }
 
-/// Where the literal stands among these, from a place on.
-fn place_from(lits: &[Lit], from: usize, lit: &Lit) -> Option<usize> {
+/// Where the literal stands among these, from one place to another.
+fn place_between(lits: &[Lit], from: usize, to: usize, lit: &Lit) -> Option<usize> {
     for (at, one) in lits.iter().enumerate() {
-        if at >= from && one.equals(lit) {
+        if at >= from && at < to && one.equals(lit) {
             return Some(at);
         }
     }
     None
 }
 
-/// Where each of the old literals stands among the new ones, in order.
-fn places_of(alloc: Global, old: &[Lit], new: &[Lit]) -> Result<Vec<Option<u32>>, Memory> {
+/// Where the literal stands among these: behind a place, or else before it.
+fn found(lits: &[Lit], next: usize, lit: &Lit) -> Option<usize> {
+    match place_between(lits, next, lits.len(), lit) {
+        Some(at) => Some(at),
+        None => place_between(lits, 0, next, lit),
+    }
+}
+
+/// Where the bounds stand that an equation says.
+fn both(alloc: Global, lits: &[Lit], next: usize, lin: &Lin) -> Result<Place, Memory> {
+    let above = Lit::Le(lin.negated(alloc)?);
+    let below = Lit::Le(lin.copy(alloc)?);
+    match (found(lits, next, &below), found(lits, next, &above)) {
+        (Some(below), Some(above)) => match (u32::try_from(below), u32::try_from(above)) {
+            (Ok(below), Ok(above)) => Ok(Place::Both(below, above)),
+            _ => Ok(Place::Nowhere),
+        },
+        _ => Ok(Place::Nowhere),
+    }
+}
+
+/// Where a literal that doesn't stand there as it is may do so otherwise.
+fn otherwise(alloc: Global, lits: &[Lit], next: usize, lit: &Lit) -> Result<Place, Memory> {
+    match lit {
+        Lit::Eq(lin) => both(alloc, lits, next, lin),
+        _ => Ok(Place::Nowhere),
+    }
+}
+
+/// Where each of the old literals stands among the new ones.
+fn places_of(alloc: Global, old: &[Lit], new: &[Lit]) -> Result<Vec<Place>, Memory> {
     let mut made = Vec::new(alloc);
     let mut next: usize = 0;
     for lit in old {
-        match place_from(new, next, lit) {
+        let place = match found(new, next, lit) {
             Some(at) => {
-                made.push(u32::try_from(at).ok())?;
                 next = at.saturating_add(1);
+                match u32::try_from(at) {
+                    Ok(at) => Place::At(at),
+                    Err(_) => Place::Nowhere,
+                }
             }
-            None => made.push(None)?,
-        }
+            None => otherwise(alloc, new, next, lit)?,
+        };
+        made.push(place)?;
     }
     Ok(made)
 }
@@ -81,19 +123,56 @@ fn lits_of(goal: &Goal) -> &[Lit] {
     }
 }
 
-/// The new number of a literal, if it has one.
-fn moved(places: &Places, number: u32) -> Option<u32> {
+/// Where a literal of that number stands: of the old goal in the new one, else behind the goal.
+fn place(places: &Places, number: u32) -> Place {
     let at = match number.checked_sub(places.guard) {
-        Some(at) => at,
-        None => return Some(number),
+        Some(at) => at as usize,
+        None => return Place::At(number),
     };
-    match places.goal.as_slice().get(at as usize) {
-        Some(Some(place)) => places.guard.checked_add(*place),
-        Some(None) => None,
-        None => {
-            let behind = at.checked_sub(u32::try_from(places.goal.len()).ok()?)?;
-            places.guard.checked_add(places.count)?.checked_add(behind)
+    match places.goal.as_slice().get(at) {
+        Some(Place::At(place)) => Place::At(places.guard.saturating_add(*place)),
+        Some(Place::Both(below, above)) => Place::Both(
+            places.guard.saturating_add(*below),
+            places.guard.saturating_add(*above),
+        ),
+        Some(Place::Nowhere) => Place::Nowhere,
+        None => behind(places, at),
+    }
+}
+
+/// The place of a literal behind the goal's.
+fn behind(places: &Places, at: usize) -> Place {
+    match u32::try_from(at.saturating_sub(places.goal.len())) {
+        Ok(more) => Place::At(
+            places
+                .guard
+                .saturating_add(places.count)
+                .saturating_add(more),
+        ),
+        Err(_) => Place::Nowhere,
+    }
+}
+
+/// The new number of a literal, if it has one of its own.
+fn moved(places: &Places, number: u32) -> Option<u32> {
+    match place(places, number) {
+        Place::At(number) => Some(number),
+        _ => None,
+    }
+}
+
+/// The multiple of a literal with its new number.
+fn moved_one(places: &Places, number: u32, by: i64) -> Option<(u32, i64)> {
+    match place(places, number) {
+        Place::At(number) => Some((number, by)),
+        Place::Both(below, above) => {
+            if by >= 0 {
+                Some((below, by))
+            } else {
+                Some((above, by.checked_neg()?))
+            }
         }
+        Place::Nowhere => None,
     }
 }
 
@@ -105,8 +184,8 @@ fn moved_all(
 ) -> Result<Option<Items<(u32, i64)>>, Memory> {
     let mut made = Items::new(alloc);
     for (number, by) in multipliers {
-        match moved(places, *number) {
-            Some(number) => made.push((number, *by))?,
+        match moved_one(places, *number, *by) {
+            Some(one) => made.push(one)?,
             None => return Ok(None),
         }
     }
