@@ -120,7 +120,13 @@ fn refuted_by(
     ensures { IfOk result (λ found. IfSome found (λ proof. query_at sys.now clause goal.now used.now ≡ Some (form_of proof))) }
 {
     match checked_query_of(alloc, sys, clause, goal, used)? {
-        Some(query) => checked(alloc, query, tree),
+        Some(query) => {
+            let found = checked(alloc, query, tree)?;
+            match found {
+                Some(proof) => Ok(Some(proof)),
+                None => Ok(None),
+            }
+        }
         None => Ok(None),
     }
 }

@@ -6,7 +6,7 @@ ghost use Rattle.clause_queries.specs.Uses.{IsAskedAt};
 ghost use Rattle.clause_queries.specs.machinery.Choices.{AreAsked};
 ghost use Rattle.clause_queries.specs.machinery.Asking.{IsAnswerAt, IsNoted, first_lost, found_of};
 
-use crate::asking::{Asked, ask, ask_by};
+use crate::asking::{Asked, ask_by};
 use crate::carrying::{Carried, all_carried, taken, trees_for};
 use crate::choosing::asked_clauses;
 use crate::keeping::{frames_are_kept, goal_is_kept};
@@ -38,7 +38,8 @@ pub(crate) struct Gathered {
     pub(crate) lost: Option<Lost>,
 }
 
-/// Asks the goal of one clause that is asked, under lemmas of level k or more.
+/// Asks the goal of one clause that is asked, under lemmas of level k or more. A tree that may refute the
+/// query is looked at first.
 fn ask_clause(
     alloc: Global,
     sys: &System,
@@ -48,6 +49,7 @@ fn ask_clause(
     goal: &Goal,
     k: u32,
     nodes: u32,
+    tree: Option<Refutation>,
 ) -> Result<Asked, Memory>
     requires asks { MayAskAll sys.now frames.now.lemmas pred goal.now }
     requires asked { IsAskedAt sys.now pred k number }
@@ -59,7 +61,7 @@ fn ask_clause(
     let clause = sys.clause(number as usize);
     let used = frame_used(alloc, frames, k, clause.atoms.as_slice())?;
     let goal = goal.copy(alloc)?;
-    let asked = ask(alloc, sys, number, goal, used, nodes)?;
+    let asked = ask_by(alloc, sys, number, goal, used, nodes, tree)?;
     Ok(asked)
 }
 
@@ -101,62 +103,6 @@ fn answered(gathered: Gathered) -> Found
     }
 }
 
-/// Asks the goal of each clause whose head is of the predicate, or false for none, under lemmas of
-/// level k or more; at level 0 of those without a body. A search has at most so many inner nodes. An
-/// instance comes first; else the first query that was given up.
-pub fn ask_all(
-    alloc: Global,
-    sys: &System,
-    frames: &Frames,
-    pred: Option<u32>,
-    goal: &Goal,
-    k: u32,
-    nodes: u32,
-) -> Result<Found, Memory>
-    requires asks { MayAskAll sys.now frames.now.lemmas pred goal.now }
-    requires some { 0 < nodes }
-    ensures { IfOk result (IsFound sys.now frames.now.lemmas pred goal.now k nodes) }
-{
-    let numbers = asked_clauses(alloc, sys, pred, k)?;
-    let mut gathered = Gathered {
-        proofs: Items::new(alloc),
-        lost: None,
-    };
-    for number in numbers.as_slice() {
-        let asked = ask_clause(alloc, sys, frames, *number, pred, goal, k, nodes)?;
-        if let Some(seen) = note(&mut gathered, asked)? {
-            return Ok(Found::Instance(seen));
-        }
-    }
-    Ok(answered(gathered))
-}
-
-/// The same as `ask_clause`, where a tree that may refute the query is looked at first.
-fn ask_clause_by(
-    alloc: Global,
-    sys: &System,
-    frames: &Frames,
-    number: u32,
-    pred: Option<u32>,
-    goal: &Goal,
-    k: u32,
-    nodes: u32,
-    tree: Option<Refutation>,
-) -> Result<Asked, Memory>
-    requires asks { MayAskAll sys.now frames.now.lemmas pred goal.now }
-    requires asked { IsAskedAt sys.now pred k number }
-    requires some { 0 < nodes }
-    ensures { IfOk result (IsAnswerAt sys.now frames.now.lemmas pred goal.now k nodes number) }
-{
-    frames_are_kept(frames);
-    goal_is_kept(goal);
-    let clause = sys.clause(number as usize);
-    let used = frame_used(alloc, frames, k, clause.atoms.as_slice())?;
-    let goal = goal.copy(alloc)?;
-    let asked = ask_by(alloc, sys, number, goal, used, nodes, tree)?;
-    Ok(asked)
-}
-
 /// The clauses that are asked, those last for whose query there is a tree.
 fn in_order(
     alloc: Global,
@@ -173,9 +119,9 @@ fn in_order(
     Ok(numbers)
 }
 
-/// The same as `ask_all`, with proofs of another goal on the same predicate under the same lemmas: those
-/// that are proofs of this one, too, but for the numbers of its literals, need no search. The other
-/// clauses are asked first.
+/// The same as `ask_all`, with proofs of another goal on the same predicate under the same lemmas: a
+/// clause whose proof is one of this goal, too, but for the numbers of its literals, needs no search. The
+/// other clauses are asked first.
 pub fn ask_all_by(
     alloc: Global,
     sys: &System,
@@ -198,10 +144,29 @@ pub fn ask_all_by(
     };
     for number in numbers.as_slice() {
         let tree = taken(&mut trees, *number);
-        let asked = ask_clause_by(alloc, sys, frames, *number, pred, goal, k, nodes, tree)?;
+        let asked = ask_clause(alloc, sys, frames, *number, pred, goal, k, nodes, tree)?;
         if let Some(seen) = note(&mut gathered, asked)? {
             return Ok(Found::Instance(seen));
         }
     }
     Ok(answered(gathered))
+}
+
+/// Asks the goal of each clause whose head is of the predicate, or false for none, under lemmas of
+/// level k or more; at level 0 of those without a body. A search has at most so many inner nodes. An
+/// instance comes first; else the first query that was given up.
+pub fn ask_all(
+    alloc: Global,
+    sys: &System,
+    frames: &Frames,
+    pred: Option<u32>,
+    goal: &Goal,
+    k: u32,
+    nodes: u32,
+) -> Result<Found, Memory>
+    requires asks { MayAskAll sys.now frames.now.lemmas pred goal.now }
+    requires some { 0 < nodes }
+    ensures { IfOk result (IsFound sys.now frames.now.lemmas pred goal.now k nodes) }
+{
+    ask_all_by(alloc, sys, frames, pred, goal, k, nodes, &[])
 }

@@ -6,12 +6,20 @@ ghost use Rattle.lemma_general.specs.machinery.Passes.{IsCubeOf, IsFoundOf, IsSh
 
 use base::{Items, Memory};
 use chc_tokens::{Goal, Shown};
-use clause_queries::{Found, ask_all, ask_all_by};
+use clause_queries::{Found, ask_all_by};
 use cube_forms::{Cube, negate};
 use step_rules::{LemmaPart, Lent};
 
-/// Asks for an instance whose head, of the predicate, lies in the cube, and whose body is in F(k).
-pub(crate) fn ask(lent: &Lent, pred: u32, cube: &Cube, k: u32, nodes: u32) -> Result<Found, Memory>
+/// Asks for an instance whose head, of the predicate, lies in the cube, and whose body is in F(k). Proofs
+/// for another cube may be given: what of them says the same of this one isn't looked for anew.
+fn ask_by(
+    lent: &Lent,
+    pred: u32,
+    cube: &Cube,
+    k: u32,
+    nodes: u32,
+    old: &[Shown],
+) -> Result<Found, Memory>
     requires goes_on { GoesOn lent.now }
     requires cube { IsCubeOf lent.now pred cube.now }
     requires some { 0 < nodes }
@@ -19,7 +27,7 @@ pub(crate) fn ask(lent: &Lent, pred: u32, cube: &Cube, k: u32, nodes: u32) -> Re
 {
     let lemma = negate(lent.alloc, cube)?;
     let goal = Goal::Holds(lemma);
-    let found = ask_all(
+    let found = ask_all_by(
         lent.alloc,
         lent.system,
         lent.frames,
@@ -27,7 +35,19 @@ pub(crate) fn ask(lent: &Lent, pred: u32, cube: &Cube, k: u32, nodes: u32) -> Re
         &goal,
         k,
         nodes,
+        old,
     )?;
+    Ok(found)
+}
+
+/// The same without other proofs.
+pub(crate) fn ask(lent: &Lent, pred: u32, cube: &Cube, k: u32, nodes: u32) -> Result<Found, Memory>
+    requires goes_on { GoesOn lent.now }
+    requires cube { IsCubeOf lent.now pred cube.now }
+    requires some { 0 < nodes }
+    ensures { IfOk result (IsFoundOf lent.now pred cube.now k nodes) }
+{
+    let found = ask_by(lent, pred, cube, k, nodes, &[])?;
     Ok(found)
 }
 
@@ -56,36 +76,6 @@ pub(crate) fn show(
             Ok(None)
         }
     }
-}
-
-/// The same as `ask`, with proofs for another cube of the predicate under the same lemmas: what of them
-/// says the same of this one isn't looked for anew.
-fn ask_by(
-    lent: &Lent,
-    pred: u32,
-    cube: &Cube,
-    k: u32,
-    nodes: u32,
-    old: &[Shown],
-) -> Result<Found, Memory>
-    requires goes_on { GoesOn lent.now }
-    requires cube { IsCubeOf lent.now pred cube.now }
-    requires some { 0 < nodes }
-    ensures { IfOk result (IsFoundOf lent.now pred cube.now k nodes) }
-{
-    let lemma = negate(lent.alloc, cube)?;
-    let goal = Goal::Holds(lemma);
-    let found = ask_all_by(
-        lent.alloc,
-        lent.system,
-        lent.frames,
-        Some(pred),
-        &goal,
-        k,
-        nodes,
-        old,
-    )?;
-    Ok(found)
 }
 
 /// The same as `ask` for a lemma's predicate and the frame below its level, with the lemma's own proofs.

@@ -7,8 +7,8 @@ use Rattle.clause_queries.specs.Uses.{is_asked}
 use Rattle.clause_queries.proofs.GatheredLemmas.{IsNext, all-default, asked-at, gone-through, noted-at}
 use Rattle.clause_queries.proofs.finding.ask_all_by.Goals as goal
 
-pub ask_clause_by-requires-clause-asked : goal.ask_clause_by-requires-clause-asked
-ask_clause_by-requires-clause-asked c =
+pub ask_clause-requires-clause-asked : goal.ask_clause-requires-clause-asked
+ask_clause-requires-clause-asked c =
     asked-at c.args.sys.now c.args.pred c.args.k _
     (all-default (λ n. has (slice_get c.args.sys.now.clauses n) (is_asked c.args.pred c.args.k)) c.as_slice-number-items.result.now c.loop-number.number-index _ c.loop-number-test.true
     (ap (list_all (λ n. has (slice_get c.args.sys.now.clauses n) (is_asked c.args.pred c.args.k))) c.as_slice-number-items.ensures.value ∙ c.in_ok-numbers.ensures.sound))
