@@ -40,17 +40,6 @@ fn ask_by(
     Ok(found)
 }
 
-/// The same without other proofs.
-pub(crate) fn ask(lent: &Lent, pred: u32, cube: &Cube, k: u32, nodes: u32) -> Result<Found, Memory>
-    requires goes_on { GoesOn lent.now }
-    requires cube { IsCubeOf lent.now pred cube.now }
-    requires some { 0 < nodes }
-    ensures { IfOk result (IsFoundOf lent.now pred cube.now k nodes) }
-{
-    let found = ask_by(lent, pred, cube, k, nodes, &[])?;
-    Ok(found)
-}
-
 /// Its refutations, through each clause; none where there is an instance, or the search was given up.
 pub(crate) fn show(
     lent: &Lent,
@@ -64,7 +53,7 @@ pub(crate) fn show(
     requires some { 0 < nodes }
     ensures { IfOk result (IsShownOf lent.now pred cube.now k nodes) }
 {
-    let found = ask(lent, pred, cube, k, nodes)?;
+    let found = ask_by(lent, pred, cube, k, nodes, &[])?;
     match found {
         Found::Refuted(proofs) => Ok(Some(proofs)),
         Found::Instance(seen) => {
@@ -78,7 +67,7 @@ pub(crate) fn show(
     }
 }
 
-/// The same as `ask` for a lemma's predicate and the frame below its level, with the lemma's own proofs.
+/// The same for a lemma's predicate and the frame below its level, with the lemma's own proofs.
 pub(crate) fn ask_below(
     lent: &Lent,
     part: &LemmaPart,
