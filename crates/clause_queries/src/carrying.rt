@@ -124,7 +124,7 @@ fn lits_of(goal: &Goal) -> &[Lit] {
 }
 
 /// Where a literal of that number stands: of the old goal in the new one, else behind the goal.
-fn place(places: &Places, number: u32) -> Place {
+fn place_of(places: &Places, number: u32) -> Place {
     let at = match number.checked_sub(places.guard) {
         Some(at) => at as usize,
         None => return Place::At(number),
@@ -155,7 +155,7 @@ fn behind(places: &Places, at: usize) -> Place {
 
 /// The new number of a literal, if it has one of its own.
 fn moved(places: &Places, number: u32) -> Option<u32> {
-    match place(places, number) {
+    match place_of(places, number) {
         Place::At(number) => Some(number),
         _ => None,
     }
@@ -163,7 +163,7 @@ fn moved(places: &Places, number: u32) -> Option<u32> {
 
 /// The multiple of a literal with its new number.
 fn moved_one(places: &Places, number: u32, by: i64) -> Option<(u32, i64)> {
-    match place(places, number) {
+    match place_of(places, number) {
         Place::At(number) => Some((number, by)),
         Place::Both(below, above) => {
             if by >= 0 {
@@ -334,7 +334,7 @@ pub(crate) struct Carried {
 }
 
 /// The tree of an old proof for the same clause's query with another goal.
-fn carried(
+fn tree_by(
     alloc: Global,
     sys: &System,
     places: &mut Places,
@@ -368,7 +368,7 @@ pub(crate) fn all_carried(
         count: u32::try_from(lits.len()).unwrap_or(u32::MAX),
     };
     for shown in old {
-        if let Some(tree) = carried(alloc, sys, &mut places, shown)? {
+        if let Some(tree) = tree_by(alloc, sys, &mut places, shown)? {
             made.push(Carried {
                 number: shown.clause(),
                 tree: Some(tree),
