@@ -19,6 +19,10 @@ const GUESS_LEVEL: u32 = 5;
 /// They are tried at each level for a cube of so many literals.
 const MANY_LITERALS: usize = 4;
 
+/// The most inner nodes of a query that asks whether a cube may take a lemma's place: what needs more is
+/// left, since the lemma stands without it.
+const GUESS_NODES: u32 = 200;
+
 /// Whether an old lemma that excludes the obligation's point holds at the part's level, too, and so
 /// stands in its place. One is tried: the newest of the highest level.
 fn again(lent: &Lent, tries: &mut Tries, nodes: u32) -> Result<bool, Memory>
@@ -126,6 +130,18 @@ fn learnt(lent: &Lent, part: LemmaPart, hints: &Hints, nodes: u32) -> Result<Lem
     Ok(raised)
 }
 
+/// How many inner nodes a guess is worth.
+fn few(nodes: u32) -> u32
+    requires { 0 < nodes }
+    ensures { 0 < result }
+{
+    if nodes < GUESS_NODES {
+        nodes
+    } else {
+        GUESS_NODES
+    }
+}
+
 /// The step with the lemma that is learnt in the end in place of its own; any other step as it is.
 pub(crate) fn improved(lent: &Lent, step: Step, hints: &Hints, nodes: u32) -> Result<Step, Memory>
     requires goes_on { GoesOn lent.now }
@@ -135,7 +151,7 @@ pub(crate) fn improved(lent: &Lent, step: Step, hints: &Hints, nodes: u32) -> Re
 {
     match step {
         Step::LemmaStep(part) => {
-            let made = learnt(lent, part, hints, nodes)?;
+            let made = learnt(lent, part, hints, few(nodes))?;
             Ok(Step::LemmaStep(made))
         }
         step => Ok(step),

@@ -1,18 +1,24 @@
 //! One query about a clause.
 
-ghost use Rattle.std.specs.Prelude.{◌≡◌, ◌<◌, ◌≤◌, length, true, IfOk};
+ghost use Rattle.std.specs.Prelude.{◌≡◌, ◌<◌, ◌≤◌, Some, length, true, IfOk, IfSome};
 ghost use Rattle.std.specs.List.{list_all};
 ghost use Rattle.base.specs.Widths.{is_short};
+ghost use Rattle.farkas_proof.specs.Kept.{form_of};
 ghost use Rattle.chc_tokens.specs.Instances.{is_instance_of, is_point_of};
 ghost use Rattle.chc_tokens.specs.Kept.{seen_clause, seen_point};
+ghost use Rattle.chc_tokens.specs.Queries.{query_at};
 ghost use Rattle.chc_tokens.specs.Tokens.{is_seen};
 ghost use Rattle.clause_queries.specs.machinery.Asking.{IsAnswer, MayAsk};
 
 use crate::lost::Lost;
 use base::{Items, Memory};
-use chc_tokens::{Goal, Seen, Shown, TokenStop, Used, base_of, forms_of, seen, shown_by};
+use chc_tokens::{
+    Goal, Seen, Shown, TokenStop, Used, base_of, checked_query_of, forms_of, seen, shown_by,
+};
 use clause_form::{Clause, System};
+use farkas_proof::{CheckStop, Refutation, Refuted, check_owned};
 use lia_cases::{Decision, decide_owned};
+use lin_atoms::Form;
 use std::alloc::Global;
 
 /// What was found of a query.
@@ -81,5 +87,70 @@ pub(crate) fn ask(
                 evidence,
             }))
         }
+    }
+}
+
+/// The form's refutation by this tree, if it is one.
+fn checked(alloc: Global, form: Form, tree: Refutation) -> Result<Option<Refuted>, Memory>
+    ensures { IfOk result (λ found. IfSome found (λ proof. form_of proof ≡ form)) }
+{
+    match check_owned(alloc, form, tree) {
+        Ok(proof) => Ok(Some(proof)),
+        Err(CheckStop::Memory) => Err(Memory),
+        Err(CheckStop::NoProof { node }) => {
+            let _node = node;
+            Ok(None)
+        }
+        Err(CheckStop::SumWide { node }) => {
+            let _node = node;
+            Ok(None)
+        }
+    }
+}
+
+/// The query's refutation by this tree, if it is one.
+fn refuted_by(
+    alloc: Global,
+    sys: &System,
+    clause: u32,
+    goal: &Goal,
+    used: &[Used],
+    tree: Refutation,
+) -> Result<Option<Refuted>, Memory>
+    ensures { IfOk result (λ found. IfSome found (λ proof. query_at sys.now clause goal.now used.now ≡ Some (form_of proof))) }
+{
+    match checked_query_of(alloc, sys, clause, goal, used)? {
+        Some(query) => {
+            let found = checked(alloc, query, tree)?;
+            match found {
+                Some(proof) => Ok(Some(proof)),
+                None => Ok(None),
+            }
+        }
+        None => Ok(None),
+    }
+}
+
+/// The same as `ask`, where a tree that may refute the query is looked at first.
+pub(crate) fn ask_by(
+    alloc: Global,
+    sys: &System,
+    clause: u32,
+    goal: Goal,
+    used: Vec<Used>,
+    nodes: u32,
+    tree: Option<Refutation>,
+) -> Result<Asked, Memory>
+    requires asks { MayAsk sys.now clause goal used.items }
+    requires some { 0 < nodes }
+    ensures { IfOk result (IsAnswer sys.now clause goal used.items nodes) }
+{
+    let tree = match tree {
+        Some(tree) => tree,
+        None => return ask(alloc, sys, clause, goal, used, nodes),
+    };
+    match refuted_by(alloc, sys, clause, &goal, used.as_slice(), tree)? {
+        Some(proof) => Ok(Asked::Refuted(shown_by(sys, clause, goal, used, proof))),
+        None => ask(alloc, sys, clause, goal, used, nodes),
     }
 }

@@ -1,11 +1,13 @@
 //! The queries of all clauses with a head.
 
-ghost use Rattle.std.specs.Prelude.{◌≡◌, ◌<◌, IfOk};
+ghost use Rattle.std.specs.Prelude.{◌≡◌, ◌<◌, ◌^◌, length, IfOk};
 ghost use Rattle.clause_queries.specs.Answers.{IsFound, MayAskAll};
 ghost use Rattle.clause_queries.specs.Uses.{IsAskedAt};
+ghost use Rattle.clause_queries.specs.machinery.Choices.{AreAsked};
 ghost use Rattle.clause_queries.specs.machinery.Asking.{IsAnswerAt, IsNoted, first_lost, found_of};
 
-use crate::asking::{Asked, ask};
+use crate::asking::{Asked, ask_by};
+use crate::carrying::{Carried, all_carried, taken, trees_for};
 use crate::choosing::asked_clauses;
 use crate::keeping::{frames_are_kept, goal_is_kept};
 use crate::lost::Lost;
@@ -13,6 +15,7 @@ use crate::using::frame_used;
 use base::{Copied, Items, Memory};
 use chc_tokens::{Goal, Seen, Shown};
 use clause_form::System;
+use farkas_proof::Refutation;
 use lemma_frames::Frames;
 use std::alloc::Global;
 
@@ -35,7 +38,8 @@ pub(crate) struct Gathered {
     pub(crate) lost: Option<Lost>,
 }
 
-/// Asks the goal of one clause that is asked, under lemmas of level k or more.
+/// Asks the goal of one clause that is asked, under lemmas of level k or more. A tree that may refute the
+/// query is looked at first.
 fn ask_clause(
     alloc: Global,
     sys: &System,
@@ -45,6 +49,7 @@ fn ask_clause(
     goal: &Goal,
     k: u32,
     nodes: u32,
+    tree: Option<Refutation>,
 ) -> Result<Asked, Memory>
     requires asks { MayAskAll sys.now frames.now.lemmas pred goal.now }
     requires asked { IsAskedAt sys.now pred k number }
@@ -56,7 +61,7 @@ fn ask_clause(
     let clause = sys.clause(number as usize);
     let used = frame_used(alloc, frames, k, clause.atoms.as_slice())?;
     let goal = goal.copy(alloc)?;
-    let asked = ask(alloc, sys, number, goal, used, nodes)?;
+    let asked = ask_by(alloc, sys, number, goal, used, nodes, tree)?;
     Ok(asked)
 }
 
@@ -98,6 +103,55 @@ fn answered(gathered: Gathered) -> Found
     }
 }
 
+/// The clauses that are asked, those last for whose query there is a tree.
+fn in_order(
+    alloc: Global,
+    sys: &System,
+    pred: Option<u32>,
+    k: u32,
+    trees: &[Carried],
+) -> Result<Vec<u32>, Memory>
+    requires { length sys.now.clauses < 2 ^ 32 }
+    ensures { IfOk result (λ numbers. AreAsked sys.now pred k numbers.items) }
+{
+    let mut numbers = asked_clauses(alloc, sys, pred, k)?;
+    numbers.sort_by_key(|number| trees_for(trees, *number))?;
+    Ok(numbers)
+}
+
+/// The same as `ask_all`, with proofs of another goal on the same predicate under the same lemmas: a
+/// clause whose proof is one of this goal, too, but for the numbers of its literals, needs no search. The
+/// other clauses are asked first.
+pub fn ask_all_by(
+    alloc: Global,
+    sys: &System,
+    frames: &Frames,
+    pred: Option<u32>,
+    goal: &Goal,
+    k: u32,
+    nodes: u32,
+    old: &[Shown],
+) -> Result<Found, Memory>
+    requires asks { MayAskAll sys.now frames.now.lemmas pred goal.now }
+    requires some { 0 < nodes }
+    ensures { IfOk result (IsFound sys.now frames.now.lemmas pred goal.now k nodes) }
+{
+    let mut trees = all_carried(alloc, sys, goal, old)?;
+    let numbers = in_order(alloc, sys, pred, k, trees.as_slice())?;
+    let mut gathered = Gathered {
+        proofs: Items::new(alloc),
+        lost: None,
+    };
+    for number in numbers.as_slice() {
+        let tree = taken(&mut trees, *number);
+        let asked = ask_clause(alloc, sys, frames, *number, pred, goal, k, nodes, tree)?;
+        if let Some(seen) = note(&mut gathered, asked)? {
+            return Ok(Found::Instance(seen));
+        }
+    }
+    Ok(answered(gathered))
+}
+
 /// Asks the goal of each clause whose head is of the predicate, or false for none, under lemmas of
 /// level k or more; at level 0 of those without a body. A search has at most so many inner nodes. An
 /// instance comes first; else the first query that was given up.
@@ -114,16 +168,5 @@ pub fn ask_all(
     requires some { 0 < nodes }
     ensures { IfOk result (IsFound sys.now frames.now.lemmas pred goal.now k nodes) }
 {
-    let numbers = asked_clauses(alloc, sys, pred, k)?;
-    let mut gathered = Gathered {
-        proofs: Items::new(alloc),
-        lost: None,
-    };
-    for number in numbers.as_slice() {
-        let asked = ask_clause(alloc, sys, frames, *number, pred, goal, k, nodes)?;
-        if let Some(seen) = note(&mut gathered, asked)? {
-            return Ok(Found::Instance(seen));
-        }
-    }
-    Ok(answered(gathered))
+    ask_all_by(alloc, sys, frames, pred, goal, k, nodes, &[])
 }

@@ -4,12 +4,13 @@
 #![tactic(auto)]
 
 mod asking;
+mod carrying;
 mod choosing;
 mod finding;
 mod keeping;
 mod lost;
 mod using;
 
-pub use finding::{Found, ask_all};
+pub use finding::{Found, ask_all, ask_all_by};
 pub use keeping::{frames_are_kept, is_kept};
 pub use lost::Lost;

@@ -6,12 +6,20 @@ ghost use Rattle.lemma_general.specs.machinery.Passes.{IsCubeOf, IsFoundOf, IsSh
 
 use base::{Items, Memory};
 use chc_tokens::{Goal, Shown};
-use clause_queries::{Found, ask_all};
+use clause_queries::{Found, ask_all_by};
 use cube_forms::{Cube, negate};
 use step_rules::{LemmaPart, Lent};
 
-/// Asks for an instance whose head, of the predicate, lies in the cube, and whose body is in F(k).
-pub(crate) fn ask(lent: &Lent, pred: u32, cube: &Cube, k: u32, nodes: u32) -> Result<Found, Memory>
+/// Asks for an instance whose head, of the predicate, lies in the cube, and whose body is in F(k). Proofs
+/// for another cube may be given: what of them says the same of this one isn't looked for anew.
+fn ask_by(
+    lent: &Lent,
+    pred: u32,
+    cube: &Cube,
+    k: u32,
+    nodes: u32,
+    old: &[Shown],
+) -> Result<Found, Memory>
     requires goes_on { GoesOn lent.now }
     requires cube { IsCubeOf lent.now pred cube.now }
     requires some { 0 < nodes }
@@ -19,7 +27,7 @@ pub(crate) fn ask(lent: &Lent, pred: u32, cube: &Cube, k: u32, nodes: u32) -> Re
 {
     let lemma = negate(lent.alloc, cube)?;
     let goal = Goal::Holds(lemma);
-    let found = ask_all(
+    let found = ask_all_by(
         lent.alloc,
         lent.system,
         lent.frames,
@@ -27,6 +35,7 @@ pub(crate) fn ask(lent: &Lent, pred: u32, cube: &Cube, k: u32, nodes: u32) -> Re
         &goal,
         k,
         nodes,
+        old,
     )?;
     Ok(found)
 }
@@ -44,7 +53,7 @@ pub(crate) fn show(
     requires some { 0 < nodes }
     ensures { IfOk result (IsShownOf lent.now pred cube.now k nodes) }
 {
-    let found = ask(lent, pred, cube, k, nodes)?;
+    let found = ask_by(lent, pred, cube, k, nodes, &[])?;
     match found {
         Found::Refuted(proofs) => Ok(Some(proofs)),
         Found::Instance(seen) => {
@@ -58,7 +67,7 @@ pub(crate) fn show(
     }
 }
 
-/// The same as `ask` for a lemma's predicate and the frame below its level.
+/// The same for a lemma's predicate and the frame below its level, with the lemma's own proofs.
 pub(crate) fn ask_below(
     lent: &Lent,
     part: &LemmaPart,
@@ -71,6 +80,6 @@ pub(crate) fn ask_below(
     ensures { IfOk result (IsFoundOf lent.now part.now.pred cube.now (part.now.level - 1) nodes) }
 {
     let k = part.level.saturating_sub(1);
-    let found = ask(lent, part.pred, cube, k, nodes)?;
+    let found = ask_by(lent, part.pred, cube, k, nodes, part.proofs.as_slice())?;
     Ok(found)
 }

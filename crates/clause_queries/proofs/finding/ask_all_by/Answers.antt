@@ -5,13 +5,13 @@ use Rattle.book_rules.specs.Walks.{has}
 use Rattle.clause_queries.specs.Answers.{IsFound}
 use Rattle.clause_queries.specs.Uses.{is_asked}
 use Rattle.clause_queries.proofs.GatheredLemmas.{IsNext, all-default, asked-at, gone-through, noted-at}
-use Rattle.clause_queries.proofs.finding.ask_all.Goals as goal
+use Rattle.clause_queries.proofs.finding.ask_all_by.Goals as goal
 
 pub ask_clause-requires-clause-asked : goal.ask_clause-requires-clause-asked
 ask_clause-requires-clause-asked c =
     asked-at c.args.sys.now c.args.pred c.args.k _
     (all-default (λ n. has (slice_get c.args.sys.now.clauses n) (is_asked c.args.pred c.args.k)) c.as_slice-number-items.result.now c.loop-number.number-index _ c.loop-number-test.true
-    (ap (list_all (λ n. has (slice_get c.args.sys.now.clauses n) (is_asked c.args.pred c.args.k))) c.as_slice-number-items.ensures.value ∙ c.in_ok-numbers.ensures.asked.sound))
+    (ap (list_all (λ n. has (slice_get c.args.sys.now.clauses n) (is_asked c.args.pred c.args.k))) c.as_slice-number-items.ensures.value ∙ c.in_ok-numbers.ensures.sound))
 
 pub returns-in-Some : goal.returns-in-Some
 returns-in-Some c =
@@ -36,5 +36,5 @@ returns c =
     let over = c.loop-number-test.false in
     let past : length numbers ≤ c.loop-number.number-index = omega (arith, over) in
     subst (IsFound sys c.args.frames.now.lemmas c.args.pred c.args.goal.now c.args.k c.args.nodes) (sym c.answered.ensures)
-    (gone-through sys c.args.frames.now.lemmas c.args.pred c.args.goal.now c.args.k c.args.nodes numbers c.in_ok-numbers.numbers.items c.loop-number.number-index c.loop-number.gathered past c.as_slice-number-items.ensures.value c.in_ok-numbers.ensures.asked
+    (gone-through sys c.args.frames.now.lemmas c.args.pred c.args.goal.now c.args.k c.args.nodes numbers c.in_ok-numbers.numbers.items c.loop-number.number-index c.loop-number.gathered past c.as_slice-number-items.ensures.value c.in_ok-numbers.ensures
     c.loop-number.invariant)
