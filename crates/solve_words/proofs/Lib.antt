@@ -1,3 +1,4 @@
-pub mod CallLemmas
 pub mod Numbers
 pub mod RangeLemmas
+pub mod CallLemmas
+pub mod ReadLemmas
