@@ -77,14 +77,16 @@ named_read name options w h = first (bytes_eq name (codes "solve")) refl h
     third : (b : Bool) → bytes_eq name (codes "gen") ≡ b → (let o : Option Words = if b then gen_named options else None in o) ≡ Some w → Says name options w
     third true is e = gen_read name options w ((bytes_eq-Decides name (codes "gen")).0 is) e
     third false is e = absurd (cc)
+
     second : (b : Bool) → bytes_eq name (codes "check") ≡ b
         → (let o : Option Words = if b then check_named options else if bytes_eq name (codes "gen") then gen_named options else None in o) ≡ Some w → Says name options w
     second true is e = check_read name options w ((bytes_eq-Decides name (codes "check")).0 is) e
     second false is e = third (bytes_eq name (codes "gen")) refl e
+
     first : (b : Bool) → bytes_eq name (codes "solve") ≡ b
         → (let o : Option Words = if b then solve_named options
-            else if bytes_eq name (codes "check") then check_named options
-            else if bytes_eq name (codes "gen") then gen_named options else None in o) ≡ Some w → Says name options w
+        else if bytes_eq name (codes "check") then check_named options
+        else if bytes_eq name (codes "gen") then gen_named options else None in o) ≡ Some w → Says name options w
     first true is e = solve_read name options w ((bytes_eq-Decides name (codes "solve")).0 is) e
     first false is e = second (bytes_eq name (codes "check")) refl e
 

@@ -1,7 +1,8 @@
 //! The command line, as `clap` is told of it.
 
 ghost use Rattle.std.specs.Prelude.{◌≡◌, IfOk, false};
-ghost use Rattle.clap.specs.Words.{app_of, fields_of, rule_of};
+ghost use Rattle.clap.specs.Words.{app_of, rule_of};
+ghost use Rattle.clap.specs.declared.builder.command.Command.TheViews.{out-Command};
 ghost use Rattle.solve_words.specs.Command.{alone, check, chc, gen, option, solve};
 ghost use Rattle.solve_words.specs.Parsed.{IsParsedAs};
 ghost use Rattle.std.specs.Prelude.{map};
@@ -23,7 +24,7 @@ fn option<'a>(alloc: Global, name: &'a str) -> Arg<'a>
 /// `solve`, with three options.
 fn solve<'a>(alloc: Global) -> Result<Command<'a>, AllocError>
     ensures shape { IfOk result (λ command. app_of command ≡ alone solve) }
-    ensures local { IfOk result (λ command. (fields_of command).has_globals ≡ false) }
+    ensures local { IfOk result (λ command. (out-Command command).has_globals ≡ false) }
 {
     let workers = option(alloc, "workers");
     let units = option(alloc, "units");
@@ -38,7 +39,7 @@ fn solve<'a>(alloc: Global) -> Result<Command<'a>, AllocError>
 /// `check`, with one.
 fn check<'a>(alloc: Global) -> Result<Command<'a>, AllocError>
     ensures shape { IfOk result (λ command. app_of command ≡ alone check) }
-    ensures local { IfOk result (λ command. (fields_of command).has_globals ≡ false) }
+    ensures local { IfOk result (λ command. (out-Command command).has_globals ≡ false) }
 {
     let nodes = option(alloc, "nodes");
     let command = Command::new(alloc, "check").arg(nodes)?;
@@ -48,7 +49,7 @@ fn check<'a>(alloc: Global) -> Result<Command<'a>, AllocError>
 /// `gen`, with two.
 fn generate<'a>(alloc: Global) -> Result<Command<'a>, AllocError>
     ensures shape { IfOk result (λ command. app_of command ≡ alone gen) }
-    ensures local { IfOk result (λ command. (fields_of command).has_globals ≡ false) }
+    ensures local { IfOk result (λ command. (out-Command command).has_globals ≡ false) }
 {
     let depth = option(alloc, "depth");
     let seed = option(alloc, "seed");

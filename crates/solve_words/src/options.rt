@@ -16,7 +16,7 @@ pub(crate) fn text_of<'a>(options: &ArgMatches<'a>, name: &str) -> Option<&'a st
 
 /// The number of an option that may be left out.
 pub(crate) fn number_or(text: Option<&str>, least: u32, most: u32, default: u32) -> Option<u32>
-    ensures { result ≡ number_or least most default (option_map (λ text. text.now) text) }
+    ensures { result ≡ number_or least most default (option_map (λ t. t.now) text.entry) }
 {
     match text {
         None => Some(default),
@@ -26,7 +26,7 @@ pub(crate) fn number_or(text: Option<&str>, least: u32, most: u32, default: u32)
 
 /// The number of an option that must be given.
 pub(crate) fn number_given(text: Option<&str>, least: u32, most: u32) -> Option<u32>
-    ensures { result ≡ number_given least most (option_map (λ text. text.now) text) }
+    ensures { result ≡ number_given least most (option_map (λ t. t.now) text.entry) }
 {
     match text {
         None => None,

@@ -1,0 +1,10 @@
+use Rattle.std.proofs.Common.{ap₂, ◌∙◌, ◌||◌}
+use Rattle.clap.specs.Simple.{with_rule}
+use Rattle.solve_words.proofs.command.solve.Goals as goal
+
+pub returns-clause-shape : goal.returns-clause-shape
+returns-clause-shape c =
+    c.in_ok-command.ensures.shape c.option-nodes.ensures.local
+    ∙ ap₂ with_rule (c.in_ok-arg-2.ensures.shape c.option-units.ensures.local
+    ∙ ap₂ with_rule (c.in_ok-arg.ensures.shape c.option-workers.ensures.local
+    ∙ ap₂ with_rule c.new.ensures.app c.option-workers.ensures.rule) c.option-units.ensures.rule) c.option-nodes.ensures.rule
