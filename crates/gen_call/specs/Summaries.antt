@@ -1,5 +1,5 @@
 -- What is printed of a generated script: on how many facts false rests, and how high it is.
-use Rattle.std.specs.Prelude.{◌≡◌, ℕ, List, ◌++◌, length, codes, decimal, None}
+use Rattle.std.specs.Prelude.{◌≡◌, ℕ, List, ◌++◌, length, codes, decimal, Some, None}
 use Rattle.term_tree.specs.declared.refusal.Checked.{Checked}
 use Rattle.term_tree.specs.declared.script.Script.{Script}
 use Rattle.clause_gen.specs.Generated.{generated_script}
@@ -17,7 +17,6 @@ use Rattle.book_loop.specs.Runs.{IsOwn}
 use Rattle.book_answers.specs.Answers.{HasNoLowFalse, HasText, IsBookOf}
 use Rattle.gen_call.specs.declared.answer.Generated.{Generated}
 use Rattle.gen_call.specs.declared.answer.Generated.TheVariants.{Answered, Unfinished}
-use Rattle.std.specs.Prelude.{Some}
 
 -- the generated script, of which nothing is refused
 abbrev pub generated : ℕ → ℕ → Checked
@@ -37,15 +36,15 @@ HasSummary script b (Sat level) text = HasText script b (Sat level) text
 HasSummary script b (Spent units) text = HasText script b (Spent units) text
 HasSummary script b Stalled text = HasText script b Stalled text
 
--- a book over the clauses of the script, that was searched by one worker with so many units and inner nodes
-pub record IsBookFor (depth seed units nodes : ℕ) (b : Contents) : Type 0 where
-  pub of : IsBookOf (generated depth seed) b
+-- a book over the clauses of a script, that one worker searched with so many units and inner nodes
+pub record IsBookFor (checked : Checked) (units nodes : ℕ) (b : Contents) : Type 0 where
+  pub of : IsBookOf checked b
   pub given : b.given ≡ units
   pub own : AllOf (IsOwn nodes) b.journal
-  pub level : HasNoLowFalse (generated_script depth seed) b.level
+  pub level : HasNoLowFalse checked.script b.level
 
 -- what came of the script: a book at its end, with what is printed, or one for which memory was wanted
-abbrev pub IsGenerated : ℕ → ℕ → ℕ → ℕ → Generated → Type 0
-IsGenerated depth seed units nodes (Answered book text) =
-    IsBookFor depth seed units nodes book × (e : End) × (end (state_of book) ≡ Some e) × HasSummary (generated_script depth seed) book e text.items
-IsGenerated depth seed units nodes (Unfinished book) = IsBookFor depth seed units nodes book
+abbrev pub IsSolved : Checked → ℕ → ℕ → Generated → Type 0
+IsSolved checked units nodes (Answered book text) =
+    IsBookFor checked units nodes book × (e : End) × (end (state_of book) ≡ Some e) × HasSummary checked.script book e text.items
+IsSolved checked units nodes (Unfinished book) = IsBookFor checked units nodes book

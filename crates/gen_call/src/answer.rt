@@ -1,14 +1,12 @@
 //! From a depth and a seed to what is printed.
 
 ghost use Rattle.std.specs.Prelude.{◌≡◌, ◌≤◌, ◌<◌, ◌^◌, [], IfOk, IsSome};
-ghost use Rattle.term_tree.specs.Arena.{IsArena};
-ghost use Rattle.horn_shape.specs.Clause.{IsLegalScript};
 ghost use Rattle.book_answers.specs.Answers.{IsBookOf};
 ghost use Rattle.book_rules.specs.Legal.{end};
 ghost use Rattle.chc_core.specs.Openings.{most_units};
 ghost use Rattle.chc_core.specs.Views.{standing_of, state_of};
 ghost use Rattle.obligation_turn.specs.Turns.{IsNarrow};
-ghost use Rattle.gen_call.specs.Summaries.{IsBookFor, IsGenerated, generated};
+ghost use Rattle.gen_call.specs.Summaries.{IsBookFor, IsSolved, generated};
 
 use crate::laws::generated_scripts_have_clauses;
 use crate::script::checked_of;
@@ -30,21 +28,12 @@ pub enum Generated {
 }
 
 /// What is printed of a book that has ended.
-fn ended(
-    alloc: Global,
-    checked: &Checked,
-    book: Book,
-    depth: u32,
-    seed: u32,
-    units: u32,
-    nodes: u32,
-) -> Generated
-    requires is { checked.now ≡ generated depth seed }
-    requires searched { IsBookFor depth seed units nodes book }
+fn ended(alloc: Global, checked: &Checked, book: Book, units: u32, nodes: u32) -> Generated
+    requires searched { IsBookFor checked.now units nodes book }
     requires ended { IsSome (end (state_of book)) }
-    ensures { IsGenerated depth seed units nodes result }
+    ensures { IsSolved checked.now units nodes result }
 {
-    let (_depth, _seed, _units, _nodes) = (depth, seed, units, nodes);
+    let (_units, _nodes) = (units, nodes);
     match book.end() {
         Some(end) => match printed(alloc, checked, &book, end) {
             Ok(text) => Generated::Answered { book, text },
@@ -55,22 +44,13 @@ fn ended(
 }
 
 /// Searches until the book has ended, and then tells what is printed.
-fn searched(
-    alloc: Global,
-    checked: &Checked,
-    book: Book,
-    depth: u32,
-    seed: u32,
-    units: u32,
-    nodes: u32,
-) -> Generated
-    requires is { checked.now ≡ generated depth seed }
+fn searched(alloc: Global, checked: &Checked, book: Book, units: u32, nodes: u32) -> Generated
     requires of { IsBookOf checked.now book }
     requires given { book.given ≡ units }
     requires narrow { IsNarrow (standing_of book) }
     requires new { book.journal ≡ [] }
     requires some { 0 < nodes }
-    ensures { IsGenerated depth seed units nodes result }
+    ensures { IsSolved checked.now units nodes result }
 {
     // A law, which runs nothing: the book's clauses can be searched.
     systems_of_scripts_can_be_run();
@@ -78,7 +58,7 @@ fn searched(
     let found = search(&mut book, nodes);
     level_holds(checked, &book);
     match found {
-        Ok(()) => ended(alloc, checked, book, depth, seed, units, nodes),
+        Ok(()) => ended(alloc, checked, book, units, nodes),
         Err(_) => Generated::Unfinished { book },
     }
 }
@@ -96,7 +76,7 @@ pub fn answer_for(
     requires seed { seed < 2 ^ 31 }
     requires units { units ≤ most_units }
     requires some { 0 < nodes }
-    ensures { IfOk result (IsGenerated depth seed units nodes) }
+    ensures { IfOk result (IsSolved (generated depth seed) units nodes) }
 {
     // A law, which runs nothing: the script isn't refused.
     generated_scripts_have_clauses();
@@ -104,7 +84,7 @@ pub fn answer_for(
     match open(alloc, &checked, units)? {
         Opened::Refused(_) => unreachable!(),
         Opened::Book(book) => {
-            let answer = searched(alloc, &checked, book, depth, seed, units, nodes);
+            let answer = searched(alloc, &checked, book, units, nodes);
             Ok(answer)
         }
     }
