@@ -19,6 +19,9 @@ use Rattle.clause_form.specs.declared.clause.Clause.{Clause}
 use Rattle.clause_form.specs.System.{Clauses}
 use Rattle.clause_normal.specs.Normal.{first_without_room, is_too_large, normal_clause}
 use Rattle.clause_normal.specs.Reading.{all_clauses, by_room, by_shape, clause_reading, clause_with, one_more, refusal_at, system_reading, unless_stopped}
+use Rattle.book_answers.specs.Answers.{IsOpened}
+use Rattle.book_answers.specs.declared.opening.Opened.{Opened}
+use Rattle.book_answers.specs.declared.opening.Opened.TheVariants.{Refused}
 use Rattle.gen_call.specs.Summaries.{generated}
 
 pub legal_script : (depth seed : ℕ)
@@ -112,8 +115,8 @@ module _ (low high depth start : ℕ) (l : low < 2 ^ 63) (h : high < 2 ^ 63) (d 
       ∙ ap (λ (r : Result Clause Refusal). one_more (Ok (normal_clause script (horn script 0 (asserted 14 2)))) (one_more r (one_more (clause_reading script 2 (asserted 38 4)) (Ok [])))) reading_1
       ∙ ap (λ (r : Result Clause Refusal). one_more (Ok (normal_clause script (horn script 0 (asserted 14 2)))) (one_more (Ok (normal_clause script (horn script 1 (asserted 34 3)))) (one_more r (Ok [])))) reading_2
 
-  read : (sys : Clauses) × (system_reading (record { script = script; stop = None }) ≡ Ok sys)
-  read = (
+  pub read_with_numbers : (sys : Clauses) × (system_reading (record { script = script; stop = None }) ≡ Ok sys)
+  read_with_numbers = (
     record { clauses = normal_clause script (horn script 0 (asserted 14 2)) ∷ normal_clause script (horn script 1 (asserted 34 3)) ∷ normal_clause script (horn script 2 (asserted 38 4)) ∷ []; preds = map (λ p. p.args) generated_preds },
     ap (unless_stopped None script) all_read,
   )
@@ -127,5 +130,13 @@ product_small depth n most h =
 pub has_clauses : (depth seed : ℕ) → depth ≤ 12 → (sys : Clauses) × (system_reading (generated depth seed) ≡ Ok sys)
 has_clauses depth seed most =
     let start_small : start_of seed < 1000 = omega arith in
-    read (start_of seed * 2 ^ depth) ((start_of seed + 1) * 2 ^ depth) depth (start_of seed)
+    read_with_numbers (start_of seed * 2 ^ depth) ((start_of seed + 1) * 2 ^ depth) depth (start_of seed)
     (product_small depth (start_of seed) most (omega arith)) (product_small depth (start_of seed + 1) most (omega arith)) (omega arith) (omega arith)
+
+-- so no book's opening is refused
+pub never_refused : (checked : Checked) (units : ℕ) (found : Opened) (refusal : Refusal) → IsOpened checked units found → found ≡ Refused refusal
+    → (sys : Clauses) × (system_reading checked ≡ Ok sys) → ⊥
+never_refused checked units found refusal opened is (sys, read) =
+    let refused : system_reading checked ≡ Err refusal = subst (IsOpened checked units) is opened in
+    let clash : (let r : Result Clauses Refusal = Ok sys in r) ≡ Err refusal = sym read ∙ refused in
+    absurd (cc)

@@ -1,6 +1,8 @@
 //! From a depth and a seed to what is printed.
 
 ghost use Rattle.std.specs.Prelude.{◌≡◌, ◌≤◌, ◌<◌, ◌^◌, [], IfOk, IsSome};
+ghost use Rattle.term_tree.specs.Arena.{IsArena};
+ghost use Rattle.horn_shape.specs.Clause.{IsLegalScript};
 ghost use Rattle.book_answers.specs.Answers.{IsBookOf};
 ghost use Rattle.book_rules.specs.Legal.{end};
 ghost use Rattle.chc_core.specs.Openings.{most_units};
@@ -63,6 +65,34 @@ fn searched(alloc: Global, checked: &Checked, book: Book, units: u32, nodes: u32
     }
 }
 
+/// The book over the clauses of a generated script, in which nothing is written yet.
+fn opened(
+    alloc: Global,
+    checked: &Checked,
+    depth: u32,
+    seed: u32,
+    units: u32,
+) -> Result<Book, Memory>
+    requires is { checked.now ≡ generated depth seed }
+    requires depth { depth ≤ 12 }
+    requires arena { IsArena checked.now.script.terms.nodes }
+    requires legal { IsLegalScript checked.now.script }
+    requires units { units ≤ most_units }
+    ensures of { IfOk result (IsBookOf checked.now) }
+    ensures given { IfOk result (λ book. book.given ≡ units) }
+    ensures new { IfOk result (λ book. book.journal ≡ []) }
+    ensures narrow { IfOk result (λ book. IsNarrow (standing_of book)) }
+{
+    let _seed = seed;
+    // A law, which runs nothing: the script isn't refused.
+    generated_scripts_have_clauses();
+    let found = open(alloc, checked, units)?;
+    match found {
+        Opened::Book(book) => Ok(book),
+        Opened::Refused(_) => unreachable!(),
+    }
+}
+
 /// Opens a book over the clauses of the script that the depth and the seed give, searches it with one
 /// worker until it has ended, and tells what is printed of it.
 pub fn answer_for(
@@ -78,14 +108,8 @@ pub fn answer_for(
     requires some { 0 < nodes }
     ensures { IfOk result (IsSolved (generated depth seed) units nodes) }
 {
-    // A law, which runs nothing: the script isn't refused.
-    generated_scripts_have_clauses();
     let checked = checked_of(alloc, depth, seed)?;
-    match open(alloc, &checked, units)? {
-        Opened::Refused(_) => unreachable!(),
-        Opened::Book(book) => {
-            let answer = searched(alloc, &checked, book, units, nodes);
-            Ok(answer)
-        }
-    }
+    let book = opened(alloc, &checked, depth, seed, units)?;
+    let answer = searched(alloc, &checked, book, units, nodes);
+    Ok(answer)
 }

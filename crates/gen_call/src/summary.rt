@@ -1,6 +1,6 @@
 //! What is printed at an end.
 
-ghost use Rattle.std.specs.Prelude.{◌≡◌, ◌++◌, Some, IfOk, OnOk, decimal};
+ghost use Rattle.std.specs.Prelude.{◌≡◌, ◌++◌, length, Some, IfOk, OnOk, decimal};
 ghost use Rattle.term_tree.specs.declared.refusal.Checked.{Checked as CheckedScript};
 ghost use Rattle.book_rules.specs.declared.end.End.TheVariants.{Unsat};
 ghost use Rattle.book_rules.specs.Legal.{end};
@@ -26,16 +26,23 @@ fn push_number(out: &mut Vec<u8>, number: u64) -> Result<(), Memory>
 }
 
 /// The summary of a derivation of so many steps and that height.
-fn summary(alloc: Global, steps: u64, height: u64) -> Result<Vec<u8>, Memory>
+fn summary(alloc: Global, steps: u64, height: u32) -> Result<Vec<u8>, Memory>
     ensures { IfOk result (λ text. text.items ≡ summary_text steps height) }
 {
     let mut text = Vec::new(alloc);
     text.extend_from_slice(b"unsat steps ")?;
     push_number(&mut text, steps)?;
     text.extend_from_slice(b" height ")?;
-    push_number(&mut text, height)?;
+    push_number(&mut text, u64::from(height))?;
     text.extend_from_slice(b"\n")?;
     Ok(text)
+}
+
+/// How many steps these are.
+fn count_of(steps: &[u32]) -> u64
+    ensures { result ≡ length steps.now }
+{
+    steps.len() as u64
 }
 
 /// The summary of the recorded false: on how many facts it rests, and how high it is.
@@ -48,7 +55,8 @@ fn unsat(alloc: Global, book: &Book, fact: u32) -> Result<Vec<u8>, Memory>
     facts.are_recorded();
     let steps = facts.steps_to(fact)?;
     let height = facts.height(fact);
-    let text = summary(alloc, steps.len() as u64, u64::from(height))?;
+    let count = count_of(steps.as_slice());
+    let text = summary(alloc, count, height)?;
     Ok(text)
 }
 
