@@ -16,14 +16,12 @@ use Rattle.solve_words.proofs.RangeLemmas.{given_found, given_read, or_found, or
 
 -- what a reading says
 
-abbrev pub solve_options : List Row → Limits → Type 0
-solve_options options l = IsGivenOr 1 most_workers default_workers (first_of (codes "workers") options) l.workers
-    × IsGivenOr 0 most_units default_units (first_of (codes "units") options) l.units
-    × IsGivenOr 1 most_nodes default_nodes (first_of (codes "nodes") options) l.nodes
-
 -- the command of that name says this
 abbrev Says : Text → List Row → Words → Type 0
-Says name options (Solve l) = (name ≡ codes "solve") × solve_options options l
+Says name options (Solve l) =
+    (name ≡ codes "solve") × IsGivenOr 1 most_workers default_workers (first_of (codes "workers") options) l.workers
+    × IsGivenOr 0 most_units default_units (first_of (codes "units") options) l.units
+    × IsGivenOr 1 most_nodes default_nodes (first_of (codes "nodes") options) l.nodes
 Says name options (Check nodes) = (name ≡ codes "check") × IsGivenOr 1 most_nodes default_nodes (first_of (codes "nodes") options) nodes
 Says name options (Gen depth seed) = (name ≡ codes "gen") × IsGiven 0 most_depth (first_of (codes "depth") options) depth × IsGiven 0 most_seed (first_of (codes "seed") options) seed
 
