@@ -1,13 +1,14 @@
 -- What callers are told of the words.
-use Rattle.std.proofs.Common.{◌≡◌, ℕ, ◌≤◌, List, Some, None, sym, ◌∙◌, lit<, arith}
+use Rattle.std.proofs.Common.{◌≡◌, ℕ, ◌≤◌, List, Some, None, sym, ◌∙◌, ap, subst, arith}
 use Rattle.std.specs.Prelude.{Option, IfSome, codes}
 use Rattle.clap.specs.Walk.{Text, first_of}
 use Rattle.clap.specs.Simple.{subcommand_of}
 use Rattle.solve_words.specs.Command.{chc}
-use Rattle.solve_words.specs.Parsed.{IsTaken}
+use Rattle.clap.specs.declared.parser.matches.ArgMatches.{ArgMatches}
+use Rattle.solve_words.specs.Parsed.{IsParsedAs, IsTaken}
 use Rattle.solve_words.specs.Properties.{AreLimitsOf, AreNodesOf, AreWordsOf, IsInRange, IsWithin}
 use Rattle.solve_words.specs.Words.{IsCall, IsCheckCall, IsGenCall, default_nodes, default_units, default_workers, most_depth, most_nodes, most_seed, most_units, most_workers}
-use Rattle.solve_words.specs.machinery.Reading.{limits_alone, nodes_alone, words_in}
+use Rattle.solve_words.specs.machinery.Reading.{limits_alone, nodes_alone, said, words_in}
 use Rattle.solve_words.specs.declared.limits.Limits.{Limits}
 use Rattle.solve_words.specs.declared.limits.Words.{Words}
 use Rattle.solve_words.specs.declared.limits.Words.TheVariants.{Solve, Check, Gen}
@@ -30,6 +31,10 @@ are_words words (Some (Gen depth seed)) taken is = call_read words (Gen depth se
 -- words that `clap` refuses are no call
 pub refused_words : (words : List Text) → (IsTaken words → ⊥) → AreWordsOf words None
 refused_words words refused = (λ l call. refused call.names.0, λ nodes call. refused call.names.0, λ depth seed call. refused call.names.0)
+
+pub said_words : (words : List Text) (parsed : Option ArgMatches) (found : Option Words) → IsParsedAs words parsed → found ≡ said parsed → AreWordsOf words found
+said_words words None found parsed is = subst (AreWordsOf words) (sym is) (refused_words words parsed)
+said_words words (Some matches) found parsed is = are_words words found parsed.0 (is ∙ ap words_in parsed.1)
 
 -- numbers of a call are in range
 

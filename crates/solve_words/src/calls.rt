@@ -5,7 +5,7 @@ ghost use Rattle.std.specs.String.{string_bytes};
 ghost use Rattle.clap.specs.Words.{found_of, rows_of, subcommand_rows_of};
 ghost use Rattle.solve_words.specs.Properties.{AreLimitsOf, AreNodesOf, AreWordsOf, IsInRange, IsWithin};
 ghost use Rattle.solve_words.specs.Words.{most_nodes};
-ghost use Rattle.solve_words.specs.machinery.Reading.{check_named, gen_named, limits_alone, limits_with, nodes_alone, solve_named, words_in, words_named};
+ghost use Rattle.solve_words.specs.machinery.Reading.{check_named, gen_named, limits_alone, limits_with, nodes_alone, said, solve_named, words_in, words_named};
 
 use crate::command::parsed;
 use crate::limits::{Limits, Words};
@@ -124,6 +124,16 @@ fn words_in(matches: &ArgMatches) -> Option<Words>
     }
 }
 
+/// What was parsed says.
+fn said(parsed: &Option<ArgMatches>) -> Option<Words>
+    ensures { result ≡ said parsed.now }
+{
+    match parsed {
+        None => None,
+        Some(matches) => words_in(matches),
+    }
+}
+
 /// What the words after the program's name say; nothing where they are no call. They are the name of a
 /// command and then its options, in any order, each once at most and as `--name VALUE` or `--name=VALUE`,
 /// where each value is a numeral within its range; want of memory is an answer of its own.
@@ -131,10 +141,9 @@ pub fn words_of(alloc: Global, words: &[String]) -> Result<Option<Words>, Memory
     ensures read { IfOk result (AreWordsOf (map string_bytes words.now)) }
     ensures within { IfOk result (λ found. IfSome found IsWithin) }
 {
-    match parsed(alloc, words)? {
-        None => Ok(None),
-        Some(matches) => Ok(words_in(&matches)),
-    }
+    let parsed = parsed(alloc, words)?;
+    let found = said(&parsed);
+    Ok(found)
 }
 
 /// The limits of these words.

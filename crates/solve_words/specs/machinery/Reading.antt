@@ -3,6 +3,8 @@ use Rattle.std.specs.Prelude.{ℕ, List, [], ◌∷◌, nat_le, Option, Some, No
 use Rattle.std.specs.Str.{bytes_eq}
 use Rattle.base.specs.Numeral.{is_numeral, number_of}
 use Rattle.clap.specs.Walk.{Row, Text, first_of}
+use Rattle.clap.specs.Simple.{subcommand_rows_of}
+use Rattle.clap.specs.declared.parser.matches.ArgMatches.{ArgMatches}
 use Rattle.solve_words.specs.Words.{default_nodes, default_units, default_workers, most_depth, most_nodes, most_seed, most_units, most_workers}
 use Rattle.solve_words.specs.declared.limits.Limits.{Limits}
 use Rattle.solve_words.specs.declared.limits.Words.{Words}
@@ -66,6 +68,10 @@ words_named name options = if bytes_eq name (codes "solve") then solve_named opt
 abbrev pub words_in : Option (Text × List Row) → Option Words
 words_in None = None
 words_in (Some named) = words_named named.0 named.1
+
+abbrev pub said : Option ArgMatches → Option Words
+said None = None
+said (Some matches) = words_in (subcommand_rows_of matches)
 
 abbrev pub limits_alone : Option Words → Option Limits
 limits_alone (Some (Solve limits)) = Some limits
