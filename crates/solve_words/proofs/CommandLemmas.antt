@@ -36,3 +36,7 @@ refused_as app words e is other free = λ taken.
       | inl memory ↦ other memory
       | inr among ↦ among_none (fault_of app words) (kind_of e) (ap (λ (a : App). fault_of a words) is ∙ taken) among
     ]
+
+pub refused_found : (app : App) (words : List Text) (e : Error) (found : Option ArgMatches) → app ≡ chc
+    → (is_simple_and_free app ≡ true → HasKind (fault_of app words) e) → (found ≡ None) × (kind_of e ≡ kind.OutOfMemory → ⊥) → IsParsedAs words found
+refused_found app words e found is free none = subst (IsParsedAs words) (sym none.0) (refused_as app words e is none.1 free)

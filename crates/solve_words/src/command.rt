@@ -1,16 +1,15 @@
 //! The command line, as `clap` is told of it.
 
-ghost use Rattle.std.specs.Prelude.{◌≡◌, IfOk, false};
-ghost use Rattle.clap.specs.Words.{app_of, rule_of};
+ghost use Rattle.std.specs.Prelude.{◌≡◌, ◌≢◌, ◌↔◌, map, IfOk, IsTrue, None, false};
+ghost use Rattle.clap.specs.Words.{app_of, kind_of, rule_of};
 ghost use Rattle.clap.specs.declared.builder.command.Command.TheViews.{out-Command};
 ghost use Rattle.solve_words.specs.Command.{alone, check, chc, gen, option, solve};
 ghost use Rattle.solve_words.specs.Parsed.{IsParsedAs};
-ghost use Rattle.std.specs.Prelude.{map};
 ghost use Rattle.std.specs.String.{string_bytes};
 
 use base::Memory;
 use clap::error::ErrorKind;
-use clap::{Arg, ArgAction, ArgMatches, Command};
+use clap::{Arg, ArgAction, ArgMatches, Command, Error};
 use std::alloc::{AllocError, Global};
 
 /// The option of that name, which takes a value.
@@ -75,6 +74,23 @@ fn chc<'a>(alloc: Global) -> Result<Command<'a>, AllocError>
     Ok(command)
 }
 
+/// Whether this is want of memory.
+fn wants_memory(error: &Error) -> bool
+    ensures { IsTrue result ↔ (kind_of error.now ≡ ErrorKind.OutOfMemory) }
+{
+    error.kind() == ErrorKind::OutOfMemory
+}
+
+/// Words that `clap` refuses are none, unless memory was wanted.
+fn refused<'a>(error: Error) -> Result<Option<ArgMatches<'a>>, Memory>
+    ensures { IfOk result (λ found. (found ≡ None) × (kind_of error.entry ≢ ErrorKind.OutOfMemory)) }
+{
+    if wants_memory(&error) {
+        return Err(Memory);
+    }
+    Ok(None)
+}
+
 /// What `clap` makes of the words; nothing where it refuses them.
 pub(crate) fn parsed<'a>(
     alloc: Global,
@@ -85,12 +101,6 @@ pub(crate) fn parsed<'a>(
     let command = chc(alloc)?;
     match command.try_get_matches_from(words) {
         Ok(matches) => Ok(Some(matches)),
-        Err(error) => {
-            if error.kind() == ErrorKind::OutOfMemory {
-                Err(Memory)
-            } else {
-                Ok(None)
-            }
-        }
+        Err(error) => refused(error),
     }
 }
