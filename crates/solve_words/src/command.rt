@@ -83,7 +83,7 @@ fn wants_memory(error: &Error) -> bool
 
 /// Words that `clap` refuses are none, unless memory was wanted.
 fn refused<'a>(error: Error) -> Result<Option<ArgMatches<'a>>, Memory>
-    ensures { IfOk result (λ found. (found ≡ None) × (kind_of error.entry ≢ ErrorKind.OutOfMemory)) }
+    ensures { IfOk result (λ found. (found ≡ None) × (kind_of error ≢ ErrorKind.OutOfMemory)) }
 {
     if wants_memory(&error) {
         return Err(Memory);
