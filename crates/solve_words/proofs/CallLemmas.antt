@@ -1,157 +1,178 @@
--- Words are read as the limits of a call exactly where they are one with these limits.
-use Rattle.std.proofs.Common.{◌≡◌, ℕ, ◌≤◌, List, [], ◌∷◌, ◌++◌, Bool, true, false, Some, None, refl, sym, ◌∙◌, ap, subst, arith}
-use Rattle.std.specs.Prelude.{nat_le, Option, if◌then◌else◌, codes}
+-- What the words say is exactly what they are a call of.
+use Rattle.std.proofs.Common.{◌≡◌, ℕ, ◌≤◌, List, [], ◌∷◌, Bool, true, false, Some, None, refl, sym, ◌∙◌, ap, ap₂, subst, arith}
+use Rattle.std.specs.Prelude.{Option, if◌then◌else◌, codes}
 use Rattle.std.specs.Str.{bytes_eq}
-use Rattle.std.proofs.lemmas.Bool.Decides.{nat_tests}
 use Rattle.std.proofs.lemmas.Slice.Eq.{bytes_eq-Decides}
-use Rattle.base.specs.Numeral.{is_numeral, number_of}
-use Rattle.solve_words.specs.Properties.{AreLimitsOf}
-use Rattle.solve_words.specs.Words.{IsCall, IsOption, default_nodes, default_units, most_nodes, most_units}
-use Rattle.solve_words.specs.machinery.Reading.{at_least, at_most, limits_of, nodes_in, nodes_named, numeral_within, options_in, units_then, with_nodes}
+use Rattle.clap.specs.Walk.{Row, Text, first_of}
+use Rattle.clap.specs.Simple.{subcommand_of}
+use Rattle.solve_words.specs.Command.{chc}
+use Rattle.solve_words.specs.Parsed.{IsTaken}
+use Rattle.solve_words.specs.Words.{IsCall, IsCheckCall, IsGenCall, IsGiven, IsGivenOr, default_nodes, default_units, default_workers, most_depth, most_nodes, most_seed, most_units, most_workers}
+use Rattle.solve_words.specs.machinery.Reading.{check_named, check_with, gen_named, gen_with, limits_with, number_given, number_or, solve_named, solve_with, words_in, words_named}
 use Rattle.solve_words.specs.declared.limits.Limits.{Limits}
-use Rattle.solve_words.proofs.RangeLemmas.{at_least_is, at_most_is}
+use Rattle.solve_words.specs.declared.limits.Words.{Words}
+use Rattle.solve_words.specs.declared.limits.Words.TheVariants.{Solve, Check, Gen}
+use Rattle.solve_words.proofs.RangeLemmas.{given_found, given_read, or_found, or_read, some_same}
 
--- from the reading to the call
+-- what a reading says
 
-at_most_same : (most n k : ℕ) → at_most most n ≡ Some k → n ≡ k
-at_most_same most n k h = by (nat_le n most) h
+-- the command of that name says this
+abbrev Says : Text → List Row → Words → Type 0
+Says name options (Solve l) =
+    (name ≡ codes "solve") × IsGivenOr 1 most_workers default_workers (first_of (codes "workers") options) l.workers
+    × IsGivenOr 0 most_units default_units (first_of (codes "units") options) l.units
+    × IsGivenOr 1 most_nodes default_nodes (first_of (codes "nodes") options) l.nodes
+Says name options (Check nodes) = (name ≡ codes "check") × IsGivenOr 1 most_nodes default_nodes (first_of (codes "nodes") options) nodes
+Says name options (Gen depth seed) = (name ≡ codes "gen") × IsGiven 0 most_depth (first_of (codes "depth") options) depth × IsGiven 0 most_seed (first_of (codes "seed") options) seed
+
+words_same : (a b : Words) → (let o : Option Words = Some a in o) ≡ Some b → a ≡ b
+words_same a b h = cc
+
+solve_read : (name : Text) (options : List Row) (w : Words) → name ≡ codes "solve" → solve_named options ≡ Some w → Says name options w
+solve_read name options w is h = by
+    (number_or 1 most_workers default_workers (first_of (codes "workers") options)) refl
+    (number_or 0 most_units default_units (first_of (codes "units") options)) refl
+    (number_or 1 most_nodes default_nodes (first_of (codes "nodes") options)) refl h
   where
-    by : (b : Bool) → (let o : Option ℕ = if b then Some n else None in o) ≡ Some k → n ≡ k
-    by true e = cc
-    by false e = absurd (cc)
+    by : (x : Option ℕ) → number_or 1 most_workers default_workers (first_of (codes "workers") options) ≡ x
+        → (y : Option ℕ) → number_or 0 most_units default_units (first_of (codes "units") options) ≡ y
+        → (z : Option ℕ) → number_or 1 most_nodes default_nodes (first_of (codes "nodes") options) ≡ z
+        → solve_with (limits_with x y z) ≡ Some w → Says name options w
+    by None a y b z c e = absurd (cc)
+    by (Some x) a None b z c e = absurd (cc)
+    by (Some x) a (Some y) b None c e = absurd (cc)
+    by (Some x) a (Some y) b (Some z) c e = subst (Says name options) (words_same (Solve (record { workers = x; units = y; nodes = z })) w e) (
+      is,
+      or_read 1 most_workers default_workers (first_of (codes "workers") options) x a,
+      or_read 0 most_units default_units (first_of (codes "units") options) y b,
+      or_read 1 most_nodes default_nodes (first_of (codes "nodes") options) z c,
+    )
 
-abbrev IsNumeral : ℕ → ℕ → List ℕ → ℕ → Type 0
-IsNumeral least most word n = (is_numeral word ≡ true) × (number_of word ≡ n) × (least ≤ n) × (n ≤ most)
-
-numeral_read : (least most : ℕ) (word : List ℕ) (k : ℕ) → numeral_within least most word ≡ Some k → IsNumeral least most word k
-numeral_read least most word k h = by (is_numeral word) refl h
+check_read : (name : Text) (options : List Row) (w : Words) → name ≡ codes "check" → check_named options ≡ Some w → Says name options w
+check_read name options w is h = by (number_or 1 most_nodes default_nodes (first_of (codes "nodes") options)) refl h
   where
-    by : (b : Bool) → is_numeral word ≡ b → (let o : Option ℕ = if b then at_least least (at_most most (number_of word)) else None in o) ≡ Some k → IsNumeral least most word k
-    by true is e =
-        let both = at_least_is least (at_most most (number_of word)) k e in
-        (is, at_most_same most (number_of word) k both.1, both.0, at_most_is most (number_of word) k both.1)
-    by false is e = absurd (cc)
+    by : (x : Option ℕ) → number_or 1 most_nodes default_nodes (first_of (codes "nodes") options) ≡ x → check_with x ≡ Some w → Says name options w
+    by None a e = absurd (cc)
+    by (Some x) a e = subst (Says name options) (words_same (Check x) w e) (is, or_read 1 most_nodes default_nodes (first_of (codes "nodes") options) x a)
 
-with_nodes_read : (units : ℕ) (found : Option ℕ) (l : Limits) → with_nodes units found ≡ Some l → (l.units ≡ units) × (found ≡ Some l.nodes)
-with_nodes_read units None l h = absurd (cc)
-with_nodes_read units (Some n) l h =
-    let made : Limits = record { units = units; nodes = n } in
-    let same : made ≡ l = cc in
-    (sym (ap (λ (k : Limits). k.units) same), ap (λ (k : Limits). let o : Option ℕ = Some k.nodes in o) same)
-
-abbrev AreNodes : List (List ℕ) → ℕ → Type 0
-AreNodes words n = IsOption (codes "--nodes") 1 most_nodes default_nodes words n
-
-abbrev AreUnits : List (List ℕ) → ℕ → Type 0
-AreUnits words n = IsOption (codes "--units") 0 most_units default_units words n
-
-some_same : (a b : ℕ) → (let o : Option ℕ = Some a in o) ≡ Some b → b ≡ a
-some_same a b h = cc
-
-nodes_read : (units : ℕ) (words : List (List ℕ)) (l : Limits) → nodes_in units words ≡ Some l → (l.units ≡ units) × AreNodes words l.nodes
-nodes_read units [] l h = let both = with_nodes_read units (Some default_nodes) l h in (both.0, some_same default_nodes l.nodes both.1)
-nodes_read units (name ∷ []) l h = absurd (cc)
-nodes_read units (name ∷ value ∷ []) l h = by (bytes_eq name (codes "--nodes")) refl h
+gen_read : (name : Text) (options : List Row) (w : Words) → name ≡ codes "gen" → gen_named options ≡ Some w → Says name options w
+gen_read name options w is h = by (number_given 0 most_depth (first_of (codes "depth") options)) refl (number_given 0 most_seed (first_of (codes "seed") options)) refl h
   where
-    by : (b : Bool) → bytes_eq name (codes "--nodes") ≡ b → (let o : Option Limits = if b then with_nodes units (numeral_within 1 most_nodes value) else None in o) ≡ Some l
-        → (l.units ≡ units) × AreNodes (name ∷ value ∷ []) l.nodes
-    by true is e =
-        let both = with_nodes_read units (numeral_within 1 most_nodes value) l e in
-        let read = numeral_read 1 most_nodes value l.nodes both.1 in
-        (both.0, ((bytes_eq-Decides name (codes "--nodes")).0 is, read.0, read.1, read.2, read.3))
-    by false is e = absurd (cc)
-nodes_read units (name ∷ value ∷ more ∷ words) l h = absurd (cc)
+    by : (x : Option ℕ) → number_given 0 most_depth (first_of (codes "depth") options) ≡ x
+        → (y : Option ℕ) → number_given 0 most_seed (first_of (codes "seed") options) ≡ y
+        → gen_with x y ≡ Some w → Says name options w
+    by None a y b e = absurd (cc)
+    by (Some x) a None b e = absurd (cc)
+    by (Some x) a (Some y) b e = subst (Says name options) (words_same (Gen x y) w e) (
+      is,
+      given_read 0 most_depth (first_of (codes "depth") options) x a,
+      given_read 0 most_seed (first_of (codes "seed") options) y b,
+    )
 
--- the words behind `solve`, as those of the two options
-record AreOptions (words : List (List ℕ)) (l : Limits) : Type 0 where
-  first : List (List ℕ)
-  second : List (List ℕ)
-  are : words ≡ first ++ second
-  units : AreUnits first l.units
-  nodes : AreNodes second l.nodes
-
-without_units : (words : List (List ℕ)) (l : Limits) → nodes_in default_units words ≡ Some l → AreOptions words l
-without_units words l h = let both = nodes_read default_units words l h in record { first = []; second = words; are = refl; units = both.0; nodes = both.1 }
-
-units_read : (found : Option ℕ) (words : List (List ℕ)) (l : Limits) → units_then found words ≡ Some l → (found ≡ Some l.units) × AreNodes words l.nodes
-units_read None words l h = absurd (cc)
-units_read (Some units) words l h = let both = nodes_read units words l h in (ap (λ (k : ℕ). let o : Option ℕ = Some k in o) (sym both.0), both.1)
-
-options_read : (words : List (List ℕ)) (l : Limits) → options_in words ≡ Some l → AreOptions words l
-options_read [] l h = without_units [] l h
-options_read (name ∷ []) l h = without_units (name ∷ []) l h
-options_read (name ∷ value ∷ words) l h = by (bytes_eq name (codes "--units")) refl h
+named_read : (name : Text) (options : List Row) (w : Words) → words_named name options ≡ Some w → Says name options w
+named_read name options w h = first (bytes_eq name (codes "solve")) refl h
   where
-    by : (b : Bool) → bytes_eq name (codes "--units") ≡ b
-        → (let o : Option Limits = if b then units_then (numeral_within 0 most_units value) words else nodes_in default_units (name ∷ value ∷ words) in o) ≡ Some l → AreOptions (name ∷ value ∷ words) l
-    by true is e =
-        let both = units_read (numeral_within 0 most_units value) words l e in
-        let read = numeral_read 0 most_units value l.units both.0 in
-        record { first = name ∷ value ∷ []; second = words; are = refl; units = ((bytes_eq-Decides name (codes "--units")).0 is, read.0, read.1, read.2, read.3); nodes = both.1 }
-    by false is e = without_units (name ∷ value ∷ words) l e
+    third : (b : Bool) → bytes_eq name (codes "gen") ≡ b → (let o : Option Words = if b then gen_named options else None in o) ≡ Some w → Says name options w
+    third true is e = gen_read name options w ((bytes_eq-Decides name (codes "gen")).0 is) e
+    third false is e = absurd (cc)
 
-call_read : (words : List (List ℕ)) (l : Limits) → limits_of words ≡ Some l → IsCall words l
-call_read [] l h = absurd (cc)
-call_read (word ∷ words) l h = by (bytes_eq word (codes "solve")) refl h
+    second : (b : Bool) → bytes_eq name (codes "check") ≡ b
+        → (let o : Option Words = if b then check_named options else if bytes_eq name (codes "gen") then gen_named options else None in o) ≡ Some w → Says name options w
+    second true is e = check_read name options w ((bytes_eq-Decides name (codes "check")).0 is) e
+    second false is e = third (bytes_eq name (codes "gen")) refl e
+
+    first : (b : Bool) → bytes_eq name (codes "solve") ≡ b
+        → (let o : Option Words = if b then solve_named options
+        else if bytes_eq name (codes "check") then check_named options
+        else if bytes_eq name (codes "gen") then gen_named options else None in o) ≡ Some w → Says name options w
+    first true is e = solve_read name options w ((bytes_eq-Decides name (codes "solve")).0 is) e
+    first false is e = second (bytes_eq name (codes "check")) refl e
+
+-- the words are a call, and say this
+abbrev Calls : List Text → Words → Type 0
+Calls words (Solve l) = IsCall words l
+Calls words (Check nodes) = IsCheckCall words nodes
+Calls words (Gen depth seed) = IsGenCall words depth seed
+
+-- a command that says this is a call
+says_calls : (words : List Text) (name : Text) (options : List Row) (w : Words) → IsTaken words → subcommand_of chc words ≡ Some (name, options) → Says name options w → Calls words w
+says_calls words name options (Solve l) taken is says = record {
+  options = options;
+  names = (taken, is ∙ ap (λ (n : Text). let o : Option (Text × List Row) = Some (n, options) in o) says.0);
+  workers = says.1;
+  units = says.2;
+  nodes = says.3;
+}
+says_calls words name options (Check nodes) taken is says = record {
+  options = options;
+  names = (taken, is ∙ ap (λ (n : Text). let o : Option (Text × List Row) = Some (n, options) in o) says.0);
+  given = says.1;
+}
+says_calls words name options (Gen depth seed) taken is says = record {
+  options = options;
+  names = (taken, is ∙ ap (λ (n : Text). let o : Option (Text × List Row) = Some (n, options) in o) says.0);
+  depths = says.1;
+  seeds = says.2;
+}
+
+pub call_read : (words : List Text) (w : Words) → IsTaken words → words_in (subcommand_of chc words) ≡ Some w → Calls words w
+call_read words w taken h = by (subcommand_of chc words) refl h
   where
-    by : (b : Bool) → bytes_eq word (codes "solve") ≡ b → (let o : Option Limits = if b then options_in words else None in o) ≡ Some l → IsCall (word ∷ words) l
-    by true is e =
-        let found = options_read words l e in
-        let first : word ≡ codes "solve" = (bytes_eq-Decides word (codes "solve")).0 is in
-        record {
-          first = found.first;
-          second = found.second;
-          are = ap (λ (w : List ℕ). w ∷ words) first ∙ ap (λ (ws : List (List ℕ)). codes "solve" ∷ ws) found.are;
-          units = found.units;
-          nodes = found.nodes;
-        }
-    by false is e = absurd (cc)
+    by : (named : Option (Text × List Row)) → subcommand_of chc words ≡ named → words_in named ≡ Some w → Calls words w
+    by None is e = absurd (cc)
+    by (Some (name, options)) is e = says_calls words name options w taken is (named_read name options w e)
 
 -- and back
 
-numeral_found : (least most : ℕ) (word : List ℕ) (n : ℕ) → IsNumeral least most word n → numeral_within least most word ≡ Some n
-numeral_found least most word n (is, number, low, high) =
-    let small : nat_le n most ≡ true = grind (arith, nat_tests, high) in
-    let large : nat_le least n ≡ true = grind (arith, nat_tests, low) in
-    ap (λ (b : Bool). let o : Option ℕ = if b then at_least least (at_most most (number_of word)) else None in o) is
-    ∙ ap (λ (k : ℕ). at_least least (at_most most k)) number
-    ∙ ap (λ (b : Bool). at_least least (let o : Option ℕ = if b then Some n else None in o)) small
-    ∙ ap (λ (b : Bool). let o : Option ℕ = if b then Some n else None in o) large
+pub solve_found : (words : List Text) (l : Limits) → IsCall words l → words_in (subcommand_of chc words) ≡ Some (Solve l)
+solve_found words l call =
+    let w = or_found 1 most_workers default_workers (first_of (codes "workers") call.options) l.workers call.workers in
+    let u = or_found 0 most_units default_units (first_of (codes "units") call.options) l.units call.units in
+    let n = or_found 1 most_nodes default_nodes (first_of (codes "nodes") call.options) l.nodes call.nodes in
+    ap words_in call.names.1
+    ∙ ap (λ (x : Option ℕ). solve_with (limits_with x (number_or 0 most_units default_units (first_of (codes "units") call.options)) (number_or 1 most_nodes default_nodes (first_of (codes "nodes") call.options)))) w
+    ∙ ap (λ (y : Option ℕ). solve_with (limits_with (Some l.workers) y (number_or 1 most_nodes default_nodes (first_of (codes "nodes") call.options)))) u
+    ∙ ap (λ (z : Option ℕ). solve_with (limits_with (Some l.workers) (Some l.units) z)) n
 
-abbrev limits : ℕ → ℕ → Limits
-limits units nodes = record { units = units; nodes = nodes }
+pub check_found : (words : List Text) (nodes : ℕ) → IsCheckCall words nodes → words_in (subcommand_of chc words) ≡ Some (Check nodes)
+check_found words nodes call = ap words_in call.names.1 ∙ ap check_with (or_found 1 most_nodes default_nodes (first_of (codes "nodes") call.options) nodes call.given)
 
-nodes_found : (units : ℕ) (words : List (List ℕ)) (n : ℕ) → AreNodes words n → nodes_in units words ≡ Some (limits units n)
-nodes_found units [] n h = ap (λ (k : ℕ). let o : Option Limits = Some (limits units k) in o) (sym h)
-nodes_found units (name ∷ []) n h = absurd h
-nodes_found units (name ∷ value ∷ []) n (is, digits, number, low, high) =
-    subst (λ (word : List ℕ). nodes_named units word value ≡ Some (limits units n)) (sym is) (ap (with_nodes units) (numeral_found 1 most_nodes value n (digits, number, low, high)))
-nodes_found units (name ∷ value ∷ more ∷ words) n h = absurd h
+pub gen_found : (words : List Text) (depth seed : ℕ) → IsGenCall words depth seed → words_in (subcommand_of chc words) ≡ Some (Gen depth seed)
+gen_found words depth seed call =
+    let d = given_found 0 most_depth (first_of (codes "depth") call.options) depth call.depths in
+    let s = given_found 0 most_seed (first_of (codes "seed") call.options) seed call.seeds in
+    ap words_in call.names.1
+    ∙ ap (λ (x : Option ℕ). gen_with x (number_given 0 most_seed (first_of (codes "seed") call.options))) d
+    ∙ ap (λ (y : Option ℕ). gen_with (Some depth) y) s
 
--- words that name the nodes don't name the units
-left_out : (words : List (List ℕ)) (n : ℕ) → AreNodes words n → options_in words ≡ nodes_in default_units words
-left_out [] n h = refl
-left_out (name ∷ []) n h = absurd h
-left_out (name ∷ value ∷ []) n (is, digits, number, low, high) = subst (λ (word : List ℕ). options_in (word ∷ value ∷ []) ≡ nodes_in default_units (word ∷ value ∷ [])) (sym is) refl
-left_out (name ∷ value ∷ more ∷ words) n h = absurd h
+-- so no words are two calls
 
-options_found : (first second : List (List ℕ)) (units nodes : ℕ) → AreUnits first units → AreNodes second nodes → options_in (first ++ second) ≡ Some (limits units nodes)
-options_found [] second units nodes given h =
-    left_out second nodes h ∙ nodes_found default_units second nodes h ∙ ap (λ (k : ℕ). let o : Option Limits = Some (limits k nodes) in o) (sym given)
-options_found (name ∷ []) second units nodes given h = absurd given
-options_found (name ∷ value ∷ []) second units nodes (is, digits, number, low, high) h =
-    subst (λ (word : List ℕ). options_in (word ∷ value ∷ second) ≡ Some (limits units nodes)) (sym is)
-    (ap (λ (found : Option ℕ). units_then found second) (numeral_found 0 most_units value units (digits, number, low, high)) ∙ nodes_found units second nodes h)
-options_found (name ∷ value ∷ more ∷ words) second units nodes given h = absurd given
-
-call_found : (words : List (List ℕ)) (l : Limits) → IsCall words l → limits_of words ≡ Some l
-call_found words l call = ap limits_of call.are ∙ options_found call.first call.second l.units l.nodes call.units call.nodes
-
-pub one_reading : (words : List (List ℕ)) (first second : Limits) → IsCall words first → IsCall words second → first ≡ second
+pub one_reading : (words : List Text) (first second : Limits) → IsCall words first → IsCall words second → first ≡ second
 one_reading words first second a b =
-    let same : (let o : Option Limits = Some first in o) ≡ Some second = sym (call_found words first a) ∙ call_found words second b in
+    let same : (let o : Option Words = Some (Solve first) in o) ≡ Some (Solve second) = sym (solve_found words first a) ∙ solve_found words second b in
     cc
 
-pub are_limits : (words : List (List ℕ)) (found : Option Limits) → found ≡ limits_of words → AreLimitsOf words found
-are_limits words None is = λ l call. let no : (let o : Option Limits = None in o) ≡ Some l = is ∙ call_found words l call in absurd (cc)
-are_limits words (Some l) is = call_read words l (sym is)
+pub one_number : (words : List Text) (first second : ℕ) → IsCheckCall words first → IsCheckCall words second → first ≡ second
+one_number words first second a b =
+    let same : (let o : Option Words = Some (Check first) in o) ≡ Some (Check second) = sym (check_found words first a) ∙ check_found words second b in
+    cc
+
+pub one_seed : (words : List Text) (d s e t : ℕ) → IsGenCall words d s → IsGenCall words e t → (d ≡ e) × (s ≡ t)
+one_seed words d s e t a b =
+    let same : (let o : Option Words = Some (Gen d s) in o) ≡ Some (Gen e t) = sym (gen_found words d s a) ∙ gen_found words e t b in
+    (cc, cc)
+
+pub apart : (words : List Text) (l : Limits) (nodes : ℕ) → IsCall words l → IsCheckCall words nodes → ⊥
+apart words l nodes a b =
+    let same : (let o : Option Words = Some (Solve l) in o) ≡ Some (Check nodes) = sym (solve_found words l a) ∙ check_found words nodes b in
+    absurd (cc)
+
+pub apart_gen : (words : List Text) (l : Limits) (depth seed : ℕ) → IsCall words l → IsGenCall words depth seed → ⊥
+apart_gen words l depth seed a b =
+    let same : (let o : Option Words = Some (Solve l) in o) ≡ Some (Gen depth seed) = sym (solve_found words l a) ∙ gen_found words depth seed b in
+    absurd (cc)
+
+pub check_apart : (words : List Text) (nodes depth seed : ℕ) → IsCheckCall words nodes → IsGenCall words depth seed → ⊥
+check_apart words nodes depth seed a b =
+    let same : (let o : Option Words = Some (Check nodes) in o) ≡ Some (Gen depth seed) = sym (check_found words nodes a) ∙ gen_found words depth seed b in
+    absurd (cc)

@@ -1,3 +1,5 @@
-pub mod CallLemmas
 pub mod Numbers
 pub mod RangeLemmas
+pub mod CallLemmas
+pub mod ReadLemmas
+pub mod CommandLemmas

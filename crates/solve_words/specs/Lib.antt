@@ -1,3 +1,5 @@
+pub mod Command
+pub mod Parsed
 pub mod Words
 pub mod Properties
 pub mod machinery

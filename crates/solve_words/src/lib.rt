@@ -1,9 +1,14 @@
-//! The words that the program is called with: what is to be done, and within which limits.
+//! The words that the program is called with, read by `clap`: what is to be done, and within which
+//! limits.
 #![tactic(auto)]
 
+mod calls;
+mod command;
 mod laws;
 mod limits;
 mod numerals;
+mod options;
 
-pub use laws::calls_have_one_reading;
-pub use limits::{Limits, limits_of};
+pub use calls::{check_nodes_of, limits_of, words_of};
+pub use laws::{calls_exclude_each_other, calls_have_one_reading};
+pub use limits::{Limits, Words};

@@ -1,0 +1,15 @@
+use Rattle.std.proofs.Common.{◌≡◌, ap, ap₂, ◌∙◌, true, codes}
+use Rattle.clap.specs.Simple.{App, Shape, app_of, app_of_fields, on_top, with_subcommand}
+use Rattle.solve_words.proofs.command.chc.Goals as goal
+
+pub returns : goal.returns
+returns c =
+    let base = ap app_of_fields c.subcommand_required.ensures
+    ∙ ap (on_top (λ (s : Shape). record s { subcommand_required = true })) (ap app_of_fields c.disable_help_subcommand.ensures
+    ∙ ap (on_top (λ (s : Shape). record s { disable_help_subcommand = true })) (ap app_of_fields c.disable_help_flag.ensures
+    ∙ ap (on_top (λ (s : Shape). record s { disable_help_flag = true })) (ap app_of_fields c.no_binary_name.ensures
+    ∙ ap (on_top (λ (s : Shape). record s { no_binary_name = true })) c.new.ensures.app))) in
+    c.in_ok-command.ensures.shape c.in_ok-generate.ensures.local
+    ∙ ap₂ with_subcommand (c.in_ok-subcommand-2.ensures.shape c.in_ok-check.ensures.local
+    ∙ ap₂ with_subcommand (c.in_ok-subcommand.ensures.shape c.in_ok-solve.ensures.local
+    ∙ ap₂ with_subcommand base (ap (λ (a : App). a.top) c.in_ok-solve.ensures.shape)) (ap (λ (a : App). a.top) c.in_ok-check.ensures.shape)) (ap (λ (a : App). a.top) c.in_ok-generate.ensures.shape)
