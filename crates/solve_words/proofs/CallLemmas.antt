@@ -39,7 +39,7 @@ with_nodes_read units (Some n) l h =
     let same : made ≡ l = cc in
     (sym (ap (λ (k : Limits). k.units) same), ap (λ (k : Limits). let o : Option ℕ = Some k.nodes in o) same)
 
-abbrev AreNodes : List (List ℕ) → ℕ → Type 0
+abbrev pub AreNodes : List (List ℕ) → ℕ → Type 0
 AreNodes words n = IsOption (codes "--nodes") 1 most_nodes default_nodes words n
 
 abbrev AreUnits : List (List ℕ) → ℕ → Type 0
@@ -48,7 +48,7 @@ AreUnits words n = IsOption (codes "--units") 0 most_units default_units words n
 some_same : (a b : ℕ) → (let o : Option ℕ = Some a in o) ≡ Some b → b ≡ a
 some_same a b h = cc
 
-nodes_read : (units : ℕ) (words : List (List ℕ)) (l : Limits) → nodes_in units words ≡ Some l → (l.units ≡ units) × AreNodes words l.nodes
+pub nodes_read : (units : ℕ) (words : List (List ℕ)) (l : Limits) → nodes_in units words ≡ Some l → (l.units ≡ units) × AreNodes words l.nodes
 nodes_read units [] l h = let both = with_nodes_read units (Some default_nodes) l h in (both.0, some_same default_nodes l.nodes both.1)
 nodes_read units (name ∷ []) l h = absurd (cc)
 nodes_read units (name ∷ value ∷ []) l h = by (bytes_eq name (codes "--nodes")) refl h
@@ -118,10 +118,10 @@ numeral_found least most word n (is, number, low, high) =
     ∙ ap (λ (b : Bool). at_least least (let o : Option ℕ = if b then Some n else None in o)) small
     ∙ ap (λ (b : Bool). let o : Option ℕ = if b then Some n else None in o) large
 
-abbrev limits : ℕ → ℕ → Limits
+abbrev pub limits : ℕ → ℕ → Limits
 limits units nodes = record { units = units; nodes = nodes }
 
-nodes_found : (units : ℕ) (words : List (List ℕ)) (n : ℕ) → AreNodes words n → nodes_in units words ≡ Some (limits units n)
+pub nodes_found : (units : ℕ) (words : List (List ℕ)) (n : ℕ) → AreNodes words n → nodes_in units words ≡ Some (limits units n)
 nodes_found units [] n h = ap (λ (k : ℕ). let o : Option Limits = Some (limits units k) in o) (sym h)
 nodes_found units (name ∷ []) n h = absurd h
 nodes_found units (name ∷ value ∷ []) n (is, digits, number, low, high) =

@@ -49,7 +49,7 @@ named_is units name value l most h = by (bytes_eq name (codes "--nodes")) h
 default_is : (k : ℕ) → Some default_nodes ≡ Some k → (1 ≤ k) × (k ≤ most_nodes)
 default_is k e = let same : 2000 ≡ k = cc in (omega (arith, same), omega (arith, same))
 
-nodes_are : (units : ℕ) (words : List (List ℕ)) (l : Limits) → units ≤ most_units → nodes_in units words ≡ Some l → IsInRange l
+pub nodes_are : (units : ℕ) (words : List (List ℕ)) (l : Limits) → units ≤ most_units → nodes_in units words ≡ Some l → IsInRange l
 nodes_are units [] l most h = with_nodes_is units (Some default_nodes) l most default_is h
 nodes_are units (name ∷ []) l most h = absurd (cc)
 nodes_are units (name ∷ value ∷ []) l most h = named_is units name value l most h
@@ -59,7 +59,7 @@ units_are : (found : Option ℕ) (words : List (List ℕ)) (l : Limits) → ((k 
 units_are None words l most h = absurd (cc)
 units_are (Some units) words l most h = nodes_are units words l (most units refl) h
 
-default_most : default_units ≤ most_units
+pub default_most : default_units ≤ most_units
 default_most = omega arith
 
 options_are : (words : List (List ℕ)) (l : Limits) → options_in words ≡ Some l → IsInRange l

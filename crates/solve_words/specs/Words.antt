@@ -1,5 +1,5 @@
--- The words after the program's name that are a call of `solve`, and the limits that they give: `solve`, then `--units N` or
--- not, then `--nodes N` or not.
+-- The words after the program's name that are a call, and the limits that they give: `solve`, then `--units N` or not, then
+-- `--nodes N` or not; or `check`, then `--nodes N` or not.
 use Rattle.std.specs.Prelude.{◌≡◌, ◌≤◌, ℕ, List, [], ◌∷◌, ◌++◌, true, codes}
 use Rattle.base.specs.Numeral.{is_numeral, number_of}
 use Rattle.solve_words.specs.declared.limits.Limits.{Limits}
@@ -26,7 +26,7 @@ IsOption name least most default [] n = n ≡ default
 IsOption name least most default (word ∷ value ∷ []) n = (word ≡ name) × (is_numeral value ≡ true) × (number_of value ≡ n) × (least ≤ n) × (n ≤ most)
 IsOption name least most default _ n = ⊥
 
--- the words are a call with these limits
+-- the words are a call of `solve` with these limits
 pub record IsCall (words : List (List ℕ)) (limits : Limits) : Type 0 where
   pub first : List (List ℕ)
   pub second : List (List ℕ)
@@ -36,3 +36,12 @@ pub record IsCall (words : List (List ℕ)) (limits : Limits) : Type 0 where
 
 abbrev pub IsNoCall : List (List ℕ) → Type 0
 IsNoCall words = (limits : Limits) → IsCall words limits → ⊥
+
+-- the words are a call of `check`, and forms are given up at so many inner nodes
+pub record IsCheckCall (words : List (List ℕ)) (nodes : ℕ) : Type 0 where
+  pub option : List (List ℕ)
+  pub are : words ≡ codes "check" ∷ option
+  pub given : IsOption (codes "--nodes") 1 most_nodes default_nodes option nodes
+
+abbrev pub IsNoCheckCall : List (List ℕ) → Type 0
+IsNoCheckCall words = (nodes : ℕ) → IsCheckCall words nodes → ⊥

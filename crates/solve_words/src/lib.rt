@@ -5,5 +5,5 @@ mod laws;
 mod limits;
 mod numerals;
 
-pub use laws::calls_have_one_reading;
-pub use limits::{Limits, limits_of};
+pub use laws::{calls_exclude_each_other, calls_have_one_reading};
+pub use limits::{Limits, check_nodes_of, limits_of};

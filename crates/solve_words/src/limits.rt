@@ -1,9 +1,10 @@
-//! The words of `solve`.
+//! The words of `solve` and `check`.
 
-ghost use Rattle.std.specs.Prelude.{◌≡◌, map, IfSome};
+ghost use Rattle.std.specs.Prelude.{◌≡◌, ◌≤◌, map, IfSome};
 ghost use Rattle.std.specs.String.{string_bytes};
-ghost use Rattle.solve_words.specs.Properties.{AreLimitsOf, IsInRange};
-ghost use Rattle.solve_words.specs.machinery.Reading.{limits_of, nodes_in, nodes_named, options_in, units_then, with_nodes};
+ghost use Rattle.solve_words.specs.Properties.{AreLimitsOf, AreNodesOf, IsInRange};
+ghost use Rattle.solve_words.specs.Words.{most_nodes};
+ghost use Rattle.solve_words.specs.machinery.Reading.{check_nodes_of, limits_of, nodes_alone, nodes_in, nodes_named, options_in, units_then, with_nodes};
 
 use crate::numerals::number_within;
 
@@ -110,4 +111,40 @@ pub fn limits_of(words: &[String]) -> Option<Limits>
     ensures within { IfSome result IsInRange }
 {
     limits_in(words)
+}
+
+/// The nodes of these limits.
+fn nodes_alone(limits: Option<Limits>) -> Option<u32>
+    ensures { result ≡ nodes_alone limits }
+{
+    match limits {
+        None => None,
+        Some(limits) => Some(limits.nodes),
+    }
+}
+
+/// The nodes of the words.
+fn check_nodes_in(words: &[String]) -> Option<u32>
+    ensures { result ≡ check_nodes_of (map string_bytes words.now) }
+{
+    match words {
+        [] => None,
+        [word, rest @ ..] => {
+            if word.as_bytes() == b"check".as_slice() {
+                nodes_alone(nodes_in(DEFAULT_UNITS, rest))
+            } else {
+                None
+            }
+        }
+    }
+}
+
+/// The inner nodes at which a call of `check` gives a form up, by the words after the program's name;
+/// nothing where they are no such call: `check`, then `--nodes N` or not, N a numeral within its range.
+pub fn check_nodes_of(words: &[String]) -> Option<u32>
+    ensures read { AreNodesOf (map string_bytes words.now) result }
+    ensures some { IfSome result (λ nodes. 1 ≤ nodes) }
+    ensures within { IfSome result (λ nodes. nodes ≤ most_nodes) }
+{
+    check_nodes_in(words)
 }

@@ -42,3 +42,12 @@ options_in (name ∷ value ∷ words) = if bytes_eq name (codes "--units") then 
 abbrev pub limits_of : List (List ℕ) → Option Limits
 limits_of [] = None
 limits_of (word ∷ words) = if bytes_eq word (codes "solve") then options_in words else None
+
+abbrev pub nodes_alone : Option Limits → Option ℕ
+nodes_alone None = None
+nodes_alone (Some limits) = Some limits.nodes
+
+-- the words of `check`
+abbrev pub check_nodes_of : List (List ℕ) → Option ℕ
+check_nodes_of [] = None
+check_nodes_of (word ∷ words) = if bytes_eq word (codes "check") then nodes_alone (nodes_in default_units words) else None
