@@ -1,1 +1,3 @@
+pub mod PartLemmas
+pub mod PieceLemmas
 pub mod TextLemmas

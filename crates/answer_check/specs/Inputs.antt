@@ -4,6 +4,7 @@ use Rattle.term_tree.specs.Arena.{IsArena}
 use Rattle.term_tree.specs.declared.refusal.Checked.{Checked}
 use Rattle.term_tree.specs.declared.refusal.Refusal.{Refusal}
 use Rattle.sort_check.specs.Checked.{IsCheckedText}
+use Rattle.sort_check.specs.Scripts.{IsRefused}
 use Rattle.clause_form.specs.System.{Clauses}
 use Rattle.clause_normal.specs.Reading.{system_reading}
 use Rattle.check_input.specs.Cut.{HasNoMarker, IsCut}
@@ -31,6 +32,21 @@ pub record RefusesInput (input : List ℕ) (refusal : Refusal) : Type 0 where
   pub checked : Checked
   pub read_as : IsReadAs input script answer checked
   pub refused : system_reading checked ≡ Err refusal
+
+-- the rules of commands refuse the script
+pub record HasRefusedScript (input : List ℕ) (refusal : Refusal) : Type 0 where
+  pub script : ℕ
+  pub answer : ℕ
+  pub parted : IsParted input script answer
+  pub refused : IsRefused (take script input) refusal
+
+-- the script has no refusal, however its terms are numbered
+abbrev pub HasNoRefusal : List ℕ → Type 0
+HasNoRefusal input = (script answer : ℕ) (checked : Checked) (refusal : Refusal) → IsReadAs input script answer checked → system_reading checked ≡ Err refusal → ⊥
+
+-- it has no system of clauses, however its terms are numbered
+abbrev pub HasNoSystem : List ℕ → Type 0
+HasNoSystem input = (script answer : ℕ) (checked : Checked) (system : Clauses) → IsReadAs input script answer checked → system_reading checked ≡ Ok system → ⊥
 
 -- the verdict on the answer's bytes, and its text
 pub record JudgesInput (nodes : ℕ) (input : List ℕ) (verdict : Verdict) (text : List ℕ) : Type 0 where

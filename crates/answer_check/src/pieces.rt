@@ -17,6 +17,14 @@ pub(crate) fn push_numeral(out: &mut Vec<u8>, number: u64) -> Result<(), Memory>
     Ok(())
 }
 
+pub(crate) fn push_short(out: &mut Vec<u8>, number: u32) -> Result<(), Memory>
+    ensures { OnOk result (out.new.items ≡ out.old.items ++ decimal number) }
+{
+    let mut buffer = Buffer::new();
+    out.extend_from_slice(buffer.format(number).as_bytes())?;
+    Ok(())
+}
+
 /// The sum of the two, which may have more than 64 bits.
 pub(crate) fn push_sum(out: &mut Vec<u8>, start: u64, offset: u64) -> Result<(), Memory>
     ensures { OnOk result (out.new.items ≡ out.old.items ++ decimal (start + offset)) }

@@ -6,10 +6,11 @@ ghost use Rattle.term_tree.specs.declared.sort.Sort.{Sort as ASort};
 ghost use Rattle.horn_shape.specs.Clause.{IsClauseOf, IsLegalScript};
 ghost use Rattle.derivation_check.specs.machinery.Tests.{AreClausesOf};
 ghost use Rattle.answer_text.specs.Names.{spaced, value_text};
+ghost use Rattle.chc_checker.specs.declared.verdict.Verdict.TheVariants.{Wrong};
 ghost use Rattle.chc_checker.specs.Verdicts.{IsNormalScript, Judges};
 ghost use Rattle.answer_check.specs.Texts.{AreSortsFor, AreSortsOf, IsAssertionOf, IsVerdictText, hidden_text, place_text, values_at, verdict_text};
 
-use crate::pieces::{push_numeral, push_sum, push_values, values_at};
+use crate::pieces::{push_numeral, push_short, push_sum, push_values, values_at};
 use base::Memory;
 use chc_checker::{Hidden, Place, Verdict};
 use derivation_check::clauses_of;
@@ -28,7 +29,7 @@ fn push_instance(
 {
     let values = values_at(alloc, sorts, numbers)?;
     out.extend_from_slice(b"; assertion ")?;
-    push_numeral(out, u64::from(assertion))?;
+    push_short(out, assertion)?;
     out.extend_from_slice(b" at (")?;
     push_values(out, values.as_slice())?;
     out.extend_from_slice(b")\n")?;
@@ -68,7 +69,7 @@ fn push_hidden(out: &mut Vec<u8>, hidden: &Hidden) -> Result<(), Memory>
     match hidden {
         Hidden::Assertion(number) => {
             out.extend_from_slice(b"; assertion ")?;
-            push_numeral(out, u64::from(*number))?;
+            push_short(out, *number)?;
             out.extend_from_slice(b"\n")?;
         }
         Hidden::Step(number) => {
@@ -143,6 +144,36 @@ fn instance_text(
     Ok(text)
 }
 
+/// The text of a verdict that tells a place where the answer is wrong.
+fn wrong_text(
+    alloc: Global,
+    script: &Script,
+    start: u64,
+    verdict: &Verdict,
+    place: &Place,
+) -> Result<Vec<u8>, Memory>
+    requires legal { IsLegalScript script.now }
+    requires normal { IsNormalScript script.now }
+    requires judges { (nodes : ℕ) × (bytes : List ℕ) × Judges nodes script.now bytes verdict.now }
+    requires is { verdict.now ≡ Wrong place.now }
+    ensures { IfOk result (λ text. IsVerdictText script.now start verdict.now text.items) }
+{
+    match place {
+        Place::Byte(offset) => {
+            let _offset = offset;
+            plain_text(alloc, start, verdict)
+        }
+        Place::Step(number) => {
+            let _number = number;
+            plain_text(alloc, start, verdict)
+        }
+        Place::Instance { assertion, values } => {
+            let _values = values;
+            instance_text(alloc, script, start, verdict, *assertion)
+        }
+    }
+}
+
 /// The text of a verdict on an answer to the script that begins at `start` of the input.
 pub(crate) fn text_of(
     alloc: Global,
@@ -157,15 +188,11 @@ pub(crate) fn text_of(
 {
     match verdict {
         Verdict::Valid => plain_text(alloc, start, verdict),
-        Verdict::Wrong {
-            place: Place::Byte(_),
-        } => plain_text(alloc, start, verdict),
-        Verdict::Wrong {
-            place: Place::Step(_),
-        } => plain_text(alloc, start, verdict),
-        Verdict::Wrong {
-            place: Place::Instance { assertion, .. },
-        } => instance_text(alloc, script, start, verdict, *assertion),
-        Verdict::NotShown { .. } => plain_text(alloc, start, verdict),
+        Verdict::Wrong { place } => wrong_text(alloc, script, start, verdict, place),
+        Verdict::NotShown { place, evidence } => {
+            let _place = place;
+            let _evidence = evidence;
+            plain_text(alloc, start, verdict)
+        }
     }
 }

@@ -1,2 +1,3 @@
+pub mod ExactLemmas
 pub mod JudgedLemmas
 pub mod PlanLemmas

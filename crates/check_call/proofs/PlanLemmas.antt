@@ -13,7 +13,7 @@ use Rattle.check_call.specs.declared.plan.Plan.TheVariants.{Valid, Wrong, NotSho
 use Rattle.check_call.specs.machinery.Plans.{IsPlan}
 
 -- a refusal of what was read is one of all that the source had, where it tells its bytes
-input_of : (left : Option (List ℕ)) (read : List ℕ) (refusal : Refusal) → IfSome left (λ bytes. read ≡ bytes) → IsRefusal read refusal → IfSome left (λ bytes. IsRefusal bytes refusal)
+pub input_of : (left : Option (List ℕ)) (read : List ℕ) (refusal : Refusal) → IfSome left (λ bytes. read ≡ bytes) → IsRefusal read refusal → IfSome left (λ bytes. IsRefusal bytes refusal)
 input_of None read refusal same h = tt
 input_of (Some bytes) read refusal same h = subst (λ (b : List ℕ). IsRefusal b refusal) same h
 

@@ -1,5 +1,5 @@
 -- What a call of `check` promises.
-use Rattle.std.specs.Prelude.{◌≡◌, ◌≢◌, ◌≤◌, ◌<◌, ℕ, List, length, take, IfSome}
+use Rattle.std.specs.Prelude.{◌≡◌, ◌≢◌, ◌≤◌, ◌<◌, ℕ, List, length, take, IfSome, ◌⊎◌}
 use Rattle.std.specs.declared.option.Option.{Option}
 use Rattle.base.specs.Limits.{most_bytes}
 use Rattle.outside_io.specs.Bytes.{Appends}
@@ -13,18 +13,27 @@ use Rattle.sort_check.specs.Scripts.{IsScript, IsScriptOf}
 use Rattle.answer_text.specs.Lines.{error_text, memory_text}
 use Rattle.chc_checker.specs.declared.verdict.Verdict.{Verdict}
 use Rattle.chc_checker.specs.declared.verdict.Verdict.TheVariants.{Valid, Wrong, NotShown}
-use Rattle.answer_check.specs.Inputs.{JudgesInput, RefusesInput}
+use Rattle.answer_check.specs.Inputs.{HasNoRefusal, JudgesInput, RefusesInput}
 
 -- the refusal of an input: that it has too many bytes, or that of its script
 pub data IsRefusal (input : List ℕ) (refusal : Refusal) : Type 0 where
   too_long : most_bytes < length input → refusal ≡ record { kind = TooLong; offset = most_bytes; command = 0 } → IsRefusal input refusal
   script : length input ≤ most_bytes → RefusesInput input refusal → IsRefusal input refusal
 
+-- no refusal of it
+pub record IsUnrefused (input : List ℕ) : Type 0 where
+  pub short : length input ≤ most_bytes
+  pub script : HasNoRefusal input
+
 -- the status that a verdict ends the call with
 abbrev pub verdict_status : Verdict → ℕ
 verdict_status Valid = 0
 verdict_status (Wrong place) = 6
 verdict_status (NotShown place evidence) = 7
+
+-- a call that ends with this status tells a verdict
+abbrev pub TellsVerdict : ℕ → Type 0
+TellsVerdict status = (status ≡ 0) ⊎ (status ≡ 6) ⊎ (status ≡ 7)
 
 -- a verdict on the answer that stands in the bytes, with this status and this text; and the script that is answered is the one which
 -- the bytes before the marker spell

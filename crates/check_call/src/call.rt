@@ -2,12 +2,16 @@ ghost use Rattle.std.specs.Prelude.{◌≡◌, ◌≢◌, ◌≤◌, ◌<◌, �
 ghost use Rattle.outside_io.specs.Bytes.{Appends};
 ghost use Rattle.outside_io.specs.Counts.{counted};
 ghost use Rattle.outside_io.specs.declared.turn.Turn.TheVariants.{Fault};
+ghost use Rattle.term_tree.specs.declared.refusal.Refusal.{Refusal};
 ghost use Rattle.answer_text.specs.Lines.{memory_text};
-ghost use Rattle.check_call.specs.Calls.{Checks, EndsOnce, ReadsInput, Refuses, WritesPart};
+ghost use Rattle.answer_check.specs.Inputs.{HasNoSystem, HasRefusedScript};
+ghost use Rattle.check_call.specs.Calls.{Checks, EndsOnce, IsUnrefused, ReadsInput, Refuses, TellsVerdict, WritesPart};
 
 use crate::plan::{Plan, plan_for};
+use answer_check::inputs_are_parted_once;
 use answer_text::memory_line;
 use outside_io::{Sink, Source, write_all};
+use sort_check::no_script_is_refused;
 use std::alloc::Global;
 use term_tree::Refusal;
 
@@ -56,6 +60,11 @@ pub fn check_call<S: Source, K: Sink>(
     ensures refuses_all { IfSome result.refusal (ReadsInput (S.left source.old) result.read.items) }
     ensures refusal { IsSome result.refusal ↔ (result.status ≡ 1) }
 
+    // Both exactly: of an input that has no refusal none is told, and where the script is refused by the rules of commands, or has no system of clauses, no verdict is.
+    ensures judges_scripts { IfSome (S.left source.old) (λ bytes. IsUnrefused bytes → result.status ≢ 1) }
+    ensures refuses_others { IfSome (S.left source.old) (λ bytes. (refusal : Refusal) → HasRefusedScript bytes refusal → TellsVerdict result.status → ⊥) }
+    ensures refuses_shapes { IfSome (S.left source.old) (λ bytes. HasNoSystem bytes → TellsVerdict result.status → ⊥) }
+
     // 3: exactly where the source has failed, and then nothing is written.
     ensures source_faults { result.status ≢ 3 → S.faults source.new ≡ S.faults source.old }
     ensures read_fault { result.status ≡ 3 → S.faults source.new ≡ counted (S.faults source.old) }
@@ -78,6 +87,10 @@ pub fn check_call<S: Source, K: Sink>(
     ensures reads_all { S.ends source.new ≢ S.ends source.old → IfSome (S.left source.old) (λ bytes. result.read.items ≡ bytes) }
     ensures reads_none { S.ends source.new ≢ counted (S.ends source.old) → result.read.items ≡ [] }
 {
+    // Laws, which run nothing: an input has one script, and what is judged isn't refused by the rules of
+    // commands.
+    inputs_are_parted_once();
+    no_script_is_refused();
     match plan_for(alloc, source, nodes) {
         Plan::Valid { read, text } => {
             let status = match write_all(sink, text.as_slice()) {

@@ -1,6 +1,3 @@
-use Rattle.std.proofs.Common.{◌≡◌, ℕ, List, drop, subst, sym, rules}
-use Rattle.chc_checker.specs.declared.verdict.Verdict.{Verdict}
-use Rattle.chc_checker.specs.Verdicts.{Judges}
 use Rattle.answer_check.proofs.whole.judged.Goals as goal
 
 pub check_text-requires-clause-normal : goal.check_text-requires-clause-normal
@@ -14,7 +11,6 @@ text_of-requires-clause-judges c = (c.args.nodes, _, c.in_ok-verdict.ensures)
 
 pub returns : goal.returns
 returns c =
-    let bytes : c.index-input-start.result.now ≡ drop c.args.start c.args.input.now = search rules in
     record {
       script = c.args.script;
       answer = c.args.start;
@@ -22,6 +18,6 @@ returns c =
       read_as = c.requires.read_as;
       system = c.requires.accepted.0;
       accepted = c.requires.accepted.1;
-      judges = subst (λ (bs : List ℕ). Judges c.args.nodes c.args.checked.now.script bs c.in_ok-verdict.verdict) bytes c.in_ok-verdict.ensures;
+      judges = c.in_ok-verdict.ensures;
       printed = c.in_ok-text.ensures;
     }

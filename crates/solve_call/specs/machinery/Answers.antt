@@ -9,10 +9,10 @@ use Rattle.chc_core.specs.Contents.{Contents}
 use Rattle.chc_core.specs.Views.{state_of}
 use Rattle.book_loop.specs.Runs.{IsOwn}
 use Rattle.book_answers.specs.Answers.{HasNoLowFalse, HasText, IsBookOf}
-use Rattle.chc_cli.specs.Clauses.{IsInputRefused}
-use Rattle.chc_cli.specs.declared.answer.Answer.{Answer}
-use Rattle.chc_cli.specs.declared.answer.Answer.TheVariants.{Answered, Refused, Unfinished}
-use Rattle.chc_cli.specs.Headline.{IsAnswered, IsBookFor}
+use Rattle.solve_call.specs.Clauses.{IsInputRefused}
+use Rattle.solve_call.specs.declared.answer.Answer.{Answer}
+use Rattle.solve_call.specs.declared.answer.Answer.TheVariants.{Answered, Refused, Unfinished}
+use Rattle.solve_call.specs.Headline.{IsAnswered, IsBookFor}
 use Rattle.answer_text.specs.Lines.{error_text}
 use Rattle.solve_words.specs.declared.limits.Limits.{Limits}
 

@@ -9,14 +9,14 @@ use Rattle.term_tree.specs.declared.refusal.Refusal.{Refusal}
 use Rattle.term_tree.specs.declared.refusal.Kind.TheVariants.{TooLong}
 use Rattle.sort_check.specs.Commands.{Command}
 use Rattle.sort_check.specs.Scripts.{IsScript, IsRefused}
-use Rattle.chc_cli.specs.Clauses.{HasNoSystem, IsInputRefused, IsUnrefused}
-use Rattle.chc_cli.specs.Clauses.IsInputRefused.{illegal, too_long}
-use Rattle.chc_cli.specs.declared.plan.Plan.{Plan}
-use Rattle.chc_cli.specs.declared.plan.Plan.TheVariants.{Answered, Unfinished, Refused, Overlong, ReadFault, OutOfMemory}
+use Rattle.solve_call.specs.Clauses.{HasNoSystem, IsInputRefused, IsUnrefused}
+use Rattle.solve_call.specs.Clauses.IsInputRefused.{illegal, too_long}
+use Rattle.solve_call.specs.declared.plan.Plan.{Plan}
+use Rattle.solve_call.specs.declared.plan.Plan.TheVariants.{Answered, Unfinished, Refused, Overlong, ReadFault, OutOfMemory}
 use Rattle.chc_core.specs.Contents.{Contents}
 use Rattle.solve_words.specs.declared.limits.Limits.{Limits}
-use Rattle.chc_cli.specs.Headline.{IsBookFor, IsMeant, RefusesInput, WritesPart}
-use Rattle.chc_cli.specs.machinery.Plans.{IsPlan}
+use Rattle.solve_call.specs.Headline.{IsBookFor, IsMeant, RefusesInput, WritesPart}
+use Rattle.solve_call.specs.machinery.Plans.{IsPlan}
 
 -- a refusal of what was read is one of all that the source had, where it tells its bytes
 pub input_of : (left : Option (List ℕ)) (read : List ℕ) (refusal : Refusal) → IfSome left (λ bytes. read ≡ bytes) → IsInputRefused read refusal → IfSome left (λ bytes. IsInputRefused bytes refusal)
@@ -83,7 +83,7 @@ refused_only (Some bytes) refusal status h = λ unrefused e. not_refused bytes r
 pub appended : (text written : List ℕ) (old new : Option (List ℕ)) → written ≡ text → Appends written old new → Appends text old new
 appended text written old new same held = subst (λ (t : List ℕ). Appends t old new) same held
 
-pub written_part : (words : List (List ℕ)) (left : Option (List ℕ)) (ends after : ℕ) (read : List ℕ) (book : Option Contents) (old new : Option (List ℕ)) (text written : List ℕ)
-    → IsMeant words left ends after read book text → written ≡ text → (n : ℕ) → n < length written → Appends (take n written) old new → WritesPart words left ends after read book old new
-written_part words left ends after read book old new text written meant same n short held =
+pub written_part : (limits : Limits) (left : Option (List ℕ)) (ends after : ℕ) (read : List ℕ) (book : Option Contents) (old new : Option (List ℕ)) (text written : List ℕ)
+    → IsMeant limits left ends after read book text → written ≡ text → (n : ℕ) → n < length written → Appends (take n written) old new → WritesPart limits left ends after read book old new
+written_part limits left ends after read book old new text written meant same n short held =
     record { text = text; meant = meant; count = n; part = subst (λ (t : List ℕ). n < length t) same short; held = subst (λ (t : List ℕ). Appends (take n t) old new) same held }

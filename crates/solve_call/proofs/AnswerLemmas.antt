@@ -14,11 +14,11 @@ use Rattle.clause_form.specs.declared.clause.Clause.{Clause}
 use Rattle.clause_normal.specs.Reading.{all_clauses, system_reading, unless_stopped}
 use Rattle.chc_core.specs.Contents.{Contents}
 use Rattle.solve_words.specs.declared.limits.Limits.{Limits}
-use Rattle.chc_cli.specs.Clauses.IsInputRefused.{illegal}
-use Rattle.chc_cli.specs.Headline.{IsBookFor}
-use Rattle.chc_cli.specs.declared.answer.Answer.{Answer}
-use Rattle.chc_cli.specs.declared.answer.Answer.TheVariants.{Answered, Refused, Unfinished}
-use Rattle.chc_cli.specs.machinery.Answers.{IsAnswerTo, IsSearchedBook, IsToldOf}
+use Rattle.solve_call.specs.Clauses.IsInputRefused.{illegal}
+use Rattle.solve_call.specs.Headline.{IsBookFor}
+use Rattle.solve_call.specs.declared.answer.Answer.{Answer}
+use Rattle.solve_call.specs.declared.answer.Answer.TheVariants.{Answered, Refused, Unfinished}
+use Rattle.solve_call.specs.machinery.Answers.{IsAnswerTo, IsSearchedBook, IsToldOf}
 
 -- the script of a text is legal
 pub legal_script : (checked : Checked) → AllByRecursion (IsLegalAssertion checked.script) checked.script.asserts → IsWithinLimits checked.script → IsLegalScript checked.script

@@ -1,6 +1,6 @@
 use Rattle.std.proofs.Common.{refl, rules}
-use Rattle.chc_cli.proofs.PlanLemmas.{of_source, of_too_long}
-use Rattle.chc_cli.proofs.plan.plan_for.Goals as goal
+use Rattle.solve_call.proofs.PlanLemmas.{of_source, of_too_long}
+use Rattle.solve_call.proofs.plan.plan_for.Goals as goal
 
 pub returns-in-Ok-clause-plan : goal.returns-in-Ok-clause-plan
 returns-in-Ok-clause-plan g c = of_source c.args.limits (g.S.Source.left c.args.source.now) c.in-Ok.read.items c.plan_of.result c.in-Ok.ensures.all c.plan_of.ensures.plan

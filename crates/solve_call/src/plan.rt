@@ -4,8 +4,8 @@ ghost use Rattle.outside_io.specs.Counts.{counted};
 ghost use Rattle.outside_io.specs.declared.turn.Turn.TheVariants.{Fault};
 ghost use Rattle.chc_core.specs.Openings.{most_units};
 ghost use Rattle.solve_words.specs.declared.limits.Limits.{Limits};
-ghost use Rattle.chc_cli.specs.Headline.{EndsOnce};
-ghost use Rattle.chc_cli.specs.machinery.Plans.{IsPlan, IsEnded, IsUnended, is_fault, read_of};
+ghost use Rattle.solve_call.specs.Headline.{EndsOnce};
+ghost use Rattle.solve_call.specs.machinery.Plans.{IsPlan, IsEnded, IsUnended, is_fault, read_of};
 
 use crate::answer::{Answer, answer_to};
 use crate::lines::refusal_line;
@@ -18,7 +18,7 @@ use term_tree::{Kind, Refusal};
 
 /// What a call of `solve` is to write, whole, before anything is written.
 #[derive(Drop)]
-pub enum Plan {
+pub(crate) enum Plan {
     Answered {
         read: Vec<u8>,
         book: Book,
@@ -44,7 +44,7 @@ pub enum Plan {
 }
 
 /// Reads the source to its end, and finds what is to be written.
-pub fn plan_for<S: Source>(alloc: Global, source: &mut S, limits: Limits) -> Plan
+pub(crate) fn plan_for<S: Source>(alloc: Global, source: &mut S, limits: Limits) -> Plan
     requires units { limits.units ≤ most_units }
     requires some { 0 < limits.nodes }
     ensures plan { IsPlan limits (S.left source.old) result }

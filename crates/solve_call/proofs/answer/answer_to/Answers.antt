@@ -1,5 +1,5 @@
-use Rattle.chc_cli.proofs.AnswerLemmas.{legal_script, told}
-use Rattle.chc_cli.proofs.answer.answer_to.Goals as goal
+use Rattle.solve_call.proofs.AnswerLemmas.{legal_script, told}
+use Rattle.solve_call.proofs.answer.answer_to.Goals as goal
 
 pub answer_of-requires-clause-legal : goal.answer_of-requires-clause-legal
 answer_of-requires-clause-legal c =

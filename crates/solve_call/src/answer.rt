@@ -7,7 +7,7 @@ ghost use Rattle.book_rules.specs.Legal.{end};
 ghost use Rattle.chc_core.specs.Openings.{most_units};
 ghost use Rattle.chc_core.specs.Views.{standing_of, state_of};
 ghost use Rattle.obligation_turn.specs.Turns.{IsNarrow};
-ghost use Rattle.chc_cli.specs.machinery.Answers.{IsAnswerTo, IsSearched, IsSearchedBook, IsToldOf};
+ghost use Rattle.solve_call.specs.machinery.Answers.{IsAnswerTo, IsSearched, IsSearchedBook, IsToldOf};
 
 use crate::lines::refusal_line;
 use base::Memory;
@@ -21,7 +21,7 @@ use term_tree::{Checked, Refusal};
 
 /// What is to be written for a text.
 #[derive(Drop)]
-pub enum Answer {
+pub(crate) enum Answer {
     /// The line of its refusal.
     Refused { refusal: Refusal, line: Vec<u8> },
     /// The answer of a book at its end.
@@ -88,7 +88,7 @@ fn answer_of(alloc: Global, checked: &Checked, limits: Limits) -> Result<Answer,
 
 /// What is to be written for the bytes of an input that isn't too long: the line of its refusal, or the
 /// answer of the book that its clauses open and a search within the limits ends.
-pub fn answer_to(alloc: Global, read: &[u8], limits: Limits) -> Result<Answer, Memory>
+pub(crate) fn answer_to(alloc: Global, read: &[u8], limits: Limits) -> Result<Answer, Memory>
     requires short { length read.now ≤ most_bytes }
     requires units { limits.units ≤ most_units }
     requires some { 0 < limits.nodes }

@@ -1,5 +1,5 @@
--- What the program's top call promises.
-use Rattle.std.specs.Prelude.{◌≡◌, ℕ, ◌<◌, List, [], ◌++◌, length, take, IfSome, codes, ◌≢◌, Some, None}
+-- What a call of `solve` promises.
+use Rattle.std.specs.Prelude.{◌≡◌, ℕ, ◌<◌, List, ◌++◌, length, take, IfSome, codes, ◌≢◌, Some, None}
 use Rattle.std.specs.declared.option.Option.{Option}
 use Rattle.base.specs.Limits.{most_bytes}
 use Rattle.outside_io.specs.Bytes.{Appends}
@@ -19,10 +19,9 @@ use Rattle.chc_core.specs.Views.{state_of}
 use Rattle.book_loop.specs.Runs.{IsOwn}
 use Rattle.book_answers.specs.Answers.{HasNoLowFalse, HasText, IsBookOf}
 use Rattle.answer_text.specs.declared.answer.UnknownCause.TheVariants.{NoMemory}
-use Rattle.answer_text.specs.Lines.{error_text, level_text, memory_text, usage_text}
-use Rattle.solve_words.specs.Words.{IsCall, IsNoCall}
+use Rattle.answer_text.specs.Lines.{error_text, level_text, memory_text}
 use Rattle.solve_words.specs.declared.limits.Limits.{Limits}
-use Rattle.chc_cli.specs.Clauses.{IsInputRefused}
+use Rattle.solve_call.specs.Clauses.{IsInputRefused}
 
 -- a book over the clauses of the script that the bytes spell, which was given these units, in whose journal evidence that counts
 -- inner nodes counts so many, and no derivation of false is as low as its closed level
@@ -66,31 +65,21 @@ abbrev pub EndsOnce : ℕ → ℕ → Turn → Type 0
 EndsOnce old new last = new ≢ old → (new ≡ counted old) × (last ≡ End)
 
 -- the text that the call was to write: its kinds are told apart by the status that it was to end with
-pub data IsMeant (words : List (List ℕ)) (left : Option (List ℕ)) (old new : ℕ) (read : List ℕ) (book : Option Contents) (text : List ℕ) : Type 0 where
-  answer : (limits : Limits) (b : Contents) → IsCall words limits → book ≡ Some b → IsAnswered limits read b text → IfSome left (λ bytes. read ≡ bytes)
-      → IsMeant words left old new read book text
-  error : (refusal : Refusal) (limits : Limits) → IsCall words limits → RefusesInput left old new read refusal → text ≡ error_text refusal → IsMeant words left old new read book text
-  usage : IsNoCall words → read ≡ [] → text ≡ usage_text → IsMeant words left old new read book text
-  memory : (limits : Limits) → IsCall words limits → text ≡ wanting_text book → IsMeant words left old new read book text
+pub data IsMeant (limits : Limits) (left : Option (List ℕ)) (old new : ℕ) (read : List ℕ) (book : Option Contents) (text : List ℕ) : Type 0 where
+  answer : (b : Contents) → book ≡ Some b → IsAnswered limits read b text → IfSome left (λ bytes. read ≡ bytes) → IsMeant limits left old new read book text
+  error : (refusal : Refusal) → RefusesInput left old new read refusal → text ≡ error_text refusal → IsMeant limits left old new read book text
+  memory : text ≡ wanting_text book → IsMeant limits left old new read book text
 
 -- status 4: a prefix of the text that was meant is held, and not all of it
-pub record WritesPart (words : List (List ℕ)) (left : Option (List ℕ)) (ends after : ℕ) (read : List ℕ) (book : Option Contents) (old new : Option (List ℕ)) : Type 0 where
+pub record WritesPart (limits : Limits) (left : Option (List ℕ)) (ends after : ℕ) (read : List ℕ) (book : Option Contents) (old new : Option (List ℕ)) : Type 0 where
   pub text : List ℕ
-  pub meant : IsMeant words left ends after read book text
-  pub count : ℕ
-  pub part : count < length text
-  pub held : Appends (take count text) old new
-
--- a prefix of that text is held, and not all of it
-pub record HoldsPart (text : List ℕ) (old new : Option (List ℕ)) : Type 0 where
+  pub meant : IsMeant limits left ends after read book text
   pub count : ℕ
   pub part : count < length text
   pub held : Appends (take count text) old new
 
 -- status 0: the sink holds the answer of the book's end behind what it held
-pub record Answers (words : List (List ℕ)) (read : List ℕ) (book : Option Contents) (old new : Option (List ℕ)) : Type 0 where
-  pub limits : Limits
-  pub words_are : IsCall words limits
+pub record Answers (limits : Limits) (read : List ℕ) (book : Option Contents) (old new : Option (List ℕ)) : Type 0 where
   pub b : Contents
   pub book_is : book ≡ Some b
   pub text : List ℕ

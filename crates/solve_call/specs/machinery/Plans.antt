@@ -2,10 +2,10 @@
 use Rattle.std.specs.Prelude.{◌≡◌, ℕ, List, [], IfSome, Bool, true, false}
 use Rattle.std.specs.declared.option.Option.{Option}
 use Rattle.base.specs.Limits.{most_bytes}
-use Rattle.chc_cli.specs.Clauses.{IsInputRefused}
-use Rattle.chc_cli.specs.declared.plan.Plan.{Plan}
-use Rattle.chc_cli.specs.declared.plan.Plan.TheVariants.{Answered, Unfinished, Refused, Overlong, ReadFault, OutOfMemory}
-use Rattle.chc_cli.specs.Headline.{IsAnswered, IsBookFor}
+use Rattle.solve_call.specs.Clauses.{IsInputRefused}
+use Rattle.solve_call.specs.declared.plan.Plan.{Plan}
+use Rattle.solve_call.specs.declared.plan.Plan.TheVariants.{Answered, Unfinished, Refused, Overlong, ReadFault, OutOfMemory}
+use Rattle.solve_call.specs.Headline.{IsAnswered, IsBookFor}
 use Rattle.term_tree.specs.declared.refusal.Kind.TheVariants.{TooLong}
 use Rattle.answer_text.specs.Lines.{error_text}
 use Rattle.solve_words.specs.declared.limits.Limits.{Limits}

@@ -10,7 +10,7 @@ use std::alloc::Global;
 use term_tree::Refusal;
 
 /// The line of a refusal, in memory of its own.
-pub fn refusal_line(alloc: Global, refusal: &Refusal) -> Result<Vec<u8>, Memory>
+pub(crate) fn refusal_line(alloc: Global, refusal: &Refusal) -> Result<Vec<u8>, Memory>
     ensures { IfOk result (λ line. line.items ≡ error_text refusal.now) }
 {
     let mut front = [0; 128];
@@ -21,7 +21,7 @@ pub fn refusal_line(alloc: Global, refusal: &Refusal) -> Result<Vec<u8>, Memory>
 
 /// Writes `unknown` and the closed level to the front of `into`, where memory is wanted, and answers
 /// their length. It takes no memory.
-pub fn unfinished_lines(level: u32, into: &mut [u8; 72]) -> usize
+pub(crate) fn unfinished_lines(level: u32, into: &mut [u8; 72]) -> usize
     ensures within { result ≤ 72 }
     ensures text { take result into.new ≡ codes "unknown\n" ++ level_text level NoMemory }
 {

@@ -1,7 +1,7 @@
 use Rattle.std.proofs.Common.{◌≡◌, ℕ, List, refl, subst}
 use Rattle.answer_text.specs.Lines.{error_text}
-use Rattle.chc_cli.specs.Clauses.{IsInputRefused}
-use Rattle.chc_cli.proofs.plan.plan_of.Goals as goal
+use Rattle.solve_call.specs.Clauses.{IsInputRefused}
+use Rattle.solve_call.proofs.plan.plan_of.Goals as goal
 
 pub returns-in-Ok-Refused-clause-plan : goal.returns-in-Ok-Refused-clause-plan
 returns-in-Ok-Refused-clause-plan c =
