@@ -42,7 +42,11 @@ fn definitions_are_valid_or_wrong_at_an_instance_or_a_byte(rt: HostRuntime) {
         (";;answer\nsat\n(\n", 6, "wrong\n; byte 210\n"),
         (";;answer\n", 6, "wrong\n; byte 206\n"),
         ("", 6, "wrong\n; byte 197\n"),
-        (" ;;answer\nsat\n(\n)\n", 6, "wrong\n; byte 215\n"),
+        (
+            " ;;answer\nsat\n(\n)\n",
+            1,
+            "(error \"kind 5 CommandForm at byte 207 after 6 commands\")\n",
+        ),
     ];
     for (behind, status, told) in table {
         check_told(&rt, rt.alloc(), BOUNDED, behind, status, told);
