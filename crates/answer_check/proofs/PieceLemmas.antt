@@ -18,11 +18,11 @@ values_end made whole sorts integers i past h =
     sym (append-nil made) ∙ sym (ap (λ (vs : List Value). made ++ vs) none) ∙ h
 
 -- one more value
-pub values_more : (made whole : List Value) (value : Value) (sorts : List Sort) (integers : List ℤ) (i : ℕ) (s : Sort) (n : ℤ) → i < length sorts → i < length integers
-    → value ≡ value_at (slice_index_or sorts i s) (slice_index_or integers i n) → made ++ values_at (drop i sorts) (drop i integers) ≡ whole
+pub values_more : (made whole : List Value) (value : Value) (sorts : List Sort) (integers : List ℤ) (i : ℕ) → i < length sorts → i < length integers
+    → value ≡ value_at (slice_index_or sorts i IntSort) (slice_index_or integers i (pos 0)) → made ++ values_at (drop i sorts) (drop i integers) ≡ whole
     → (made ++ (value ∷ [])) ++ values_at (drop (i + 1) sorts) (drop (i + 1) integers) ≡ whole
-values_more made whole value sorts integers i s n less short is h =
-    let first = at_drop_more (λ (ss : List Sort). values_at ss (drop i integers)) sorts i s less in
-    let second = at_drop_more (λ (ns : List ℤ). values_at (slice_index_or sorts i s ∷ drop (i + 1) sorts) ns) integers i n short in
+values_more made whole value sorts integers i less short is h =
+    let first = at_drop_more (λ (ss : List Sort). values_at ss (drop i integers)) sorts i IntSort less in
+    let second = at_drop_more (λ (ns : List ℤ). values_at (slice_index_or sorts i IntSort ∷ drop (i + 1) sorts) ns) integers i (pos 0) short in
     let rest = values_at (drop (i + 1) sorts) (drop (i + 1) integers) in
     append_assoc made (value ∷ []) rest ∙ ap (λ (v : Value). made ++ (v ∷ rest)) is ∙ sym (ap (λ (vs : List Value). made ++ vs) (first ∙ second)) ∙ h

@@ -1,6 +1,6 @@
 //! Numbers and values, printed.
 
-ghost use Rattle.std.specs.Prelude.{◌≡◌, ◌+◌, ◌++◌, codes, decimal, nat_abs, IfOk, OnOk};
+ghost use Rattle.std.specs.Prelude.{◌≡◌, ◌<◌, ◌+◌, ◌++◌, codes, decimal, length, nat_abs, pos, slice_index_or, IfOk, OnOk};
 ghost use Rattle.answer_text.specs.Names.{after_spaces, number_text, spaced, truth_text, value_text};
 ghost use Rattle.answer_check.specs.Texts.{value_at, values_at};
 
@@ -103,6 +103,13 @@ fn value_at(sort: Sort, number: i64) -> Value
     }
 }
 
+fn number_at(numbers: &[i64], i: usize) -> i64
+    requires { i < length numbers.now }
+    ensures { result ≡ slice_index_or numbers.now i (pos 0) }
+{
+    numbers[i]
+}
+
 /// Integers as values of the sorts, as far as both go.
 pub(crate) fn values_at(
     alloc: Global,
@@ -116,7 +123,7 @@ pub(crate) fn values_at(
         if i >= numbers.len() {
             return Ok(values);
         }
-        let value = value_at(*sort, numbers[i]);
+        let value = value_at(*sort, number_at(numbers, i));
         values.push(value)?;
     }
     Ok(values)

@@ -1,3 +1,6 @@
+use Rattle.std.proofs.Common.{ℕ, List, subst}
+use Rattle.chc_checker.specs.Verdicts.{Judges}
+use Rattle.answer_check.proofs.AppendLemmas.{behind}
 use Rattle.answer_check.proofs.whole.judged.Goals as goal
 
 pub check_text-requires-clause-normal : goal.check_text-requires-clause-normal
@@ -18,6 +21,6 @@ returns c =
       read_as = c.requires.read_as;
       system = c.requires.accepted.0;
       accepted = c.requires.accepted.1;
-      judges = c.in_ok-verdict.ensures;
+      judges = subst (λ (bytes : List ℕ). Judges c.args.nodes c.args.checked.now.script bytes c.in_ok-verdict.verdict) (behind c.args.start c.args.input.now) c.in_ok-verdict.ensures;
       printed = c.in_ok-text.ensures;
     }

@@ -1,0 +1,13 @@
+-- What is put behind a text piece by piece.
+use Rattle.std.proofs.Common.{◌≡◌, ◌∙◌, ℕ, ◌-◌, List, ◌++◌, take, drop, length, ap, subst, sym, append_assoc, arith}
+use Rattle.std.proofs.lemmas.List.{length-drop, take_all}
+
+pub three : (out p q r a b c : List ℕ) → p ≡ out ++ a → q ≡ p ++ b → r ≡ q ++ c → r ≡ out ++ (a ++ (b ++ c))
+three out p q r a b c e f g = g ∙ ap (λ (l : List ℕ). l ++ c) (f ∙ ap (λ (l : List ℕ). l ++ b) e) ∙ append_assoc (out ++ a) b c ∙ append_assoc out a (b ++ c)
+
+pub five : (out p q r s t a b c d e : List ℕ) → p ≡ out ++ a → q ≡ p ++ b → r ≡ q ++ c → s ≡ r ++ d → t ≡ s ++ e → t ≡ out ++ (a ++ (b ++ (c ++ (d ++ e))))
+five out p q r s t a b c d e first second third fourth fifth = three out p q t a b (c ++ (d ++ e)) first second (three q r s t c d e third fourth fifth)
+
+-- all that stands behind a place
+pub behind : (n : ℕ) (bytes : List ℕ) → take (length bytes - n) (drop n bytes) ≡ drop n bytes
+behind n bytes = let long = length-drop n bytes in take_all (length bytes - n) (drop n bytes) (omega (arith, long))
