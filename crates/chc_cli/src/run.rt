@@ -12,7 +12,7 @@ ghost use Rattle.solve_call.specs.Clauses.{HasNoSystem, IsUnrefused};
 ghost use Rattle.solve_call.specs.Headline.{Answers, EndsOnce, IsBookFor, ReadsInput, Refuses, WritesPart, wanting_text};
 ghost use Rattle.answer_check.specs.Inputs.{HasNoSystem as HasNoSystemOfCheck, HasRefusedScript};
 ghost use Rattle.check_call.specs.Calls.{Checks, IsUnrefused as IsUnrefusedCheck, Refuses as RefusesCheck, TellsVerdict, WritesPart as WritesPartOfCheck};
-ghost use Rattle.chc_cli.specs.Commands.{ByCommand, HoldsPartOfUsage, IsNoCommand, OfCheck, OfSolve};
+ghost use Rattle.chc_cli.specs.Commands.{ByCommand, HoldsPart, HoldsPartOfUsage, IsNoCommand, OfCheck, OfSolve};
 
 use crate::command::{Command, command_of};
 use answer_text::usage_line;
@@ -157,17 +157,30 @@ pub fn chc_run<S: Source, K: Sink>(
                 book: None,
             }
         }
-        Command::Usage => {
-            let status = match write_all(sink, usage_line()) {
-                Ok(()) => 2,
-                Err(_) => 4,
-            };
-            Report {
-                status,
-                read: Vec::new(alloc),
-                refusal: None,
-                book: None,
-            }
-        }
+        Command::Usage => no_command(alloc, sink),
+    }
+}
+
+/// The report where the words are no command.
+fn no_command<K: Sink>(alloc: Global, sink: &mut K) -> Report
+    ensures statuses { result.status ≢ 4 → result.status ≡ 2 }
+    ensures read { result.read.items ≡ [] }
+    ensures sink_faults { result.status ≢ 4 → K.faults sink.new ≡ K.faults sink.old }
+    ensures write_fault { result.status ≡ 4 → K.faults sink.new ≡ counted (K.faults sink.old) }
+    ensures usage { result.status ≡ 2 → Appends usage_text (K.held sink.old) (K.held sink.new) }
+    ensures stops_writing { result.status ≡ 4 → K.last sink.new ≡ Fault }
+    ensures writes_part { result.status ≡ 4 → HoldsPart usage_text (K.held sink.old) (K.held sink.new) }
+    ensures refusal { result.refusal ≡ None }
+    ensures book { result.book ≡ None }
+{
+    let status = match write_all(sink, usage_line()) {
+        Ok(()) => 2,
+        Err(_) => 4,
+    };
+    Report {
+        status,
+        read: Vec::new(alloc),
+        refusal: None,
+        book: None,
     }
 }

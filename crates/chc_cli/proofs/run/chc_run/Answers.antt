@@ -1,36 +1,34 @@
-use Rattle.std.proofs.Common.{map, arith, inl, inr, refl}
+use Rattle.std.proofs.Common.{map, arith, inl, inr}
 use Rattle.std.specs.String.{string_bytes}
-use Rattle.answer_text.specs.Lines.{usage_text}
-use Rattle.chc_cli.proofs.CommandLemmas.{book_of_solve, part_of, refused_check, refused_solve}
-use Rattle.chc_cli.proofs.run.chc_run.Goals.{in-Ok, in-Err}
+use Rattle.chc_cli.proofs.CommandLemmas.{book_of_solve, no_book, no_refusal, only, refused_check, refused_solve}
 use Rattle.chc_cli.proofs.run.chc_run.Goals as goal
 
 -- a call of `solve`
 
 pub returns-in-Solve-clause-answered : goal.returns-in-Solve-clause-answered
-returns-in-Solve-clause-answered g c = λ zero. inl (c.in-Solve.limits, c.in-Solve.ensures.0, c.solve_call.ensures.answered zero)
+returns-in-Solve-clause-answered g c = λ zero. inl (c.in-Solve.limits, c.in-Solve.ensures.0, c.solve_call-solved.ensures.answered zero)
 
 pub returns-in-Solve-clause-wrong : goal.returns-in-Solve-clause-wrong
-returns-in-Solve-clause-wrong g c = λ six. let most = c.solve_call.ensures.statuses in absurd (omega (arith, six, most))
+returns-in-Solve-clause-wrong g c = λ six. let most = c.solve_call-solved.ensures.statuses in absurd (omega (arith, six, most))
 
 pub returns-in-Solve-clause-not_shown : goal.returns-in-Solve-clause-not_shown
-returns-in-Solve-clause-not_shown g c = λ seven. let most = c.solve_call.ensures.statuses in absurd (omega (arith, seven, most))
+returns-in-Solve-clause-not_shown g c = λ seven. let most = c.solve_call-solved.ensures.statuses in absurd (omega (arith, seven, most))
 
 pub returns-in-Solve-clause-refused : goal.returns-in-Solve-clause-refused
 returns-in-Solve-clause-refused g c =
-    refused_solve (map string_bytes c.args.words.now) c.solve_call.result.refusal _ _ c.in-Solve.limits c.in-Solve.ensures.0 c.solve_call.ensures.refused
+    refused_solve (map string_bytes c.args.words.now) c.solve_call-solved.result.refusal _ _ c.in-Solve.limits c.in-Solve.ensures.0 c.solve_call-solved.ensures.refused
 
 pub returns-in-Solve-clause-book : goal.returns-in-Solve-clause-book
-returns-in-Solve-clause-book g c = book_of_solve (map string_bytes c.args.words.now) c.solve_call.result.book _ c.in-Solve.limits c.in-Solve.ensures.0 c.solve_call.ensures.book
+returns-in-Solve-clause-book g c = book_of_solve (map string_bytes c.args.words.now) c.solve_call-solved.result.book _ c.in-Solve.limits c.in-Solve.ensures.0 c.solve_call-solved.ensures.book
 
 pub returns-in-Solve-clause-usage : goal.returns-in-Solve-clause-usage
-returns-in-Solve-clause-usage g c = λ two. absurd (c.solve_call.ensures.no_usage two)
+returns-in-Solve-clause-usage g c = λ two. absurd (c.solve_call-solved.ensures.no_usage two)
 
 pub returns-in-Solve-clause-checks : goal.returns-in-Solve-clause-checks
-returns-in-Solve-clause-checks g c = λ nodes call. c.solve_call.ensures.no_usage
+returns-in-Solve-clause-checks g c = λ nodes call. c.solve_call-solved.ensures.no_usage
 
 pub returns-in-Solve-clause-solves : goal.returns-in-Solve-clause-solves
-returns-in-Solve-clause-solves g c = λ limits call. c.solve_call.ensures.no_usage
+returns-in-Solve-clause-solves g c = λ limits call. c.solve_call-solved.ensures.no_usage
 
 pub returns-in-Solve-clause-other_words : goal.returns-in-Solve-clause-other_words
 returns-in-Solve-clause-other_words g c = λ none. absurd (none.solve c.in-Solve.limits c.in-Solve.ensures.0)
@@ -45,10 +43,10 @@ pub returns-in-Solve-clause-check_book : goal.returns-in-Solve-clause-check_book
 returns-in-Solve-clause-check_book g c = λ nodes call. absurd (c.calls_exclude_each_other.ensures.apart (map string_bytes c.args.words.now) c.in-Solve.limits nodes c.in-Solve.ensures.0 call)
 
 pub returns-in-Solve-clause-other_read : goal.returns-in-Solve-clause-other_read
-returns-in-Solve-clause-other_read g c = λ two. absurd (c.solve_call.ensures.no_usage two)
+returns-in-Solve-clause-other_read g c = λ two. absurd (c.solve_call-solved.ensures.no_usage two)
 
 pub returns-in-Solve-clause-writes_part : goal.returns-in-Solve-clause-writes_part
-returns-in-Solve-clause-writes_part g c = λ four. inl (inl (c.in-Solve.limits, c.in-Solve.ensures.0, c.solve_call.ensures.writes_part four))
+returns-in-Solve-clause-writes_part g c = λ four. inl (inl (c.in-Solve.limits, c.in-Solve.ensures.0, c.solve_call-solved.ensures.writes_part four))
 
 pub returns-in-Solve-clause-checks_scripts : goal.returns-in-Solve-clause-checks_scripts
 returns-in-Solve-clause-checks_scripts g c =
@@ -65,20 +63,20 @@ returns-in-Solve-clause-checks_no_shapes g c =
 -- a call of `check`
 
 pub returns-in-Check-clause-answered : goal.returns-in-Check-clause-answered
-returns-in-Check-clause-answered g c = λ zero. inr (c.in-Check.nodes, c.in-Check.ensures.0, c.check_call.ensures.valid zero)
+returns-in-Check-clause-answered g c = λ zero. inr (c.in-Check.nodes, c.in-Check.ensures.0, c.check_call-checked.ensures.valid zero)
 
 pub returns-in-Check-clause-answers_all : goal.returns-in-Check-clause-answers_all
-returns-in-Check-clause-answers_all g c = λ zero. (c.check_call.ensures.valid zero).whole
+returns-in-Check-clause-answers_all g c = λ zero. (c.check_call-checked.ensures.valid zero).whole
 
 pub returns-in-Check-clause-wrong : goal.returns-in-Check-clause-wrong
-returns-in-Check-clause-wrong g c = λ six. (c.in-Check.nodes, c.in-Check.ensures.0, c.check_call.ensures.wrong six)
+returns-in-Check-clause-wrong g c = λ six. (c.in-Check.nodes, c.in-Check.ensures.0, c.check_call-checked.ensures.wrong six)
 
 pub returns-in-Check-clause-not_shown : goal.returns-in-Check-clause-not_shown
-returns-in-Check-clause-not_shown g c = λ seven. (c.in-Check.nodes, c.in-Check.ensures.0, c.check_call.ensures.not_shown seven)
+returns-in-Check-clause-not_shown g c = λ seven. (c.in-Check.nodes, c.in-Check.ensures.0, c.check_call-checked.ensures.not_shown seven)
 
 pub returns-in-Check-clause-refused : goal.returns-in-Check-clause-refused
 returns-in-Check-clause-refused g c =
-    refused_check (map string_bytes c.args.words.now) c.check_call.result.refusal _ _ c.in-Check.nodes c.in-Check.ensures.0 c.check_call.ensures.refused
+    refused_check (map string_bytes c.args.words.now) c.check_call-checked.result.refusal _ _ c.in-Check.nodes c.in-Check.ensures.0 c.check_call-checked.ensures.refused
 
 pub returns-in-Check-clause-answers_scripts : goal.returns-in-Check-clause-answers_scripts
 returns-in-Check-clause-answers_scripts g c =
@@ -93,13 +91,13 @@ returns-in-Check-clause-refuses_shapes g c =
     λ limits call. absurd (c.calls_exclude_each_other.ensures.apart (map string_bytes c.args.words.now) limits c.in-Check.nodes call c.in-Check.ensures.0)
 
 pub returns-in-Check-clause-usage : goal.returns-in-Check-clause-usage
-returns-in-Check-clause-usage g c = λ two. absurd (c.check_call.ensures.no_usage two)
+returns-in-Check-clause-usage g c = λ two. absurd (c.check_call-checked.ensures.no_usage two)
 
 pub returns-in-Check-clause-solves : goal.returns-in-Check-clause-solves
-returns-in-Check-clause-solves g c = λ limits call. c.check_call.ensures.no_usage
+returns-in-Check-clause-solves g c = λ limits call. c.check_call-checked.ensures.no_usage
 
 pub returns-in-Check-clause-checks : goal.returns-in-Check-clause-checks
-returns-in-Check-clause-checks g c = λ nodes call. c.check_call.ensures.no_usage
+returns-in-Check-clause-checks g c = λ nodes call. c.check_call-checked.ensures.no_usage
 
 pub returns-in-Check-clause-other_words : goal.returns-in-Check-clause-other_words
 returns-in-Check-clause-other_words g c = λ none. absurd (none.check c.in-Check.nodes c.in-Check.ensures.0)
@@ -108,51 +106,69 @@ pub returns-in-Check-clause-unread : goal.returns-in-Check-clause-unread
 returns-in-Check-clause-unread g c = λ none. absurd (none.check c.in-Check.nodes c.in-Check.ensures.0)
 
 pub returns-in-Check-clause-other_read : goal.returns-in-Check-clause-other_read
-returns-in-Check-clause-other_read g c = λ two. absurd (c.check_call.ensures.no_usage two)
+returns-in-Check-clause-other_read g c = λ two. absurd (c.check_call-checked.ensures.no_usage two)
 
 pub returns-in-Check-clause-writes_part : goal.returns-in-Check-clause-writes_part
-returns-in-Check-clause-writes_part g c = λ four. inl (inr (c.in-Check.nodes, c.in-Check.ensures.0, c.check_call.ensures.writes_part four))
+returns-in-Check-clause-writes_part g c = λ four. inl (inr (c.in-Check.nodes, c.in-Check.ensures.0, c.check_call-checked.ensures.writes_part four))
 
 pub returns-in-Check-clause-checks_scripts : goal.returns-in-Check-clause-checks_scripts
-returns-in-Check-clause-checks_scripts g c = λ nodes call. c.check_call.ensures.judges_scripts
+returns-in-Check-clause-checks_scripts g c = λ nodes call. c.check_call-checked.ensures.judges_scripts
 
 pub returns-in-Check-clause-checks_no_others : goal.returns-in-Check-clause-checks_no_others
-returns-in-Check-clause-checks_no_others g c = λ nodes call. c.check_call.ensures.refuses_others
+returns-in-Check-clause-checks_no_others g c = λ nodes call. c.check_call-checked.ensures.refuses_others
 
 pub returns-in-Check-clause-checks_no_shapes : goal.returns-in-Check-clause-checks_no_shapes
-returns-in-Check-clause-checks_no_shapes g c = λ nodes call. c.check_call.ensures.refuses_shapes
+returns-in-Check-clause-checks_no_shapes g c = λ nodes call. c.check_call-checked.ensures.refuses_shapes
 
 -- no command
 
-pub returns-clause-solves : goal.returns-clause-solves
-returns-clause-solves g c = λ limits call two. c.in-Usage.ensures.solve limits call
+pub returns-in-Usage-clause-answered : goal.returns-in-Usage-clause-answered
+returns-in-Usage-clause-answered g c = λ status. absurd (only c.no_command.result.status 0 c.no_command.ensures.statuses status (λ e. omega (arith, e)) (λ e. omega (arith, e)))
 
-pub returns-clause-checks : goal.returns-clause-checks
-returns-clause-checks g c = λ nodes call two. c.in-Usage.ensures.check nodes call
+pub returns-in-Usage-clause-answers_all : goal.returns-in-Usage-clause-answers_all
+returns-in-Usage-clause-answers_all g c = λ status. absurd (only c.no_command.result.status 0 c.no_command.ensures.statuses status (λ e. omega (arith, e)) (λ e. omega (arith, e)))
 
-pub returns-clause-answers_scripts : goal.returns-clause-answers_scripts
-returns-clause-answers_scripts g c = λ limits call. absurd (c.in-Usage.ensures.solve limits call)
+pub returns-in-Usage-clause-wrong : goal.returns-in-Usage-clause-wrong
+returns-in-Usage-clause-wrong g c = λ status. absurd (only c.no_command.result.status 6 c.no_command.ensures.statuses status (λ e. omega (arith, e)) (λ e. omega (arith, e)))
 
-pub returns-clause-refuses_others : goal.returns-clause-refuses_others
-returns-clause-refuses_others g c = λ limits call. absurd (c.in-Usage.ensures.solve limits call)
+pub returns-in-Usage-clause-not_shown : goal.returns-in-Usage-clause-not_shown
+returns-in-Usage-clause-not_shown g c = λ status. absurd (only c.no_command.result.status 7 c.no_command.ensures.statuses status (λ e. omega (arith, e)) (λ e. omega (arith, e)))
 
-pub returns-clause-refuses_shapes : goal.returns-clause-refuses_shapes
-returns-clause-refuses_shapes g c = λ limits call. absurd (c.in-Usage.ensures.solve limits call)
+pub returns-in-Usage-clause-refused : goal.returns-in-Usage-clause-refused
+returns-in-Usage-clause-refused g c = no_refusal c.no_command.result.refusal _ c.no_command.ensures.refusal
 
-pub returns-clause-checks_scripts : goal.returns-clause-checks_scripts
-returns-clause-checks_scripts g c = λ nodes call. absurd (c.in-Usage.ensures.check nodes call)
+pub returns-in-Usage-clause-refuses_all : goal.returns-in-Usage-clause-refuses_all
+returns-in-Usage-clause-refuses_all g c = no_refusal c.no_command.result.refusal _ c.no_command.ensures.refusal
 
-pub returns-clause-checks_no_others : goal.returns-clause-checks_no_others
-returns-clause-checks_no_others g c = λ nodes call. absurd (c.in-Usage.ensures.check nodes call)
+pub returns-in-Usage-clause-book : goal.returns-in-Usage-clause-book
+returns-in-Usage-clause-book g c = no_book c.no_command.result.book _ c.no_command.ensures.book
 
-pub returns-clause-checks_no_shapes : goal.returns-clause-checks_no_shapes
-returns-clause-checks_no_shapes g c = λ nodes call. absurd (c.in-Usage.ensures.check nodes call)
+pub returns-in-Usage-clause-solves : goal.returns-in-Usage-clause-solves
+returns-in-Usage-clause-solves g c = λ limits call. absurd (c.in-Usage.ensures.solve limits call)
 
-pub returns-clause-writes_part : goal.returns-clause-writes_part
-returns-clause-writes_part g c = λ four.
-    elim c.match-write_all.branch [
-      | in-Ok w ↦ absurd (omega (arith, w.status-is, four))
-      | in-Err w ↦
-          let part = w.in-Err.ensures.err in
-          inr (record { none = c.in-Usage.ensures; unread = refl; part = part_of usage_text c.usage_line.result.now _ _ c.usage_line.ensures part.0 part.1 part.2 })
-    ]
+pub returns-in-Usage-clause-checks : goal.returns-in-Usage-clause-checks
+returns-in-Usage-clause-checks g c = λ nodes call. absurd (c.in-Usage.ensures.check nodes call)
+
+pub returns-in-Usage-clause-other_words : goal.returns-in-Usage-clause-other_words
+returns-in-Usage-clause-other_words g c = λ none. c.no_command.ensures.statuses
+
+pub returns-in-Usage-clause-answers_scripts : goal.returns-in-Usage-clause-answers_scripts
+returns-in-Usage-clause-answers_scripts g c = λ limits call. absurd (c.in-Usage.ensures.solve limits call)
+
+pub returns-in-Usage-clause-refuses_others : goal.returns-in-Usage-clause-refuses_others
+returns-in-Usage-clause-refuses_others g c = λ limits call. absurd (c.in-Usage.ensures.solve limits call)
+
+pub returns-in-Usage-clause-refuses_shapes : goal.returns-in-Usage-clause-refuses_shapes
+returns-in-Usage-clause-refuses_shapes g c = λ limits call. absurd (c.in-Usage.ensures.solve limits call)
+
+pub returns-in-Usage-clause-checks_scripts : goal.returns-in-Usage-clause-checks_scripts
+returns-in-Usage-clause-checks_scripts g c = λ nodes call. absurd (c.in-Usage.ensures.check nodes call)
+
+pub returns-in-Usage-clause-checks_no_others : goal.returns-in-Usage-clause-checks_no_others
+returns-in-Usage-clause-checks_no_others g c = λ nodes call. absurd (c.in-Usage.ensures.check nodes call)
+
+pub returns-in-Usage-clause-checks_no_shapes : goal.returns-in-Usage-clause-checks_no_shapes
+returns-in-Usage-clause-checks_no_shapes g c = λ nodes call. absurd (c.in-Usage.ensures.check nodes call)
+
+pub returns-in-Usage-clause-writes_part : goal.returns-in-Usage-clause-writes_part
+returns-in-Usage-clause-writes_part g c = λ four. inr (record { none = c.in-Usage.ensures; unread = c.no_command.ensures.read; part = c.no_command.ensures.writes_part four })
