@@ -5,8 +5,11 @@ use Rattle.std.proofs.lemmas.List.{length-drop, take_all}
 pub three : (out p q r a b c : List ℕ) → p ≡ out ++ a → q ≡ p ++ b → r ≡ q ++ c → r ≡ out ++ (a ++ (b ++ c))
 three out p q r a b c e f g = g ∙ ap (λ (l : List ℕ). l ++ c) (f ∙ ap (λ (l : List ℕ). l ++ b) e) ∙ append_assoc (out ++ a) b c ∙ append_assoc out a (b ++ c)
 
-pub five : (out p q r s t a b c d e : List ℕ) → p ≡ out ++ a → q ≡ p ++ b → r ≡ q ++ c → s ≡ r ++ d → t ≡ s ++ e → t ≡ out ++ (a ++ (b ++ (c ++ (d ++ e))))
-five out p q r s t a b c d e first second third fourth fifth = three out p q t a b (c ++ (d ++ e)) first second (three q r s t c d e third fourth fifth)
+pub two : (out p q a b : List ℕ) → p ≡ out ++ a → q ≡ p ++ b → q ≡ out ++ (a ++ b)
+two out p q a b e f = f ∙ ap (λ (l : List ℕ). l ++ b) e ∙ append_assoc out a b
+
+pub joined : (out p q a b c : List ℕ) → p ≡ out ++ (a ++ b) → q ≡ p ++ c → q ≡ out ++ (a ++ (b ++ c))
+joined out p q a b c e f = f ∙ ap (λ (l : List ℕ). l ++ c) e ∙ append_assoc out (a ++ b) c ∙ ap (λ (l : List ℕ). out ++ l) (append_assoc a b c)
 
 -- all that stands behind a place
 pub behind : (n : ℕ) (bytes : List ℕ) → take (length bytes - n) (drop n bytes) ≡ drop n bytes

@@ -16,7 +16,24 @@ use chc_checker::{Hidden, Place, Verdict};
 use derivation_check::clauses_of;
 use horn_shape::HornClause;
 use std::alloc::Global;
-use term_tree::{Script, Sort};
+use term_tree::{Script, Sort, Value};
+
+fn push_assertion(out: &mut Vec<u8>, number: u32) -> Result<(), Memory>
+    ensures { OnOk result (out.new.items ≡ out.old.items ++ (codes "; assertion " ++ decimal number)) }
+{
+    out.extend_from_slice(b"; assertion ")?;
+    push_short(out, number)?;
+    Ok(())
+}
+
+fn push_at(out: &mut Vec<u8>, values: &[Value]) -> Result<(), Memory>
+    ensures { OnOk result (out.new.items ≡ out.old.items ++ (codes " at (" ++ spaced value_text values.now ++ codes ")\n")) }
+{
+    out.extend_from_slice(b" at (")?;
+    push_values(out, values)?;
+    out.extend_from_slice(b")\n")?;
+    Ok(())
+}
 
 fn push_instance(
     alloc: Global,
@@ -28,11 +45,8 @@ fn push_instance(
     ensures { OnOk result (out.new.items ≡ out.old.items ++ (codes "; assertion " ++ decimal assertion ++ codes " at (" ++ spaced value_text (values_at sorts.now numbers.now) ++ codes ")\n")) }
 {
     let values = values_at(alloc, sorts, numbers)?;
-    out.extend_from_slice(b"; assertion ")?;
-    push_short(out, assertion)?;
-    out.extend_from_slice(b" at (")?;
-    push_values(out, values.as_slice())?;
-    out.extend_from_slice(b")\n")?;
+    push_assertion(out, assertion)?;
+    push_at(out, values.as_slice())?;
     Ok(())
 }
 
