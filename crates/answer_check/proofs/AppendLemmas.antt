@@ -8,8 +8,10 @@ three out p q r a b c e f g = g ∙ ap (λ (l : List ℕ). l ++ c) (f ∙ ap (λ
 pub two : (out p q a b : List ℕ) → p ≡ out ++ a → q ≡ p ++ b → q ≡ out ++ (a ++ b)
 two out p q a b e f = f ∙ ap (λ (l : List ℕ). l ++ b) e ∙ append_assoc out a b
 
-pub joined : (out p q a b c : List ℕ) → p ≡ out ++ (a ++ b) → q ≡ p ++ c → q ≡ out ++ (a ++ (b ++ c))
-joined out p q a b c e f = f ∙ ap (λ (l : List ℕ). l ++ c) e ∙ append_assoc out (a ++ b) c ∙ ap (λ (l : List ℕ). out ++ l) (append_assoc a b c)
+pub joined : (out p q x b s c : List ℕ) → p ≡ out ++ x → q ≡ p ++ ((b ++ s) ++ c) → q ≡ out ++ (((x ++ b) ++ s) ++ c)
+joined out p q x b s c e f =
+    f ∙ ap (λ (l : List ℕ). l ++ ((b ++ s) ++ c)) e ∙ append_assoc out x ((b ++ s) ++ c)
+    ∙ ap (λ (l : List ℕ). out ++ l) (sym (append_assoc x (b ++ s) c) ∙ ap (λ (l : List ℕ). l ++ c) (sym (append_assoc x b s)))
 
 -- all that stands behind a place
 pub behind : (n : ℕ) (bytes : List ℕ) → take (length bytes - n) (drop n bytes) ≡ drop n bytes
