@@ -11,16 +11,16 @@ use cube_forms::Cube;
 use std::alloc::Global;
 
 /// The work that a round may take for each unit that was spent.
-const WORK_OF_A_UNIT: u32 = 32;
+const WORK_OF_A_UNIT: u32 = 16;
 
 /// The least that the first round may take.
 const FIRST_WORK: u32 = 6_000;
 
 /// The least that another may take.
-const LEAST_WORK: u32 = 2_800;
+const LEAST_WORK: u32 = 1_400;
 
 /// The most.
-const MOST_WORK: u32 = 240_000;
+const MOST_WORK: u32 = 120_000;
 
 /// How many rounds there are.
 const ROUNDS: u32 = 4;

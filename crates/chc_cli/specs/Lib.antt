@@ -1,3 +1,2 @@
-pub mod Clauses
-pub mod Headline
+pub mod Commands
 pub mod machinery

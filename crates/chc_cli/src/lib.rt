@@ -1,9 +1,7 @@
 //! The program's top call: from words and bytes in to bytes and a status out.
 #![tactic(auto)]
 
-mod answer;
-mod lines;
-mod plan;
+mod command;
 mod program;
 mod run;
 mod words;

@@ -1,4 +1,4 @@
-ghost use Rattle.std.specs.Prelude.{◌≡◌, ◌≢◌, ◌≤◌, ◌↔◌, ◌⊎◌, [], drop, map, IfOk, IfErr, IfSome, IsSome, None};
+ghost use Rattle.std.specs.Prelude.{◌≡◌, ◌≢◌, ◌≤◌, ◌↔◌, ◌⊎◌, ℕ, [], drop, map, IfOk, IfErr, IfSome, IsSome, None};
 ghost use Rattle.std.specs.String.{string_bytes};
 ghost use Rattle.std.specs.IoError.{error_kind};
 ghost use Rattle.std.specs.Vec.Iter.{into_iter_items};
@@ -8,15 +8,17 @@ ghost use Rattle.outside_io.specs.declared.turn.Turn.TheVariants.{Fault};
 ghost use Rattle.term_tree.specs.declared.refusal.Refusal.{Refusal};
 ghost use Rattle.sort_check.specs.Scripts.{IsRefused};
 ghost use Rattle.answer_text.specs.Lines.{usage_text, memory_text};
-ghost use Rattle.solve_words.specs.Words.{IsCall, IsNoCall};
+ghost use Rattle.solve_words.specs.Words.{IsCall, IsCheckCall};
 ghost use Rattle.solve_words.specs.declared.limits.Limits.{Limits};
-ghost use Rattle.chc_cli.specs.Clauses.{HasNoSystem, IsUnrefused};
-ghost use Rattle.chc_cli.specs.Headline.{Answers, EndsOnce, HoldsPart, IsBookFor, ReadsInput, Refuses, WritesPart, wanting_text};
+ghost use Rattle.solve_call.specs.Clauses.{HasNoSystem, IsUnrefused};
+ghost use Rattle.solve_call.specs.Headline.{Answers, EndsOnce, IsBookFor, ReadsInput, Refuses, WritesPart, wanting_text};
+ghost use Rattle.answer_check.specs.Inputs.{HasNoSystem as HasNoSystemOfCheck, HasRefusedScript};
+ghost use Rattle.check_call.specs.Calls.{Checks, IsUnrefused as IsUnrefusedCheck, Refuses as RefusesCheck, TellsVerdict, WritesPart as WritesPartOfCheck};
+ghost use Rattle.chc_cli.specs.Commands.{ByCommand, HoldsPart, HoldsPartOfUsage, HoldsPartOfWant, IsNoCommand, OfCheck, OfSolve};
 
-use crate::run::{Report, chc_run};
+use crate::run::{Report, chc_run, no_command, no_memory};
 use crate::words::words_after_name;
-use answer_text::memory_line;
-use outside_io::{Sink, Source, write_all};
+use outside_io::{Sink, Source};
 use std::alloc::Global;
 use std::env::Args;
 use std::io::{self, ErrorKind};
@@ -30,27 +32,46 @@ pub fn chc_main<S: Source, K: Sink>(
     source: &mut S,
     sink: &mut K,
 ) -> Report
-    ensures statuses { result.status ≤ 5 }
+    ensures statuses { result.status ≤ 7 }
 
     // The words are all of them: no other list of words is taken for theirs.
     ensures solves { IfOk args (λ args. (limits : Limits) → IsCall (map string_bytes (drop 1 (into_iter_items args))) limits → result.status ≢ 2) }
-    ensures other_words { IfOk args (λ args. IsNoCall (map string_bytes (drop 1 (into_iter_items args))) → result.status ≢ 4 → result.status ≢ 5 → result.status ≡ 2) }
+    ensures checks { IfOk args (λ args. (nodes : ℕ) → IsCheckCall (map string_bytes (drop 1 (into_iter_items args))) nodes → result.status ≢ 2) }
+    ensures other_words { IfOk args (λ args. IsNoCommand (map string_bytes (drop 1 (into_iter_items args))) → result.status ≢ 4 → result.status ≢ 5 → result.status ≡ 2) }
     ensures no_text { IfErr args (λ e. error_kind e ≢ ErrorKind.OutOfMemory → result.status ≢ 4 → result.status ≡ 2) }
     ensures no_room { IfErr args (λ e. error_kind e ≡ ErrorKind.OutOfMemory → result.status ≢ 4 → result.status ≡ 5) }
     ensures no_words { IfErr args (λ e. S.turns source.new ≡ S.turns source.old) }
 
     // What `chc_run` says of each status, and whatever the status.
-    ensures answered { IfOk args (λ args. result.status ≡ 0 → Answers (map string_bytes (drop 1 (into_iter_items args))) result.read.items result.book (K.held sink.old) (K.held sink.new)) }
+    ensures answered { IfOk args (λ args. result.status ≡ 0 → ByCommand (map string_bytes (drop 1 (into_iter_items args)))
+        (λ limits. Answers limits result.read.items result.book (K.held sink.old) (K.held sink.new))
+        (λ nodes. Checks nodes (S.left source.old) result.read.items 0 (K.held sink.old) (K.held sink.new))) }
+    ensures wrong { IfOk args (λ args. result.status ≡ 6 → OfCheck (map string_bytes (drop 1 (into_iter_items args)))
+        (λ nodes. Checks nodes (S.left source.old) result.read.items 6 (K.held sink.old) (K.held sink.new))) }
+    ensures not_shown { IfOk args (λ args. result.status ≡ 7 → OfCheck (map string_bytes (drop 1 (into_iter_items args)))
+        (λ nodes. Checks nodes (S.left source.old) result.read.items 7 (K.held sink.old) (K.held sink.new))) }
     ensures answers_all { result.status ≡ 0 → IfSome (S.left source.old) (λ bytes. result.read.items ≡ bytes) }
-    ensures refused { IfSome result.refusal (λ refusal. Refuses (S.left source.old) (S.ends source.old) (S.ends source.new) result.read.items refusal (K.held sink.old) (K.held sink.new)) }
+    ensures refused { IfOk args (λ args. IfSome result.refusal (λ refusal. ByCommand (map string_bytes (drop 1 (into_iter_items args)))
+        (λ limits. Refuses (S.left source.old) (S.ends source.old) (S.ends source.new) result.read.items refusal (K.held sink.old) (K.held sink.new))
+        (λ nodes. RefusesCheck (S.left source.old) (S.ends source.old) (S.ends source.new) result.read.items refusal (K.held sink.old) (K.held sink.new)))) }
     ensures refuses_all { IfSome result.refusal (ReadsInput (S.left source.old) result.read.items) }
     ensures refusal { IsSome result.refusal ↔ (result.status ≡ 1) }
-    ensures book { IfOk args (λ args. IfSome result.book (λ b. (limits : Limits) × IsCall (map string_bytes (drop 1 (into_iter_items args))) limits × IsBookFor limits result.read.items b)) }
-    ensures answers_scripts { IfSome (S.left source.old) (λ bytes. IsUnrefused bytes → result.status ≢ 1) }
-    ensures refuses_others { IfSome (S.left source.old) (λ bytes. (refusal : Refusal) → IsRefused bytes refusal → result.status ≢ 0) }
-    ensures refuses_shapes { IfSome (S.left source.old) (λ bytes. HasNoSystem bytes → result.status ≢ 0) }
+    ensures book { IfOk args (λ args. IfSome result.book (λ b. OfSolve (map string_bytes (drop 1 (into_iter_items args))) (λ limits. IsBookFor limits result.read.items b))) }
+    ensures check_book { IfOk args (λ args. (nodes : ℕ) → IsCheckCall (map string_bytes (drop 1 (into_iter_items args))) nodes → result.book ≡ None) }
+    ensures answers_scripts { IfOk args (λ args. (limits : Limits) → IsCall (map string_bytes (drop 1 (into_iter_items args))) limits
+        → IfSome (S.left source.old) (λ bytes. IsUnrefused bytes → result.status ≢ 1)) }
+    ensures refuses_others { IfOk args (λ args. (limits : Limits) → IsCall (map string_bytes (drop 1 (into_iter_items args))) limits
+        → IfSome (S.left source.old) (λ bytes. (refusal : Refusal) → IsRefused bytes refusal → result.status ≢ 0)) }
+    ensures refuses_shapes { IfOk args (λ args. (limits : Limits) → IsCall (map string_bytes (drop 1 (into_iter_items args))) limits
+        → IfSome (S.left source.old) (λ bytes. HasNoSystem bytes → result.status ≢ 0)) }
+    ensures checks_scripts { IfOk args (λ args. (nodes : ℕ) → IsCheckCall (map string_bytes (drop 1 (into_iter_items args))) nodes
+        → IfSome (S.left source.old) (λ bytes. IsUnrefusedCheck bytes → result.status ≢ 1)) }
+    ensures checks_no_others { IfOk args (λ args. (nodes : ℕ) → IsCheckCall (map string_bytes (drop 1 (into_iter_items args))) nodes
+        → IfSome (S.left source.old) (λ bytes. (refusal : Refusal) → HasRefusedScript bytes refusal → TellsVerdict result.status → ⊥)) }
+    ensures checks_no_shapes { IfOk args (λ args. (nodes : ℕ) → IsCheckCall (map string_bytes (drop 1 (into_iter_items args))) nodes
+        → IfSome (S.left source.old) (λ bytes. HasNoSystemOfCheck bytes → TellsVerdict result.status → ⊥)) }
     ensures unopened { IsSome result.refusal → result.book ≡ None }
-    ensures unread { IfOk args (λ args. IsNoCall (map string_bytes (drop 1 (into_iter_items args))) → S.turns source.new ≡ S.turns source.old) }
+    ensures unread { IfOk args (λ args. IsNoCommand (map string_bytes (drop 1 (into_iter_items args))) → S.turns source.new ≡ S.turns source.old) }
     ensures other_read { result.status ≡ 2 → result.read.items ≡ [] }
     ensures unwritten { result.status ≡ 3 → K.turns sink.new ≡ K.turns sink.old }
     ensures reads_all { S.ends source.new ≢ S.ends source.old → IfSome (S.left source.old) (λ bytes. result.read.items ≡ bytes) }
@@ -67,8 +88,12 @@ pub fn chc_main<S: Source, K: Sink>(
     ensures memory { result.status ≡ 5 → Appends (wanting_text result.book) (K.held sink.old) (K.held sink.new) }
 
     // 4: a prefix of what was meant for these words, or of the memory line where there was no room for them.
-    ensures writes_part { IfOk args (λ args. result.status ≡ 4 → WritesPart (map string_bytes (drop 1 (into_iter_items args))) (S.left source.old) (S.ends source.old) (S.ends source.new)
-        result.read.items result.book (K.held sink.old) (K.held sink.new) ⊎ HoldsPart memory_text (K.held sink.old) (K.held sink.new)) }
+    ensures writes_part { IfOk args (λ args. result.status ≡ 4 → (ByCommand (map string_bytes (drop 1 (into_iter_items args)))
+        (λ limits. WritesPart limits (S.left source.old) (S.ends source.old) (S.ends source.new) result.read.items result.book (K.held sink.old) (K.held sink.new))
+        (λ nodes. WritesPartOfCheck nodes (S.left source.old) (S.ends source.old) (S.ends source.new) result.read.items (K.held sink.old) (K.held sink.new))
+        ⊎ HoldsPartOfUsage (map string_bytes (drop 1 (into_iter_items args))) result.read.items (K.held sink.old) (K.held sink.new)
+        ⊎ HoldsPartOfWant result.read.items (K.held sink.old) (K.held sink.new))
+        ⊎ HoldsPart memory_text (K.held sink.old) (K.held sink.new)) }
     ensures writes_part_of_usage { IfErr args (λ e. error_kind e ≢ ErrorKind.OutOfMemory → result.status ≡ 4 → HoldsPart usage_text (K.held sink.old) (K.held sink.new)) }
     ensures writes_part_of_memory { IfErr args (λ e. error_kind e ≡ ErrorKind.OutOfMemory → result.status ≡ 4 → HoldsPart memory_text (K.held sink.old) (K.held sink.new)) }
 
@@ -80,30 +105,6 @@ pub fn chc_main<S: Source, K: Sink>(
             Err(_) => no_memory(alloc, sink),
         },
         Err(error) if error.kind() == ErrorKind::OutOfMemory => no_memory(alloc, sink),
-        Err(_) => chc_run(alloc, &[], source, sink),
-    }
-}
-
-/// The report where the words can't be had for want of memory.
-fn no_memory<K: Sink>(alloc: Global, sink: &mut K) -> Report
-    ensures statuses { result.status ≢ 4 → result.status ≡ 5 }
-    ensures read { result.read.items ≡ [] }
-    ensures sink_faults { result.status ≢ 4 → K.faults sink.new ≡ K.faults sink.old }
-    ensures write_fault { result.status ≡ 4 → K.faults sink.new ≡ counted (K.faults sink.old) }
-    ensures memory { result.status ≡ 5 → Appends memory_text (K.held sink.old) (K.held sink.new) }
-    ensures stops_writing { result.status ≡ 4 → K.last sink.new ≡ Fault }
-    ensures writes_part { result.status ≡ 4 → HoldsPart memory_text (K.held sink.old) (K.held sink.new) }
-    ensures refusal { result.refusal ≡ None }
-    ensures book { result.book ≡ None }
-{
-    let status = match write_all(sink, memory_line()) {
-        Ok(()) => 5,
-        Err(_) => 4,
-    };
-    Report {
-        status,
-        read: Vec::new(alloc),
-        refusal: None,
-        book: None,
+        Err(_) => no_command(alloc, sink),
     }
 }

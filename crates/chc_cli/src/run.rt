@@ -1,23 +1,26 @@
-ghost use Rattle.std.specs.Prelude.{◌≡◌, ◌≢◌, ◌≤◌, ◌↔◌, [], map, None, IfSome, IsSome};
+ghost use Rattle.std.specs.Prelude.{◌≡◌, ◌≢◌, ◌≤◌, ◌↔◌, ◌⊎◌, [], map, ℕ, None, IfSome, IsSome};
 ghost use Rattle.std.specs.String.{string_bytes};
 ghost use Rattle.outside_io.specs.Bytes.{Appends};
 ghost use Rattle.outside_io.specs.Counts.{counted};
 ghost use Rattle.outside_io.specs.declared.turn.Turn.TheVariants.{Fault};
 ghost use Rattle.term_tree.specs.declared.refusal.Refusal.{Refusal};
 ghost use Rattle.sort_check.specs.Scripts.{IsRefused};
-ghost use Rattle.solve_words.specs.Words.{IsCall, IsNoCall};
+ghost use Rattle.answer_text.specs.Lines.{memory_text, usage_text};
+ghost use Rattle.solve_words.specs.Words.{IsCall, IsCheckCall};
 ghost use Rattle.solve_words.specs.declared.limits.Limits.{Limits};
-ghost use Rattle.chc_cli.specs.Clauses.{HasNoSystem, IsUnrefused};
-ghost use Rattle.chc_cli.specs.Headline.{Answers, EndsOnce, IsBookFor, ReadsInput, Refuses, WritesPart, wanting_text};
-ghost use Rattle.answer_text.specs.Lines.{usage_text};
+ghost use Rattle.solve_call.specs.Clauses.{HasNoSystem, IsUnrefused};
+ghost use Rattle.solve_call.specs.Headline.{Answers, EndsOnce, IsBookFor, ReadsInput, Refuses, WritesPart, wanting_text};
+ghost use Rattle.answer_check.specs.Inputs.{HasNoSystem as HasNoSystemOfCheck, HasRefusedScript};
+ghost use Rattle.check_call.specs.Calls.{Checks, IsUnrefused as IsUnrefusedCheck, Refuses as RefusesCheck, TellsVerdict, WritesPart as WritesPartOfCheck};
+ghost use Rattle.chc_cli.specs.Commands.{ByCommand, HoldsPart, HoldsPartOfUsage, HoldsPartOfWant, IsNoCommand, OfCheck, OfSolve};
 
-use crate::lines::unfinished_lines;
-use crate::plan::{Plan, plan_for};
+use crate::command::{Command, command_of};
 use answer_text::{memory_line, usage_line};
 use chc_core::Book;
+use check_call::check_call;
 use outside_io::{Sink, Source, write_all};
-use solve_words::limits_of;
-use sort_check::no_script_is_refused;
+use solve_call::solve_call;
+use solve_words::calls_exclude_each_other;
 use std::alloc::Global;
 use term_tree::Refusal;
 
@@ -25,12 +28,14 @@ use term_tree::Refusal;
 ///
 /// | status | name |
 /// |---|---|
-/// | 0 | answered |
+/// | 0 | answered: a script is solved, or an answer is valid |
 /// | 1 | script refused |
 /// | 2 | usage: the words are no command |
 /// | 3 | the source has failed |
 /// | 4 | the sink has failed |
 /// | 5 | out of memory |
+/// | 6 | the answer is wrong |
+/// | 7 | the answer isn't shown |
 #[derive(Drop)]
 pub struct Report {
     pub status: u8,
@@ -38,12 +43,14 @@ pub struct Report {
     pub read: Vec<u8>,
     /// The refusal, exactly under status 1.
     pub refusal: Option<Refusal>,
-    /// The book of the script's clauses, wherever one was opened: under status 0 at its end.
+    /// The book of the clauses of a script that is to be solved, wherever one was opened: under status 0
+    /// at its end.
     pub book: Option<Book>,
 }
 
 /// The program: it carries out the words after the program's name over what the source gives, and
-/// writes one text into the sink.
+/// writes one text into the sink. A call of `solve` solves a script; a call of `check` checks the answer
+/// that stands behind a script.
 ///
 /// Where a source or sink does not tell its bytes, the clauses on these say nothing.
 pub fn chc_run<S: Source, K: Sink>(
@@ -52,33 +59,56 @@ pub fn chc_run<S: Source, K: Sink>(
     source: &mut S,
     sink: &mut K,
 ) -> Report
-    ensures statuses { result.status ≤ 5 }
+    ensures statuses { result.status ≤ 7 }
 
-    // 0: the book over the clauses of the script that the bytes read spell has ended, and the sink holds the answer of its end: a derivation of false by the script's assertions,
-    // definitions under which each of them is true, or the closed level and the cause.
-    ensures answered { result.status ≡ 0 → Answers (map string_bytes words.now) result.read.items result.book (K.held sink.old) (K.held sink.new) }
+    // 0, for `solve`: the book over the clauses of the script that the bytes read spell has ended, and the sink holds the answer of its end: a derivation of false by the script's assertions,
+    // definitions under which each of them is true, or the closed level and the cause. For `check`: the sink holds the verdict on the bytes read, and it is that the answer is valid.
+    ensures answered { result.status ≡ 0 → ByCommand (map string_bytes words.now)
+        (λ limits. Answers limits result.read.items result.book (K.held sink.old) (K.held sink.new))
+        (λ nodes. Checks nodes (S.left source.old) result.read.items 0 (K.held sink.old) (K.held sink.new)) }
     ensures answers_all { result.status ≡ 0 → IfSome (S.left source.old) (λ bytes. result.read.items ≡ bytes) }
 
-    // 1: it is the line of the one refusal of the bytes.
-    ensures refused { IfSome result.refusal (λ refusal. Refuses (S.left source.old) (S.ends source.old) (S.ends source.new) result.read.items refusal (K.held sink.old) (K.held sink.new)) }
+    // 6 and 7, for `check` alone: the sink holds such a verdict, that the answer is wrong, or that it isn't shown.
+    ensures wrong { result.status ≡ 6 → OfCheck (map string_bytes words.now)
+        (λ nodes. Checks nodes (S.left source.old) result.read.items 6 (K.held sink.old) (K.held sink.new)) }
+    ensures not_shown { result.status ≡ 7 → OfCheck (map string_bytes words.now)
+        (λ nodes. Checks nodes (S.left source.old) result.read.items 7 (K.held sink.old) (K.held sink.new)) }
+
+    // 1: it holds the line of the one refusal of the bytes, for `check` of those that stand before the marker.
+    ensures refused { IfSome result.refusal (λ refusal. ByCommand (map string_bytes words.now)
+        (λ limits. Refuses (S.left source.old) (S.ends source.old) (S.ends source.new) result.read.items refusal (K.held sink.old) (K.held sink.new))
+        (λ nodes. RefusesCheck (S.left source.old) (S.ends source.old) (S.ends source.new) result.read.items refusal (K.held sink.old) (K.held sink.new))) }
     ensures refuses_all { IfSome result.refusal (ReadsInput (S.left source.old) result.read.items) }
     ensures refusal { IsSome result.refusal ↔ (result.status ≡ 1) }
 
-    // Both exactly: of bytes that have no refusal none is told, and bytes that are no script, or have no system of clauses, are not answered.
-    ensures answers_scripts { IfSome (S.left source.old) (λ bytes. IsUnrefused bytes → result.status ≢ 1) }
-    ensures refuses_others { IfSome (S.left source.old) (λ bytes. (refusal : Refusal) → IsRefused bytes refusal → result.status ≢ 0) }
-    ensures refuses_shapes { IfSome (S.left source.old) (λ bytes. HasNoSystem bytes → result.status ≢ 0) }
+    // Both exactly for `solve`: of bytes that have no refusal none is told, and bytes that are no script, or have no system of clauses, are not answered.
+    ensures answers_scripts { (limits : Limits) → IsCall (map string_bytes words.now) limits
+        → IfSome (S.left source.old) (λ bytes. IsUnrefused bytes → result.status ≢ 1) }
+    ensures refuses_others { (limits : Limits) → IsCall (map string_bytes words.now) limits
+        → IfSome (S.left source.old) (λ bytes. (refusal : Refusal) → IsRefused bytes refusal → result.status ≢ 0) }
+    ensures refuses_shapes { (limits : Limits) → IsCall (map string_bytes words.now) limits
+        → IfSome (S.left source.old) (λ bytes. HasNoSystem bytes → result.status ≢ 0) }
+
+    // And for `check`: of an input whose script has no refusal none is told, and where it is refused by the rules of commands, or has no system of clauses, no verdict is.
+    ensures checks_scripts { (nodes : ℕ) → IsCheckCall (map string_bytes words.now) nodes
+        → IfSome (S.left source.old) (λ bytes. IsUnrefusedCheck bytes → result.status ≢ 1) }
+    ensures checks_no_others { (nodes : ℕ) → IsCheckCall (map string_bytes words.now) nodes
+        → IfSome (S.left source.old) (λ bytes. (refusal : Refusal) → HasRefusedScript bytes refusal → TellsVerdict result.status → ⊥) }
+    ensures checks_no_shapes { (nodes : ℕ) → IsCheckCall (map string_bytes words.now) nodes
+        → IfSome (S.left source.old) (λ bytes. HasNoSystemOfCheck bytes → TellsVerdict result.status → ⊥) }
 
     // Whatever the status: the book is one of the script that the bytes read spell, within the limits of the words, and no derivation of false is as low as its closed level.
-    ensures book { IfSome result.book (λ b. (limits : Limits) × IsCall (map string_bytes words.now) limits × IsBookFor limits result.read.items b) }
+    ensures book { IfSome result.book (λ b. OfSolve (map string_bytes words.now) (λ limits. IsBookFor limits result.read.items b)) }
     ensures unopened { IsSome result.refusal → result.book ≡ None }
 
-    // 2: words that are no call of `solve` are answered so, and nothing is read for them.
+    // 2: words that are no command are answered so, unless memory is wanted to read them, and nothing is read for them.
     ensures usage { result.status ≡ 2 → Appends usage_text (K.held sink.old) (K.held sink.new) }
     ensures solves { (limits : Limits) → IsCall (map string_bytes words.now) limits → result.status ≢ 2 }
-    ensures other_words { IsNoCall (map string_bytes words.now) → result.status ≢ 4 → result.status ≡ 2 }
-    ensures unread { IsNoCall (map string_bytes words.now) → S.turns source.new ≡ S.turns source.old }
-    ensures other_book { IsNoCall (map string_bytes words.now) → result.book ≡ None }
+    ensures checks { (nodes : ℕ) → IsCheckCall (map string_bytes words.now) nodes → result.status ≢ 2 }
+    ensures other_words { IsNoCommand (map string_bytes words.now) → result.status ≢ 4 → result.status ≢ 5 → result.status ≡ 2 }
+    ensures unread { IsNoCommand (map string_bytes words.now) → S.turns source.new ≡ S.turns source.old }
+    ensures other_book { IsNoCommand (map string_bytes words.now) → result.book ≡ None }
+    ensures check_book { (nodes : ℕ) → IsCheckCall (map string_bytes words.now) nodes → result.book ≡ None }
     ensures other_read { result.status ≡ 2 → result.read.items ≡ [] }
 
     // 3: exactly where the source has failed, and then nothing is written.
@@ -93,8 +123,11 @@ pub fn chc_run<S: Source, K: Sink>(
     ensures sink_faults { result.status ≢ 4 → K.faults sink.new ≡ K.faults sink.old }
     ensures write_fault { result.status ≡ 4 → K.faults sink.new ≡ counted (K.faults sink.old) }
     ensures stops_writing { result.status ≡ 4 → K.last sink.new ≡ Fault }
-    ensures writes_part { result.status ≡ 4 → WritesPart (map string_bytes words.now) (S.left source.old) (S.ends source.old) (S.ends source.new)
-        result.read.items result.book (K.held sink.old) (K.held sink.new) }
+    ensures writes_part { result.status ≡ 4 → ByCommand (map string_bytes words.now)
+        (λ limits. WritesPart limits (S.left source.old) (S.ends source.old) (S.ends source.new) result.read.items result.book (K.held sink.old) (K.held sink.new))
+        (λ nodes. WritesPartOfCheck nodes (S.left source.old) (S.ends source.old) (S.ends source.new) result.read.items (K.held sink.old) (K.held sink.new))
+        ⊎ HoldsPartOfUsage (map string_bytes words.now) result.read.items (K.held sink.old) (K.held sink.new)
+        ⊎ HoldsPartOfWant result.read.items (K.held sink.old) (K.held sink.new) }
 
     // 5: want of memory: the closed level of the book, where there is one.
     ensures memory { result.status ≡ 5 → Appends (wanting_text result.book) (K.held sink.old) (K.held sink.new) }
@@ -104,103 +137,72 @@ pub fn chc_run<S: Source, K: Sink>(
     ensures reads_all { S.ends source.new ≢ S.ends source.old → IfSome (S.left source.old) (λ bytes. result.read.items ≡ bytes) }
     ensures reads_none { S.ends source.new ≢ counted (S.ends source.old) → result.read.items ≡ [] }
 {
-    let limits = match limits_of(words) {
-        Some(limits) => limits,
-        None => {
-            let status = match write_all(sink, usage_line()) {
-                Ok(()) => 2,
-                Err(_) => 4,
-            };
-            return report_of(alloc, status);
-        }
-    };
-    // A law, which runs nothing: what is answered isn't refused by the rules of commands.
-    no_script_is_refused();
-    match plan_for(alloc, source, limits) {
-        Plan::Answered { read, book, text } => {
-            let status = match write_all(sink, text.as_slice()) {
-                Ok(()) => 0,
-                Err(_) => 4,
-            };
+    // A law, which runs nothing: words never call both commands.
+    calls_exclude_each_other();
+    match command_of(alloc, words) {
+        Command::Solve(limits) => {
+            let solved = solve_call(alloc, limits, source, sink);
             Report {
-                status,
-                read,
-                refusal: None,
-                book: Some(book),
+                status: solved.status,
+                read: solved.read,
+                refusal: solved.refusal,
+                book: solved.book,
             }
         }
-        Plan::Unfinished { read, book } => {
-            let mut front = [0; 72];
-            let length = unfinished_lines(book.level(), &mut front);
-            let status = match write_all(sink, &front[..length]) {
-                Ok(()) => 5,
-                Err(_) => 4,
-            };
+        Command::Check(nodes) => {
+            let checked = check_call(alloc, nodes, source, sink);
             Report {
-                status,
-                read,
-                refusal: None,
-                book: Some(book),
-            }
-        }
-        Plan::Refused {
-            read,
-            refusal,
-            line,
-        } => match write_all(sink, line.as_slice()) {
-            Ok(()) => Report {
-                status: 1,
-                read,
-                refusal: Some(refusal),
-                book: None,
-            },
-            Err(_) => Report {
-                status: 4,
-                read,
-                refusal: None,
-                book: None,
-            },
-        },
-        Plan::Overlong { refusal, line } => {
-            let read = Vec::new(alloc);
-            match write_all(sink, line.as_slice()) {
-                Ok(()) => Report {
-                    status: 1,
-                    read,
-                    refusal: Some(refusal),
-                    book: None,
-                },
-                Err(_) => Report {
-                    status: 4,
-                    read,
-                    refusal: None,
-                    book: None,
-                },
-            }
-        }
-        Plan::ReadFault => report_of(alloc, 3),
-        Plan::OutOfMemory { read } => {
-            let status = match write_all(sink, memory_line()) {
-                Ok(()) => 5,
-                Err(_) => 4,
-            };
-            Report {
-                status,
-                read,
-                refusal: None,
+                status: checked.status,
+                read: checked.read,
+                refusal: checked.refusal,
                 book: None,
             }
         }
+        Command::Usage => no_command(alloc, sink),
+        Command::Wanting => no_memory(alloc, sink),
     }
 }
 
-/// A report of this status alone.
-fn report_of(alloc: Global, status: u8) -> Report
-    ensures status { result.status ≡ status }
+/// The report where the words are no command.
+pub(crate) fn no_command<K: Sink>(alloc: Global, sink: &mut K) -> Report
+    ensures statuses { result.status ≢ 4 → result.status ≡ 2 }
     ensures read { result.read.items ≡ [] }
+    ensures sink_faults { result.status ≢ 4 → K.faults sink.new ≡ K.faults sink.old }
+    ensures write_fault { result.status ≡ 4 → K.faults sink.new ≡ counted (K.faults sink.old) }
+    ensures usage { result.status ≡ 2 → Appends usage_text (K.held sink.old) (K.held sink.new) }
+    ensures stops_writing { result.status ≡ 4 → K.last sink.new ≡ Fault }
+    ensures writes_part { result.status ≡ 4 → HoldsPart usage_text (K.held sink.old) (K.held sink.new) }
     ensures refusal { result.refusal ≡ None }
     ensures book { result.book ≡ None }
 {
+    let status = match write_all(sink, usage_line()) {
+        Ok(()) => 2,
+        Err(_) => 4,
+    };
+    Report {
+        status,
+        read: Vec::new(alloc),
+        refusal: None,
+        book: None,
+    }
+}
+
+/// The report where memory was wanted before the words were read.
+pub(crate) fn no_memory<K: Sink>(alloc: Global, sink: &mut K) -> Report
+    ensures statuses { result.status ≢ 4 → result.status ≡ 5 }
+    ensures read { result.read.items ≡ [] }
+    ensures sink_faults { result.status ≢ 4 → K.faults sink.new ≡ K.faults sink.old }
+    ensures write_fault { result.status ≡ 4 → K.faults sink.new ≡ counted (K.faults sink.old) }
+    ensures memory { result.status ≡ 5 → Appends memory_text (K.held sink.old) (K.held sink.new) }
+    ensures stops_writing { result.status ≡ 4 → K.last sink.new ≡ Fault }
+    ensures writes_part { result.status ≡ 4 → HoldsPart memory_text (K.held sink.old) (K.held sink.new) }
+    ensures refusal { result.refusal ≡ None }
+    ensures book { result.book ≡ None }
+{
+    let status = match write_all(sink, memory_line()) {
+        Ok(()) => 5,
+        Err(_) => 4,
+    };
     Report {
         status,
         read: Vec::new(alloc),

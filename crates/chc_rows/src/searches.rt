@@ -6,7 +6,7 @@ use std::alloc::Global;
 use std::process::Abort;
 
 /// What a case shows, the words behind `solve`, the script, and its output.
-const CASES: [&str; 17] = [
+pub const CASES: [&str; 17] = [
     "no clause at all§§(set-logic HORN)(check-sat)§sat\n(\n)\n",
     "a counter that reaches 3§§(set-logic HORN)\n(declare-fun p (Int) Bool)\n(assert (p 0))\n(assert (forall ((x Int)) (=> (p x) (p (+ x 1)))))\n(assert (not (p 3)))\n(check-sat)\n§unsat\n(derivation\n(step 1 1 () () (p 0))\n(step 2 2 (0) (1) (p 1))\n(step 3 2 (1) (2) (p 2))\n(step 4 2 (2) (3) (p 3))\n(step 5 3 () (4) false)\n)\n",
     "no unit§--units 0§(set-logic HORN)(declare-fun p (Int) Bool)(assert (p 0))(assert (forall ((x Int)) (=> (p x) (p (+ x 1)))))(assert (not (p 3)))(check-sat)§unknown\n; level 0 units 0\n",

@@ -25,7 +25,12 @@ fn other_words_are_answered_with_the_usage_line(rt: HostRuntime) {
         "solve --workers 65",
         &["solve", "--workers", "65"],
     );
-    check_usage(&rt, rt.alloc(), "check", &["check"]);
+    check_usage(
+        &rt,
+        rt.alloc(),
+        "check --nodes 0",
+        &["check", "--nodes", "0"],
+    );
     check_usage(&rt, rt.alloc(), "solv", &["solv"]);
     check_usage(&rt, rt.alloc(), "solve and an empty word", &["solve", ""]);
 }

@@ -27,7 +27,7 @@ use Rattle.answer_text.specs.machinery.ReadBack.{IsSameModel}
 use Rattle.answer_laws.specs.Texts.{IsSatAnswer}
 use Rattle.book_answers.specs.Answers.{HasText, IsAnswerAt}
 use Rattle.solve_words.specs.declared.limits.Limits.{Limits}
-use Rattle.chc_cli.specs.Headline.{Answers, IsAnswered, IsBookFor}
+use Rattle.solve_call.specs.Headline.{Answers, IsAnswered, IsBookFor}
 use Rattle.printed_laws.specs.Printed.{IsPrinted, IsSolutionText, Says, IsSolvedBy}
 use Rattle.printed_laws.specs.Printed.Says.{sat, unsat, unknown}
 
@@ -125,5 +125,5 @@ module _ (accepted : AcceptedLaw) (same : SameLaw) (solution : SolutionLaw) (spe
         says = says limits bytes b text book h.ended_by found.answer found.answers found.printed;
       }
 
-  pub printed : (words : List (List ℕ)) (read : List ℕ) (book : Option Contents) (held text : List ℕ) → Answers words read book (Some held) (Some (held ++ text)) → IsPrinted read text
-  printed words read book held text h = subst (λ (t : List ℕ). IsPrinted read t) (sym (appended held text h.text h.held)) (of_answered h.limits read h.b h.text h.answer)
+  pub printed : (limits : Limits) (read : List ℕ) (book : Option Contents) (held text : List ℕ) → Answers limits read book (Some held) (Some (held ++ text)) → IsPrinted read text
+  printed limits read book held text h = subst (λ (t : List ℕ). IsPrinted read t) (sym (appended held text h.text h.held)) (of_answered limits read h.b h.text h.answer)

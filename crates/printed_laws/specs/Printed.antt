@@ -1,4 +1,4 @@
--- What a text that is printed under status 0 says, for whoever has the bytes that were read and that text alone.
+-- What a text that a call of `solve` prints under status 0 says, for whoever has the bytes that were read and that text alone.
 use Rattle.std.specs.Prelude.{◌≡◌, ℕ, List, ◌++◌, codes}
 use Rattle.std.specs.List.{AllByRecursion}
 use Rattle.term_tree.specs.declared.script.Script.{Script}

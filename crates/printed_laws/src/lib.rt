@@ -1,4 +1,4 @@
-//! What the top call prints under status 0 says by itself: definitions that are a solution of the
+//! What a call of `solve` prints under status 0 says by itself: definitions that are a solution of the
 //! script, a derivation of false, or a level below which there is none.
 #![tactic(auto)]
 

@@ -7,8 +7,10 @@ use Rattle.solve_words.specs.Parsed.{Names}
 use Rattle.solve_words.specs.declared.limits.Limits.{Limits}
 
 -- what a call may give; how many units a book may be given is said apart, by chc_core, for who reads of books alone
+
+-- one worker searches
 abbrev pub most_workers : ℕ
-most_workers = 64
+most_workers = 1
 
 abbrev pub most_units : ℕ
 most_units = 1000000

@@ -9,11 +9,55 @@ returns-in-Ok-words_after_name-clause-solves g c =
 
 pub returns-in-Ok-words_after_name-clause-other_words : goal.returns-in-Ok-words_after_name-clause-other_words
 returns-in-Ok-words_after_name-clause-other_words g c =
-    rw c.in-Ok.is (λ none four five. c.chc_run.ensures.other_words (rw (c.as_slice.ensures.value, c.in-Ok-words_after_name.ensures) none) four)
+    rw c.in-Ok.is (λ none four five. c.chc_run.ensures.other_words (rw (c.as_slice.ensures.value, c.in-Ok-words_after_name.ensures) none) four five)
 
 pub returns-in-Ok-words_after_name-clause-answered : goal.returns-in-Ok-words_after_name-clause-answered
 returns-in-Ok-words_after_name-clause-answered g c =
     rw c.in-Ok.is (λ zero. rw (sym c.in-Ok-words_after_name.ensures, sym c.as_slice.ensures.value) (c.chc_run.ensures.answered zero))
+
+pub returns-in-Ok-words_after_name-clause-checks : goal.returns-in-Ok-words_after_name-clause-checks
+returns-in-Ok-words_after_name-clause-checks g c =
+    rw c.in-Ok.is (λ nodes call. c.chc_run.ensures.checks nodes (rw (c.as_slice.ensures.value, c.in-Ok-words_after_name.ensures) call))
+
+pub returns-in-Ok-words_after_name-clause-wrong : goal.returns-in-Ok-words_after_name-clause-wrong
+returns-in-Ok-words_after_name-clause-wrong g c =
+    rw c.in-Ok.is (λ status. rw (sym c.in-Ok-words_after_name.ensures, sym c.as_slice.ensures.value) (c.chc_run.ensures.wrong status))
+
+pub returns-in-Ok-words_after_name-clause-not_shown : goal.returns-in-Ok-words_after_name-clause-not_shown
+returns-in-Ok-words_after_name-clause-not_shown g c =
+    rw c.in-Ok.is (λ status. rw (sym c.in-Ok-words_after_name.ensures, sym c.as_slice.ensures.value) (c.chc_run.ensures.not_shown status))
+
+pub returns-in-Ok-words_after_name-clause-refused : goal.returns-in-Ok-words_after_name-clause-refused
+returns-in-Ok-words_after_name-clause-refused g c =
+    rw c.in-Ok.is (rw (sym c.in-Ok-words_after_name.ensures, sym c.as_slice.ensures.value) c.chc_run.ensures.refused)
+
+pub returns-in-Ok-words_after_name-clause-answers_scripts : goal.returns-in-Ok-words_after_name-clause-answers_scripts
+returns-in-Ok-words_after_name-clause-answers_scripts g c =
+    rw c.in-Ok.is (λ limits call. c.chc_run.ensures.answers_scripts limits (rw (c.as_slice.ensures.value, c.in-Ok-words_after_name.ensures) call))
+
+pub returns-in-Ok-words_after_name-clause-refuses_others : goal.returns-in-Ok-words_after_name-clause-refuses_others
+returns-in-Ok-words_after_name-clause-refuses_others g c =
+    rw c.in-Ok.is (λ limits call. c.chc_run.ensures.refuses_others limits (rw (c.as_slice.ensures.value, c.in-Ok-words_after_name.ensures) call))
+
+pub returns-in-Ok-words_after_name-clause-refuses_shapes : goal.returns-in-Ok-words_after_name-clause-refuses_shapes
+returns-in-Ok-words_after_name-clause-refuses_shapes g c =
+    rw c.in-Ok.is (λ limits call. c.chc_run.ensures.refuses_shapes limits (rw (c.as_slice.ensures.value, c.in-Ok-words_after_name.ensures) call))
+
+pub returns-in-Ok-words_after_name-clause-checks_scripts : goal.returns-in-Ok-words_after_name-clause-checks_scripts
+returns-in-Ok-words_after_name-clause-checks_scripts g c =
+    rw c.in-Ok.is (λ nodes call. c.chc_run.ensures.checks_scripts nodes (rw (c.as_slice.ensures.value, c.in-Ok-words_after_name.ensures) call))
+
+pub returns-in-Ok-words_after_name-clause-checks_no_others : goal.returns-in-Ok-words_after_name-clause-checks_no_others
+returns-in-Ok-words_after_name-clause-checks_no_others g c =
+    rw c.in-Ok.is (λ nodes call. c.chc_run.ensures.checks_no_others nodes (rw (c.as_slice.ensures.value, c.in-Ok-words_after_name.ensures) call))
+
+pub returns-in-Ok-words_after_name-clause-checks_no_shapes : goal.returns-in-Ok-words_after_name-clause-checks_no_shapes
+returns-in-Ok-words_after_name-clause-checks_no_shapes g c =
+    rw c.in-Ok.is (λ nodes call. c.chc_run.ensures.checks_no_shapes nodes (rw (c.as_slice.ensures.value, c.in-Ok-words_after_name.ensures) call))
+
+pub returns-in-Ok-words_after_name-clause-check_book : goal.returns-in-Ok-words_after_name-clause-check_book
+returns-in-Ok-words_after_name-clause-check_book g c =
+    rw c.in-Ok.is (λ nodes call. c.chc_run.ensures.check_book nodes (rw (c.as_slice.ensures.value, c.in-Ok-words_after_name.ensures) call))
 
 pub returns-in-Ok-words_after_name-clause-book : goal.returns-in-Ok-words_after_name-clause-book
 returns-in-Ok-words_after_name-clause-book g c = rw c.in-Ok.is (rw (sym c.in-Ok-words_after_name.ensures, sym c.as_slice.ensures.value) c.chc_run.ensures.book)

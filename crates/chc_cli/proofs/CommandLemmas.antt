@@ -1,0 +1,42 @@
+-- What is told of a part that there may be, as a refusal or a book, is told by the command that the words call.
+use Rattle.std.proofs.Common.{◌≡◌, ◌∙◌, ℕ, List, sym, inl, inr}
+use Rattle.std.specs.Prelude.{Some, None, IfSome, ◌≢◌}
+use Rattle.std.specs.declared.option.Option.{Option}
+use Rattle.term_tree.specs.declared.refusal.Refusal.{Refusal}
+use Rattle.chc_core.specs.Contents.{Contents}
+use Rattle.solve_words.specs.Words.{IsCall, IsCheckCall}
+use Rattle.solve_words.specs.declared.limits.Limits.{Limits}
+use Rattle.chc_cli.specs.Commands.{ByCommand, OfSolve}
+
+pub refused_solve : (words : List (List ℕ)) (found : Option Refusal) (solves : Refusal → Limits → Type 0) (checks : Refusal → ℕ → Type 0) (limits : Limits) → IsCall words limits
+    → IfSome found (λ refusal. solves refusal limits) → IfSome found (λ refusal. ByCommand words (solves refusal) (checks refusal))
+refused_solve words None solves checks limits call h = tt
+refused_solve words (Some refusal) solves checks limits call h = inl (limits, call, h)
+
+pub refused_check : (words : List (List ℕ)) (found : Option Refusal) (solves : Refusal → Limits → Type 0) (checks : Refusal → ℕ → Type 0) (nodes : ℕ) → IsCheckCall words nodes
+    → IfSome found (λ refusal. checks refusal nodes) → IfSome found (λ refusal. ByCommand words (solves refusal) (checks refusal))
+refused_check words None solves checks nodes call h = tt
+refused_check words (Some refusal) solves checks nodes call h = inr (nodes, call, h)
+
+pub book_of_solve : (words : List (List ℕ)) (found : Option Contents) (told : Contents → Limits → Type 0) (limits : Limits) → IsCall words limits → IfSome found (λ b. told b limits)
+    → IfSome found (λ b. OfSolve words (told b))
+book_of_solve words None told limits call h = tt
+book_of_solve words (Some b) told limits call h = (limits, call, h)
+
+-- where there is none
+
+pub no_refusal : (found : Option Refusal) (told : Refusal → Type 0) → found ≡ None → IfSome found told
+no_refusal None told none = tt
+no_refusal (Some refusal) told none = absurd (cc)
+
+pub no_book : (found : Option Contents) (told : Contents → Type 0) → found ≡ None → IfSome found told
+no_book None told none = tt
+no_book (Some b) told none = absurd (cc)
+
+-- words that are no command end with status 2 or 4
+pub only : (status other : ℕ) → (status ≢ 4 → status ≡ 2) → status ≡ other → (other ≡ 4 → ⊥) → (other ≡ 2 → ⊥) → ⊥
+only status other ends is four two = two (sym is ∙ ends (λ e. four (sym is ∙ e)))
+
+-- and without memory to read them with status 5 or 4
+pub wanting : (status other : ℕ) → (status ≢ 4 → status ≡ 5) → status ≡ other → (other ≡ 4 → ⊥) → (other ≡ 5 → ⊥) → ⊥
+wanting status other ends is four five = five (sym is ∙ ends (λ e. four (sym is ∙ e)))

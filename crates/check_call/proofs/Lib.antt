@@ -1,0 +1,3 @@
+pub mod ExactLemmas
+pub mod JudgedLemmas
+pub mod PlanLemmas
