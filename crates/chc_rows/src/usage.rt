@@ -22,8 +22,8 @@ fn other_words_are_answered_with_the_usage_line(rt: HostRuntime) {
     check_usage(
         &rt,
         rt.alloc(),
-        "solve --workers 65",
-        &["solve", "--workers", "65"],
+        "solve --workers 2",
+        &["solve", "--workers", "2"],
     );
     check_usage(
         &rt,
@@ -33,4 +33,17 @@ fn other_words_are_answered_with_the_usage_line(rt: HostRuntime) {
     );
     check_usage(&rt, rt.alloc(), "solv", &["solv"]);
     check_usage(&rt, rt.alloc(), "solve and an empty word", &["solve", ""]);
+}
+
+#[test]
+fn options_are_taken_in_any_order_and_in_both_spellings(rt: HostRuntime) {
+    let words = &["solve", "--nodes=7", "--workers", "1", "--units=0"];
+    let run = run(
+        &rt,
+        rt.alloc(),
+        words,
+        b"(set-logic HORN)(assert false)(check-sat)",
+    );
+    let told = b"unknown\n; level 0 units 0\n";
+    check_ran(&rt, "a call without units", &run, 0, told);
 }
