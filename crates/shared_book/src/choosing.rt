@@ -1,0 +1,87 @@
+//! Which obligation a worker claims.
+
+ghost use Rattle.std.specs.Prelude.{◌≡◌, ◌<◌, ◌≤◌, None, true, length, IfSome};
+ghost use Rattle.obligation_tree.specs.Claims.{most_workers};
+ghost use Rattle.chc_core.specs.Views.{standing_of};
+ghost use Rattle.obligation_turn.specs.Turns.{IsOpenLeaf};
+ghost use Rattle.shared_book.specs.Jobs.{AreHeld};
+ghost use Rattle.shared_book.specs.machinery.Choices.{IsChosen, IsLeaf, LeavesNone};
+
+use chc_core::{Book, Snapshot};
+use obligation_tree::Tree;
+
+/// Whether the obligation is of a lower level than the best so far, if there is one.
+fn is_lower(tree: &Tree, best: Option<u32>, id: u32) -> bool
+    requires best { IfSome best (λ n. n < length tree.now.nodes) }
+    requires id { id < length tree.now.nodes }
+    ensures { best ≡ None → result ≡ true }
+{
+    match best {
+        None => true,
+        Some(first) => tree.obligation(id).level < tree.obligation(first).level,
+    }
+}
+
+/// Claims one more, which isn't stalled, where it is better than the best so far and no other worker
+/// holds it.
+fn with_open(
+    book: &mut Book,
+    snapshot: &Snapshot,
+    best: Option<u32>,
+    id: u32,
+    worker: u32,
+) -> Option<u32>
+    requires first { 0 < worker }
+    requires last { worker ≤ most_workers }
+    requires chosen { IsChosen snapshot.now worker best book.old }
+    requires leaf { IsOpenLeaf (standing_of snapshot.now) id }
+    ensures chosen { IsChosen snapshot.now worker result book.new }
+    ensures none { result ≡ None → LeavesNone snapshot.now worker best id }
+{
+    if !is_lower(snapshot.tree(), best, id) {
+        return best;
+    }
+    if book.claim(id, worker) {
+        Some(id)
+    } else {
+        best
+    }
+}
+
+/// The same of one that may be stalled.
+fn with_leaf(
+    book: &mut Book,
+    snapshot: &Snapshot,
+    best: Option<u32>,
+    id: u32,
+    worker: u32,
+) -> Option<u32>
+    requires first { 0 < worker }
+    requires last { worker ≤ most_workers }
+    requires chosen { IsChosen snapshot.now worker best book.old }
+    requires leaf { IsLeaf snapshot.now.tree.nodes id }
+    ensures chosen { IsChosen snapshot.now worker result book.new }
+    ensures none { result ≡ None → LeavesNone snapshot.now worker best id }
+{
+    if snapshot.tree().is_stalled(id) {
+        best
+    } else {
+        with_open(book, snapshot, best, id, worker)
+    }
+}
+
+/// Claims for the worker the oldest of the lowest level among the live leaves that aren't stalled and
+/// that no other worker holds, if there is one.
+pub(crate) fn claim_best(book: &mut Book, snapshot: &Snapshot, worker: u32) -> Option<u32>
+    requires first { 0 < worker }
+    requires last { worker ≤ most_workers }
+    requires same { book.old ≡ snapshot.now }
+    ensures chosen { IsChosen snapshot.now worker result book.new }
+    ensures none { result ≡ None → AreHeld snapshot.now worker }
+{
+    let mut best = None;
+    for id in snapshot.tree().live_leaves() {
+        best = with_leaf(book, snapshot, best, *id, worker);
+    }
+    best
+}
