@@ -2,23 +2,45 @@
 
 ghost use Rattle.std.specs.Prelude.{◌≡◌, ◌<◌, ◌≤◌, None, true, length, IfSome};
 ghost use Rattle.obligation_tree.specs.Claims.{most_workers};
+ghost use Rattle.obligation_tree.specs.Nodes.{is_stalled_in, leaf_numbers, node_at};
 ghost use Rattle.chc_core.specs.Views.{standing_of};
 ghost use Rattle.obligation_turn.specs.Turns.{IsOpenLeaf};
 ghost use Rattle.shared_book.specs.Jobs.{AreHeld};
 ghost use Rattle.shared_book.specs.machinery.Choices.{IsChosen, IsLeaf, LeavesNone};
 
 use chc_core::{Book, Snapshot};
-use obligation_tree::Tree;
+
+/// The live obligations without live children, in order of number.
+fn leaves_of(snapshot: &Snapshot) -> &[u32]
+    ensures { result.now ≡ leaf_numbers snapshot.now.tree.nodes }
+{
+    snapshot.tree().live_leaves()
+}
+
+/// Whether the obligation is stalled.
+fn is_stalled(snapshot: &Snapshot, id: u32) -> bool
+    requires { id < length snapshot.now.tree.nodes }
+    ensures { result ≡ is_stalled_in (node_at snapshot.now.tree.nodes id) }
+{
+    snapshot.tree().is_stalled(id)
+}
+
+/// The obligation's level.
+fn level_of(snapshot: &Snapshot, id: u32) -> u32
+    requires { id < length snapshot.now.tree.nodes }
+{
+    snapshot.tree().obligation(id).level
+}
 
 /// Whether the obligation is of a lower level than the best so far, if there is one.
-fn is_lower(tree: &Tree, best: Option<u32>, id: u32) -> bool
-    requires best { IfSome best (λ n. n < length tree.now.nodes) }
-    requires id { id < length tree.now.nodes }
+fn is_lower(snapshot: &Snapshot, best: Option<u32>, id: u32) -> bool
+    requires best { IfSome best (λ n. n < length snapshot.now.tree.nodes) }
+    requires id { id < length snapshot.now.tree.nodes }
     ensures { best ≡ None → result ≡ true }
 {
     match best {
         None => true,
-        Some(first) => tree.obligation(id).level < tree.obligation(first).level,
+        Some(first) => level_of(snapshot, id) < level_of(snapshot, first),
     }
 }
 
@@ -38,7 +60,7 @@ fn with_open(
     ensures chosen { IsChosen snapshot.now worker result book.new }
     ensures none { result ≡ None → LeavesNone snapshot.now worker best id }
 {
-    if !is_lower(snapshot.tree(), best, id) {
+    if !is_lower(snapshot, best, id) {
         return best;
     }
     if book.claim(id, worker) {
@@ -63,7 +85,7 @@ fn with_leaf(
     ensures chosen { IsChosen snapshot.now worker result book.new }
     ensures none { result ≡ None → LeavesNone snapshot.now worker best id }
 {
-    if snapshot.tree().is_stalled(id) {
+    if is_stalled(snapshot, id) {
         best
     } else {
         with_open(book, snapshot, best, id, worker)
@@ -80,7 +102,7 @@ pub(crate) fn claim_best(book: &mut Book, snapshot: &Snapshot, worker: u32) -> O
     ensures none { result ≡ None → AreHeld snapshot.now worker }
 {
     let mut best = None;
-    for id in snapshot.tree().live_leaves() {
+    for id in leaves_of(snapshot) {
         best = with_leaf(book, snapshot, best, *id, worker);
     }
     best
