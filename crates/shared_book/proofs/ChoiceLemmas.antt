@@ -1,6 +1,7 @@
 -- Claims of one worker after another, and leaves that are out.
 use Rattle.std.proofs.Common.{◌≡◌, ℕ, zero, suc, ◌+◌, ◌-◌, ◌<◌, ◌≤◌, List, [], ◌∷◌, length, filter, drop, get_or, Bool, true, false, not, ◌&&◌, ◌||◌, cond, Some, None, refl, ap, sym, ◌∙◌, subst, arith}
-use Rattle.std.specs.Prelude.{Option}
+use Rattle.std.specs.Prelude.{IfSome, Option}
+use Rattle.std.specs.Bool.{OnFalse, OnTrue}
 use Rattle.std.specs.List.{list_all, list_any, range_with_len}
 use Rattle.std.proofs.lemmas.List.{at_drop_more, at_drop_all, set-set}
 use Rattle.std.proofs.lemmas.List.Elements.{All-filter}
@@ -38,6 +39,32 @@ chosen-claim b worker (Some n) now id h = ap (claimed_by id worker) h.1 ∙ next
 pub chosen-next : (b : Contents) (worker : ℕ) (best : Option ℕ) (now after : Contents) (id : ℕ) → IsChosen b worker best now → IsOpenLeaf (standing_of b) id
     → is_held_by_another id worker now.tree.claims ≡ false → after ≡ claimed_by id worker now → IsChosen b worker (Some id) after
 chosen-next b worker best now after id h leaf free is = (record { leaf = leaf; free = sym (chosen-held b worker best now id h) ∙ free }, is ∙ chosen-claim b worker best now id h)
+
+pub chosen-there : (b : Contents) (worker : ℕ) (best : Option ℕ) (now : Contents) → IsChosen b worker best now → IfSome best (λ n. n < length b.tree.nodes)
+chosen-there b worker None now h = tt
+chosen-there b worker (Some n) now h = h.0.leaf.there
+
+-- truth values
+
+pub on_true : {P : Type 0} (b : Bool) → b ≡ true → OnTrue b P → P
+on_true true is h = h
+on_true false is h = absurd (cc)
+
+pub on_false : {P : Type 0} (b : Bool) → b ≡ false → OnFalse b P → P
+on_false false is h = h
+on_false true is h = absurd (cc)
+
+pub denied : (b : Bool) → not b ≡ false → b ≡ true
+denied true h = refl
+denied false h = absurd (cc)
+
+pub or_left : (a b : Bool) → a ≡ true → (a || b) ≡ true
+or_left true b h = refl
+or_left false b h = absurd (cc)
+
+pub or_right : (a b : Bool) → b ≡ true → (a || b) ≡ true
+or_right true b h = refl
+or_right false b h = h
 
 -- leaves
 

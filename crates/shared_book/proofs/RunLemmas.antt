@@ -75,6 +75,9 @@ narrow_step sys s step h new = record {
 narrow-after : (b c : Contents) (step : Step) → state_of c ≡ after b.system (state_of b) (step_of step) → IsNarrow (standing_of b) → StepIsNarrow step → IsNarrow (standing_of c)
 narrow-after b c step is h new = state_narrow c (subst IsNarrowState (sym is) (narrow_step b.system (state_of b) step (narrow_state b h) new))
 
+pub narrow-opening : (b : Contents) (units : ℕ) → state_of b ≡ opening units → IsNarrow (standing_of b)
+narrow-opening b units is = state_narrow b (subst IsNarrowState (sym is) (record { lemmas = tt; obligations = (refl, tt) }))
+
 -- claims and entries
 
 pub narrow-claims : (b : Contents) (claims : List (Option ℕ)) → IsNarrow (standing_of b) → IsNarrow (standing_of (with_claims claims b))

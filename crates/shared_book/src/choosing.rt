@@ -44,8 +44,26 @@ fn is_lower(snapshot: &Snapshot, best: Option<u32>, id: u32) -> bool
     }
 }
 
-/// Claims one more, which isn't stalled, where it is better than the best so far and no other worker
-/// holds it.
+/// Claims one more, which isn't stalled, where no other worker holds it.
+fn claim_open(
+    book: &mut Book,
+    snapshot: &Snapshot,
+    best: Option<u32>,
+    id: u32,
+    worker: u32,
+) -> Option<u32>
+    requires first { 0 < worker }
+    requires last { worker ≤ most_workers }
+    requires chosen { IsChosen snapshot.now worker best book.old }
+    requires leaf { IsOpenLeaf (standing_of snapshot.now) id }
+    ensures chosen { IsChosen snapshot.now worker result book.new }
+    ensures none { result ≡ None → LeavesNone snapshot.now worker best id }
+{
+    let is_free = book.claim(id, worker);
+    if is_free { Some(id) } else { best }
+}
+
+/// The same where it is better than the best so far.
 fn with_open(
     book: &mut Book,
     snapshot: &Snapshot,
@@ -60,11 +78,8 @@ fn with_open(
     ensures chosen { IsChosen snapshot.now worker result book.new }
     ensures none { result ≡ None → LeavesNone snapshot.now worker best id }
 {
-    if !is_lower(snapshot, best, id) {
-        return best;
-    }
-    if book.claim(id, worker) {
-        Some(id)
+    if is_lower(snapshot, best, id) {
+        claim_open(book, snapshot, best, id, worker)
     } else {
         best
     }
