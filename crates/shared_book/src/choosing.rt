@@ -1,13 +1,19 @@
 //! Which obligation a worker claims.
 
-ghost use Rattle.std.specs.Prelude.{◌≡◌, ◌<◌, ◌≤◌, None, true, length, IfSome};
+ghost use Rattle.std.specs.Prelude.{◌≡◌, ◌<◌, ◌≤◌, None, true, length, IfOk, IfSome, OnErr, OnOk};
+ghost use Rattle.book_rules.specs.Legal.{end};
 ghost use Rattle.obligation_tree.specs.Claims.{most_workers};
 ghost use Rattle.obligation_tree.specs.Nodes.{is_stalled_in, leaf_numbers, node_at};
-ghost use Rattle.chc_core.specs.Views.{standing_of};
-ghost use Rattle.obligation_turn.specs.Turns.{IsOpenLeaf};
-ghost use Rattle.shared_book.specs.Jobs.{AreHeld};
+ghost use Rattle.chc_core.specs.Views.{standing_of, state_of};
+ghost use Rattle.clause_queries.specs.Answers.{AreFew};
+ghost use Rattle.obligation_turn.specs.Turns.{IsNarrow, IsOpenLeaf};
+ghost use Rattle.shared_book.specs.Jobs.{AreHeld, IsFree};
+ghost use Rattle.shared_book.specs.Locks.{claimed_by, with_claims};
 ghost use Rattle.shared_book.specs.machinery.Choices.{IsChosen, IsLeaf, LeavesNone};
 
+use crate::job::Job;
+use crate::run::Run;
+use base::Memory;
 use chc_core::{Book, Snapshot};
 
 /// The live obligations without live children, in order of number.
@@ -109,7 +115,7 @@ fn with_leaf(
 
 /// Claims for the worker the oldest of the lowest level among the live leaves that aren't stalled and
 /// that no other worker holds, if there is one.
-pub(crate) fn claim_best(book: &mut Book, snapshot: &Snapshot, worker: u32) -> Option<u32>
+fn claim_best(book: &mut Book, snapshot: &Snapshot, worker: u32) -> Option<u32>
     requires first { 0 < worker }
     requires last { worker ≤ most_workers }
     requires same { book.old ≡ snapshot.now }
@@ -121,4 +127,28 @@ pub(crate) fn claim_best(book: &mut Book, snapshot: &Snapshot, worker: u32) -> O
         best = with_leaf(book, snapshot, best, *id, worker);
     }
     best
+}
+
+/// A job for the worker: a snapshot of the book, and the obligation that is then claimed. `None` where
+/// other workers hold all that may be asked.
+pub(crate) fn job_of<R: Run>(book: &mut Book, worker: u32) -> Result<Option<Job<R>>, Memory>
+    requires first { 0 < worker }
+    requires last { worker ≤ most_workers }
+    requires system { book.old.system ≡ R.system }
+    requires few { AreFew R.system }
+    requires goes_on { end (state_of book.old) ≡ None }
+    requires narrow { IsNarrow (standing_of book.old) }
+    ensures none { IfOk result (λ answer. answer ≡ None → AreHeld book.old worker) }
+    ensures unclaimed { IfOk result (λ answer. answer ≡ None → book.new ≡ book.old) }
+    ensures free { IfOk result (λ answer. IfSome answer (λ job. IsFree book.old worker job.obligation)) }
+    ensures snapshot { IfOk result (λ answer. IfSome answer (λ job. job.snapshot ≡ book.old)) }
+    ensures claimed { IfOk result (λ answer. IfSome answer (λ job. book.new ≡ claimed_by job.obligation worker book.old)) }
+    ensures kept { OnOk result (book.new ≡ with_claims book.new.tree.claims book.old) }
+    ensures err { OnErr result (book.new ≡ book.old) }
+{
+    let snapshot = book.snapshot()?;
+    match claim_best(book, &snapshot, worker) {
+        Some(obligation) => Ok(Some(Job::new(obligation, snapshot))),
+        None => Ok(None),
+    }
 }

@@ -3,7 +3,7 @@ use Rattle.std.specs.Prelude.{Option}
 use Rattle.chc_core.specs.Contents.{Contents}
 use Rattle.shared_book.specs.Locks.{released_by, with_claims}
 use Rattle.shared_book.proofs.ListLemmas.{cleared}
-use Rattle.shared_book.proofs.locked.release_all.Goals as goal
+use Rattle.shared_book.proofs.taking.release_all.Goals as goal
 
 pub loop-worker-preserved : goal.loop-worker-preserved
 loop-worker-preserved c =

@@ -1,6 +1,6 @@
 use Rattle.std.proofs.Common.{◌≡◌, ℕ, ◌<◌, get_or, None}
 use Rattle.shared_book.specs.Locks.{with_claims}
-use Rattle.shared_book.proofs.locked.release_all.Given as goal
+use Rattle.shared_book.proofs.taking.release_all.Given as goal
 
 -- the first workers hold none, and nothing but claims has changed
 abbrev pub invariant-loop-worker : goal.invariant-loop-worker
