@@ -19,9 +19,6 @@ use Rattle.shared_book.specs.machinery.Choices.{IsChosen, IsLeaf, is_out}
 
 -- a worker's own claim tells nothing of what others hold, and gives way to the next
 
-none : Option ℕ
-none = None
-
 own-claim : (id n worker : ℕ) (claims : List (Option ℕ)) → is_held_by_another id worker (claimed n worker claims) ≡ is_held_by_another id worker claims
 own-claim id n worker claims = ap (λ (xs : List (Option ℕ)). list_any (is_claim_of id) xs) (set-set claims (worker - 1) (Some n) None)
 
