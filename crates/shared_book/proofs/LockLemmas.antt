@@ -1,9 +1,13 @@
 -- What stands behind the lock, part by part.
-use Rattle.std.proofs.Common.{◌≡◌, ℕ, ◌+◌, ◌≤◌, Bool, length, Some, None, ap, refl, subst, sym, ◌∙◌, arith}
+use Rattle.std.proofs.Common.{◌≡◌, ℕ, ◌+◌, ◌≤◌, Bool, length, Some, None, Ok, Err, Result, OnErr, ap, refl, subst, sym, ◌∙◌, arith}
 use Rattle.std.specs.Prelude.{IfSome, Option}
 use Rattle.chc_core.specs.Contents.{Contents}
 use Rattle.shared_book.specs.Jobs.{Asked}
 use Rattle.shared_book.specs.Locks.{Behind, claimed_by}
+
+pub on-err : {X E P : Type 0} (r : Result X E) → P → OnErr r P
+on-err (Ok x) h = tt
+on-err (Err e) h = h
 
 pub some-map : {A : Type 0} {P Q : A → Type 0} (o : Option A) → IfSome o P → ((a : A) → P a → Q a) → IfSome o Q
 some-map None h f = tt

@@ -6,7 +6,7 @@ use Rattle.chc_core.specs.Views.{state_of}
 use Rattle.shared_book.specs.Jobs.{AreHeld, Asked, IsFree}
 use Rattle.shared_book.specs.Locks.{Behind, claimed_by}
 use Rattle.shared_book.specs.Runs.{IsRunBook}
-use Rattle.shared_book.proofs.LockLemmas.{long-enough, same-behind, some-map}
+use Rattle.shared_book.proofs.LockLemmas.{long-enough, on-err, same-behind, some-map}
 use Rattle.shared_book.proofs.RunLemmas.{run-claims}
 use Rattle.shared_book.proofs.locked.Locked.next_job.Goals as goal
 
@@ -39,7 +39,9 @@ invariant_of-self-2 g c =
     (run-claims _ _ _ _ c.self.inside.book c.job_of.new.book _ kept c.self.invariant.0, c.audit.ensures.total ∙ c.self.invariant.1 ∙ ap (λ (b : Contents). length b.journal) (sym kept))
 
 pub returns-in_err-answer-clause-err : goal.returns-in_err-answer-clause-err
-returns-in_err-answer-clause-err g c = same-behind c.job_of.new.book c.self.inside.book c.self.inside.noted _ _ c.in_err-answer.ensures.err c.audit.ensures.total ∙ c.self.view_is
+returns-in_err-answer-clause-err g c =
+    on-err c.from_residual-in_err-answer.result
+    (same-behind c.job_of.new.book c.self.inside.book c.self.inside.noted c.audit.new.self.total c.self.inside.written.total c.in_err-answer.ensures.err c.audit.ensures.total ∙ c.self.view_is)
 
 pub returns-clause-asked : goal.returns-clause-asked
 returns-clause-asked g c = subst (λ (l : Behind). (end (state_of l.book) ≡ None) × (l.noted ≡ false)) c.self.view_is c.in_ok-may_ask.ensures.ok

@@ -14,7 +14,7 @@ release-requires-clause-last g c =
 pub invariant_of-self : goal.invariant_of-self
 invariant_of-self g c =
     let is = c.release.ensures in
-    (run-claims _ _ _ _ c.self.inside.book c.release.new.self _ is c.self.invariant.0, c.self.invariant.1 ∙ ap (λ (b : Contents). length b.journal) (sym is))
+    (run-claims _ _ _ _ c.self.inside.book c.release.new.self _ is c.self.invariant.0, c.self.invariant.1 ∙ ap (λ (b : Contents). length b.journal) (sym {b = released_by c.args.share.now.worker c.self.inside.book} is))
 
 pub returns : goal.returns
 returns g c =
