@@ -13,7 +13,7 @@ use Rattle.chc_core.specs.Contents.{Contents}
 use Rattle.chc_core.specs.Views.{standing_of}
 use Rattle.chc_core.proofs.EndLemmas.{leaves-there}
 use Rattle.obligation_turn.specs.Turns.{IsOpenLeaf}
-use Rattle.shared_book.specs.Jobs.{AreHeld, IsFree}
+use Rattle.shared_book.specs.Jobs.{AreHeld}
 use Rattle.shared_book.specs.Locks.{claimed_by, with_claims}
 use Rattle.shared_book.specs.machinery.Choices.{IsChosen, IsLeaf, is_out}
 

@@ -1,9 +1,9 @@
 -- What stands behind the lock, part by part.
-use Rattle.std.proofs.Common.{◌≡◌, ℕ, ◌+◌, ◌≤◌, Bool, length, Some, None, Ok, Err, Result, OnErr, ap, refl, subst, sym, ◌∙◌, arith}
+use Rattle.std.proofs.Common.{◌≡◌, ℕ, ◌≤◌, Bool, length, Some, None, Ok, Err, Result, OnErr, ap, ◌∙◌, arith}
 use Rattle.std.specs.Prelude.{IfSome, Option}
 use Rattle.chc_core.specs.Contents.{Contents}
 use Rattle.shared_book.specs.Jobs.{Asked}
-use Rattle.shared_book.specs.Locks.{Behind, claimed_by}
+use Rattle.shared_book.specs.Locks.{Behind}
 
 pub on-err : {X E P : Type 0} (r : Result X E) → P → OnErr r P
 on-err (Ok x) h = tt

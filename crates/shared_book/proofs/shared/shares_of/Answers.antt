@@ -1,4 +1,4 @@
-use Rattle.std.proofs.Common.{◌≡◌, ◌+◌, [], ◌∷◌, ◌++◌, arith, rules}
+use Rattle.std.proofs.Common.{rules}
 use Rattle.std.proofs.lemmas.List.{map-append, replicate_more}
 use Rattle.shared_book.proofs.ListLemmas.{range-more}
 use Rattle.shared_book.proofs.shared.shares_of.Goals as goal

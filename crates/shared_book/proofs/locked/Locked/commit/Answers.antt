@@ -1,4 +1,4 @@
-use Rattle.std.proofs.Common.{◌≡◌, ℕ, ◌+◌, ◌≤◌, [], ◌∷◌, ◌++◌, length, true, ap, arith, refl, subst, sym, ◌∙◌}
+use Rattle.std.proofs.Common.{◌≡◌, ℕ, ◌+◌, [], ◌∷◌, ◌++◌, length, true, ap, arith, refl, subst, sym, ◌∙◌}
 use Rattle.book_rules.specs.Effects.{after}
 use Rattle.book_rules.specs.Legal.{IsLegal}
 use Rattle.book_rules.specs.Places.{has_places}

@@ -1,4 +1,4 @@
-use Rattle.std.proofs.Common.{◌≡◌, ◌≤◌, None, length, arith, ap, subst, sym, ◌∙◌, false}
+use Rattle.std.proofs.Common.{◌≡◌, None, length, arith, ap, subst, sym, ◌∙◌, false}
 use Rattle.std.specs.Prelude.{IfSome}
 use Rattle.book_rules.specs.Legal.{end}
 use Rattle.chc_core.specs.Contents.{Contents}

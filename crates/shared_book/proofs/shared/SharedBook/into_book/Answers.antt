@@ -1,5 +1,3 @@
-use Rattle.std.proofs.Common.{List, ℕ, ap, sym, ◌∙◌}
-use Rattle.std.specs.Prelude.{sum}
 use Rattle.shared_book.proofs.shared.SharedBook.into_book.Goals as goal
 
 pub returns-clause-system : goal.returns-clause-system
