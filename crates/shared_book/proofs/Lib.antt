@@ -1,0 +1,5 @@
+pub mod RunLemmas
+pub mod ChoiceLemmas
+pub mod JobLemmas
+pub mod ListLemmas
+pub mod LockLemmas

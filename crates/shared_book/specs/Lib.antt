@@ -1,0 +1,4 @@
+pub mod Runs
+pub mod Locks
+pub mod Jobs
+pub mod machinery

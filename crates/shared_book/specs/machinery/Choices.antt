@@ -1,0 +1,28 @@
+-- The leaves of a book, and which has been claimed so far.
+use Rattle.std.specs.Prelude.{◌≡◌, ◌<◌, ◌||◌, ℕ, List, length, Bool, true, false, Option, Some, None}
+use Rattle.obligation_tree.specs.Claims.{is_held_by_another}
+use Rattle.obligation_tree.specs.declared.node.Node.{Node}
+use Rattle.obligation_tree.specs.Nodes.{has_live_child, is_live_at, is_stalled_in, node_at}
+use Rattle.chc_core.specs.Contents.{Contents}
+use Rattle.shared_book.specs.Jobs.{IsFree}
+use Rattle.shared_book.specs.Locks.{claimed_by}
+
+-- a live obligation without live children
+pub record IsLeaf (nodes : List Node) (n : ℕ) : Type 0 where
+  pub there : n < length nodes
+  pub live : is_live_at nodes n ≡ true
+  pub leaf : has_live_child nodes n ≡ false
+
+-- stalled, or held by another
+abbrev pub is_out : Contents → ℕ → ℕ → Bool
+is_out b worker id = is_stalled_in (node_at b.tree.nodes id) || is_held_by_another id worker b.tree.claims
+
+-- the book as it is now, where the best so far is claimed
+abbrev pub IsChosen : Contents → ℕ → Option ℕ → Contents → Type 0
+IsChosen b worker None now = now ≡ b
+IsChosen b worker (Some id) now = IsFree b worker id × (now ≡ claimed_by id worker b)
+
+-- none is chosen only where none was, and this one is out
+pub record LeavesNone (b : Contents) (worker : ℕ) (best : Option ℕ) (id : ℕ) : Type 0 where
+  pub none : best ≡ None
+  pub out : is_out b worker id ≡ true

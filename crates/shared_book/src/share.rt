@@ -1,0 +1,63 @@
+ghost use Rattle.std.specs.Prelude.{◌≡◌, ◌<◌, ◌≤◌};
+ghost use Rattle.obligation_tree.specs.Claims.{most_workers};
+
+use crate::run::Run;
+use std::sync::ledger;
+
+/// One worker's part of a run: its number, from 1, and how many entries it has written. There is one
+/// for each worker.
+#[derive(Drop)]
+pub struct Share<R: Run> {
+    pub(crate) worker: u32,
+    pub(crate) count: u64,
+    pub(crate) token: ledger::Share<R>,
+    pub ghost first: { 0 < worker },
+    pub ghost last: { worker ≤ R.workers },
+    pub ghost most: { R.workers ≤ most_workers },
+    pub ghost counted: { token.amount ≡ count },
+    pub ghost one_part: { token.parts ≡ 1 },
+}
+
+impl<R: Run> Share<R> {
+    /// The share of a worker that has written nothing.
+    pub(crate) fn new(worker: u32, token: ledger::Share<R>) -> Share<R>
+        requires first { 0 < worker }
+        requires last { worker ≤ R.workers }
+        requires most { R.workers ≤ most_workers }
+        requires amount { token.amount ≡ 0 }
+        requires parts { token.parts ≡ 1 }
+        ensures worker { result.worker ≡ worker }
+        ensures count { result.count ≡ 0 }
+    {
+        Share {
+            worker,
+            count: 0,
+            token,
+        }
+    }
+
+    /// The token that stands for the count.
+    pub(crate) fn into_token(self) -> ledger::Share<R>
+        ensures amount { result.amount ≡ self.count }
+        ensures parts { result.parts ≡ 1 }
+    {
+        let Share { token, .. } = self;
+        token
+    }
+
+    /// The worker's number, from 1 to the number of workers.
+    pub fn worker(&self) -> u32
+        ensures is { result ≡ self.now.worker }
+        ensures first { 0 < result }
+        ensures last { result ≤ R.workers }
+    {
+        self.worker
+    }
+
+    /// How many entries of the journal are this worker's.
+    pub fn count(&self) -> u64
+        ensures { result ≡ self.now.count }
+    {
+        self.count
+    }
+}
