@@ -143,7 +143,7 @@ fn few(nodes: u32) -> u32
 }
 
 /// The step with the lemma that is learnt in the end in place of its own; any other step as it is.
-pub(crate) fn improved(lent: &Lent, step: Step, hints: &Hints, nodes: u32) -> Result<Step, Memory>
+pub fn improved(lent: &Lent, step: Step, hints: &Hints, nodes: u32) -> Result<Step, Memory>
     requires goes_on { GoesOn lent.now }
     requires some { 0 < nodes }
     requires taken { IsTaken lent.now nodes step }
