@@ -83,3 +83,6 @@ returns-in-Err-2-clause-writes_part_of_memory g c =
     let is : c.kind.result ≡ ErrorKind.OutOfMemory = kind ∙ same in
     let yes : c.eq.result ≡ true = rw (c.eq.ensures, is) refl in
     absurd (cc))
+
+pub returns-in-Err-words_after_name-clause-writes_part : goal.returns-in-Err-words_after_name-clause-writes_part
+returns-in-Err-words_after_name-clause-writes_part g c = rw c.in-Ok.is (λ four. inr (c.no_memory.ensures.writes_part four))
