@@ -1,5 +1,5 @@
 -- A verdict is told of no script that is refused, and a refusal of none that isn't.
-use Rattle.std.proofs.Common.{◌≡◌, ℕ, ◌<◌, ◌≤◌, List, length, take, inl, inr, sym, subst, arith}
+use Rattle.std.proofs.Common.{◌≡◌, ℕ, ◌<◌, List, take, inl, inr, sym, subst, arith}
 use Rattle.std.specs.Prelude.{Some, None, IfSome, ◌≢◌}
 use Rattle.std.specs.declared.option.Option.{Option}
 use Rattle.term_tree.specs.declared.refusal.Refusal.{Refusal}

@@ -9,9 +9,7 @@ use Rattle.sort_check.specs.Scripts.{Outcome}
 use Rattle.clause_form.specs.System.{Clauses}
 use Rattle.clause_form.specs.declared.clause.Clause.{Clause}
 use Rattle.clause_normal.specs.Reading.{all_clauses, system_reading, unless_stopped}
-use Rattle.chc_checker.specs.declared.verdict.Verdict.{Verdict}
-use Rattle.answer_check.specs.Inputs.{JudgesInput}
-use Rattle.check_call.specs.Calls.{IsJudged, verdict_status}
+use Rattle.check_call.specs.Calls.{IsJudged}
 use Rattle.check_call.specs.declared.found.Found.{Found}
 use Rattle.check_call.specs.declared.found.Found.TheVariants.{Refused, Valid, Wrong, NotShown}
 use Rattle.check_call.specs.machinery.Plans.{HasVerdict, IsFound, IsTold}

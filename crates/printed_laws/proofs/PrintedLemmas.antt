@@ -25,10 +25,10 @@ use Rattle.answer_text.specs.Printable.{IsAnswerText}
 use Rattle.answer_text.specs.Read.{IsBad, Spells}
 use Rattle.answer_text.specs.machinery.ReadBack.{IsSameModel}
 use Rattle.answer_laws.specs.Texts.{IsSatAnswer}
-use Rattle.book_answers.specs.Answers.{HasText, IsAnswerAt}
+use Rattle.book_answers.specs.Answers.{IsAnswerAt}
 use Rattle.solve_words.specs.declared.limits.Limits.{Limits}
 use Rattle.solve_call.specs.Headline.{Answers, IsAnswered, IsBookFor}
-use Rattle.printed_laws.specs.Printed.{IsPrinted, IsSolutionText, Says, IsSolvedBy}
+use Rattle.printed_laws.specs.Printed.{IsPrinted, Says, IsSolvedBy}
 use Rattle.printed_laws.specs.Printed.Says.{sat, unsat, unknown}
 
 same_rest : (held text other : List ℕ) → held ++ text ≡ held ++ other → text ≡ other
