@@ -15,10 +15,10 @@ use std::alloc::Global;
 use std::process::Abort;
 use term_tree::Sort;
 
-/// x0 is the value.
-fn is(rt: &impl Abort, alloc: Global, value: i128) -> Form {
+/// x0 and the constant sum to 0.
+fn is(rt: &impl Abort, alloc: Global, constant: i128) -> Form {
     let terms = Vec::from_slice(alloc, &[(0, 1)]).expect(rt, "memory");
-    Form::Lit(Lit::Eq(Lin::new(terms, -value).expect(rt, "a form")))
+    Form::Lit(Lit::Eq(Lin::new(terms, constant).expect(rt, "a form")))
 }
 
 /// p(x0).
@@ -91,7 +91,7 @@ pub(crate) fn opened(rt: &impl Abort, alloc: Global, contradicts: bool, units: u
     let mut clauses = Items::new(alloc);
     let zero = clause(rt, alloc, is(rt, alloc, 0), false, Some(atom(rt, alloc)));
     clauses.push(zero).expect(rt, "memory");
-    let query = clause(rt, alloc, is(rt, alloc, 1), !contradicts, None);
+    let query = clause(rt, alloc, is(rt, alloc, -1), !contradicts, None);
     clauses.push(query).expect(rt, "memory");
     book(rt, alloc, clauses, units)
 }

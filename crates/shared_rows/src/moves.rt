@@ -34,19 +34,19 @@ pub(crate) enum Told {
 }
 
 /// The kind of a step, and its numbers.
-pub(crate) fn numbers(step: &Step) -> (u32, u32, u32) {
+pub(crate) fn numbers(step: &Step) -> (u32, u64, u64) {
     match step {
-        Step::OpenStep(part) => (1, part.parent, part.atom),
-        Step::LemmaStep(part) => (2, part.target, part.level),
-        Step::FactStep(part) => (3, part.premises.len() as u32, part.seen.clause()),
-        Step::LiftStep(part) => (4, part.lemma, part.from),
-        Step::RaiseStep(part) => (5, part.closed.len() as u32, part.kept.len() as u32),
-        Step::StallStep(part) => (6, part.target, part.clause),
+        Step::OpenStep(part) => (1, u64::from(part.parent), u64::from(part.atom)),
+        Step::LemmaStep(part) => (2, u64::from(part.target), u64::from(part.level)),
+        Step::FactStep(part) => (3, part.premises.len() as u64, u64::from(part.seen.clause())),
+        Step::LiftStep(part) => (4, u64::from(part.lemma), u64::from(part.from)),
+        Step::RaiseStep(part) => (5, part.closed.len() as u64, part.kept.len() as u64),
+        Step::StallStep(part) => (6, u64::from(part.target), u64::from(part.clause)),
     }
 }
 
 /// An entry as it was handed in: the worker, and the step's numbers.
-pub(crate) type Made = (u32, (u32, u32, u32));
+pub(crate) type Made = (u32, (u32, u64, u64));
 
 /// Asks for a job.
 fn taken<R: Run, W: Wait + Abort>(
