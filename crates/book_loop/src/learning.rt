@@ -127,7 +127,7 @@ fn learnt(lent: &Lent, part: LemmaPart, hints: &Hints, nodes: u32) -> Result<Lem
 }
 
 /// The step with the lemma that is learnt in the end in place of its own; any other step as it is.
-pub(crate) fn improved(lent: &Lent, step: Step, hints: &Hints, nodes: u32) -> Result<Step, Memory>
+pub fn improved(lent: &Lent, step: Step, hints: &Hints, nodes: u32) -> Result<Step, Memory>
     requires goes_on { GoesOn lent.now }
     requires some { 0 < nodes }
     requires taken { IsTaken lent.now nodes step }
