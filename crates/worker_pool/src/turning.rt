@@ -87,9 +87,11 @@ pub(crate) fn pass_after(lent: &Lent, step: &Step, mind: &Mind) -> Option<Pass> 
     }
 }
 
-/// The worker lifts these lemmas next.
-pub(crate) fn go_on(mind: &mut Mind, pass: Option<Pass>)
+/// The worker lifts these lemmas next, if the book has taken the step.
+pub(crate) fn go_on(mind: &mut Mind, taken: bool, pass: Option<Pass>)
     ensures { (sys : Clauses) → IsWorkspaceFor sys mind.old.work → IsWorkspaceFor sys mind.new.work }
 {
-    mind.pass = pass;
+    if taken {
+        mind.pass = pass;
+    }
 }

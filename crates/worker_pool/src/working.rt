@@ -29,9 +29,8 @@ fn serve<R: Run>(
     let lent = job.lend();
     let step = next_step(&lent, job.obligation(), nodes, mind)?;
     let pass = pass_after(&lent, &step, mind);
-    if offer_turn(rt, &lent, shared, share, step)? {
-        go_on(mind, pass);
-    }
+    let taken = offer_turn(rt, &lent, shared, share, step)?;
+    go_on(mind, taken, pass);
     Ok(())
 }
 
