@@ -10,6 +10,7 @@ use worker_pool::Gate;
 const MOST_LOOKS: u32 = 10_000_000;
 
 /// Holds worker 1 before its first turn until worker 2 has passed.
+#[derive(Drop)]
 struct Turnstile {
     passed: AtomicBool,
     given_up: AtomicBool,
@@ -54,6 +55,6 @@ fn the_first_worker_is_held_until_the_second_has_passed(rt: HostRuntime) {
         !gate.given_up.load(Ordering::SeqCst),
         "the second worker passes"
     );
-    assert!(&rt; matches!(outcome.end, Some(End::Sat { .. })), "a sat end");
+    assert!(&rt; matches!(&outcome.end, Some(End::Sat { .. })), "a sat end");
     check_counts(&rt, &outcome, 2);
 }
