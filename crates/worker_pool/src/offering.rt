@@ -12,9 +12,6 @@ use shared_book::{Run, Share, SharedBook};
 use std::sync::Wait;
 use step_rules::{LemmaPart, Lent, LiftPart, OpenPart, Step};
 
-/// How many further body atoms of one instance are asked at the most.
-const MOST_SIBLINGS: u32 = 3;
-
 /// Whether the book takes the step: it doesn't where it has ended, or where the step breaks a rule by
 /// what others did meanwhile.
 fn offer<R: Run>(
@@ -55,42 +52,47 @@ fn offer_sibling<R: Run>(
     }
 }
 
-/// Offers to ask the other body atoms of the instance, as far as their tuples aren't recorded. One that
-/// is refused is left out.
+/// Offers to ask other body atoms of the instance whose tuples aren't recorded, so many at the most. One
+/// that is refused is left out.
 fn offer_siblings<R: Run>(
     rt: &impl Wait,
     lent: &Lent,
     shared: &SharedBook<R>,
     share: &mut Share<R>,
     from: &Opened,
+    most: u32,
 ) -> Result<(), Memory>
     requires system { lent.now.system ≡ R.system }
     requires seen { is_seen lent.now.system from.now.seen ≡ true }
 {
     let mut offered = 0;
     for number in 0..atoms_of(lent, from) {
-        if offered < MOST_SIBLINGS && offer_sibling(rt, lent, shared, share, from, number)? {
+        if offered < most && offer_sibling(rt, lent, shared, share, from, number)? {
             offered += 1;
         }
     }
     Ok(())
 }
 
-/// Offers the Open, and the other body atoms of its instance once it is taken.
+/// Offers the Open, and once it is taken, so many other body atoms of its instance at the most.
 fn offer_open<R: Run>(
     rt: &impl Wait,
     lent: &Lent,
     shared: &SharedBook<R>,
     share: &mut Share<R>,
     part: OpenPart,
+    most: u32,
 ) -> Result<bool, Memory>
     requires system { lent.now.system ≡ R.system }
     requires open { IsOffered R.system R.nodes (OpenStep part) }
 {
+    if most == 0 {
+        return offer(rt, shared, share, Step::OpenStep(part));
+    }
     let from = opened_by(lent.alloc, &part)?;
     let taken = offer(rt, shared, share, Step::OpenStep(part))?;
     if taken {
-        offer_siblings(rt, lent, shared, share, &from)?;
+        offer_siblings(rt, lent, shared, share, &from, most)?;
     }
     Ok(taken)
 }
@@ -158,19 +160,21 @@ fn offer_lemma<R: Run>(
     offer(rt, shared, share, Step::LemmaStep(part))
 }
 
-/// Offers the step of a turn, and what comes with it; whether any of it was taken.
+/// Offers the step of a turn, and what comes with it, of further body atoms so many at the most; whether
+/// any of it was taken.
 pub(crate) fn offer_turn<R: Run>(
     rt: &impl Wait,
     lent: &Lent,
     shared: &SharedBook<R>,
     share: &mut Share<R>,
     step: Step,
+    most: u32,
 ) -> Result<bool, Memory>
     requires system { lent.now.system ≡ R.system }
     requires step { IsOffered R.system R.nodes step }
 {
     match step {
-        Step::OpenStep(part) => offer_open(rt, lent, shared, share, part),
+        Step::OpenStep(part) => offer_open(rt, lent, shared, share, part, most),
         Step::LemmaStep(part) => offer_lemma(rt, lent, shared, share, part),
         step => offer(rt, shared, share, step),
     }

@@ -101,7 +101,7 @@ fn run<R: Run + Send + Sync, W: Threads + Wait + Sync, G: Gate>(
         rt,
         shares.as_mut_slice(),
         limits.workers as usize,
-        &|_, share| work(rt, alloc, &shared, share, limits.nodes, gate, &wanted),
+        &|_, share| work(rt, alloc, &shared, share, limits, gate, &wanted),
     );
     let book = shared.into_book(shares, counts.as_mut_slice());
     Ok(left_by(book, counts, wanted.load(Ordering::SeqCst)))

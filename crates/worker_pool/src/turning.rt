@@ -20,17 +20,20 @@ pub(crate) struct Mind {
     hints: Option<Hints>,
     pass: Option<Pass>,
     work: Workspace,
+    /// How many further body atoms of an instance it asks at the most.
+    pub(crate) siblings: u32,
 }
 
 impl Mind {
     /// Nothing yet.
-    pub(crate) fn new(alloc: Global) -> Mind
+    pub(crate) fn new(alloc: Global, siblings: u32) -> Mind
         ensures { (sys : Clauses) → IsWorkspaceFor sys result.work }
     {
         Mind {
             hints: None,
             pass: None,
             work: Workspace::new(alloc),
+            siblings,
         }
     }
 }

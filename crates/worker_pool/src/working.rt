@@ -4,6 +4,7 @@ ghost use Rattle.std.specs.Prelude.{◌≡◌, ◌<◌, OnOk};
 ghost use Rattle.obligation_turn.specs.Workspaces.{IsWorkspaceFor};
 
 use crate::gate::Gate;
+use crate::limits::Limits;
 use crate::offering::offer_turn;
 use crate::turning::{Mind, go_on, next_step, pass_after};
 use base::Memory;
@@ -29,7 +30,7 @@ fn serve<R: Run>(
     let lent = job.lend();
     let step = next_step(&lent, job.obligation(), nodes, mind)?;
     let pass = pass_after(&lent, &step, mind);
-    let taken = offer_turn(rt, &lent, shared, share, step)?;
+    let taken = offer_turn(rt, &lent, shared, share, step, mind.siblings)?;
     go_on(mind, taken, pass);
     Ok(())
 }
@@ -58,25 +59,31 @@ fn advance<R: Run>(
     }
 }
 
+/// How many further body atoms of an instance each of so many workers asks at the most. They give other
+/// workers something to do; one worker alone asks the atoms one after the other.
+fn siblings_for(workers: u32) -> u32 {
+    if workers > 1 { 3 } else { 0 }
+}
+
 /// Works turn after turn, until the book has ended or a worker wanted memory.
 pub(crate) fn work<R: Run, W: Wait, G: Gate>(
     rt: &W,
     alloc: Global,
     shared: &SharedBook<R>,
     share: &mut Share<R>,
-    nodes: u32,
+    limits: Limits,
     gate: &G,
     wanted: &AtomicBool,
 )
-    requires some { 0 < nodes }
-    requires nodes { nodes ≡ R.nodes }
+    requires some { 0 < limits.nodes }
+    requires nodes { limits.nodes ≡ R.nodes }
 {
-    let mut mind = Mind::new(alloc);
+    let mut mind = Mind::new(alloc, siblings_for(limits.workers));
     let mut turn: u64 = 0;
     for _ in rt.forever() {
         turn = turn.saturating_add(1);
         gate.pass(share.worker(), turn);
-        match advance(rt, shared, share, nodes, &mut mind) {
+        match advance(rt, shared, share, limits.nodes, &mut mind) {
             Ok(true) => {}
             Ok(false) => return,
             Err(Memory) => {
