@@ -19,7 +19,7 @@ def read():
     """What each crate stands on, and the crates of each layer under its heading, from bottom to top."""
     below, layers = {}, []
     for line in (TOP / "crates.txt").read_text().splitlines():
-        match = re.match(r"(\w+)(?: \w+)?:(.*)", line)
+        match = re.match(r"(\w+)(?: [\w=+]+)*:(.*)", line)
         if line.startswith("#"):
             layers.append((line[1:].strip(), []))
         elif match:

@@ -1,29 +1,75 @@
 //! Which obligation a worker claims.
 
-ghost use Rattle.std.specs.Prelude.{◌≡◌, ◌<◌, ◌≤◌, None, true, length, IfSome};
+ghost use Rattle.std.specs.Prelude.{◌≡◌, ◌<◌, ◌≤◌, None, true, length, IfOk, IfSome, OnErr, OnOk};
+ghost use Rattle.book_rules.specs.Legal.{end};
 ghost use Rattle.obligation_tree.specs.Claims.{most_workers};
-ghost use Rattle.chc_core.specs.Views.{standing_of};
-ghost use Rattle.obligation_turn.specs.Turns.{IsOpenLeaf};
-ghost use Rattle.shared_book.specs.Jobs.{AreHeld};
+ghost use Rattle.obligation_tree.specs.Nodes.{is_stalled_in, leaf_numbers, node_at};
+ghost use Rattle.chc_core.specs.Views.{standing_of, state_of};
+ghost use Rattle.clause_queries.specs.Answers.{AreFew};
+ghost use Rattle.obligation_turn.specs.Turns.{IsNarrow, IsOpenLeaf};
+ghost use Rattle.shared_book.specs.Jobs.{AreHeld, IsFree};
+ghost use Rattle.shared_book.specs.Locks.{claimed_by, with_claims};
 ghost use Rattle.shared_book.specs.machinery.Choices.{IsChosen, IsLeaf, LeavesNone};
 
+use crate::job::Job;
+use crate::run::Run;
+use base::Memory;
 use chc_core::{Book, Snapshot};
-use obligation_tree::Tree;
+
+/// The live obligations without live children, in order of number.
+fn leaves_of(snapshot: &Snapshot) -> &[u32]
+    ensures { result.now ≡ leaf_numbers snapshot.now.tree.nodes }
+{
+    snapshot.tree().live_leaves()
+}
+
+/// Whether the obligation is stalled.
+fn is_stalled(snapshot: &Snapshot, id: u32) -> bool
+    requires { id < length snapshot.now.tree.nodes }
+    ensures { result ≡ is_stalled_in (node_at snapshot.now.tree.nodes id) }
+{
+    snapshot.tree().is_stalled(id)
+}
+
+/// The obligation's level.
+fn level_of(snapshot: &Snapshot, id: u32) -> u32
+    requires { id < length snapshot.now.tree.nodes }
+{
+    snapshot.tree().obligation(id).level
+}
 
 /// Whether the obligation is of a lower level than the best so far, if there is one.
-fn is_lower(tree: &Tree, best: Option<u32>, id: u32) -> bool
-    requires best { IfSome best (λ n. n < length tree.now.nodes) }
-    requires id { id < length tree.now.nodes }
+fn is_lower(snapshot: &Snapshot, best: Option<u32>, id: u32) -> bool
+    requires best { IfSome best (λ n. n < length snapshot.now.tree.nodes) }
+    requires id { id < length snapshot.now.tree.nodes }
     ensures { best ≡ None → result ≡ true }
 {
     match best {
         None => true,
-        Some(first) => tree.obligation(id).level < tree.obligation(first).level,
+        Some(first) => level_of(snapshot, id) < level_of(snapshot, first),
     }
 }
 
-/// Claims one more, which isn't stalled, where it is better than the best so far and no other worker
-/// holds it.
+/// Claims one more, which isn't stalled, where no other worker holds it.
+fn claim_open(
+    book: &mut Book,
+    snapshot: &Snapshot,
+    best: Option<u32>,
+    id: u32,
+    worker: u32,
+) -> Option<u32>
+    requires first { 0 < worker }
+    requires last { worker ≤ most_workers }
+    requires chosen { IsChosen snapshot.now worker best book.old }
+    requires leaf { IsOpenLeaf (standing_of snapshot.now) id }
+    ensures chosen { IsChosen snapshot.now worker result book.new }
+    ensures none { result ≡ None → LeavesNone snapshot.now worker best id }
+{
+    let is_free = book.claim(id, worker);
+    if is_free { Some(id) } else { best }
+}
+
+/// The same where it is better than the best so far.
 fn with_open(
     book: &mut Book,
     snapshot: &Snapshot,
@@ -38,11 +84,8 @@ fn with_open(
     ensures chosen { IsChosen snapshot.now worker result book.new }
     ensures none { result ≡ None → LeavesNone snapshot.now worker best id }
 {
-    if !is_lower(snapshot.tree(), best, id) {
-        return best;
-    }
-    if book.claim(id, worker) {
-        Some(id)
+    if is_lower(snapshot, best, id) {
+        claim_open(book, snapshot, best, id, worker)
     } else {
         best
     }
@@ -63,7 +106,7 @@ fn with_leaf(
     ensures chosen { IsChosen snapshot.now worker result book.new }
     ensures none { result ≡ None → LeavesNone snapshot.now worker best id }
 {
-    if snapshot.tree().is_stalled(id) {
+    if is_stalled(snapshot, id) {
         best
     } else {
         with_open(book, snapshot, best, id, worker)
@@ -72,7 +115,7 @@ fn with_leaf(
 
 /// Claims for the worker the oldest of the lowest level among the live leaves that aren't stalled and
 /// that no other worker holds, if there is one.
-pub(crate) fn claim_best(book: &mut Book, snapshot: &Snapshot, worker: u32) -> Option<u32>
+fn claim_best(book: &mut Book, snapshot: &Snapshot, worker: u32) -> Option<u32>
     requires first { 0 < worker }
     requires last { worker ≤ most_workers }
     requires same { book.old ≡ snapshot.now }
@@ -80,8 +123,32 @@ pub(crate) fn claim_best(book: &mut Book, snapshot: &Snapshot, worker: u32) -> O
     ensures none { result ≡ None → AreHeld snapshot.now worker }
 {
     let mut best = None;
-    for id in snapshot.tree().live_leaves() {
+    for id in leaves_of(snapshot) {
         best = with_leaf(book, snapshot, best, *id, worker);
     }
     best
+}
+
+/// A job for the worker: a snapshot of the book, and the obligation that is then claimed. `None` where
+/// other workers hold all that may be asked.
+pub(crate) fn job_of<R: Run>(book: &mut Book, worker: u32) -> Result<Option<Job<R>>, Memory>
+    requires first { 0 < worker }
+    requires last { worker ≤ most_workers }
+    requires system { book.old.system ≡ R.system }
+    requires few { AreFew R.system }
+    requires goes_on { end (state_of book.old) ≡ None }
+    requires narrow { IsNarrow (standing_of book.old) }
+    ensures none { IfOk result (λ answer. answer ≡ None → AreHeld book.old worker) }
+    ensures unclaimed { IfOk result (λ answer. answer ≡ None → book.new ≡ book.old) }
+    ensures free { IfOk result (λ answer. IfSome answer (λ job. IsFree book.old worker job.obligation)) }
+    ensures snapshot { IfOk result (λ answer. IfSome answer (λ job. job.snapshot ≡ book.old)) }
+    ensures claimed { IfOk result (λ answer. IfSome answer (λ job. book.new ≡ claimed_by job.obligation worker book.old)) }
+    ensures kept { OnOk result (book.new ≡ with_claims book.new.tree.claims book.old) }
+    ensures err { OnErr result (book.new ≡ book.old) }
+{
+    let snapshot = book.snapshot()?;
+    match claim_best(book, &snapshot, worker) {
+        Some(obligation) => Ok(Some(Job::new(obligation, snapshot))),
+        None => Ok(None),
+    }
 }

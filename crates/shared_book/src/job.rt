@@ -72,6 +72,7 @@ impl<R: Run> Job<R> {
         ensures is { result ≡ standing_of self.now.snapshot }
         ensures system { result.system ≡ R.system }
         ensures goes_on { GoesOn result }
+        ensures leaf { IsOpenLeaf result self.now.obligation }
     {
         let _facts = self.snapshot.facts();
         self.snapshot.lend()

@@ -12,6 +12,7 @@ mod over;
 mod run;
 mod share;
 mod shared;
+mod taking;
 mod tally;
 
 pub use job::Job;

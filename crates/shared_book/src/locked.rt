@@ -19,19 +19,17 @@ ghost use Rattle.shared_book.specs.Jobs.{AreHeld, IsFree};
 ghost use Rattle.shared_book.specs.Locks.{AreReleased, IsOlder, claimed_by, released_by, with_claims};
 ghost use Rattle.shared_book.specs.Runs.{IsEntry, IsRunBook};
 
-use crate::choosing::claim_best;
+use crate::choosing::job_of;
 use crate::job::Job;
 use crate::older::older;
 use crate::over::Over;
 use crate::run::Run;
 use crate::share::Share;
+use crate::taking::{commit_released, release_all};
 use chc_core::{Book, Refused};
 use std::marker::Model;
 use std::sync::ledger;
 use step_rules::{LemmaPart, Step};
-
-/// How many workers hold claims.
-const WORKERS: u32 = 64;
 
 /// What lies behind the lock: the book with its claims, whether a worker has noted want of memory, and
 /// the ledger of what the workers have written. The book is the run's, and the counts of all shares
@@ -60,14 +58,21 @@ impl<R: Run> Model for Locked<R> {
     ghost invariant = { λ l. IsRunBook R.system R.units R.nodes R.workers l.book × (l.written.total ≡ length l.book.journal) };
 }
 
-/// Takes all claims on the book away.
-fn release_all(book: &mut Book)
-    ensures is { book.new ≡ with_claims book.new.tree.claims book.old }
-    ensures free { AreReleased book.new.tree.claims }
+/// Whether jobs are given: not where the book has an end, nor where want of memory was noted.
+fn may_ask(book: &Book, noted: bool) -> Result<(), Over>
+    ensures ok { OnOk result ((end (state_of book.now) ≡ None) × (noted ≡ false)) }
+    ensures ended { (e : BookEnd) → IsErrOf result (Over.Ended e) → end (state_of book.now) ≡ Some e }
+    ensures noted { IsErrOf result Over.WorkerMemory → (end (state_of book.now) ≡ None) × (noted ≡ true) }
+    ensures memory { IsErrOf result Over.Memory → ⊥ }
 {
-    for worker in 0..WORKERS {
-        book.release(worker + 1);
+    match book.end() {
+        Some(end) => return Err(Over::Ended(end)),
+        None => {}
     }
+    if noted {
+        return Err(Over::WorkerMemory);
+    }
+    Ok(())
 }
 
 impl<R: Run> Locked<R> {
@@ -145,8 +150,7 @@ impl<R: Run> Locked<R> {
             token,
             ..
         } = share;
-        self.book.release(*worker);
-        let number = self.book.commit(*worker, step)?;
+        let number = commit_released(&mut self.book, *worker, step)?;
         self.written.audit(token);
         self.written.add(token, 1);
         *count += 1;
@@ -171,19 +175,11 @@ impl<R: Run> Locked<R> {
         ensures err { OnErr result (self.new ≡ self.old) }
         ensures share { (share.new.worker ≡ share.old.worker) × (share.new.count ≡ share.old.count) }
     {
-        if let Some(end) = self.book.end() {
-            return Err(Over::Ended(end));
-        }
-        if self.noted {
-            return Err(Over::WorkerMemory);
-        }
-        let snapshot = self.book.snapshot()?;
+        may_ask(&self.book, self.noted)?;
         let Share { worker, token, .. } = share;
         self.written.audit(token);
-        match claim_best(&mut self.book, &snapshot, *worker) {
-            Some(obligation) => Ok(Some(Job::new(obligation, snapshot))),
-            None => Ok(None),
-        }
+        let answer = job_of(&mut self.book, *worker)?;
+        Ok(answer)
     }
 
     /// Notes that the worker wanted memory, and releases its claim.

@@ -36,6 +36,15 @@ impl<R: Run> Share<R> {
         }
     }
 
+    /// The token that stands for the count.
+    pub(crate) fn into_token(self) -> ledger::Share<R>
+        ensures amount { result.amount ≡ self.count }
+        ensures parts { result.parts ≡ 1 }
+    {
+        let Share { token, .. } = self;
+        token
+    }
+
     /// The worker's number, from 1 to the number of workers.
     pub fn worker(&self) -> u32
         ensures is { result ≡ self.now.worker }

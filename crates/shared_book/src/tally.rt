@@ -23,9 +23,9 @@ pub(crate) fn gather<R: Run>(shares: Vec<Share<R>>) -> ledger::Share<R>
     ensures amount { result.amount ≡ sum (map (λ share. share.count) shares.items) }
 {
     let mut shares = shares;
-    let mut all = shares.pop().unwrap().token;
+    let mut all = shares.pop().unwrap().into_token();
     while let Some(share) = shares.pop() {
-        all.merge(share.token);
+        all.merge(share.into_token());
     }
     all
 }

@@ -1,0 +1,4 @@
+pub mod RunLemmas
+pub mod ChoiceLemmas
+pub mod JobLemmas
+pub mod ListLemmas

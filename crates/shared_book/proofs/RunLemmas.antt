@@ -1,0 +1,116 @@
+-- What the book of a run keeps over claims and entries.
+use Rattle.std.proofs.Common.{◌≡◌, ℕ, ◌+◌, ◌<◌, List, [], ◌∷◌, ◌++◌, map, length, false, refl, ap, sym, ◌∙◌, subst, arith}
+use Rattle.std.specs.Prelude.{Option}
+use Rattle.std.proofs.lemmas.List.{length_push}
+use Rattle.clause_form.specs.System.{Clauses}
+use Rattle.book_rules.specs.Areas.{is_wide}
+use Rattle.book_rules.specs.Effects.{after}
+use Rattle.book_rules.specs.Frames.{AreGood, Framed}
+use Rattle.book_rules.specs.Instances.{instances}
+use Rattle.book_rules.specs.Legal.{AreLegal, replay}
+use Rattle.book_rules.specs.State.{Obligation, State, opening}
+use Rattle.book_rules.specs.Walks.{AllOf}
+use Rattle.book_rules.proofs.ListLemmas.{all_of-push}
+use Rattle.book_rules.proofs.StepLemmas.{ChildHas, LemmaHas, lemmas-after, steady-after}
+use Rattle.step_rules.specs.Taken.{step_of}
+use Rattle.step_rules.specs.Views.{framed_of, obligation_of}
+use Rattle.step_rules.specs.declared.step.Step.{Step}
+use Rattle.step_rules.specs.declared.step.Step.TheVariants.{OpenStep, LemmaStep, FactStep, LiftStep, RaiseStep, StallStep}
+use Rattle.chc_core.specs.Contents.{Contents}
+use Rattle.chc_core.specs.Openings.{opening_of}
+use Rattle.chc_core.specs.Views.{standing_of, state_of, steps_of}
+use Rattle.chc_core.specs.declared.entry.Entry.{Entry}
+use Rattle.obligation_turn.specs.Turns.{IsNarrow, StepIsNarrow}
+use Rattle.shared_book.specs.Locks.{with_claims}
+use Rattle.shared_book.specs.Runs.{IsEntry, IsRunBook}
+
+-- narrow cubes
+
+all_map : {X Y : Type 0} (P : Y → Type 0) (f : X → Y) (xs : List X) → AllOf (λ x. P (f x)) xs → AllOf P (map f xs)
+all_map P f [] h = tt
+all_map P f (x ∷ xs) h = (h.0, all_map P f xs h.1)
+
+all_unmap : {X Y : Type 0} (P : Y → Type 0) (f : X → Y) (xs : List X) → AllOf P (map f xs) → AllOf (λ x. P (f x)) xs
+all_unmap P f [] h = tt
+all_unmap P f (x ∷ xs) h = (h.0, all_unmap P f xs h.1)
+
+abbrev NarrowLemma : Framed → Type 0
+NarrowLemma e = is_wide e.lemma.cube ≡ false
+
+abbrev NarrowObligation : Obligation → Type 0
+NarrowObligation o = is_wide o.cube ≡ false
+
+record IsNarrowState (s : State) : Type 0 where
+  lemmas : AllOf NarrowLemma s.lemmas
+  obligations : AllOf NarrowObligation s.obligations
+
+narrow_state : (b : Contents) → IsNarrow (standing_of b) → IsNarrowState (state_of b)
+narrow_state b h = record { lemmas = all_map NarrowLemma framed_of b.frames.lemmas h.lemmas; obligations = all_map NarrowObligation obligation_of b.tree.nodes h.obligations }
+
+state_narrow : (b : Contents) → IsNarrowState (state_of b) → IsNarrow (standing_of b)
+state_narrow b h = record { lemmas = all_unmap NarrowLemma framed_of b.frames.lemmas h.lemmas; obligations = all_unmap NarrowObligation obligation_of b.tree.nodes h.obligations }
+
+lemma_new : (step : Step) → StepIsNarrow step → LemmaHas NarrowLemma (step_of step)
+lemma_new (OpenStep o) h = tt
+lemma_new (LemmaStep l) h = h
+lemma_new (FactStep f) h = tt
+lemma_new (LiftStep l) h = tt
+lemma_new (RaiseStep r) h = tt
+lemma_new (StallStep t) h = tt
+
+child_new : (sys : Clauses) (s : State) (step : Step) → StepIsNarrow step → ChildHas NarrowObligation sys s (step_of step)
+child_new sys s (OpenStep o) h = λ parent atom there is. h
+child_new sys s (LemmaStep l) h = tt
+child_new sys s (FactStep f) h = tt
+child_new sys s (LiftStep l) h = tt
+child_new sys s (RaiseStep r) h = tt
+child_new sys s (StallStep t) h = tt
+
+narrow_step : (sys : Clauses) (s : State) (step : Step) → IsNarrowState s → StepIsNarrow step → IsNarrowState (after sys s (step_of step))
+narrow_step sys s step h new = record {
+  lemmas = lemmas-after NarrowLemma (λ e level k. k) sys s (step_of step) h.lemmas (lemma_new step new);
+  obligations = steady-after NarrowObligation (λ o level closed stalled k. k) sys s (step_of step) h.obligations (child_new sys s step new);
+}
+
+narrow-after : (b c : Contents) (step : Step) → state_of c ≡ after b.system (state_of b) (step_of step) → IsNarrow (standing_of b) → StepIsNarrow step → IsNarrow (standing_of c)
+narrow-after b c step is h new = state_narrow c (subst IsNarrowState (sym is) (narrow_step b.system (state_of b) step (narrow_state b h) new))
+
+pub narrow-opening : (b : Contents) (units : ℕ) → state_of b ≡ opening units → IsNarrow (standing_of b)
+narrow-opening b units is = state_narrow b (subst IsNarrowState (sym is) (record { lemmas = tt; obligations = (refl, tt) }))
+
+-- claims and entries
+
+pub narrow-claims : (b : Contents) (claims : List (Option ℕ)) → IsNarrow (standing_of b) → IsNarrow (standing_of (with_claims claims b))
+narrow-claims b claims h = record { lemmas = h.lemmas; obligations = h.obligations }
+
+pub run-claims : (sys : Clauses) (units nodes workers : ℕ) (b c : Contents) (claims : List (Option ℕ)) → c ≡ with_claims claims b → IsRunBook sys units nodes workers b → IsRunBook sys units nodes workers c
+run-claims sys units nodes workers b c claims is h =
+    subst (IsRunBook sys units nodes workers) (sym is) (record { system = h.system; given = h.given; few = h.few; entries = h.entries; narrow = narrow-claims b claims h.narrow })
+
+pub run-step : (sys : Clauses) (units nodes workers worker : ℕ) (b c : Contents) (step : Step) → IsRunBook sys units nodes workers b → state_of c ≡ after b.system (state_of b) (step_of step)
+    → c.system ≡ b.system → c.given ≡ b.given → c.journal ≡ b.journal ++ (record { worker = worker; step = step }) ∷ []
+    → IsEntry workers nodes (record { worker = worker; step = step }) → StepIsNarrow step → IsRunBook sys units nodes workers c
+run-step sys units nodes workers worker b c step h state system given journal entry narrow = record {
+  system = system ∙ h.system;
+  given = given ∙ h.given;
+  few = h.few;
+  entries = subst (AllOf (IsEntry workers nodes)) (sym journal) (all_of-push (IsEntry workers nodes) b.journal (record { worker = worker; step = step }) h.entries entry);
+  narrow = narrow-after b c step state h.narrow narrow;
+}
+
+pub longer : (b c : Contents) (entry : Entry) → c.journal ≡ b.journal ++ entry ∷ [] → length c.journal ≡ length b.journal + 1
+longer b c entry is = ap (λ (j : List Entry). length j) is ∙ length_push b.journal entry
+
+-- by the run's name of the opening
+
+pub named-replay : (sys : Clauses) (units : ℕ) (b : Contents) → b.system ≡ sys → b.given ≡ units → replay b.system (opening_of b) (steps_of b.journal) ≡ state_of b
+    → replay sys (opening units) (steps_of b.journal) ≡ state_of b
+named-replay sys units b system given is =
+    subst (λ (x : Clauses). replay x (opening units) (steps_of b.journal) ≡ state_of b) system (subst (λ (n : ℕ). replay b.system (opening n) (steps_of b.journal) ≡ state_of b) given is)
+
+pub named-legal : (sys : Clauses) (units : ℕ) (b : Contents) → b.system ≡ sys → b.given ≡ units → AreLegal b.system (opening_of b) (steps_of b.journal) → AreLegal sys (opening units) (steps_of b.journal)
+named-legal sys units b system given is =
+    subst (λ (x : Clauses). AreLegal x (opening units) (steps_of b.journal)) system (subst (λ (n : ℕ). AreLegal b.system (opening n) (steps_of b.journal)) given is)
+
+pub named-good : (sys : Clauses) (b : Contents) → b.system ≡ sys → AreGood (instances b.system) (state_of b).lemmas → AreGood (instances sys) (state_of b).lemmas
+named-good sys b system good = subst (λ (x : Clauses). AreGood (instances x) (state_of b).lemmas) system good
