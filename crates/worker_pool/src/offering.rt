@@ -3,6 +3,7 @@
 ghost use Rattle.std.specs.Prelude.{◌≡◌, true};
 ghost use Rattle.chc_tokens.specs.Tokens.{is_seen};
 ghost use Rattle.step_rules.specs.declared.step.Step.TheVariants.{LemmaStep, OpenStep};
+ghost use Rattle.obligation_turn.specs.Turns.{GoesOn};
 ghost use Rattle.book_loop.specs.machinery.Steps.{AreFor, IsOffered};
 
 use crate::siblings::{Opened, atoms_of, opened_by, sibling};
@@ -62,6 +63,7 @@ fn offer_siblings<R: Run>(
     from: &Opened,
     most: u32,
 ) -> Result<(), Memory>
+    requires goes_on { GoesOn lent.now }
     requires system { lent.now.system ≡ R.system }
     requires seen { is_seen lent.now.system from.now.seen ≡ true }
 {
@@ -83,6 +85,7 @@ fn offer_open<R: Run>(
     part: OpenPart,
     most: u32,
 ) -> Result<bool, Memory>
+    requires goes_on { GoesOn lent.now }
     requires system { lent.now.system ≡ R.system }
     requires open { IsOffered R.system R.nodes (OpenStep part) }
 {
@@ -170,6 +173,7 @@ pub(crate) fn offer_turn<R: Run>(
     step: Step,
     most: u32,
 ) -> Result<bool, Memory>
+    requires goes_on { GoesOn lent.now }
     requires system { lent.now.system ≡ R.system }
     requires step { IsOffered R.system R.nodes step }
 {

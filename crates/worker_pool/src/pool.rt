@@ -1,6 +1,6 @@
 //! A run: workers over one book, until it has ended.
 
-ghost use Rattle.std.specs.Prelude.{◌≡◌, [], length, replicate, sum, true, vec_len, None, IfOk};
+ghost use Rattle.std.specs.Prelude.{◌≡◌, ◌<◌, [], length, replicate, sum, true, vec_len, None, IfOk};
 ghost use Rattle.book_rules.specs.Legal.{end};
 ghost use Rattle.book_rules.specs.Walks.{AllOf};
 ghost use Rattle.chc_core.specs.Views.{standing_of, state_of};
@@ -17,7 +17,7 @@ use base::Memory;
 use book_loop::begin;
 use chc_core::{Book, End};
 use clause_form::System;
-use shared_book::{Run, SharedBook};
+use shared_book::{Run, Share, SharedBook};
 use std::alloc::Global;
 use std::marker::Brand;
 use std::sync::Wait;
@@ -64,6 +64,26 @@ fn left_by(book: Book, counts: Vec<u64>, wanted: bool) -> Outcome
     }
 }
 
+/// All workers work until they are done, each with its share.
+fn all_work<R: Run + Send + Sync, W: Threads + Wait + Sync, G: Gate>(
+    rt: &W,
+    alloc: Global,
+    shared: &SharedBook<R>,
+    shares: &mut [Share<R>],
+    limits: Limits,
+    gate: &G,
+    wanted: &AtomicBool,
+)
+    requires workers { 0 < limits.workers }
+    requires some { 0 < limits.nodes }
+    requires nodes { limits.nodes ≡ R.nodes }
+{
+    let each = move |_: usize, share: &mut Share<R>|
+        requires { (0 < limits.nodes) × (limits.nodes ≡ R.nodes) }
+    { work(rt, alloc, shared, share, limits, gate, wanted) };
+    thread::for_each_mut(rt, shares, limits.workers as usize, &each);
+}
+
 /// A run over the book.
 fn run<R: Run + Send + Sync, W: Threads + Wait + Sync, G: Gate>(
     rt: &W,
@@ -97,11 +117,14 @@ fn run<R: Run + Send + Sync, W: Threads + Wait + Sync, G: Gate>(
     let mut counts = zeros(alloc, limits.workers)?;
     let (shared, mut shares) = SharedBook::<R>::new(alloc, blank, book, limits.workers)?;
     let wanted = AtomicBool::new(false);
-    thread::for_each_mut(
+    all_work(
         rt,
+        alloc,
+        &shared,
         shares.as_mut_slice(),
-        limits.workers as usize,
-        &|_, share| work(rt, alloc, &shared, share, limits, gate, &wanted),
+        limits,
+        gate,
+        &wanted,
     );
     let book = shared.into_book(shares, counts.as_mut_slice());
     Ok(left_by(book, counts, wanted.load(Ordering::SeqCst)))

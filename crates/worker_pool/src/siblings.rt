@@ -1,12 +1,13 @@
 //! Further body atoms of an instance that are asked beside the first one.
 
-ghost use Rattle.std.specs.Prelude.{◌≡◌, ◌≤◌, ℕ, length, true, false, IfOk, IfSome};
+ghost use Rattle.std.specs.Prelude.{◌≡◌, ◌≤◌, ◌<◌, ◌^◌, ℕ, length, true, false, IfOk, IfSome};
 ghost use Rattle.base.specs.Limits.{most_arguments};
 ghost use Rattle.lin_atoms.specs.Truth.{lit_is_below};
 ghost use Rattle.std.specs.List.{list_all};
 ghost use Rattle.chc_tokens.specs.Tokens.{is_seen};
 ghost use Rattle.book_rules.specs.Areas.{is_wide};
 ghost use Rattle.model_project.specs.Projection.{are_true};
+ghost use Rattle.obligation_turn.specs.Turns.{GoesOn};
 ghost use Rattle.book_loop.specs.machinery.Steps.{IsOffered};
 
 use base::{Copied, Memory};
@@ -195,10 +196,18 @@ pub(crate) fn sibling(lent: &Lent, from: &Opened, number: u32) -> Result<Option<
     }
 }
 
+/// How many atoms there are.
+fn count_of(atoms: &[Atom]) -> u32
+    requires { length atoms.now < 2 ^ 32 }
+{
+    atoms.len() as u32
+}
+
 /// How many body atoms the clause of the instance has.
 pub(crate) fn atoms_of(lent: &Lent, from: &Opened) -> u32
-    requires { is_seen lent.now.system from.now.seen ≡ true }
+    requires goes_on { GoesOn lent.now }
+    requires seen { is_seen lent.now.system from.now.seen ≡ true }
 {
     let clause = lent.system.clause(from.seen.clause() as usize);
-    clause.atoms.as_slice().len() as u32
+    count_of(clause.atoms.as_slice())
 }
