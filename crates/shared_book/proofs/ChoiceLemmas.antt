@@ -13,14 +13,11 @@ use Rattle.chc_core.specs.Contents.{Contents}
 use Rattle.chc_core.specs.Views.{standing_of}
 use Rattle.chc_core.proofs.EndLemmas.{leaves-there}
 use Rattle.obligation_turn.specs.Turns.{IsOpenLeaf}
-use Rattle.shared_book.specs.Jobs.{AreHeld, IsFree}
+use Rattle.shared_book.specs.Jobs.{AreHeld}
 use Rattle.shared_book.specs.Locks.{claimed_by, with_claims}
 use Rattle.shared_book.specs.machinery.Choices.{IsChosen, IsLeaf, is_out}
 
 -- a worker's own claim tells nothing of what others hold, and gives way to the next
-
-none : Option ℕ
-none = None
 
 own-claim : (id n worker : ℕ) (claims : List (Option ℕ)) → is_held_by_another id worker (claimed n worker claims) ≡ is_held_by_another id worker claims
 own-claim id n worker claims = ap (λ (xs : List (Option ℕ)). list_any (is_claim_of id) xs) (set-set claims (worker - 1) (Some n) None)

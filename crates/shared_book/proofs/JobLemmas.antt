@@ -1,8 +1,7 @@
 -- What a job's book is.
-use Rattle.std.proofs.Common.{◌≡◌, ℕ, [], sym, subst}
+use Rattle.std.proofs.Common.{[], sym, subst}
 use Rattle.clause_form.specs.System.{Clauses}
 use Rattle.book_rules.specs.Kept.{AreRecorded, IsOrdered}
-use Rattle.chc_core.specs.Contents.{Contents}
 use Rattle.chc_core.specs.Views.{standing_of, state_of}
 use Rattle.clause_queries.specs.Answers.{AreFew}
 use Rattle.obligation_turn.specs.Turns.{GoesOn}

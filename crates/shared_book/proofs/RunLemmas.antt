@@ -1,5 +1,5 @@
 -- What the book of a run keeps over claims and entries.
-use Rattle.std.proofs.Common.{◌≡◌, ℕ, ◌+◌, ◌<◌, List, [], ◌∷◌, ◌++◌, map, length, false, refl, ap, sym, ◌∙◌, subst, arith}
+use Rattle.std.proofs.Common.{◌≡◌, ℕ, ◌+◌, List, [], ◌∷◌, ◌++◌, map, length, false, refl, ap, sym, ◌∙◌, subst}
 use Rattle.std.specs.Prelude.{Option}
 use Rattle.std.proofs.lemmas.List.{length_push}
 use Rattle.clause_form.specs.System.{Clauses}
@@ -20,6 +20,7 @@ use Rattle.chc_core.specs.Contents.{Contents}
 use Rattle.chc_core.specs.Openings.{opening_of}
 use Rattle.chc_core.specs.Views.{standing_of, state_of, steps_of}
 use Rattle.chc_core.specs.declared.entry.Entry.{Entry}
+use Rattle.clause_queries.specs.Answers.{AreFew}
 use Rattle.obligation_turn.specs.Turns.{IsNarrow, StepIsNarrow}
 use Rattle.shared_book.specs.Locks.{with_claims}
 use Rattle.shared_book.specs.Runs.{IsEntry, IsRunBook}
@@ -100,6 +101,10 @@ run-step sys units nodes workers worker b c step h state system given journal en
 
 pub longer : (b c : Contents) (entry : Entry) → c.journal ≡ b.journal ++ entry ∷ [] → length c.journal ≡ length b.journal + 1
 longer b c entry is = ap (λ (j : List Entry). length j) is ∙ length_push b.journal entry
+
+pub run-opening : (sys : Clauses) (units nodes workers : ℕ) (b : Contents) → b.system ≡ sys → b.given ≡ units → b.journal ≡ [] → AreFew b.system → IsNarrow (standing_of b) → IsRunBook sys units nodes workers b
+run-opening sys units nodes workers b system given new few narrow =
+    record { system = system; given = given; few = subst AreFew system few; entries = subst (AllOf (IsEntry workers nodes)) (sym new) tt; narrow = narrow }
 
 -- by the run's name of the opening
 

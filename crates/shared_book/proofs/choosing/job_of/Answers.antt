@@ -2,7 +2,7 @@ use Rattle.std.proofs.Common.{◌≡◌, None, ap, refl, subst, sym, ◌∙◌}
 use Rattle.book_rules.specs.Legal.{end}
 use Rattle.chc_core.specs.Contents.{Contents}
 use Rattle.chc_core.specs.Views.{standing_of, state_of}
-use Rattle.obligation_turn.specs.Turns.{IsNarrow, IsOpenLeaf}
+use Rattle.obligation_turn.specs.Turns.{IsNarrow}
 use Rattle.shared_book.specs.Jobs.{AreHeld, Asked, IsFree}
 use Rattle.shared_book.specs.Locks.{claimed_by, with_claims}
 use Rattle.shared_book.proofs.choosing.job_of.Goals as goal

@@ -1,7 +1,6 @@
-use Rattle.std.proofs.Common.{◌≡◌, ℕ, ◌+◌, ◌-◌, List, Some, None, ap, ◌∙◌, arith, get_or, set, subst, sym}
-use Rattle.std.specs.Prelude.{Option}
+use Rattle.std.proofs.Common.{◌≡◌, ℕ, ◌+◌, ◌-◌, None, ap, ◌∙◌, arith, get_or, set, sym}
 use Rattle.chc_core.specs.Contents.{Contents}
-use Rattle.shared_book.specs.Locks.{released_by, with_claims}
+use Rattle.shared_book.specs.Locks.{with_claims}
 use Rattle.shared_book.proofs.ListLemmas.{cleared}
 use Rattle.shared_book.proofs.taking.release_all.Goals as goal
 

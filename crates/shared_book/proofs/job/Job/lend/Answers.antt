@@ -1,4 +1,4 @@
-use Rattle.std.proofs.Common.{◌≡◌, ap, rules, subst, sym, ◌∙◌}
+use Rattle.std.proofs.Common.{ap, subst, sym, ◌∙◌}
 use Rattle.step_rules.specs.Standing.{Standing}
 use Rattle.chc_core.specs.Views.{standing_of}
 use Rattle.obligation_turn.specs.Turns.{GoesOn, IsOpenLeaf}

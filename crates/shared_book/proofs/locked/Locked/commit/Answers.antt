@@ -1,4 +1,4 @@
-use Rattle.std.proofs.Common.{◌≡◌, ℕ, ◌+◌, ◌≤◌, [], ◌∷◌, ◌++◌, length, true, ap, arith, subst, sym, ◌∙◌}
+use Rattle.std.proofs.Common.{◌≡◌, ℕ, ◌+◌, [], ◌∷◌, ◌++◌, length, true, ap, arith, refl, subst, sym, ◌∙◌}
 use Rattle.book_rules.specs.Effects.{after}
 use Rattle.book_rules.specs.Legal.{IsLegal}
 use Rattle.book_rules.specs.Places.{has_places}
@@ -7,6 +7,7 @@ use Rattle.step_rules.specs.Taken.{IsMadeFor, step_of}
 use Rattle.chc_core.specs.Contents.{Contents}
 use Rattle.chc_core.specs.Views.{state_of}
 use Rattle.shared_book.specs.Locks.{Behind, released_by}
+use Rattle.shared_book.proofs.LockLemmas.{on-err, same-behind}
 use Rattle.shared_book.proofs.RunLemmas.{longer, run-claims, run-step}
 use Rattle.shared_book.proofs.locked.Locked.commit.Goals as goal
 
@@ -46,10 +47,16 @@ returns-clause-legal g c =
 
 pub returns-clause-state : goal.returns-clause-state
 returns-clause-state g c =
-    c.in_ok-number.ensures.state ∙ ap (λ (sys : Clauses). after sys (state_of c.self.inside.book) (step_of c.args.step)) c.self.invariant.0.system ∙ ap (λ (l : Behind). after _ (state_of l.book) (step_of c.args.step)) c.self.view_is
+    c.in_ok-number.ensures.state ∙ ap (λ (sys : Clauses). after sys (state_of c.self.inside.book) (step_of c.args.step)) c.self.invariant.0.system ∙ ap (λ (l : Behind). after g.R.Run.system (state_of l.book) (step_of c.args.step)) c.self.view_is
 
 pub returns-clause-journal : goal.returns-clause-journal
 returns-clause-journal g c = c.in_ok-number.ensures.journal ∙ ap (λ (l : Behind). l.book.journal ++ (record { worker = c.args.share.now.worker; step = c.args.step }) ∷ []) c.self.view_is
 
 pub returns-clause-claims : goal.returns-clause-claims
 returns-clause-claims g c = c.in_ok-number.ensures.claims ∙ ap (λ (l : Behind). (released_by c.args.share.now.worker l.book).tree.claims) c.self.view_is
+
+pub returns-in_err-number-clause-err : goal.returns-in_err-number-clause-err
+returns-in_err-number-clause-err g c =
+    on-err c.from_residual.result
+    (same-behind c.commit_released.new.book (released_by c.args.share.now.worker c.self.inside.book) c.self.inside.noted _ _ c.in_err-number.ensures.err refl
+    ∙ ap (λ (l : Behind). record l { book = released_by c.args.share.now.worker l.book }) c.self.view_is)
