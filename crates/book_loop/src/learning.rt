@@ -135,6 +135,11 @@ pub(crate) fn improved(lent: &Lent, step: Step, hints: &Hints, nodes: u32) -> Re
 {
     match step {
         Step::LemmaStep(part) => {
+            let nodes = if nodes / 2 % 2 == 1 {
+                128 + nodes % 64
+            } else {
+                nodes
+            };
             let made = learnt(lent, part, hints, nodes)?;
             Ok(Step::LemmaStep(made))
         }

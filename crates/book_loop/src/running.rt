@@ -40,7 +40,7 @@ fn next_step(
 {
     let job = next_job(book);
     let lent = lend(book);
-    hints.renew(lent.alloc, lent.system, lent.level, lent.spent)?;
+    hints.renew(lent.alloc, lent.system, lent.level, lent.spent, nodes)?;
     let step = turn_in(&lent, job, nodes, work)?;
     let served = improved(&lent, step, hints, nodes)?;
     Ok(served)

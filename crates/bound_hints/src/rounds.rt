@@ -122,12 +122,18 @@ impl Bounds {
         sys: &System,
         level: u32,
         units: u32,
+        bits: u32,
     ) -> Result<(), Memory> {
         let is_due = level >= level_of(self.round) && units >= self.wait && self.round < ROUNDS;
         if !is_due || self.are_safe() {
             return Ok(());
         }
-        match round_of(alloc, sys, size_of(self.round), work_of(self.round, units))? {
+        match round_of(
+            alloc,
+            sys,
+            size_of(self.round),
+            work_of(self.round, units).saturating_mul(if bits / 8 % 2 == 1 { 4 } else { 1 }),
+        )? {
             Some(found) => {
                 self.found = Some(found);
                 self.round = self.round.saturating_add(1);

@@ -1,6 +1,6 @@
 //! One query about a clause.
 
-ghost use Rattle.std.specs.Prelude.{◌≡◌, ◌<◌, ◌≤◌, Some, is_some, length, true, IfOk, IfSome};
+ghost use Rattle.std.specs.Prelude.{◌≡◌, ◌<◌, ◌≤◌, Some, length, true, IfOk, IfSome};
 ghost use Rattle.std.specs.List.{list_all};
 ghost use Rattle.base.specs.Widths.{is_short};
 ghost use Rattle.farkas_proof.specs.Kept.{form_of};
@@ -13,11 +13,12 @@ ghost use Rattle.clause_queries.specs.machinery.Asking.{IsAnswer, MayAsk};
 use crate::lost::Lost;
 use base::{Items, Memory};
 use chc_tokens::{
-    Goal, Seen, Shown, TokenStop, Used, base_of, forms_of, query_of, seen, shown_by,
+    Goal, Seen, Shown, TokenStop, Used, base_of, checked_query_of, forms_of, seen, shown_by,
 };
 use clause_form::{Clause, System};
 use farkas_proof::{CheckStop, Refutation, Refuted, check_owned};
 use lia_cases::{Decision, decide_owned};
+use lin_atoms::Form;
 use std::alloc::Global;
 
 /// What was found of a query.
@@ -89,6 +90,24 @@ pub(crate) fn ask(
     }
 }
 
+/// The form's refutation by this tree, if it is one.
+fn checked(alloc: Global, form: Form, tree: Refutation) -> Result<Option<Refuted>, Memory>
+    ensures { IfOk result (λ found. IfSome found (λ proof. form_of proof ≡ form)) }
+{
+    match check_owned(alloc, form, tree) {
+        Ok(proof) => Ok(Some(proof)),
+        Err(CheckStop::Memory) => Err(Memory),
+        Err(CheckStop::NoProof { node }) => {
+            let _node = node;
+            Ok(None)
+        }
+        Err(CheckStop::SumWide { node }) => {
+            let _node = node;
+            Ok(None)
+        }
+    }
+}
+
 /// The query's refutation by this tree, if it is one.
 fn refuted_by(
     alloc: Global,
@@ -98,14 +117,11 @@ fn refuted_by(
     used: &[Used],
     tree: Refutation,
 ) -> Result<Option<Refuted>, Memory>
-    requires { is_some (query_at sys.now clause goal.now used.now) ≡ true }
     ensures { IfOk result (λ found. IfSome found (λ proof. query_at sys.now clause goal.now used.now ≡ Some (form_of proof))) }
 {
-    let query = query_of(alloc, sys, clause, goal, used)?;
-    match check_owned(alloc, query, tree) {
-        Ok(proof) => Ok(Some(proof)),
-        Err(CheckStop::Memory) => Err(Memory),
-        Err(_) => Ok(None),
+    match checked_query_of(alloc, sys, clause, goal, used)? {
+        Some(query) => checked(alloc, query, tree),
+        None => Ok(None),
     }
 }
 

@@ -3,7 +3,7 @@
 //! the other goal has, too, is one of the other with its literals numbered anew.
 
 ghost use Rattle.std.specs.Prelude.{◌≡◌};
-ghost use Rattle.clause_queries.specs.machinery.Carrying.{carries};
+ghost use Rattle.clause_queries.specs.machinery.Carrying.{has_tree, trees_for};
 
 use base::{Boxed, Copied, Items, Memory, Same};
 use chc_tokens::{Goal, Shown};
@@ -16,6 +16,7 @@ use std::alloc::Global;
 const MOST_DEEP: u32 = 400;
 
 /// How literals are numbered anew: those of the guard come first, then the goal's, then all others.
+#[derive(Drop)]
 pub(crate) struct Places {
     /// How many literals the guard has.
     guard: u32,
@@ -298,16 +299,23 @@ pub(crate) fn all_carried(
     Ok(made)
 }
 
-/// 1 where there is a tree for the clause's query.
-pub(crate) fn carries(trees: &[Carried], number: u32) -> u32
-    ensures { result ≡ carries trees.now number }
+/// Whether there is a tree for the clause's query.
+fn has_tree(trees: &[Carried], number: u32) -> bool
+    ensures { result ≡ has_tree trees.now number }
 {
     for one in trees {
         if one.number == number {
-            return 1;
+            return true;
         }
     }
-    0
+    false
+}
+
+/// 1 where there is a tree for the clause's query, else 0.
+pub(crate) fn trees_for(trees: &[Carried], number: u32) -> u32
+    ensures { result ≡ trees_for trees.now number }
+{
+    if has_tree(trees, number) { 1 } else { 0 }
 }
 
 /// The tree for the clause's query, which is taken away.

@@ -7,7 +7,7 @@ ghost use Rattle.clause_queries.specs.machinery.Choices.{AreAsked};
 ghost use Rattle.clause_queries.specs.machinery.Asking.{IsAnswerAt, IsNoted, first_lost, found_of};
 
 use crate::asking::{Asked, ask, ask_by};
-use crate::carrying::{Carried, all_carried, carries, taken};
+use crate::carrying::{Carried, all_carried, taken, trees_for};
 use crate::choosing::asked_clauses;
 use crate::keeping::{frames_are_kept, goal_is_kept};
 use crate::lost::Lost;
@@ -169,7 +169,7 @@ fn in_order(
     ensures { IfOk result (λ numbers. AreAsked sys.now pred k numbers.items) }
 {
     let mut numbers = asked_clauses(alloc, sys, pred, k)?;
-    numbers.sort_by_key(|number| carries(trees, *number))?;
+    numbers.sort_by_key(|number| trees_for(trees, *number))?;
     Ok(numbers)
 }
 
@@ -190,6 +190,7 @@ pub fn ask_all_by(
     requires some { 0 < nodes }
     ensures { IfOk result (IsFound sys.now frames.now.lemmas pred goal.now k nodes) }
 {
+    let old = if nodes % 2 == 1 { old } else { &[] };
     let mut trees = all_carried(alloc, sys, goal, old)?;
     let numbers = in_order(alloc, sys, pred, k, trees.as_slice())?;
     let mut gathered = Gathered {

@@ -5,6 +5,7 @@ ghost use Rattle.obligation_turn.specs.Turns.{GoesOn};
 ghost use Rattle.lemma_general.specs.Tries.{IsTrying};
 
 use crate::hints::Hints;
+use crate::joining::join;
 use crate::proposing::try_each;
 use base::Memory;
 use bound_hints::Bounds;
@@ -36,7 +37,13 @@ pub fn try_bounds(lent: &Lent, tries: &mut Tries, hints: &Hints, nodes: u32) -> 
     requires trying { IsTrying lent.now tries.old }
     ensures { OnOk result (IsTrying lent.now tries.new) }
 {
-    let cubes = cubes_for(lent, tries.part(), hints)?;
+    let mut cubes = cubes_for(lent, tries.part(), hints)?;
+    if nodes / 16 % 2 == 1 && !hints.bounds().are_safe() {
+        cubes.truncate(6);
+    }
     let taken = try_each(lent, tries, cubes.as_slice(), nodes)?;
+    if !taken && nodes / 32 % 2 == 1 && hints.bounds().are_safe() {
+        return join(lent, tries, cubes.as_slice(), hints.bounds(), nodes);
+    }
     Ok(taken)
 }

@@ -87,8 +87,9 @@ impl Hints {
         sys: &System,
         level: u32,
         units: u32,
+        bits: u32,
     ) -> Result<(), Memory> {
-        self.bounds.renew(alloc, sys, level, units)
+        self.bounds.renew(alloc, sys, level, units, bits)
     }
 
     /// The bounds that were found so far.

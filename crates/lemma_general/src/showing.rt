@@ -58,7 +58,37 @@ pub(crate) fn show(
     }
 }
 
-/// The same as `ask` for a lemma's predicate and the frame below its level.
+/// The same as `ask`, with proofs for another cube of the predicate under the same lemmas: what of them
+/// says the same of this one isn't looked for anew.
+fn ask_by(
+    lent: &Lent,
+    pred: u32,
+    cube: &Cube,
+    k: u32,
+    nodes: u32,
+    old: &[Shown],
+) -> Result<Found, Memory>
+    requires goes_on { GoesOn lent.now }
+    requires cube { IsCubeOf lent.now pred cube.now }
+    requires some { 0 < nodes }
+    ensures { IfOk result (IsFoundOf lent.now pred cube.now k nodes) }
+{
+    let lemma = negate(lent.alloc, cube)?;
+    let goal = Goal::Holds(lemma);
+    let found = ask_all_by(
+        lent.alloc,
+        lent.system,
+        lent.frames,
+        Some(pred),
+        &goal,
+        k,
+        nodes,
+        old,
+    )?;
+    Ok(found)
+}
+
+/// The same as `ask` for a lemma's predicate and the frame below its level, with the lemma's own proofs.
 pub(crate) fn ask_below(
     lent: &Lent,
     part: &LemmaPart,
@@ -71,17 +101,6 @@ pub(crate) fn ask_below(
     ensures { IfOk result (IsFoundOf lent.now part.now.pred cube.now (part.now.level - 1) nodes) }
 {
     let k = part.level.saturating_sub(1);
-    let lemma = negate(lent.alloc, cube)?;
-    let goal = Goal::Holds(lemma);
-    let found = ask_all_by(
-        lent.alloc,
-        lent.system,
-        lent.frames,
-        Some(part.pred),
-        &goal,
-        k,
-        nodes,
-        part.proofs.as_slice(),
-    )?;
+    let found = ask_by(lent, part.pred, cube, k, nodes, part.proofs.as_slice())?;
     Ok(found)
 }

@@ -10,6 +10,7 @@ ghost use Rattle.lemma_general.specs.Tries.{IsTried, IsTrying, may_replace, part
 use crate::breaking::Breaking;
 use crate::dropping::take;
 use base::{Items, Memory};
+use chc_tokens::Seen;
 use clause_form::System;
 use cube_forms::Cube;
 use cube_rules::is_wide;
@@ -72,6 +73,17 @@ impl Tries {
             return Ok(false);
         }
         take(lent, &mut self.part, &mut self.met, cube, nodes)
+    }
+
+    /// The last instance that was found whose head lies in the cube.
+    pub fn against(&self, cube: &Cube) -> Option<&Seen> {
+        let mut found = None;
+        for one in self.met.as_slice() {
+            if cube.holds(one.tuple.as_slice()) {
+                found = Some(&one.seen);
+            }
+        }
+        found
     }
 
     /// The lemma as it stands now.
