@@ -1,6 +1,8 @@
 //! Conjunctions over unbounded variables that branches don't end: a common divisor of a row or of
 //! equations does, or a point at which equations hold.
 
+ghost use Rattle.std.specs.Prelude.{◌<◌};
+
 use lia_branch::{Decision, are_below, decide_all, have_short_constants};
 use lin_atoms::{Divisor, Lin, Lit};
 use std::alloc::Global;
@@ -43,7 +45,9 @@ fn add_row(rt: &impl Abort, alloc: Global, lits: &mut Vec<Lit>, row: Row) {
 }
 
 /// What is decided of the rows with so many inner nodes at the most.
-fn decided(rt: &impl Abort, alloc: Global, rows: &[Row], nodes: u32) -> Decision {
+fn decided(rt: &impl Abort, alloc: Global, rows: &[Row], nodes: u32) -> Decision
+    requires { 0 < nodes }
+{
     let mut lits = Vec::new(alloc);
     for row in rows {
         add_row(rt, alloc, &mut lits, *row);
