@@ -52,7 +52,7 @@ fn defined(
     }
 }
 
-/// No definitions yet, with a place for each of so many.
+/// No definitions yet, with `count` places for them.
 fn empty_places(alloc: Global, count: usize) -> Result<Vec<Option<Definition>>, Memory>
     ensures { IfOk result (λ places. AreEmpty count places.items) }
 {

@@ -84,7 +84,7 @@ fn read_back(alloc: Global, steps: u32) -> Result<u64, Memory> {
     }
 }
 
-/// The bytes of a derivation of so many steps, made and printed; 0 for want of memory.
+/// The bytes of a derivation of `steps` steps, made and printed; 0 for want of memory.
 #[unsafe(no_mangle)]
 pub extern "C" fn answer_text_printed(alloc: Global, steps: u32) -> u64 {
     match printed(alloc, steps) {
@@ -93,8 +93,8 @@ pub extern "C" fn answer_text_printed(alloc: Global, steps: u32) -> u64 {
     }
 }
 
-/// The steps that were read of a derivation of so many, made, printed and read back; 0 for want of
-/// memory.
+/// The steps that were read of a derivation of `steps` steps, made, printed and read back; 0 for
+/// want of memory.
 #[unsafe(no_mangle)]
 pub extern "C" fn answer_text_read_back(alloc: Global, steps: u32) -> u64 {
     match read_back(alloc, steps) {

@@ -127,7 +127,7 @@ fn judge_next(
 }
 
 /// How many variables the whole has, up to 2,049, where every number in the definitions has room. The
-/// clause has so many auxiliary variables of its own.
+/// clause has `auxiliary` auxiliary variables of its own.
 pub(crate) fn judge_all(
     alloc: Global,
     terms: &Terms,

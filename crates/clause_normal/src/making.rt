@@ -36,7 +36,7 @@ const MOST_ATOMS: usize = 64;
 /// How many variables a clause may have.
 const MOST_VARIABLES: usize = 2048;
 
-/// Whether a clause with so many auxiliary variables has more variables or body atoms than it may.
+/// Whether a clause with `auxiliary` auxiliary variables has more variables or body atoms than it may.
 fn is_too_large(clause: &HornClause, auxiliary: usize) -> bool
     requires { length clause.now.vars + auxiliary ≤ most_variables }
     ensures { result ≡ (nat_lt most_own (length clause.now.vars) || nat_lt most_atoms (length clause.now.atoms) || nat_lt most_variables (length clause.now.vars + auxiliary)) }

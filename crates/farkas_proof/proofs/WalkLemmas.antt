@@ -52,7 +52,7 @@ pub same_judged : (tree : Refutation) (e f : ℕ) (l m : List Lit) (c d : List (
 same_judged tree e f l m c d a b p q r s =
     ap (λ (x : ℕ). judged_at lit_fits x tree l c a) p ∙ ap (λ (x : List Lit). judged_at lit_fits f tree x c a) q ∙ ap (λ (x : List (List Form)). judged_at lit_fits f tree m x a) r ∙ ap (λ (x : ℕ). judged_at lit_fits f tree m d x) s
 
--- literals that come now are forgotten, where no more than so many are known again
+-- literals that come now are forgotten, where at most `depth` are known again
 pub forgets : (end : ℕ) (ws us : List Work) (lits more : List Lit) (cases : List (List Form)) (next depth : ℕ)
     → us ≡ ws ++ Forget depth ∷ [] → length lits ≡ depth → left_to end us (lits ++ more) cases next ≡ left_to end ws lits cases next
 forgets end ws us lits more cases next depth u d =

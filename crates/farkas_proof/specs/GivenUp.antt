@@ -1,4 +1,4 @@
--- Evidence that a form was given up: a search by simplex and branch and bound left the widths of its numbers, or made so many splits.
+-- Evidence that a form was given up: a search by simplex and branch and bound left the widths of its numbers, or made a given number of splits.
 use Rattle.std.specs.Prelude.{◌≡◌, ◌<◌, List, [], ◌∷◌, length}
 use Rattle.base.specs.Limits.{most_rows}
 use Rattle.lin_atoms.specs.declared.lit.Lit.{Lit}

@@ -82,7 +82,7 @@ pub data IsNode (form : Form) : Node → Type 0 where
   taken_in : (before node : Node) (k : ℕ) (lit : Lit) → IsNode form before → slice_get before.left_out k ≡ Some lit → node ≡ joined k lit before → IsNode form node
   under : (inner node : Node) (below : List Node) → IsNode form inner → IsInner (form_end form) inner below → Contains below node → IsNode form node
 
--- so many inner nodes have split trees on these nodes, one on each
+-- split trees on these nodes, one on each, have the given number of inner nodes in all
 pub data HaveTrees (q : ℕ) : List Node → ℕ → Type 0 where
   none : HaveTrees q [] 0
   leaf : (node : Node) (nodes : List Node) (n : ℕ) → HaveTrees q nodes n → HaveTrees q (node ∷ nodes) n

@@ -3,7 +3,7 @@ use lin_atoms::Lit;
 use std::alloc::Global;
 
 /// What shows that the search for an integer point of a form was given up: its numbers had no room
-/// any more, or it made so many splits. The literals are those of a node of a split tree, in the
+/// any more, or it made `nodes` splits. The literals are those of a node of a split tree, in the
 /// order in which they joined the node or one above it. In the node's tableau columns are numbered:
 /// first the form's variables, then the quotients of the literals, then the slacks, both in order of
 /// the literals.
@@ -29,7 +29,7 @@ pub enum Evidence {
     Rows {
         lits: Items<Lit>,
     },
-    /// A split tree has so many inner nodes.
+    /// A split tree has `nodes` inner nodes.
     Nodes {
         nodes: u32,
     },

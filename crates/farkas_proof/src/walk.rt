@@ -46,7 +46,7 @@ pub(crate) enum Work<'a> {
         part: &'a Form,
         which: u32,
     },
-    /// No more than so many literals are known again.
+    /// At most `depth` literals are known again.
     Forget {
         depth: usize,
     },
@@ -120,7 +120,7 @@ fn put<'a>(waiting: &mut Vec<Work<'a>>, work: Work<'a>) -> Result<(), Memory>
     Ok(())
 }
 
-/// More literals than so many are forgotten before what waits already. A literal may wait to be
+/// Literals beyond the first `depth` are forgotten before what waits already. A literal may wait to be
 /// forgotten with those below it.
 fn forget<'a>(waiting: &mut Vec<Work<'a>>, depth: usize) -> Result<(), Memory>
     ensures after { OnOk result ((end : ℕ) (lits more : List Lit) (cases : List (List Form)) (next : ℕ) → length lits ≡ depth → left_to end waiting.new.items (lits ++ more) cases next ≡ left_to end waiting.old.items lits cases next) }
@@ -138,7 +138,7 @@ fn forget<'a>(waiting: &mut Vec<Work<'a>>, depth: usize) -> Result<(), Memory>
     Ok(())
 }
 
-/// The parts of the open disjunction of that number, if there are so many.
+/// The parts of the open disjunction of that number, if there are `count` of them.
 fn parts_of<'a>(cases: &[&'a Items<Form>], which: u32, count: usize) -> Option<&'a [Form]>
     ensures some { IfSome result (λ parts. (parts.now ≡ slice_index_or (opened cases.now) which []) × (length parts.now ≡ count)) }
     ensures legal { IsSome result → has_parts (opened cases.now) which count ≡ true }

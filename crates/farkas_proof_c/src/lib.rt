@@ -115,7 +115,7 @@ fn checked(alloc: Global, times: u32) -> Result<u64, Memory> {
     Ok(total)
 }
 
-/// The nodes of a tree, added up so many times; 0 for want of memory.
+/// The nodes of a tree, added up `times` times; 0 for want of memory.
 #[unsafe(no_mangle)]
 pub extern "C" fn farkas_proof_counted(alloc: Global, times: u32) -> u64 {
     match counted(alloc, times) {
@@ -124,7 +124,7 @@ pub extern "C" fn farkas_proof_counted(alloc: Global, times: u32) -> u64 {
     }
 }
 
-/// How often a tree was taken as a proof, of so many times; 0 for want of memory.
+/// How often a tree was taken as a proof, out of `times` times; 0 for want of memory.
 #[unsafe(no_mangle)]
 pub extern "C" fn farkas_proof_checked(alloc: Global, times: u32) -> u64 {
     match checked(alloc, times) {

@@ -33,7 +33,7 @@ fn are_atoms(atoms: &[AtomUse], preds: &[u32]) -> bool {
             .all(|(atom, pred)| atom.pred == *pred)
 }
 
-/// Whether the clause has so many variables, these body atoms and guards, and this head; 9 is none.
+/// Whether the clause has `vars` variables, these body atoms and guards, and this head; 9 is none.
 fn gives(
     rt: &impl Abort,
     alloc: Global,

@@ -83,7 +83,7 @@ abbrev pub least_upper : List Bounded → ℕ → Option ℤ
 least_upper [] v = None
 least_upper (b ∷ bs) v = lesser (upper_on v b) (least_upper bs v)
 
--- the equations and bounds of what is said of so many variables
+-- the equations and bounds of what is said of `variables` variables
 abbrev pub system_of : ℕ → List Bounded → System
 system_of variables bs =
     let columns = variables + length (in_rows bs) in

@@ -9,7 +9,7 @@ use base::Memory;
 use lin_atoms::Lin;
 use std::alloc::Global;
 
-/// So many zeros.
+/// `count` zeros.
 fn zeros(alloc: Global, count: usize) -> Result<Vec<i64>, Memory>
     ensures { IfOk result (λ made. made.items ≡ replicate count (pos 0)) }
 {
@@ -99,7 +99,7 @@ pub(crate) fn numbers(alloc: Global, from: usize, count: usize) -> Result<Vec<us
     Ok(made)
 }
 
-/// No bound for each of so many variables.
+/// No bound for each of `count` variables.
 pub(crate) fn no_bounds(alloc: Global, count: usize) -> Result<Vec<Option<i128>>, Memory>
     ensures { IfOk result (λ made. made.items ≡ replicate count None) }
 {

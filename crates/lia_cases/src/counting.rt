@@ -2,7 +2,7 @@
 
 use lin_atoms::Form;
 
-/// How many literals the flattened formula has. More than 2^64 - 1 count as so many: a search takes as
+/// How many literals the flattened formula has. More than 2^64 - 1 count as 2^64 - 1: a search takes as
 /// many as there are.
 #[cycle(literals)]
 pub(crate) fn literals(form: &Form) -> usize {

@@ -28,14 +28,14 @@ pub taken-++ : (point : List ℤ) (readied : List Ready) (these those : List Tak
 taken-++ point readied [] those = omega (arith, ints)
 taken-++ point readied (taken ∷ these) those = let rest = taken-++ point readied these those in omega (arith, ints, rest)
 
--- a bound so many times, also where that is 0
+-- a bound m times, also where m is 0
 pub value-by : (point : List ℤ) (readied : List Ready) (at : ℕ) (side : Side) (m : ℤ) → taken_value point readied (taken_by at side m) ≡ m *ℤ said_value point side (slice_get readied at)
 value-by point readied at side m = by-test (nat_abs m == 0) refl where
   by-test : (b : Bool) → (nat_abs m == 0) ≡ b → taken_value point readied (cond b [] (record { literal = at; side = side; times = m } ∷ [])) ≡ m *ℤ said_value point side (slice_get readied at)
   by-test true e = sym (ap (λ z. z *ℤ said_value point side (slice_get readied at)) (true-zero m e) ∙ zero-*ℤ (said_value point side (slice_get readied at)))
   by-test false e = omega (arith, ints)
 
--- the bounds of one column, each so many times
+-- the bounds of one column, each times its multiplier
 abbrev pub slack_part : List ℤ → List ℤ → ℕ → Bounded → ℤ
 slack_part point ms column b = of_lower ms column *ℤ (unwrap_or b.lower (pos 0) -ℤ sum_at point b.form.terms) +ℤ of_upper ms column *ℤ (sum_at point b.form.terms -ℤ unwrap_or b.upper (pos 0))
 

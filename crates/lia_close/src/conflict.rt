@@ -43,7 +43,7 @@ fn leaf_of(
 }
 
 /// A tree for a node the bounds of whose tableau contradict by these multipliers: roundings of single
-/// literals, and a leaf that adds up what they give. The tree stands where so many literals are
+/// literals, and a leaf that adds up what they give. The tree stands where `known` literals are
 /// known; `reasons` has for each literal of the node the number of the first of those that give its
 /// bounds: its own one, or that of what is known of its quotient. The node's quotients are numbered
 /// on from `end`, and each has its name already.

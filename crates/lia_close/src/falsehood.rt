@@ -86,7 +86,7 @@ fn sign(lin: &Lin) -> i64
     if lin.constant() > 0 { 1 } else { -1 }
 }
 
-/// A tree for a literal without a variable that is false, which stands at that number where so many
+/// A tree for a literal without a variable that is false, which stands at `number` where `known`
 /// literals are known. `<=` and `=` are a leaf by themselves. A divisibility, or one denied, gets a
 /// quotient, whose bounds are rounded and added up.
 pub fn close_falsehood(

@@ -60,8 +60,8 @@ fn divisor(lit: &Lit) -> i64
 }
 
 impl Leaf {
-    /// Takes a bound of a literal so many times. What gives the literal's bounds stands from `reason`
-    /// on; so many literals are known above the roundings.
+    /// Takes a bound of a literal `times` times. What gives the literal's bounds stands from `reason`
+    /// on; `known` literals are known above the roundings.
     pub(crate) fn take(
         &mut self,
         lit: &Lit,

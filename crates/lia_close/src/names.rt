@@ -5,7 +5,7 @@ ghost use Rattle.lia_close.specs.Said.{named_by};
 
 use lin_atoms::{Lin, Lit};
 
-/// So many where there is a variable.
+/// `count` where there is a variable, and otherwise 0.
 fn unless_constant(lin: &Lin, count: usize) -> usize
     requires { count ≤ 2 }
     ensures is { result ≡ (if length lin.now.terms == 0 then 0 else count) }

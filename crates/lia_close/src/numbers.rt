@@ -4,7 +4,7 @@ ghost use Rattle.std.specs.Prelude.{◌≡◌, ◌+◌, IfOk};
 
 use base::Memory;
 
-/// The number as a refutation writes it. One of 2^32 or more counts as want of memory: so many
+/// The number as a refutation writes it. One of 2^32 or more counts as want of memory: 2^32
 /// literals take over 2^37 bytes.
 pub fn numbered(number: usize) -> Result<u32, Memory>
     ensures { IfOk result (λ n. n ≡ number) }

@@ -96,7 +96,7 @@ fn multiplier(multipliers: &[i64], column: usize, side: Side) -> i64
     }
 }
 
-/// Takes a bound so many times, unless that is 0.
+/// Takes a bound `times` times, unless that is 0.
 fn take(taken: &mut Vec<Taken>, literal: usize, side: Side, times: i64) -> Result<(), Memory>
     ensures { OnOk result (taken.new.items ≡ taken.old.items ++ taken_by literal side times) }
 {
@@ -110,7 +110,7 @@ fn take(taken: &mut Vec<Taken>, literal: usize, side: Side, times: i64) -> Resul
     Ok(())
 }
 
-/// The bound that a literal gives the variable, so many times. One without a bound is taken 0 times.
+/// The bound that a literal gives the variable, `times` times. One without a bound is taken 0 times.
 fn take_found(
     taken: &mut Vec<Taken>,
     found: Option<(usize, Side)>,

@@ -14,7 +14,7 @@ use std::alloc::Global;
 pub enum Step {
     /// A form is at most 0, or at least 1: two nodes are below.
     Split(Lin),
-    /// The parts of an open disjunction: so many nodes are below.
+    /// The parts of an open disjunction: `count` nodes are below.
     Cases { which: u32, count: usize },
     /// The quotient of the literal of that number gets a name: one node is below.
     Named(u32),
@@ -36,7 +36,7 @@ fn take_off(trees: &mut Vec<Refutation>, last: &mut Items<Refutation>) -> Result
     }
 }
 
-/// The last of the trees, so many of them, in the order in which they are taken off.
+/// The last `count` of the trees, in the order in which they are taken off.
 fn last_of(
     alloc: Global,
     trees: &mut Vec<Refutation>,

@@ -17,7 +17,7 @@ pub(crate) struct Rounding {
     pub(crate) divisor: i64,
 }
 
-/// Roundings where so many literals are known, one below the other, and the multipliers of the leaf
+/// Roundings where `known` literals are known, one below the other, and the multipliers of the leaf
 /// below them.
 #[derive(Drop)]
 pub(crate) struct Chain {

@@ -42,12 +42,12 @@ fn checked(
 }
 
 /// A tree for a node whose vertex has a fraction, where one is found that is a proof. The node is split
-/// into parts by what columns may be, so many parts at the most, and a part is closed where its bounds
-/// contradict or where a common divisor of a row leaves no integers: a number divides the entries of
-/// all columns but some that lie between two bounds, and no multiple of it lies between what these add
-/// up to at least and at most. With one part the node is closed by a common divisor alone, and with
-/// none it isn't looked at. The tree stands where so many literals are known; `reasons` has for each
-/// literal of the node the number of the first of those that give its bounds, as for `close`.
+/// into at most `parts` parts by what columns may be, and a part is closed where its bounds contradict
+/// or where a common divisor of a row leaves no integers: a number divides the entries of all columns
+/// but some that lie between two bounds, and no multiple of it lies between what these add up to at
+/// least and at most. With one part the node is closed by a common divisor alone, and with none it
+/// isn't looked at. The tree stands where `known` literals are known; `reasons` has for each literal of
+/// the node the number of the first of those that give its bounds, as for `close`.
 pub fn close_by_parts(
     alloc: Global,
     lits: &[Lit],

@@ -59,7 +59,7 @@ fn first_times(terms: &[(u32, i64)], form: &[(u32, i128)]) -> Option<i128> {
     }
 }
 
-/// Whether the term is so many times the form's.
+/// Whether the term is `times` times the form's.
 fn is_times(own: Option<&(u32, i128)>, times: i128, variable: u32, coefficient: i64) -> bool {
     match own {
         Some((same, unit)) => {

@@ -13,7 +13,7 @@ fn bound_at(sides: &[Sides], at: usize) -> Option<Bound> {
     if at % 2 == 0 { own.lower } else { own.upper }
 }
 
-/// The bounds, taken so many times each.
+/// The bounds, each times its multiplier.
 pub(crate) fn of_conflict(
     alloc: Global,
     multipliers: &[i64],

@@ -20,7 +20,7 @@ use std::alloc::Global;
 /// So often cuts are added.
 const MOST_ROUNDS: u32 = 6;
 
-/// So many cuts are added at once.
+/// A bound on how many cuts are added at once.
 const MOST_CUTS: usize = 4;
 
 /// The literals of a node and cuts, and how these are derived.
@@ -93,7 +93,7 @@ fn add_product(
 }
 
 impl Sum {
-    /// So many times a column's form.
+    /// Adds `times` times a column's form.
     fn add_form(&mut self, forms: &[Vec<(u32, i128)>], column: usize, times: i128) -> Option<()> {
         let variables = self.coefficients.len();
         if column < variables {
@@ -107,7 +107,7 @@ impl Sum {
         add_terms(self.coefficients.as_mut_slice(), terms.as_slice(), times)
     }
 
-    /// So many times the literal that a bound of a column is.
+    /// Adds `times` times the literal that a bound of a column is.
     fn add_bound(
         &mut self,
         forms: &[Vec<(u32, i128)>],
@@ -123,7 +123,7 @@ impl Sum {
     }
 }
 
-/// So many zeros.
+/// `count` zeros.
 fn zeros(alloc: Global, count: usize) -> Result<Vec<i128>, Memory> {
     let mut made = Vec::with_capacity(alloc, count)?;
     for _ in 0..count {

@@ -21,7 +21,7 @@ fn blank(alloc: Global) -> Lit
     }
 }
 
-/// So many of them.
+/// `count` blank literals.
 fn blanks(alloc: Global, count: usize) -> Result<Vec<Lit>, Memory>
     ensures long { IfOk result (λ made. length made.items ≡ count) }
     ensures blank { IfOk result (λ made. list_all is_blank made.items ≡ true) }

@@ -144,7 +144,7 @@ fn met(
     }
 }
 
-/// The parts are met one after the other, with so many at the most.
+/// The parts are met one after the other, at most `most` of them.
 fn all_met(
     alloc: Global,
     tableau: &mut Tableau,

@@ -56,7 +56,7 @@ struct Sum {
 }
 
 impl Sum {
-    /// With so many times a column between two bounds.
+    /// With `entry` times a column between two bounds.
     fn with(self, entry: i64, lower: i128, upper: i128) -> Option<Sum> {
         let first = i128::from(entry).checked_mul(lower)?;
         let second = i128::from(entry).checked_mul(upper)?;
@@ -144,7 +144,7 @@ fn refuting(entries: &[i64], sides: &[Sides]) -> Option<i64> {
     }
 }
 
-/// A bound is taken so many times, rounded by itself first where it has to be.
+/// A bound is taken `times` times, rounded by itself first where it has to be.
 pub(crate) fn take(
     alloc: Global,
     chain: &mut Chain,

@@ -47,7 +47,7 @@ impl Sides {
         }
     }
 
-    /// So many times the column, and the constant, is at most 0, by that literal with that sign.
+    /// `times` times the column, plus the constant, is at most 0, by that literal with that sign.
     fn meet(&mut self, times: i128, constant: i128, number: u32, sign: i64) {
         let Some(found) = bound_of(times, constant, number, sign) else {
             return;
@@ -59,7 +59,7 @@ impl Sides {
         }
     }
 
-    /// What the literal says of the column, of which its form is so many times, but for the constant.
+    /// What the literal says of the column: its form is `times` times the column, but for the constant.
     fn meet_literal(&mut self, lit: &Lit, times: i128, number: u32) {
         match lit {
             Lit::Le(lin) => self.meet(times, lin.constant(), number, 1),
@@ -147,7 +147,7 @@ fn meet_one(sides: &mut [Sides], one: &Said, forms: &[Vec<(u32, i128)>], variabl
     }
 }
 
-/// No bounds, for so many columns.
+/// No bounds, for each of `columns` columns.
 fn no_sides(alloc: Global, columns: usize) -> Result<Vec<Sides>, Memory> {
     let mut sides = Vec::new(alloc);
     for _ in 0..columns {

@@ -20,7 +20,7 @@ impl Column {
         }
     }
 
-    /// Another column is taken away so many times. It then stands for so much more.
+    /// Another column is taken away `times` times. It then stands for `times` times this one more.
     pub(crate) fn take_away(&mut self, times: i128, other: &mut Column) -> Option<()> {
         subtract(self.entries.as_mut_slice(), times, other.entries.as_slice())?;
         subtract(self.parts.as_mut_slice(), times, other.parts.as_slice())?;

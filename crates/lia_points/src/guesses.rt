@@ -49,7 +49,7 @@ fn clear(made: &mut [i128], unknowns: &[u32]) {
     }
 }
 
-/// A number and so many times another one.
+/// A number plus `times` times another one.
 fn more(own: i128, times: i128, part: i128) -> Option<i128> {
     own.checked_add(times.checked_mul(part)?)
 }

@@ -82,7 +82,7 @@ fn are_short(point: &[i64]) -> bool
     true
 }
 
-/// Whether the point has so many values, each below 2^63 in magnitude, and the literals are true there.
+/// Whether the point has `long` values, each below 2^63 in magnitude, and the literals are true there.
 fn is_point(lits: &[Lit], long: u32, point: &[i64]) -> bool
     ensures each { result ≡ true → length point.now ≡ long }
     ensures short { result ≡ true → list_all is_short point.now ≡ true }

@@ -154,7 +154,7 @@ fn set(made: &mut [i64], row: usize, value: i64) {
     }
 }
 
-/// So many zeros.
+/// `count` zeros.
 fn zeros(alloc: Global, count: usize) -> Result<Vec<i64>, Memory> {
     let mut made = Vec::with_capacity(alloc, count)?;
     for _ in 0..count {

@@ -57,7 +57,7 @@ fn entries(alloc: Global, equations: &[Equation], unknown: u32) -> Result<Vec<i1
     Ok(entries)
 }
 
-/// One of so many numbers is 1, and the others are 0.
+/// Of `count` numbers the one at `at` is 1, and the others are 0.
 fn unit(alloc: Global, count: usize, at: usize) -> Result<Vec<i128>, Memory> {
     let mut unit = Vec::with_capacity(alloc, count)?;
     for own in 0..count {

@@ -73,7 +73,7 @@ fn at_most(rt: &impl Abort, alloc: Global, variable: u32, coefficient: i64) -> L
     Lit::Le(Lin::new(terms, -2).expect(rt, "a form"))
 }
 
-/// Each variable is from -2 to 2, and so many other literals are true.
+/// Each variable is from -2 to 2, and `count` other literals are true.
 fn boxed(rt: &impl Abort, alloc: Global, numbers: &mut Numbers, count: i64) -> Vec<Lit> {
     let mut lits = Vec::new(alloc);
     for variable in 0..VARIABLES {

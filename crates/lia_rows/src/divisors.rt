@@ -44,7 +44,7 @@ fn add_row(rt: &impl Abort, alloc: Global, lits: &mut Vec<Lit>, row: Row) {
         .expect(rt, "memory");
 }
 
-/// What is decided of the rows with so many inner nodes at the most.
+/// What is decided of the rows with at most `nodes` inner nodes.
 fn decided(rt: &impl Abort, alloc: Global, rows: &[Row], nodes: u32) -> Decision
     requires { 0 < nodes }
 {

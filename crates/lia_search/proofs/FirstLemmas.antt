@@ -111,7 +111,7 @@ first-trees form taken m have =
     let rest = drop taken (literals form) in
     trees-first (form_end form) m taken [] (literals form) (disjunctions form) (subst (λ (ls : List Lit). HaveTrees (form_end form) (node firsts ls (disjunctions form) ∷ []) m) (left-lits (length firsts) rest) have)
 
--- so many have joined, where no more are to join or there are no more
+-- `at` literals have joined, where no more are to join or there are no more
 pub record FirstAt (at taken : ℕ) (lits : List Lit) : Type 0 where
   pub firsts : take at lits ≡ take taken lits
   pub long : length (take taken lits) ≡ at

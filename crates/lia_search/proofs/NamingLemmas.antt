@@ -335,7 +335,7 @@ all-last o le = ap (λ (n : ℕ). named_times n o) (none-left o le)
 pub steps-last : (o : Open) → length o.lits ≤ length o.reasons → steps_of_names o ≡ []
 steps-last o le = ap (λ (n : ℕ). steps_times n o) (none-left o le)
 
--- so many names
+-- k names
 record NamedTimes (form : Form) (k : ℕ) (o : Open) (place : Place) : Type 0 where
   pub behind : Place
   pub is : IsOpen form (named_times k o) behind

@@ -32,7 +32,7 @@ CountsTo allowed (Coordinate lits basis outside variable) = Unit {0}
 CountsTo allowed (Rows lits) = Unit {0}
 CountsTo allowed (Nodes nodes) = nodes ≡ allowed
 
--- a point of so many integers at which the formula is true; or the formula is kept as refuted, or as given up with so many inner nodes. What is kept carries its proof
+-- a point of `vars` integers at which the formula is true; or the formula is kept as refuted, or as given up with `nodes` inner nodes. What is kept carries its proof
 abbrev pub Decides : Form → ℕ → ℕ → Decision → Type 0
 Decides form vars nodes (Model point) = (length point.items ≡ vars) × (list_all is_short point.items ≡ true) × (truth point.items form ≡ true)
 Decides form vars nodes (Refuted refuted) = form_of refuted ≡ form

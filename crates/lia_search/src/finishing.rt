@@ -24,7 +24,7 @@ fn value(point: &[i64], variable: usize, end: usize) -> i64
     if variable < end { point[variable] } else { 0 }
 }
 
-/// So many values: those of the form's variables, and 0 for the others.
+/// `vars` values: those of the form's variables, and 0 for the others.
 fn cut(alloc: Global, point: &[i64], end: usize, vars: usize) -> Result<Vec<i64>, Memory>
     requires within { end ≤ length point.now }
     ensures { IfOk result (λ made. made.items ≡ cut point.now end vars) }
@@ -49,7 +49,7 @@ fn refuted(alloc: Global, form: Form, tree: Refutation) -> Result<Refuted, Memor
     }
 }
 
-/// What the end of a search decides of its form, with so many inner nodes at the most.
+/// What the end of a search decides of its form, with at most `nodes` inner nodes.
 pub(crate) fn decided(
     alloc: Global,
     form: Form,

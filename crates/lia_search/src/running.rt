@@ -29,10 +29,10 @@ use lin_atoms::Form;
 use node_rows::are_legal;
 use std::alloc::Global;
 
-/// So many parts a node is split into at the most.
+/// A bound on how many parts a node is split into.
 const MOST_PARTS: u32 = 400;
 
-/// Before so many inner nodes a node is looked at whole, and not for a point.
+/// Below this number of inner nodes a node is looked at whole, and not for a point.
 const FEW_NODES: u32 = 4;
 
 /// A search of a form, and how far it has come.
@@ -41,7 +41,7 @@ pub(crate) struct Search<'a> {
     /// The form, whose variables are below `end`.
     pub(crate) form: &'a Form,
     pub(crate) end: u32,
-    /// So many inner nodes are allowed, and so many were made.
+    /// How many inner nodes are allowed (`nodes`), and how many were made (`count`).
     pub(crate) nodes: u32,
     pub(crate) count: u32,
     /// Whether no node was examined yet.
@@ -74,7 +74,7 @@ pub(crate) enum Turn {
     Over(End),
 }
 
-/// How many parts a node with a fraction is split into at the most, after so many inner nodes. Each time
+/// How many parts a node with a fraction is split into at most, after `count` inner nodes. Each time
 /// that the inner nodes have doubled, a tree of parts is looked for; in between the node is looked at
 /// whole, at fewer nodes the more there are.
 fn parts_at(count: u32) -> u32 {

@@ -36,7 +36,7 @@ fn left_out(alloc: Global, lits: &[Lit], from: usize) -> Result<Items<LeftOut>, 
     Ok(made)
 }
 
-/// The first node: the first literals of the flattened form have joined, so many of them.
+/// The first node: the first `taken` literals of the flattened form have joined.
 fn first(alloc: Global, flat: Flat, taken: usize) -> Result<Open, Memory>
     ensures { IfOk result (λ waiting. waiting ≡ first_open taken flat.lits flat.cases) }
 {
@@ -88,12 +88,11 @@ fn begun<'a>(alloc: Global, form: &'a Form, taken: usize, nodes: u32) -> Result<
     })
 }
 
-/// Decides whether an integer point makes the form true, with so many inner nodes of a split tree at
-/// the most. The first literals of the flattened form, so many of them, join at once; the others are
-/// left out until a point breaks them, and a disjunction is split where a point breaks it. Each
-/// literal is rounded by itself. Where the tableau of the literals that join at once leaves its widths,
-/// the form is given up at once; where a later one does, the search goes on, for there may be a point
-/// elsewhere.
+/// Decides whether an integer point makes the form true, with at most `nodes` inner nodes of a split
+/// tree. The first `taken` literals of the flattened form join at once; the others are left out until a
+/// point breaks them, and a disjunction is split where a point breaks it. Each literal is rounded by
+/// itself. Where the tableau of the literals that join at once leaves its widths, the form is given up
+/// at once; where a later one does, the search goes on, for there may be a point elsewhere.
 pub fn search(
     alloc: Global,
     form: Form,

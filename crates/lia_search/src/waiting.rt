@@ -35,7 +35,7 @@ pub(crate) struct Open {
     /// For each of the first literals the number of the first of those that give its bounds. The
     /// quotients of these literals have their names.
     pub(crate) reasons: Items<u32>,
-    /// So many literals are known where the node's tree stands.
+    /// How many literals are known where the node's tree stands.
     pub(crate) known: usize,
     /// The literals of the form that are left out.
     pub(crate) left_out: Items<LeftOut>,

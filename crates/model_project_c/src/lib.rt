@@ -104,7 +104,7 @@ fn write_all(lits: &[Lit], rows: &mut [i64]) {
     }
 }
 
-/// Projects so many times, and answers the last projection.
+/// Projects `rounds` times, and answers the last projection.
 fn projected(
     alloc: Global,
     lits: &[Lit],
@@ -143,7 +143,7 @@ fn solve(
     }
 }
 
-/// Projects a conjunction, given as rows of eight numbers, so many times. The answer has the rows
+/// Projects a conjunction, given as rows of eight numbers, `rounds` times. The answer has the rows
 /// of the cube, and the result is their number, or less than 0 where there is no projection.
 #[unsafe(no_mangle)]
 pub extern "C" fn model_project_rounds(

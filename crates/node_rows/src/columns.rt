@@ -84,7 +84,7 @@ fn meet(made: &mut [(Option<i128>, Option<i128>)], bounded: &Bounded)
     }
 }
 
-/// No bounds, for so many variables.
+/// No bounds, for each of `variables` variables.
 fn without_bounds(
     alloc: Global,
     variables: u32,

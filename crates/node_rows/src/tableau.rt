@@ -16,7 +16,7 @@ use int_rows::{Bounded, RowStop, Tableau};
 use lin_atoms::Lit;
 use std::alloc::Global;
 
-/// The tableau of what is said of so many variables and quotients.
+/// The tableau of what is said of `variables` variables and quotients.
 fn tableau_of(alloc: Global, bounds: Vec<Bounded>, variables: u32) -> Result<Tableau, Memory>
     requires fit { list_all bounded_fits bounds.items ≡ true }
     requires below { list_all (is_said_below variables) bounds.items ≡ true }

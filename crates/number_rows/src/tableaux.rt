@@ -122,7 +122,7 @@ fn a_row_without_room_leaves_the_tableau(rt: HostRuntime) -> Result<(), Fail> {
     Ok(())
 }
 
-/// So many forms of no variable.
+/// `count` forms of no variable.
 fn constants(alloc: Global, count: usize) -> Result<Vec<Lin>, Fail> {
     let mut forms = Vec::new(alloc);
     for _ in 0..count {
@@ -131,7 +131,7 @@ fn constants(alloc: Global, count: usize) -> Result<Vec<Lin>, Fail> {
     Ok(forms)
 }
 
-/// Whether so many forms are too many; with memory.
+/// Whether `count` forms are too many; with memory.
 fn are_too_many(alloc: Global, count: usize) -> Result<bool, Fail> {
     let forms = constants(alloc, count)?;
     if !are_below(forms.as_slice(), 0) {
@@ -151,7 +151,7 @@ fn more_than_1024_forms_are_too_many(rt: HostRuntime) -> Result<(), Fail> {
     Ok(())
 }
 
-/// The form of so many variables, each with this coefficient.
+/// The form of `variables` variables, each with this coefficient.
 fn form(alloc: Global, variables: u32, coefficient: i64, constant: i128) -> Result<Lin, Fail> {
     let mut terms = Vec::new(alloc);
     for variable in 0..variables {
@@ -204,7 +204,7 @@ fn of_kind(kind: Kind, lin: Lin) -> Option<Lit> {
     }
 }
 
-/// What is said of a literal of so many variables, each with this coefficient.
+/// What is said of a literal of `count` variables, each with this coefficient.
 fn said_of(
     alloc: Global,
     kind: Kind,
@@ -227,7 +227,7 @@ const READY: [(Kind, i64, i128, Said); 4] = [
     (Kind::NDiv, 6, 7, (2, 6, Some(-6), Some(-3))),
 ];
 
-/// Whether what is said has the same numbers, and so many more terms.
+/// Whether what is said has the same numbers, and `more` further terms.
 fn says(found: Option<Said>, said: Said, more: usize) -> bool {
     match found {
         Some((count, first, lower, upper)) => {
@@ -240,7 +240,7 @@ fn says(found: Option<Said>, said: Said, more: usize) -> bool {
     }
 }
 
-/// Whether all literals of one variable and so many more say what they are to say.
+/// Whether all literals of one variable and `more` others say what they are to say.
 fn are_ready(alloc: Global, more: u32) -> Result<bool, Fail> {
     let mut all = true;
     for (kind, coefficient, constant, said) in READY {
@@ -291,7 +291,7 @@ fn loosen(t: &mut Tableau, variable: usize) {
     }
 }
 
-/// The tableau of so many forms of one variable.
+/// The tableau of `count` forms of one variable.
 fn of_many(alloc: Global, count: usize) -> Result<Tableau, Fail> {
     let mut forms = Vec::new(alloc);
     for _ in 0..count {
@@ -316,7 +316,7 @@ fn are_apart(copied: &mut Tableau, t: &Tableau, row: usize) -> bool {
     sizes && same && has_bounds(copied, 1, None, Some(8)) && has_bounds(t, 1, Some(-5), Some(7))
 }
 
-/// Whether the copy of a tableau of so many forms and one more, pivoted in its last row, is equal to
+/// Whether the copy of a tableau of `last` forms and one more, pivoted in its last row, is equal to
 /// it and keeps bounds of its own on a slack.
 fn copies_are_equal(alloc: Global, last: usize) -> Result<bool, Fail> {
     let mut t = of_many(alloc, last.wrapping_add(1))?;

@@ -6,7 +6,7 @@ use crate::turn::{Failed, Turn};
 use base::Memory;
 use std::alloc::Global;
 
-/// A sink in memory with room for so many bytes, which takes a few at a time.
+/// A sink in memory with room for `room` bytes, which takes a few at a time.
 #[derive(Debug, Drop)]
 pub struct MemSink {
     held: Vec<u8>,

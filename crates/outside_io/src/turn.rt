@@ -22,7 +22,7 @@ pub enum Turn {
 }
 
 impl Turn {
-    /// The turn of a `take` that gave so many bytes.
+    /// The turn of a `take` that gave `count` bytes.
     pub(crate) fn of_take(count: usize, into: &[u8]) -> Turn
         ensures { result ≡ given_turn count into.now }
     {

@@ -22,7 +22,7 @@ fn grow(rt: &impl Abort, alloc: Global, table: &mut Table<Row>, at: u32) {
     }
 }
 
-/// Adds rows until there are so many, each with its place as its value.
+/// Adds rows until there are `count`, each with its place as its value.
 fn fill(rt: &impl Abort, alloc: Global, table: &mut Table<Row>, count: u32) {
     for at in 0..count {
         grow(rt, alloc, table, at);
@@ -37,7 +37,7 @@ fn value_at(table: &Table<Row>, at: u32) -> Option<u32> {
     }
 }
 
-/// Whether each of so many rows has its place as its value, and there are no others.
+/// Whether each of `count` rows has its place as its value, and there are no others.
 fn is_filled(table: &Table<Row>, count: u32) -> bool {
     for at in 0..count {
         if value_at(table, at) != Some(at) {

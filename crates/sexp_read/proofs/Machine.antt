@@ -43,7 +43,7 @@ turn next stack trees (token.Leaf kind start end) = next stack (trees ++ LeafTre
 turn next stack trees (token.BadByte offset) = (unwound stack trees, Some (BadByte offset))
 turn next stack trees (token.Unclosed start) = (unwound stack trees, Some (Unclosed (outer stack start)))
 
--- at most so many turns
+-- at most n turns
 abbrev pub run : List ℕ → ℕ → Stack → List Tree → ℕ → Read
 run text zero stack trees at = (trees, None)
 run text (suc n) stack trees at = turn (run text n) stack trees (next_token text at)

@@ -21,7 +21,7 @@ abbrev pub onto : List OpenList → Stack → List Tree → Stack × List Tree
 onto [] s trees = (s, trees)
 onto (list ∷ lists) s trees = onto lists ((list.start, take list.before trees) ∷ s) (drop list.before trees)
 
--- each list has as many trees before it as it says, and the innermost so many in it
+-- each list has as many trees before it as it says, and the innermost has `here` trees in it
 abbrev pub Fits : List OpenList → List Tree → ℕ → Type 0
 Fits [] trees here = length trees ≡ here
 Fits (list ∷ lists) trees here = (list.before ≤ length trees) × Fits lists (drop list.before trees) here

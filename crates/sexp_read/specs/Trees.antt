@@ -10,7 +10,7 @@ use Rattle.sexp_read.specs.declared.token.Token.TheVariants as token
 use Rattle.sexp_read.specs.Lexicon.{next_token}
 
 mutual
-  -- IsTree text depth at tree after: the text goes on from an offset with this tree, inside so many open lists, and the tree ends at the offset after
+  -- IsTree text depth at tree after: the text goes on from an offset with this tree, inside `depth` open lists, and the tree ends at the offset after
   pub data IsTree (text : List ℕ) : ℕ → ℕ → Tree → ℕ → Type 0 where
     leaf : (depth at : ℕ) (kind : _) (start end : ℕ) → next_token text at ≡ token.Leaf kind start end → IsTree text depth at (LeafTree kind start end) end
     list : (depth at start : ℕ) (items : List Tree) (inner close : ℕ) → next_token text at ≡ token.Open start → depth < most_open

@@ -31,7 +31,7 @@ abbrev standings_of : Outcome → List Standing
 standings_of (Next m) = m.standings
 standings_of (Ended turn) = []
 
--- the standings of so many moments, from the first on
+-- the standings of the first k moments
 abbrev met : Table → ℕ → List (List Standing)
 met t zero = []
 met t (suc k) = met t k ++ standings_of (run t k) ∷ []

@@ -18,7 +18,7 @@ use Rattle.simplex_core.proofs.SameLemmas.{good-width, same-standings}
 use Rattle.simplex_core.proofs.SequenceLemmas.{Keeps, Returns, returns}
 use Rattle.simplex_core.proofs.TurnLemmas.{IsNext, next-is}
 
--- where a column stands after so many steps, as long as the run goes on
+-- where a column stands after k steps, as long as the run goes on
 abbrev pub stands_in : Outcome → ℕ → Standing
 stands_in (Next m) c = standing_at m.standings c
 stands_in (Ended turn) c = Basic
@@ -126,7 +126,7 @@ leaves-is t k c s basic out =
     (cases_eq c s.is.column)))
     (cases_eq c (basic_at s.old.table.basic s.is.row))
 
--- whether the column comes or goes at a step, and at some step of so many
+-- whether the column comes or goes at a step, and at one of the n steps from `from` on
 abbrev differ : Bool → Bool → Bool
 differ true b = not b
 differ false b = b

@@ -214,7 +214,7 @@ abbrev pub proceed : Outcome → Outcome
 proceed (Next m) = next m
 proceed (Ended turn) = Ended turn
 
--- the run: after so many steps it is at a moment, or has ended
+-- the run: after the given number of steps it is at a moment, or has ended
 unfoldable pub run : Table → ℕ → Outcome
 run t zero = Next (first_moment t)
 run t (suc k) = proceed (run t k)

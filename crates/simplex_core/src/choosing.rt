@@ -51,7 +51,7 @@ fn wide(values: &[Coordinate]) -> Option<usize>
     values.iter().position(|value| value.is_wide())
 }
 
-/// The first of so many values that has no room when it is rounded down.
+/// The first of the first `variables` values that has no room when it is rounded down.
 fn wide_floor(values: &[Coordinate], variables: usize) -> Option<usize>
     requires { variables ≤ length values.now }
     ensures { result ≡ position has_wide_floor (take variables values.now) }

@@ -33,7 +33,7 @@ fn form(alloc: Global, row: &[i64]) -> Result<Lin, Memory> {
     Lin::new(terms, 0).map_err(|_stop| Memory)
 }
 
-/// The forms of rows of so many coefficients.
+/// The forms of rows of `variables` coefficients.
 fn forms(alloc: Global, coefficients: &[i64], variables: u32) -> Result<Vec<Lin>, Memory>
     requires { 0 < variables }
     ensures { IfOk result (λ lins. list_all (lin_is_below variables) lins.items ≡ true) }

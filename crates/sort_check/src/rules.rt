@@ -110,7 +110,7 @@ pub fn alone_fault(start: u32, allowed: bool, parts: &[Tree]) -> Option<Fault>
     }
 }
 
-/// What is wrong with an assertion behind so many others, before its term is looked at; it is allowed
+/// What is wrong with an assertion behind `count` others, before its term is looked at; it is allowed
 /// where there was no `check-sat`.
 pub fn assert_fault(allowed: bool, count: usize, start: u32) -> Option<Fault>
     ensures { result ≡ assert_fault allowed count start }

@@ -79,7 +79,7 @@ impl<'a> Bindings<'a> {
         self.few.len() + self.more.len()
     }
 
-    /// Makes room for so many more names.
+    /// Makes room for `count` more names.
     fn reserve(&mut self, count: usize) -> Result<(), Memory>
         ensures { OnOk result (self.new ≡ self.old) }
     {
@@ -103,7 +103,7 @@ impl<'a> Bindings<'a> {
         Ok(())
     }
 
-    /// Forgets the innermost names but for so many.
+    /// Forgets the innermost names, so that at most `count` are left.
     pub fn leave(&mut self, count: usize)
         ensures { self.new ≡ take count self.old }
     {

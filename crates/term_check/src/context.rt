@@ -129,7 +129,7 @@ impl<'a> Context<'a> {
         Ok(())
     }
 
-    /// Forgets the innermost names and terms of `let`, but for so many.
+    /// Forgets the innermost names and terms of `let`, so that at most `names` and `lets` are left.
     pub fn leave(&mut self, names: usize, lets: usize)
         ensures { self.new ≡ outside names lets self.old }
     {

@@ -23,7 +23,7 @@ pub struct FoundAll {
 }
 
 impl FoundAll {
-    /// None yet, with room for so many, where the next variable has this number.
+    /// None yet, with room for `count` terms, where the next variable has the number `next`.
     pub fn with_room(alloc: Global, count: usize, next: u32) -> Result<FoundAll, Memory>
         ensures ids { IfOk result (λ all. all.ids.items ≡ []) }
         ensures parts { IfOk result (λ all. all.parts.items ≡ []) }

@@ -62,7 +62,7 @@ impl<'a> Mapped<'a> {
         self.bindings.len()
     }
 
-    /// Makes room for so many more names.
+    /// Makes room for `count` more names.
     pub fn reserve(&mut self, count: usize) -> Result<(), Memory>
         ensures { OnOk result (self.new ≡ self.old) }
     {
@@ -97,7 +97,7 @@ impl<'a> Mapped<'a> {
         }
     }
 
-    /// Forgets the innermost names but for so many.
+    /// Forgets the innermost names, so that at most `count` are left.
     pub fn leave(&mut self, count: usize)
         ensures { self.new ≡ take count self.old }
     {

@@ -20,7 +20,7 @@ pub fn fault(kind: Kind, offset: u32) -> Fault
     Fault { kind, offset }
 }
 
-/// Whether so many arguments are too few or too many for an operator that starts there.
+/// Whether `number` arguments are too few or too many for an operator that starts there.
 pub fn number_fault(op: OpKind, start: u32, number: usize) -> Option<Fault>
     ensures { result ≡ number_fault op start number }
 {

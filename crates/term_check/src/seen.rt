@@ -36,7 +36,7 @@ fn has_name<'a>(few: &[&'a [u8]], name: &[u8]) -> bool
 }
 
 impl<'a> Seen<'a> {
-    /// None yet, with room for so many.
+    /// None yet, with room for `count` names.
     pub fn with_room(alloc: Global, count: usize) -> Result<Seen<'a>, Memory>
         ensures { IfOk result (λ seen. seen ≡ []) }
     {

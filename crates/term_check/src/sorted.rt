@@ -26,7 +26,7 @@ impl<'a> Model for Sorted<'a> {
 }
 
 impl<'a> Sorted<'a> {
-    /// None yet, with room for so many.
+    /// None yet, with room for `count` names.
     pub fn with_room(alloc: Global, count: usize) -> Result<Sorted<'a>, Memory>
         ensures { IfOk result (λ sorted. sorted ≡ []) }
     {

@@ -265,7 +265,7 @@ fn a_reader_goes_on_where_a_tree_ended(rt: HostRuntime) {
     check_stop(&rt, &mut reader, 5, 6);
 }
 
-/// A text with so many of one byte behind it.
+/// A text with `count` copies of one byte behind it.
 fn repeated(rt: &impl Abort, alloc: Global, front: &str, byte: u8, count: usize) -> Vec<u8> {
     let mut text = Vec::from_slice(alloc, front.as_bytes()).expect(rt, "memory");
     for _ in 0..count {

@@ -301,7 +301,7 @@ fn add_all(rt: &impl Abort, text: &mut String, part: &str, count: usize) {
     }
 }
 
-/// A text with so many of one part before its middle, and as many of another one behind it.
+/// A text with `count` copies of one part before its middle, and as many of another one behind it.
 fn around(
     rt: &impl Abort,
     alloc: Global,

@@ -22,7 +22,7 @@ use Rattle.clause_defined.specs.machinery.Classes.{is_same_argument}
 abbrev pub capped : ℕ → ℕ → ℕ
 capped count more = if nat_le (count + more) most_variables then count + more else most_variables + 1
 
--- the definition is a formula over so many parameters
+-- the definition is a formula over n parameters
 abbrev pub IsFormulaFor : Definition → ℕ → Type 0
 IsFormulaFor d n = (sorts : List Sort) × (length sorts ≡ n) × IsFormula sorts d.terms.nodes d.body.0
 
@@ -63,7 +63,7 @@ use_list naming nodes [] None = []
 use_list naming nodes [] (Some head) = (normal_atom naming nodes head, false) ∷ []
 use_list naming nodes (atom ∷ atoms) head = (normal_atom naming nodes atom, true) ∷ use_list naming nodes atoms head
 
--- so many variables come before these uses of the whole, up to 2,049, and what stands before them has room
+-- `count` is the number of variables before these uses of the whole, up to 2,049, and what stands before them has room
 pub record IsJudged (defs : List Definition) (rest whole : List (Atom × Bool)) (first count : ℕ) : Type 0 where
   pub next : ℕ
   pub from : first ≤ next

@@ -37,7 +37,7 @@ divisor_of (Eq lin) = lin_content lin
 divisor_of (Div n lin) = 1
 divisor_of (NDiv n lin) = 1
 
--- roundings, and the multipliers below them, with a bound of a literal so many times more
+-- roundings, and the multipliers below them, with a bound of a literal `times` times more
 abbrev pub with_taken : Lit → Side → ℕ → ℕ → ℤ → List Rounding × List (ℕ × ℤ) → List Rounding × List (ℕ × ℤ)
 with_taken lit side reason known times leaf =
     let number = reason + (multiplier_of lit side).0 in

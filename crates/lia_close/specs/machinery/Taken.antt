@@ -44,7 +44,7 @@ abbrev pub multiplier_at : List ℤ → ℕ → Side → ℤ
 multiplier_at ms column Lower = of_lower ms column
 multiplier_at ms column Upper = of_upper ms column
 
--- a bound, so many times, unless that is 0
+-- a bound, `times` times, unless that is 0
 abbrev pub taken_by : ℕ → Side → ℤ → List Taken
 taken_by literal side times = if nat_abs times == 0 then [] else record { literal = literal; side = side; times = times } ∷ []
 
@@ -65,7 +65,7 @@ slacks_from ms at column (r ∷ rs) = if ready_has_row r then taken_by at Lower 
 abbrev pub all_taken : List Ready → List ℤ → ℕ → List Taken
 all_taken readied ms variables = flat_map (taken_of readied ms) (range_with_len 0 variables) ++ slacks_from ms 0 variables readied
 
--- the bound is there, and it is taken so many times, which isn't negative
+-- the bound is there, and it is taken `times` times, which isn't negative
 pub record IsTaken (readied : List Ready) (taken : Taken) : Type 0 where
   pub bounded : Bounded
   pub there : slice_get readied taken.literal ≡ Some (Bounds bounded)
@@ -80,7 +80,7 @@ said_value point side None = pos 0
 said_value point side (Some (Truth truth)) = pos 0
 said_value point side (Some (Bounds b)) = value_at point (said side b)
 
--- and of the sum of all that is said, so many times each
+-- and of the sum of all that is said, each times its multiplier
 abbrev pub taken_value : List ℤ → List Ready → List Taken → ℤ
 taken_value point readied [] = pos 0
 taken_value point readied (taken ∷ takens) = taken.times *ℤ said_value point taken.side (slice_get readied taken.literal) +ℤ taken_value point readied takens

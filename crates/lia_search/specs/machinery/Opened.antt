@@ -63,7 +63,7 @@ with_name o = if named_by (next_lit o) == 0 then record o { reasons = o.reasons 
 abbrev pub step_of_name : Open → List Step
 step_of_name o = if named_by (next_lit o) == 0 then [] else Named (next_number o) ∷ []
 
--- so many literals, one after the other
+-- n literals, one after the other
 abbrev pub named_times : ℕ → Open → Open
 named_times zero o = o
 named_times (suc n) o = named_times n (with_name o)
@@ -88,7 +88,7 @@ abbrev pub left_from : ℕ → List Lit → List LeftOut
 left_from at [] = []
 left_from at (lit ∷ lits) = record { lit = lit; number = at } ∷ left_from (at + 1) lits
 
--- where a search begins: the first literals have joined, so many of them
+-- where a search begins: the first `taken` literals have joined
 abbrev pub first_open : ℕ → List Lit → List (List Form) → Open
 first_open taken lits cases = record {
   lits = take taken lits;

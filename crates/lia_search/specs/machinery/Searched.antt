@@ -80,7 +80,7 @@ pub record Goes (old : Search) (waiting : Open) (new : Search) : Type 0 where
   pub count : new.count ≡ old.count
   pub less : weight new.stack.items < weight old.stack.items + weight_of waiting
 
--- how a search of the form may end, with so many inner nodes at the most
+-- how a search of the form may end, with at most `nodes` inner nodes
 abbrev pub Ends : Form → ℕ → End → Type 0
 Ends form nodes (Model point) = (form_end form ≤ length point.items) × (list_all is_short point.items ≡ true) × (truth point.items form ≡ true)
 Ends form nodes (Refuted tree) = is_sound (judged lit_fits form tree) ≡ true
@@ -104,6 +104,6 @@ StopsAt old new (Err stop) = Unit {0}
 abbrev pub value_of : List ℤ → ℕ → ℕ → ℤ
 value_of point variable end = if nat_lt variable end then variable_at point variable else pos 0
 
--- so many values
+-- `vars` values
 abbrev pub cut : List ℤ → ℕ → ℕ → List ℤ
 cut point end vars = map (λ v. value_of point v end) (range_with_len 0 vars)

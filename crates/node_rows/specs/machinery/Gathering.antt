@@ -8,7 +8,7 @@ use Rattle.int_rows.specs.Ready.{bounded_fits}
 use Rattle.int_rows.specs.declared.bounds.Bounded.{Bounded}
 use Rattle.node_rows.specs.Known.{are_known, has_short_constant}
 
--- the first literals have said this, with so many rows, and quotients are numbered on from q; the rest are still to come
+-- the first literals have said this, with `rows` rows, and quotients are numbered on from q; the rest are still to come
 pub record IsGathered (end : ℕ) (lits : List Lit) (bs : List Bounded) (q rows : ℕ) (rest : List Lit) : Type 0 where
   pub made : bs ++ all_bounds q rest ≡ all_bounds end lits
   pub ends : end_of_quotients q rest ≡ end_of_quotients end lits

@@ -30,7 +30,7 @@ abbrev pub is_atom_below : ℕ → Atom → Bool
 is_atom_below n (LetName number sort constant) = nat_lt number n
 is_atom_below n atom = true
 
--- The names of let stand for terms of the arena, and there are numbers left for the variables and names of so many trees.
+-- The names of let stand for terms of the arena, and there are numbers left for the variables and names of `room` trees.
 pub record IsReady (known : Known) (arena : Arena) (next room : ℕ) : Type 0 where
   pub aligned : IsAligned arena
   pub numbered : lets_in known.scope.names ≡ length known.lets

@@ -1,7 +1,7 @@
 use Rattle.std.proofs.Common.{◌≡◌, take, drop, reverse}
 use Rattle.lia_close.proofs.written.last_of.Given as goal
 
--- so many were taken off
+-- `counter` trees were taken off
 abbrev pub invariant-off : goal.invariant-off
 invariant-off l = record {
   last : l.last ≡ take l.counter (reverse l.fn.trees.items);

@@ -2,7 +2,7 @@ use Rattle.std.proofs.Common.{◌≡◌, ◌≤◌, ◌-◌, take, length}
 use Rattle.std.specs.List.{range_with_len}
 use Rattle.lia_search.proofs.searching.first.Given as goal
 
--- so many have joined
+-- `at` literals have joined
 abbrev pub invariant-taken : goal.invariant-taken
 invariant-taken l = record {
   within : l.at ≤ length l.flat.lits;
