@@ -36,7 +36,7 @@ class Ran(NamedTuple):
 
 
 def run(words, path, seconds=None):
-    """Runs these words on the script, with at most so many seconds of processor time."""
+    """Runs these words on the script, with at most the given number of seconds of processor time."""
     with open(path, "rb") as script:
         return run_on(words, script, seconds)
 

@@ -45,7 +45,7 @@ def size_of(output):
 
 
 def spent(program, path, units, seconds):
-    """The level line of a run with so many units, or None where it has another answer."""
+    """The level line of a run with this limit on its units, or None where it has another answer."""
     ran = run([program, "solve", "--units", str(units)], path, seconds)
     return LEVEL.search(ran.output) if answer_of(ran) == "unknown" else None
 

@@ -22,7 +22,7 @@ pub enum Opened {
     Refused(Refusal),
 }
 
-/// Opens a book over the clauses of the script, with so many units to spend. `Refused` is the first
+/// Opens a book over the clauses of the script, with `units` units to spend. `Refused` is the first
 /// refusal: of an assertion that isn't a Horn clause with room for its numbers, or else the stop that
 /// the script has.
 pub fn open(alloc: Global, checked: &Checked, units: u32) -> Result<Opened, Memory>

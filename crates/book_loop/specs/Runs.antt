@@ -11,7 +11,7 @@ pub record CanRun (sys : Clauses) : Type 0 where
   pub numbered : IsNumbered sys
   pub few : AreFew sys
 
--- an entry of worker 1, in which evidence that counts inner nodes counts so many
+-- an entry of worker 1, in which evidence that counts inner nodes counts the given number of them
 pub record IsOwn (nodes : ℕ) (entry : Entry) : Type 0 where
   pub worker : entry.worker ≡ 1
   pub counts : StepCounts nodes entry.step

@@ -16,7 +16,7 @@ use step_rules::{LemmaPart, Lent, Step};
 /// parts of a lemma's cube, and their lemmas stay as they were found.
 const GUESS_LEVEL: u32 = 5;
 
-/// They are tried at each level for a cube of so many literals.
+/// They are tried at each level for a cube of at least this number of literals.
 const MANY_LITERALS: usize = 4;
 
 /// The most inner nodes of a query that asks whether a cube may take a lemma's place: what needs more is

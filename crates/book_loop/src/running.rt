@@ -86,7 +86,7 @@ fn advance(
 }
 
 /// Goes on with a book until it has ended. Each turn spends a unit or stalls an obligation, so it comes
-/// to an end. Queries are given up at so many inner nodes. Where memory is wanted, the book is as far as
+/// to an end. Queries are given up at `nodes` inner nodes. Where memory is wanted, the book is as far as
 /// it came.
 pub fn search(book: &mut Book, nodes: u32) -> Result<(), Memory>
     requires can_run { CanRun book.old.system }
@@ -107,7 +107,7 @@ pub fn search(book: &mut Book, nodes: u32) -> Result<(), Memory>
     Ok(())
 }
 
-/// The book that these clauses open, with so many units to spend, as a search begins with it.
+/// The book that these clauses open, with `units` units to spend, as a search begins with it.
 pub fn begin(alloc: Global, system: System, units: u32) -> Result<Book, Memory>
     requires can_run { CanRun system }
     requires units { units ≤ most_units }

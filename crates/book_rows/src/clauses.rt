@@ -48,7 +48,7 @@ fn integers(rt: &impl Abort, alloc: Global, count: u32) -> Items<Sort> {
     sorts
 }
 
-/// `p(x0)`, so many times.
+/// `count` copies of the atom `p(x0)`.
 fn body(rt: &impl Abort, alloc: Global, count: u32) -> Items<Atom> {
     let mut atoms = Items::new(alloc);
     for _ in 0..count {
@@ -57,7 +57,7 @@ fn body(rt: &impl Abort, alloc: Global, count: u32) -> Items<Atom> {
     atoms
 }
 
-/// A clause of that guard over so many variables, with so many body atoms `p(x0)`.
+/// A clause of that guard over the given number of variables, with `count` body atoms `p(x0)`.
 fn clause(
     rt: &impl Abort,
     alloc: Global,

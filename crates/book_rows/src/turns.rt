@@ -38,8 +38,8 @@ pub(crate) enum Turn {
     /// An Open of an obligation for 3 by the second clause at 2 and 3, that knows 'not 3' on the body
     /// or doesn't.
     Below(u32, bool),
-    /// A Lemma 'not this value' for a target at a level, shown through so many of the first two
-    /// clauses, with 'not the one before' on the body.
+    /// A Lemma 'not this value' for a target at a level, shown through the first n clauses,
+    /// n at most 2, with 'not the one before' on the body.
     Learn(u32, i64, u32, u32),
     /// The Fact p(0) by the first clause, for a target.
     Zero(Option<u32>),
@@ -156,7 +156,7 @@ fn below(rt: &impl Abort, alloc: Global, sys: &System, parent: u32, knows: bool)
 
 // other steps
 
-/// The proofs of 'not this value' through so many of the first two clauses.
+/// The proofs of 'not this value' through the first `count` of the first two clauses.
 fn proofs(rt: &impl Abort, alloc: Global, sys: &System, value: i64, count: u32) -> Items<Shown>
     ensures { AllOf (IsShown sys.now) result }
 {

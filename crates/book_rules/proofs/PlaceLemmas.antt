@@ -15,7 +15,7 @@ use Rattle.cube_forms.specs.Cubes.{cube_holds}
 use Rattle.book_rules.specs.Areas.{place_from, first_place, lit_in_places, equation, equations_from, point_cube_from, point_cube}
 use Rattle.book_rules.proofs.ListLemmas.{both_true, from_both}
 
--- the values of a function from i on, so many
+-- the n values of a function from i on
 abbrev pub values : (ℕ → ℤ) → ℕ → ℕ → List ℤ
 values f i zero = []
 values f i (suc n) = f i ∷ values f (i + 1) n

@@ -19,7 +19,7 @@ pub record IsSpentSince (s t : State) : Type 0 where
   pub level : t.level + s.spent ≤ s.level + t.spent
   pub entries : t.entries + s.spent + marks s.obligations ≡ s.entries + t.spent + marks t.obligations
 
--- what a first book of so many units can come to
+-- bounds on what a first book with the given number of units can come to
 pub record HasRoom (units : ℕ) (s : State) : Type 0 where
   pub spent : s.spent ≤ units
   pub lemmas : length s.lemmas ≤ units

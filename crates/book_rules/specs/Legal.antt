@@ -21,7 +21,7 @@ unsat s = option_map Unsat (first_number (λ (f : Fact). is_none f.conclusion) s
 abbrev pub is_bare : List Framed → ℕ → Bool
 is_bare es level = not (list_any (λ (e : Framed). e.level == level) es)
 
--- the least of so many levels, from this one on, that no lemma has exactly
+-- the least of count levels, from this one on, that no lemma has exactly
 abbrev pub bare_from : List Framed → ℕ → ℕ → Option ℕ
 bare_from es level zero = None
 bare_from es level (suc count) = if is_bare es level then Some level else bare_from es (level + 1) count

@@ -17,8 +17,8 @@ ghost use Rattle.book_rules.specs.Walks.{AllOf};
 
 /// Lemmas, facts, obligations and the level grow by at most the units that are spent meanwhile, and
 /// the journal by these and the marks of stalled obligations, of which each is marked once. No more
-/// is spent than was given, and a book that goes on has a unit left. So a first book of so many
-/// units has at most that many lemmas, facts, levels and obligations beside the root.
+/// is spent than was given, and a book that goes on has a unit left. So a first book given n
+/// units has at most n lemmas, n facts, n levels and n obligations beside the root.
 pub fn units_bound_what_comes()
     ensures since { (sys : Clauses) (s : State) (steps : List Step) → AreLegal sys s steps → IsSpentSince s (replay sys s steps) }
     ensures step { (sys : Clauses) (s : State) (step : Step) → IsLegal sys s step → IsSpentSince s (after sys s step) }

@@ -109,8 +109,8 @@ fn singles(alloc: Global, lits: &[Lit], most: usize) -> Result<Vec<Way>, Memory>
     Ok(made)
 }
 
-/// Conditions of a predicate: so many literals of clauses with bodies and of their denials, and half as
-/// many lists of literals that stand together.
+/// Conditions of a predicate: at most `most` literals of clauses with bodies and of their denials, then
+/// lists of literals that stand together, up to `most + most / 2` conditions in all.
 pub(crate) fn conditions(
     alloc: Global,
     guarded: &[Guarded],

@@ -166,7 +166,7 @@ fn push_all_pairs(alloc: Global, parts: &mut Vec<Lin>, places: u32) -> Result<()
     Ok(())
 }
 
-/// The parts of a predicate with so many places.
+/// The parts of a predicate of arity `places`.
 pub(crate) fn parts_of(
     alloc: Global,
     guarded: &[Guarded],

@@ -114,8 +114,8 @@ impl Bounds {
         }
     }
 
-    /// Looks for more bounds, where the level of the book and the units that were spent say so. Not
-    /// more work is spent than so many units ask for.
+    /// Looks for more bounds, where the level of the book and the units that were spent say so. The
+    /// work is at most what `units`, the number of units spent, allows for.
     pub fn renew(
         &mut self,
         alloc: Global,

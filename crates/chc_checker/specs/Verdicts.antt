@@ -79,7 +79,7 @@ pub record IsTooWideAt (script : Script) (definitions : List Definition) (offset
   pub reached : IsReached script definitions number clause
   pub wide : breaking_wide definitions (normal_clause script clause) ≡ Some offset
 
--- the formula of the instances that make it false is kept as given up with so many nodes
+-- the formula of the instances that make it false is kept as given up with the given number of inner nodes
 pub record IsGivenUpAt (nodes : ℕ) (script : Script) (definitions : List Definition) (number : ℕ) (gave_up : GaveUp) : Type 0 where
   pub clause : HornClause
   pub reached : IsReached script definitions number clause
@@ -107,7 +107,7 @@ IsNotShown nodes script (Sat definitions) (Assertion number) Variables = IsTooLa
 IsNotShown nodes script (Unsat lines) (AtStep number) (Value term) = IsWideAt script lines number term.0
 IsNotShown nodes script _ _ _ = ⊥
 
--- what the verdict says of the answer to the script, where forms are given up after so many nodes
+-- what the verdict says of the answer to the script, where forms are given up after the given number of inner nodes
 abbrev pub Says : ℕ → Script → Answer → Verdict → Type 0
 Says nodes script answer Valid = IsValid script answer
 Says nodes script answer (Wrong place) = IsWrong script answer place

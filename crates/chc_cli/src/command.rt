@@ -11,7 +11,7 @@ use std::alloc::Global;
 /// What the words call.
 pub enum Command {
     Solve(Limits),
-    /// A form is given up at so many inner nodes.
+    /// A form is given up at this number of inner nodes.
     Check(u32),
     /// They are no command.
     Usage,

@@ -132,7 +132,7 @@ fn put(parts: &mut Parts, entry: Entry, made: Made) -> Result<(), Memory>
 }
 
 impl Book {
-    /// The book that these clauses open, with so many units to spend: no entry, level 0, and the
+    /// The book that these clauses open, with `units` units to spend: no entry, level 0, and the
     /// root at level 1. At most 1,000,000 units; clauses and predicates have numbers of 32 bits.
     pub fn new(alloc: Global, system: System, units: u32) -> Result<Book, Memory>
         requires units { units ≤ most_units }

@@ -72,7 +72,7 @@ fn add_variable(rt: &impl Abort, alloc: Global, text: &mut String, number: usize
     add(rt, text, part.as_str());
 }
 
-/// What stands in front of so many variables and behind them.
+/// A script with one assertion: the body under a quantifier over the given number of variables.
 fn quantified(rt: &impl Abort, alloc: Global, variables: usize, body: &str) -> String {
     let mut text = String::from_str(alloc, BEGINS).expect(rt, "memory");
     add(rt, &mut text, "(assert (forall (");
@@ -85,7 +85,7 @@ fn quantified(rt: &impl Abort, alloc: Global, variables: usize, body: &str) -> S
     text
 }
 
-/// An implication of so many parts, each of which is this one.
+/// A script with one implication, whose premise has `count` copies of this part.
 fn implied(rt: &impl Abort, alloc: Global, count: usize, part: &str) -> String {
     let mut text = String::from_str(alloc, BEGINS).expect(rt, "memory");
     add(rt, &mut text, "(assert (forall ((x Int)) (=> (and true");

@@ -35,7 +35,7 @@ fn add(rt: &impl Abort, text: &mut String, part: &str) {
     text.push_str(part).expect(rt, "memory");
 }
 
-/// A text with so many of one part behind it.
+/// A text with `count` copies of one part behind it.
 fn repeated(rt: &impl Abort, alloc: Global, front: &str, part: &str, count: usize) -> String {
     let mut text = String::from_str(alloc, front).expect(rt, "memory");
     for _ in 0..count {
@@ -44,7 +44,7 @@ fn repeated(rt: &impl Abort, alloc: Global, front: &str, part: &str, count: usiz
     text
 }
 
-/// A script that declares a name with so many integers, and more, as arguments, and with that result.
+/// A script that declares a name with `integers` integers, and more, as arguments, and with that result.
 fn declaration(
     rt: &impl Abort,
     alloc: Global,
@@ -98,7 +98,7 @@ fn whole(rt: &impl Abort, alloc: Global, text: &str, more: &str) -> String {
     format!(in alloc; "{text}{more}(check-sat)").expect(rt, "memory")
 }
 
-/// Asserts which refusal is told so many bytes behind the text's end, where this follows.
+/// Asserts which refusal is told `behind` bytes behind the text's end, where `more` follows.
 fn check_behind(
     rt: &impl Abort,
     alloc: Global,
@@ -121,7 +121,7 @@ fn constant(rt: &impl Abort, alloc: Global, number: usize) -> String {
     format!(in alloc; "(declare-const p{number} Bool)").expect(rt, "memory")
 }
 
-/// A script with so many predicates, up to its question.
+/// A script with `count` predicates, up to its question.
 fn constants(rt: &impl Abort, alloc: Global, count: usize) -> String {
     let mut text = String::from_str(alloc, "(set-logic HORN)").expect(rt, "memory");
     for number in 0..count {
@@ -200,7 +200,7 @@ fn a_term_may_fill_five_megabytes(rt: HostRuntime) {
     check_sat(&rt, rt.alloc(), "a long term", text);
 }
 
-/// A script that fills so many bytes, with spaces behind its exit.
+/// A script of the given length in bytes, filled up with spaces behind its exit.
 fn filled(rt: &impl Abort, alloc: Global, bytes: usize) -> Vec<u8> {
     let front = b"(set-logic HORN)(check-sat)(exit)";
     let mut text = Vec::from_slice(alloc, front).expect(rt, "memory");

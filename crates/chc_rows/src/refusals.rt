@@ -127,7 +127,7 @@ fn a_byte_that_is_no_token_is_refused_first_of_all(rt: HostRuntime) {
     check_refusal(&rt, rt.alloc(), "byte 255", text, expected);
 }
 
-/// A text with so many of one part between two others.
+/// A text with `count` copies of one part between two others.
 fn repeated(
     rt: &impl Abort,
     alloc: Global,

@@ -50,7 +50,7 @@ pub fn told(alloc: Global, text: &str, answer: &str, nodes: u32) -> Result<Strin
     }
 }
 
-/// The verdict on the answer is this one, where forms are given up after so many nodes.
+/// The verdict on the answer is this one, where forms are given up after `nodes` inner nodes.
 pub fn check(rt: &impl Abort, alloc: Global, text: &str, answer: &str, nodes: u32, awaited: &str) {
     let told = told(alloc, text, answer, nodes).expect(rt, "memory");
     assert_eq!(rt; told.as_str(), awaited, "{answer}");

@@ -153,7 +153,7 @@ pub fn ask_all_by(
 }
 
 /// Asks the goal of each clause whose head is of the predicate, or false for none, under lemmas of
-/// level k or more; at level 0 of those without a body. A search has at most so many inner nodes. An
+/// level k or more; at level 0 of those without a body. A search has at most `nodes` inner nodes. An
 /// instance comes first; else the first query that was given up.
 pub fn ask_all(
     alloc: Global,

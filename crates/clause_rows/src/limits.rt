@@ -15,7 +15,7 @@ fn add_variable(rt: &impl Abort, alloc: Global, text: &mut String, number: usize
     add(rt, text, part.as_str());
 }
 
-/// An assertion over so many variables.
+/// An assertion over the given number of variables.
 fn quantified(rt: &impl Abort, alloc: Global, variables: usize, body: &str) -> String {
     let mut text = String::from_str(alloc, "(assert (forall (").expect(rt, "memory");
     for number in 0..variables {
@@ -35,7 +35,7 @@ fn a_clause_has_1024_variables_of_its_own(rt: HostRuntime) {
     }
 }
 
-/// An implication with so many times this part, and a last one.
+/// An implication whose premise has `count` copies of this part, and a last one.
 fn implied(rt: &impl Abort, alloc: Global, count: usize, part: &str, last: &str) -> String {
     let front = "(assert (forall ((x Int)) (=> (and true";
     let mut text = String::from_str(alloc, front).expect(rt, "memory");

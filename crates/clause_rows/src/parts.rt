@@ -6,7 +6,7 @@ use lin_atoms::Form;
 use std::alloc::Global;
 use std::process::Abort;
 
-/// Puts the same part behind the text, so many times.
+/// Appends `count` copies of the part to the text.
 fn repeat(rt: &impl Abort, text: &mut String, part: &str, count: u32) {
     for _ in 0..count {
         text.push_str(part).expect(rt, "memory");
@@ -47,7 +47,7 @@ fn link(rt: &impl Abort, alloc: Global, op: &str, number: u32) -> String {
     format!(in alloc; "(let ((a{next} ({op} a{number} a{number}))) ").expect(rt, "memory")
 }
 
-/// So many `let` under each other. The first binds a name to this term, and each further one the next
+/// `count + 1` nested `let`. The first binds a name to this term, and each further one the next
 /// name to the operation on the name before it, twice; the last name is the body.
 fn chain(rt: &impl Abort, alloc: Global, first: &str, op: &str, count: u32) -> String {
     let mut text = format!(in alloc; "(let ((a0 {first})) ").expect(rt, "memory");

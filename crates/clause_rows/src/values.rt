@@ -33,14 +33,14 @@ const CASES: &str = "\
 /// The values of two variables and of two more.
 type Point = [i64; 4];
 
-/// Whether the guard is true at the point, whose auxiliary variables past so many are 0.
+/// Whether the guard is true at the point, whose auxiliary variables past the first `auxiliary` are 0.
 fn is_extension(guard: &Form, point: Point, auxiliary: usize) -> bool {
     let unused = (auxiliary < 1 && point[2] != 0) || (auxiliary < 2 && point[3] != 0);
     !unused && holds(guard, point.as_slice())
 }
 
-/// How many extensions make the guard true, by values from -12 to 12 of so many auxiliary variables,
-/// and the last of them.
+/// The number of extensions that make the guard true, by values from -12 to 12 of the first `auxiliary`
+/// auxiliary variables, and the last of them.
 fn extensions(guard: &Form, x: i64, y: i64, auxiliary: usize) -> (u32, Point) {
     let mut count: u32 = 0;
     let mut last: Point = [x, y, 0, 0];

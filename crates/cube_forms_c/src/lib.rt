@@ -30,7 +30,7 @@ fn value_at(table: &Table<Row>, at: u32) -> u64 {
     }
 }
 
-/// Pushes so many items, with a new version after every so many, and adds up what the versions'
+/// Pushes `pushes` items, with a new version after every `every` items, and adds up what the versions'
 /// last items are.
 fn pushed(alloc: Global, pushes: u32, every: u32) -> Result<u64, Memory>
     requires { 0 < every }
@@ -50,7 +50,7 @@ fn pushed(alloc: Global, pushes: u32, every: u32) -> Result<u64, Memory>
     Ok(total)
 }
 
-/// Pushes so many items into a table, with a share after every so many. Answers the sum of the
+/// Pushes `pushes` items into a table, with a share after every `every` items. Returns the sum of the
 /// shares' last items, and 0 for want of memory.
 #[unsafe(no_mangle)]
 pub extern "C" fn cube_forms_pushes(alloc: Global, pushes: u32, every: u32) -> u64 {

@@ -43,7 +43,7 @@ fn magnitude(rt: &impl Abort, alloc: Global, u: u32, v: u32) -> Result<Form, Mem
 }
 
 /// Whether that is the formula of the assertion over p with one argument, under the definition by the
-/// term, with so many variables.
+/// term, with `count` variables.
 fn is_made(
     alloc: Global,
     assertion: &str,

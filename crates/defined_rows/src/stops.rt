@@ -41,7 +41,7 @@ fn coefficients_of_an_argument_that_stands_twice_add_up(rt: HostRuntime) -> Resu
     Ok(())
 }
 
-/// A conjunction with so many magnitudes and a last part.
+/// A conjunction with `count` magnitudes and a last part.
 fn magnitudes(alloc: Global, count: usize, last: &str) -> Result<String, Memory> {
     let mut term = String::from_str(alloc, "(and")?;
     for _ in 0..count {

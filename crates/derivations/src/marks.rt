@@ -32,7 +32,7 @@ fn spread(notes: &Notes, id: u32, at: u32, marks: &mut [bool])
     mark(marks, notes.premises(at));
 }
 
-/// Marks one number of so many.
+/// A vector of `id + 1` marks, of which only the one at `id` is set.
 fn first(alloc: Global, id: u32) -> Result<Vec<bool>, Memory>
     ensures long { IfOk result (λ marks. length marks.items ≡ id + 1) }
     ensures marked { IfOk result (λ marks. (m : ℕ) → IsMarked marks.items m ↔ (m ≡ id)) }

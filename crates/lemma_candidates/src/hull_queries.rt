@@ -42,7 +42,7 @@ pub(crate) enum Verdict {
     Lost(usize),
 }
 
-/// Asks whether a point of so many variables makes the formula true.
+/// Asks whether a point of `vars` variables makes the formula true.
 fn ask(alloc: Global, form: &Form, vars: u32, nodes: u32) -> Result<Answer, Memory>
     requires { 0 < nodes }
 {

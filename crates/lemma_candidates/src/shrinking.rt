@@ -18,7 +18,7 @@ const FEWEST: usize = 2;
 /// How often the number of literals is halved.
 const MOST_HALVINGS: u32 = 12;
 
-/// The cube without so many literals from a place on.
+/// The cube without the `count` literals from the place `at` on.
 fn without(alloc: Global, cube: &Cube, at: usize, count: usize) -> Result<Option<Cube>, Memory> {
     let mut lits = Vec::new(alloc);
     for (i, lit) in cube.lits().iter().enumerate() {
@@ -29,7 +29,7 @@ fn without(alloc: Global, cube: &Cube, at: usize, count: usize) -> Result<Option
     cube_of(alloc, lits)
 }
 
-/// Whether so many literals from a place on could be left out.
+/// Whether the `count` literals from the place `at` on could be left out.
 fn try_without(
     lent: &Lent,
     tries: &mut Tries,
@@ -56,7 +56,7 @@ fn next(at: usize, count: usize, taken: bool) -> usize {
     if taken { at } else { at.saturating_add(count) }
 }
 
-/// Tries to leave out each run of so many literals.
+/// Tries to leave out each run of `count` literals.
 fn shrink_by(lent: &Lent, tries: &mut Tries, count: usize, nodes: u32) -> Result<(), Memory>
     requires goes_on { GoesOn lent.now }
     requires trying { IsTrying lent.now tries.old }

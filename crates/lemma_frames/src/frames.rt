@@ -32,7 +32,7 @@ impl Model for Frames {
 }
 
 impl Frames {
-    /// No lemmas, over so many predicates.
+    /// No lemmas, over `preds` predicates.
     pub fn new(alloc: Global, preds: u32) -> Result<Frames, Memory>
         ensures { IfOk result (λ frames. frames ≡ record { preds = preds; lemmas = [] }) }
     {

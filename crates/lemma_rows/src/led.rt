@@ -150,7 +150,7 @@ fn lead(book: &mut Book) -> Result<bool, Memory>
     }
 }
 
-/// So many turns, or fewer where it ends before.
+/// Leads the book on by the given number of turns, or by fewer where it ends before.
 pub(crate) fn lead_on(book: &mut Book, turns: u32) -> Result<(), Memory>
     requires { CanRun book.old.system }
     ensures { CanRun book.new.system }

@@ -44,7 +44,7 @@ const CASES: [Case; 4] = [
     },
 ];
 
-/// The book of a script after so many turns.
+/// The book of a script after the given number of turns.
 fn led(rt: &impl Abort, alloc: Global, script: &str, turns: u32) -> Book
     ensures { CanRun result.system }
 {

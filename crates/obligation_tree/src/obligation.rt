@@ -4,7 +4,7 @@ use base::{Copied, Memory};
 use cube_forms::{Cube, Tuple};
 use std::alloc::Global;
 
-/// A question of the search: is a tuple of the cube derivable within so many steps? The point is one
+/// A question of the search: is a tuple of the cube derivable within `level` steps? The point is one
 /// that nothing has excluded yet. The root asks it of false, at the level above the closed one; every
 /// other obligation asks it of one body atom, for its parent.
 #[derive(Drop)]

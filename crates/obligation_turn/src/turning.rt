@@ -124,7 +124,7 @@ pub fn turn_in(lent: &Lent, job: u32, nodes: u32, work: &mut Workspace) -> Resul
 /// A step that the book takes, for a live obligation without live children that isn't stalled. An
 /// instance of its cube is recorded or asked for further; where there is none, the cube is excluded
 /// by a lemma, and for the root a lemma is lifted or the level raised; where a query is given up, with
-/// so many inner nodes, and no other has an instance, the obligation is stalled.
+/// `nodes` inner nodes, and no other has an instance, the obligation is stalled.
 pub fn turn(lent: &Lent, job: u32, nodes: u32) -> Result<Step, Memory>
     requires goes_on { GoesOn lent.now }
     requires leaf { IsOpenLeaf lent.now job }

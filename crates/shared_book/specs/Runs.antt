@@ -15,7 +15,7 @@ pub record IsEntry (workers nodes : ℕ) (entry : Entry) : Type 0 where
   pub last : entry.worker ≤ workers
   pub counts : StepCounts nodes entry.step
 
--- the book that the clauses open with so many units, in which workers of the run alone have written; its cubes are narrow
+-- the book that the clauses open with the given number of units, in which workers of the run alone have written; its cubes are narrow
 pub record IsRunBook (sys : Clauses) (units nodes workers : ℕ) (b : Contents) : Type 0 where
   pub system : b.system ≡ sys
   pub given : b.given ≡ units

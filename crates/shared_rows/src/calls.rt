@@ -40,7 +40,7 @@ fn move_all<R: Run, W: Wait + Abort>(
     made
 }
 
-/// A run of so many workers.
+/// A run of the given number of workers.
 fn run<R: Run, W: Wait + Abort>(
     rt: &W,
     alloc: Global,

@@ -24,7 +24,7 @@ use Rattle.solve_words.specs.declared.limits.Limits.{Limits}
 use Rattle.solve_call.specs.Clauses.{IsInputRefused}
 
 -- a book over the clauses of the script that the bytes spell, which was given these units, in whose journal evidence that counts
--- inner nodes counts so many, and no derivation of false is as low as its closed level
+-- inner nodes counts limits.nodes of them, and no derivation of false is as low as its closed level
 pub record IsBookFor (limits : Limits) (bytes : List ℕ) (b : Contents) : Type 0 where
   pub commands : List Command
   pub script : Script

@@ -60,7 +60,7 @@ pub record IsCall (words : List (List ℕ)) (limits : Limits) : Type 0 where
 abbrev pub IsNoCall : List (List ℕ) → Type 0
 IsNoCall words = (limits : Limits) → IsCall words limits → ⊥
 
--- the words are a call of `check`, and forms are given up at so many inner nodes
+-- the words are a call of `check`, and forms are given up at the given number of inner nodes
 pub record IsCheckCall (words : List (List ℕ)) (nodes : ℕ) : Type 0 where
   pub options : List Row
   pub names : Names words (codes "check") options

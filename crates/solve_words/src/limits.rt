@@ -8,7 +8,7 @@ pub struct Limits {
     /// Units, at most 1,000,000: each entry of a book's journal is one, but where an obligation is
     /// stalled.
     pub units: u32,
-    /// Inner nodes of a query's search, 1 to 10,000: at so many it is given up.
+    /// The number of inner nodes, 1 to 10,000, at which the search of a query is given up.
     pub nodes: u32,
 }
 
@@ -17,7 +17,7 @@ pub struct Limits {
 pub enum Words {
     /// Solve a script within these limits.
     Solve(Limits),
-    /// Check an answer to a script, and give a form up at so many inner nodes.
+    /// Check an answer to a script, and give a form up at `nodes` inner nodes.
     Check { nodes: u32 },
     /// Solve the script that is made from a depth and a seed.
     Gen { depth: u32, seed: u32 },

@@ -43,7 +43,7 @@ fn atom(rt: &impl Abort, alloc: Global, variable: u32) -> Atom {
     Atom { pred: 0, args }
 }
 
-/// p at the first variable, so many times.
+/// `count` copies of the atom p at the first variable.
 fn body(rt: &impl Abort, alloc: Global, count: u32) -> Items<Atom> {
     let mut atoms = Items::new(alloc);
     for _ in 0..count {
@@ -60,7 +60,7 @@ fn integers(rt: &impl Abort, alloc: Global, count: u32) -> Items<Sort> {
     sorts
 }
 
-/// A clause with that guard and head over so many variables, with so many body atoms.
+/// A clause with that guard and head over the given number of variables, with `count` body atoms.
 fn clause(
     rt: &impl Abort,
     alloc: Global,

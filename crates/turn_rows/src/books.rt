@@ -30,7 +30,7 @@ fn checked(alloc: Global, text: &[u8]) -> Result<Checked, Memory>
     Ok(checked)
 }
 
-/// The book that a script opens, with so many units to spend.
+/// The book that a script opens, with `units` units to spend.
 pub(crate) fn opened(rt: &impl Abort, alloc: Global, text: &str, units: u32) -> Book
     requires units { units ≤ most_units }
     ensures can_run { CanRun result.system }

@@ -12,7 +12,7 @@ use Rattle.derivations.specs.Facts.{pred_of, tuple_of, AreOf, AreRecorded}
 abbrev pub IsBelow : (ℕ → List ℤ) → ℕ → ℕ → Type 0
 IsBelow T x y = slice_cmp int_cmp (T x) (T y) ≡ Less
 
--- so many of a row stand before the tuple, and they come first
+-- exactly the first rank numbers of a row have tuples below this one
 pub record IsRank (T : ℕ → List ℤ) (row : List ℕ) (tuple : List ℤ) (rank : ℕ) : Type 0 where
   pub within : rank ≤ length row
   pub before : (k d : ℕ) → k < rank → slice_cmp int_cmp (T (get_or row k d)) tuple ≡ Less

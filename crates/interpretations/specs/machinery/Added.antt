@@ -9,13 +9,13 @@ use Rattle.term_tree.specs.declared.sort.Sort.{Sort}
 use Rattle.term_tree.specs.Arena.{is_below}
 use Rattle.answer_text.specs.Lemmas.{IsArgument, IsNode, IsNumber}
 
--- at most so many nodes more
+-- the old nodes, and at most the given number more
 pub record IsGrown (most : ℕ) (old new : List Node) : Type 0 where
   pub more : List Node
   pub are : new ≡ old ++ more
   pub few : length more ≤ most
 
--- so many nodes at most, among which a term of this kind now stands
+-- the old nodes, and at most the given number more, among which a term of this kind now stands
 pub record IsAdded (Kind : List Node → TermId → Type 0) (most : ℕ) (old new : List Node) (id : TermId) : Type 0 where
   pub grown : IsGrown most old new
   pub there : id.0 < length new

@@ -10,7 +10,7 @@ IsBefore L level number x = (level ≤ L x) × (L x ≡ level → x < number)
 abbrev pub IsBehind : (ℕ → ℕ) → ℕ → ℕ → ℕ → Type 0
 IsBehind L level number x = (L x ≤ level) × (L x ≡ level → number ≤ x)
 
--- so many of a row stand before the place, and they come first
+-- exactly the first rank numbers of a row stand before the place of this level and number
 pub record IsRank (L : ℕ → ℕ) (row : List ℕ) (level number rank : ℕ) : Type 0 where
   pub within : rank ≤ length row
   pub before : (k d : ℕ) → k < rank → IsBefore L level number (get_or row k d)
