@@ -44,15 +44,15 @@ has_short_constant (Eq lin) = true
 has_short_constant (Div d lin) = is_short lin.constant
 has_short_constant (NDiv d lin) = is_short lin.constant
 
-abbrev pub short_step : Form-F Bool → Bool
-short_step Form-F.True = true
-short_step Form-F.False = true
-short_step (Form-F.Lit lit) = has_short_constant lit
-short_step (Form-F.And parts) = list_all (λ b. b) parts
-short_step (Form-F.Or parts) = list_all (λ b. b) parts
+abbrev pub guard_step : Form-F Bool → Bool
+guard_step Form-F.True = true
+guard_step Form-F.False = true
+guard_step (Form-F.Lit lit) = has_short_constant lit
+guard_step (Form-F.And parts) = list_all (λ b. b) parts
+guard_step (Form-F.Or parts) = list_all (λ b. b) parts
 
 abbrev pub has_short_multiples : Form → Bool
-has_short_multiples = fold-Form Bool short_step
+has_short_multiples = fold-Form Bool guard_step
 
 -- a clause over these predicates: it has at most 2,048 variables, of which the first are the assertion's own, and names
 -- no others
