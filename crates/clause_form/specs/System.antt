@@ -51,15 +51,15 @@ guard_step (Form-F.Lit lit) = has_short_constant lit
 guard_step (Form-F.And parts) = list_all (λ b. b) parts
 guard_step (Form-F.Or parts) = list_all (λ b. b) parts
 
-abbrev pub has_short_multiples : Form → Bool
-has_short_multiples = fold-Form Bool guard_step
+abbrev pub has_short_guard : Form → Bool
+has_short_guard = fold-Form Bool guard_step
 
 -- a clause over these predicates: it has at most 2,048 variables, of which the first are the assertion's own, and names
 -- no others
 abbrev pub is_clause : List (List Sort) → Clause → Bool
 is_clause preds clause =
     nat_le clause.user (length clause.sorts) && nat_le (length clause.sorts) most_variables && list_all (is_atom preds (length clause.sorts)) clause.atoms
-    && is_head preds (length clause.sorts) clause.head && is_below (length clause.sorts) clause.guard && has_short_multiples clause.guard
+    && is_head preds (length clause.sorts) clause.head && is_below (length clause.sorts) clause.guard && has_short_guard clause.guard
 
 abbrev pub are_clauses : List (List Sort) → List Clause → Bool
 are_clauses preds clauses = list_all (is_clause preds) clauses
