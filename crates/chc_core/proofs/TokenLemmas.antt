@@ -15,7 +15,7 @@ use Rattle.clause_form.specs.declared.clause.Clause.{Clause}
 use Rattle.cube_forms.specs.Cubes.{cube_holds, lemma_at, tuple_at}
 use Rattle.farkas_proof.specs.Kept.{form_of}
 use Rattle.farkas_proof.specs.KeptEvidence.{given_form}
-use Rattle.chc_tokens.specs.Instances.{accepts, args_of, atom_at as token_atom_at, has_values, head_at as token_head_at, is_broken, is_instance_of, may_be_instance}
+use Rattle.chc_tokens.specs.Instances.{accepts, token_args, atom_at as token_atom_at, has_values, head_at as token_head_at, is_broken, is_instance_of, may_be_instance}
 use Rattle.chc_tokens.specs.Kept.{kept_lemma, kept_why, seen_clause, seen_point, shown_clause, shown_goal, shown_proof, shown_used}
 use Rattle.chc_tokens.specs.Queries.{base as token_base, goal_has_room, has_goal, has_places, has_used, may_use, query as token_query, query_in, used_form, used_have_room}
 use Rattle.chc_tokens.specs.Tokens.{IsKept, IsNoLift, IsShown, breaks_in, is_passed, is_seen, meets as token_meets}
@@ -107,7 +107,7 @@ broken-alike : (point : List ℤ) (lemma : List Lit) (head : Option Atom) → ha
 broken-alike point lemma None = refl
 broken-alike point lemma (Some atom) = refl
 
-forms-alike : (atoms : List Atom) (used : List UsedLemma) → map (used_form atoms) used ≡ map (λ (u : Used). lemma_at (args_of (slice_get atoms u.atom)) u.cube) (all_used used)
+forms-alike : (atoms : List Atom) (used : List UsedLemma) → map (used_form atoms) used ≡ map (λ (u : Used). lemma_at (token_args (slice_get atoms u.atom)) u.cube) (all_used used)
 forms-alike atoms [] = refl
 forms-alike atoms (u ∷ used) = ap (λ (forms : List Form). used_form atoms u ∷ forms) (forms-alike atoms used)
 

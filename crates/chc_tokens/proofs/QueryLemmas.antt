@@ -17,7 +17,7 @@ use Rattle.cube_forms.proofs.Public.{truth-Literal, truth-cube_at, truth-lemma_a
 use Rattle.chc_tokens.specs.declared.goal.Goal.{Goal}
 use Rattle.chc_tokens.specs.declared.goal.Goal.TheVariants.{Query, Holds}
 use Rattle.chc_tokens.specs.declared.used.Used.{Used}
-use Rattle.chc_tokens.specs.Instances.{accepts, args_of, atom_at, head_at}
+use Rattle.chc_tokens.specs.Instances.{accepts, token_args, atom_at, head_at}
 use Rattle.chc_tokens.specs.Queries.{base, base_at, base_in, forms_at, forms_in, goal_cube, goal_has_room, has_goal, has_places, has_used, may_use, query, query_at, query_in, used_form, used_have_room}
 use Rattle.chc_tokens.specs.Tokens.{Shows, is_passed, meets}
 
@@ -34,21 +34,21 @@ get-map f [] n = refl
 get-map f (x ∷ xs) zero = refl
 get-map f (x ∷ xs) (suc n) = get-map f xs n
 
-truth-head : (point : List ℤ) (head : Option Atom) (lemma : List Lit) → has_places head lemma ≡ true → list_all (lit_truth point) (cube_at (args_of head) lemma) ≡ not (accepts lemma (option_map (atom_at point) head))
+truth-head : (point : List ℤ) (head : Option Atom) (lemma : List Lit) → has_places head lemma ≡ true → list_all (lit_truth point) (cube_at (token_args head) lemma) ≡ not (accepts lemma (option_map (atom_at point) head))
 truth-head point None lemma h = absurd (cc)
 truth-head point (Some atom) lemma h = truth-cube_at point atom.args lemma h ∙ not_not (cube_holds (tuple_at point atom.args) lemma)
 
-truth-used : (point : List ℤ) (atom : Option Atom) (lemma : List Lit) → has_places atom lemma ≡ true → truth point (lemma_at (args_of atom) lemma) ≡ accepts lemma (option_map (atom_at point) atom)
+truth-used : (point : List ℤ) (atom : Option Atom) (lemma : List Lit) → has_places atom lemma ≡ true → truth point (lemma_at (token_args atom) lemma) ≡ accepts lemma (option_map (atom_at point) atom)
 truth-used point None lemma h = absurd (cc)
 truth-used point (Some atom) lemma h = truth-lemma_at point atom.args lemma h
 
-truth-goal : (point : List ℤ) (clause : Clause) (goal : Goal) → has_goal clause goal ≡ true → list_all (lit_truth point) (cube_at (args_of clause.head) (goal_cube goal)) ≡ not (meets goal (head_at point clause))
+truth-goal : (point : List ℤ) (clause : Clause) (goal : Goal) → has_goal clause goal ≡ true → list_all (lit_truth point) (cube_at (token_args clause.head) (goal_cube goal)) ≡ not (meets goal (head_at point clause))
 truth-goal point clause Query h = refl
 truth-goal point clause (Holds lemma) h = truth-head point clause.head lemma h
 
 truth-base : (point : List ℤ) (clause : Clause) (goal : Goal) → has_goal clause goal ≡ true → truth point (base clause goal) ≡ (truth point clause.guard && not (meets goal (head_at point clause)))
 truth-base point clause goal h =
-    let lits = cube_at (args_of clause.head) (goal_cube goal) in
+    let lits = cube_at (token_args clause.head) (goal_cube goal) in
     truth-And point (clause.guard ∷ map Literal lits) ∙ ap (λ b. truth point clause.guard && b) (all_literals point lits ∙ truth-goal point clause goal h)
 
 all_used : (point : List ℤ) (clause : Clause) (used : List Used) → has_used clause.atoms used ≡ true → list_all (truth point) (map (used_form clause.atoms) used) ≡ list_all (is_passed point clause) used

@@ -33,9 +33,9 @@ abbrev pub is_instance_of : Clauses → ℕ → List ℤ → Bool
 is_instance_of sys n point = may_be_instance (slice_get sys.clauses n) point
 
 -- the variables at which an atom stands
-abbrev pub args_of : Option Atom → List ℕ
-args_of None = []
-args_of (Some atom) = atom.args
+abbrev pub token_args : Option Atom → List ℕ
+token_args None = []
+token_args (Some atom) = atom.args
 
 -- an atom's predicate and tuple at a point, and those of a clause's body and head; a head that is false has none
 abbrev pub atom_at : List ℤ → Atom → ℕ × List ℤ
