@@ -70,8 +70,8 @@ abbrev pub ReadsInput : Option (List ℕ) → List ℕ → Refusal → Type 0
 ReadsInput left read refusal = refusal.kind ≢ TooLong → IfSome left (λ bytes. read ≡ bytes)
 
 -- the end of the source was met once at most, and then in its last turn
-abbrev pub EndsOnce : ℕ → ℕ → Turn → Type 0
-EndsOnce old new last = new ≢ old → (new ≡ counted old) × (last ≡ End)
+abbrev pub EndsLast : ℕ → ℕ → Turn → Type 0
+EndsLast old new last = new ≢ old → (new ≡ counted old) × (last ≡ End)
 
 -- the text that the call was to write
 pub data IsMeant (nodes : ℕ) (left : Option (List ℕ)) (old new : ℕ) (read : List ℕ) (text : List ℕ) : Type 0 where
