@@ -66,8 +66,8 @@ pub record Refuses (left : Option (List ℕ)) (ends after : ℕ) (read : List �
   pub held : Appends (error_text refusal) old new
 
 -- where the refusal isn't that the bytes are too many, all of them were read
-abbrev pub ReadsInput : Option (List ℕ) → List ℕ → Refusal → Type 0
-ReadsInput left read refusal = refusal.kind ≢ TooLong → IfSome left (λ bytes. read ≡ bytes)
+abbrev pub ReadsAll : Option (List ℕ) → List ℕ → Refusal → Type 0
+ReadsAll left read refusal = refusal.kind ≢ TooLong → IfSome left (λ bytes. read ≡ bytes)
 
 -- the end of the source was met once at most, and then in its last turn
 abbrev pub EndsLast : ℕ → ℕ → Turn → Type 0
