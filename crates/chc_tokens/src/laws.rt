@@ -8,7 +8,7 @@ ghost use Rattle.lin_atoms.specs.declared.form.Form.TheViews.{And};
 ghost use Rattle.farkas_proof.specs.Refutation.{HasNoPoint};
 ghost use Rattle.clause_form.specs.System.{Clauses};
 ghost use Rattle.clause_form.specs.declared.clause.Clause.{Clause};
-ghost use Rattle.chc_tokens.specs.Instances.{head_at};
+ghost use Rattle.chc_tokens.specs.Instances.{token_head_at};
 ghost use Rattle.chc_tokens.specs.Kept.{shown_clause, shown_goal, shown_used};
 ghost use Rattle.chc_tokens.specs.Queries.{base_at, forms_at, has_goal, has_used, query, query_at};
 ghost use Rattle.chc_tokens.specs.Tokens.{IsShown, Shows, is_passed, meets};
@@ -19,7 +19,7 @@ ghost use Rattle.chc_tokens.specs.declared.used.Used.{Used};
 /// A query is true at exactly the points of the guard at which each used lemma accepts its atom's
 /// tuple and the head's tuple doesn't meet the goal.
 pub fn a_query_asks_for_an_instance()
-    ensures { (point : List ℤ) (clause : Clause) (goal : Goal) (used : List Used) → has_goal clause goal ≡ true → has_used clause.atoms used ≡ true → truth point (query clause goal used) ≡ ((truth point clause.guard && not (meets goal (head_at point clause))) && list_all (is_passed point clause) used) }
+    ensures { (point : List ℤ) (clause : Clause) (goal : Goal) (used : List Used) → has_goal clause goal ≡ true → has_used clause.atoms used ≡ true → truth point (query clause goal used) ≡ ((truth point clause.guard && not (meets goal (token_head_at point clause))) && list_all (is_passed point clause) used) }
 {}
 
 /// What a refuted query shows: wherever the guard holds and each used lemma accepts its atom's

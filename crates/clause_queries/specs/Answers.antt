@@ -7,7 +7,7 @@ use Rattle.clause_form.specs.declared.clause.Clause.{Clause}
 use Rattle.term_tree.specs.declared.sort.Sort.{Sort}
 use Rattle.lia_search.specs.Decides.{CountsTo}
 use Rattle.lemma_frames.specs.declared.framed.Framed.{Framed}
-use Rattle.chc_tokens.specs.Instances.{head_at}
+use Rattle.chc_tokens.specs.Instances.{token_head_at}
 use Rattle.chc_tokens.specs.Kept.{seen_clause, seen_point, shown_clause, shown_goal, shown_used}
 use Rattle.chc_tokens.specs.Queries.{has_goal, query_at}
 use Rattle.chc_tokens.specs.Tokens.{IsShown, is_passed, is_seen, meets}
@@ -50,7 +50,7 @@ pub record IsInstanceFor (sys : Clauses) (n : ℕ) (goal : Goal) (used : List Us
   pub number : seen_clause seen ≡ n
   pub seen_is : is_seen sys seen ≡ true
   pub placed : has_goal clause goal ≡ true
-  pub head : meets goal (head_at (seen_point seen) clause) ≡ false
+  pub head : meets goal (token_head_at (seen_point seen) clause) ≡ false
   pub body : list_all (is_passed (seen_point seen) clause) used ≡ true
 
 -- the query is refuted

@@ -11,7 +11,7 @@ use Rattle.clause_form.specs.declared.clause.Clause.{Clause}
 use Rattle.cube_forms.specs.Cubes.{cube_holds, cube_is_below, tuple_at}
 use Rattle.obligation_tree.specs.Nodes.{closed_in, node_at, obligation_in}
 use Rattle.obligation_tree.specs.declared.node.Node.{Node}
-use Rattle.chc_tokens.specs.Instances.{accepts, head_at as token_head_at}
+use Rattle.chc_tokens.specs.Instances.{accepts, token_head_at}
 use Rattle.chc_tokens.specs.Tokens.{meets}
 use Rattle.book_rules.specs.Areas.{is_wide}
 use Rattle.book_rules.specs.Instances.{atom_at, head_at}
