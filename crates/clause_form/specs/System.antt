@@ -38,16 +38,16 @@ is_head preds n None = true
 is_head preds n (Some atom) = is_atom preds n atom
 
 -- the constant of a divisibility is below 2 ^ 63 in magnitude
-abbrev pub has_short_constant : Lit → Bool
-has_short_constant (Le lin) = true
-has_short_constant (Eq lin) = true
-has_short_constant (Div d lin) = is_short lin.constant
-has_short_constant (NDiv d lin) = is_short lin.constant
+abbrev pub has_short_in_guard : Lit → Bool
+has_short_in_guard (Le lin) = true
+has_short_in_guard (Eq lin) = true
+has_short_in_guard (Div d lin) = is_short lin.constant
+has_short_in_guard (NDiv d lin) = is_short lin.constant
 
 abbrev pub guard_step : Form-F Bool → Bool
 guard_step Form-F.True = true
 guard_step Form-F.False = true
-guard_step (Form-F.Lit lit) = has_short_constant lit
+guard_step (Form-F.Lit lit) = has_short_in_guard lit
 guard_step (Form-F.And parts) = list_all (λ b. b) parts
 guard_step (Form-F.Or parts) = list_all (λ b. b) parts
 

@@ -1,7 +1,7 @@
 ghost use Rattle.std.specs.Prelude.{◌≡◌};
 ghost use Rattle.std.specs.List.{list_all};
 ghost use Rattle.lin_atoms.specs.Linear.{is_short};
-ghost use Rattle.clause_form.specs.System.{has_short_constant, has_short_guard};
+ghost use Rattle.clause_form.specs.System.{has_short_in_guard, has_short_guard};
 
 use lin_atoms::{Form, Lit};
 
@@ -13,7 +13,7 @@ fn is_short(n: i128) -> bool
 }
 
 fn has_short_constant(lit: &Lit) -> bool
-    ensures { result ≡ has_short_constant lit.now }
+    ensures { result ≡ has_short_in_guard lit.now }
 {
     match lit {
         Lit::Le(_) | Lit::Eq(_) => true,

@@ -27,7 +27,7 @@ use Rattle.linear_terms.specs.Linear.{Naming, less, sum_form, variable_form}
 use Rattle.linear_terms.specs.Formula.{Reading, choice, comparison, denied, eq, equal, implied, is_distinct, is_one, joined, le, neighbours, node_formula, odd, complement_of, one_more, operation, pairs, related, same_bits, sides}
 use Rattle.linear_terms.specs.Place.{abs_place, choice_place, integer_place, quotient_place, remainder_place, truth_place}
 use Rattle.linear_terms.proofs.PartLemmas.{body_among, first_among, later_among}
-use Rattle.clause_form.specs.System.{has_short_constant, has_short_guard, guard_step}
+use Rattle.clause_form.specs.System.{has_short_in_guard, has_short_guard, guard_step}
 
 abbrev pub passes_step : (Literal → Bool) → Form-F Bool → Bool
 passes_step t Form-F.True = true
@@ -50,14 +50,14 @@ below_step_is test (Form-F.Or parts) = refl
 pub below_passes : (n : ℕ) (form : Form) → is_below n form ≡ passes (lit_is_below n) form
 below_passes n form = ap (λ (step : Form-F Bool → Bool). fold-Form Bool step form) (fun_ext (below_step_is (λ v. nat_lt v n)))
 
-short_step_is : (x : Form-F Bool) → guard_step x ≡ passes_step has_short_constant x
+short_step_is : (x : Form-F Bool) → guard_step x ≡ passes_step has_short_in_guard x
 short_step_is Form-F.True = refl
 short_step_is Form-F.False = refl
 short_step_is (Form-F.Lit lit) = refl
 short_step_is (Form-F.And parts) = refl
 short_step_is (Form-F.Or parts) = refl
 
-pub short_passes : (form : Form) → has_short_guard form ≡ passes has_short_constant form
+pub short_passes : (form : Form) → has_short_guard form ≡ passes has_short_in_guard form
 short_passes form = ap (λ (step : Form-F Bool → Bool). fold-Form Bool step form) (fun_ext short_step_is)
 
 pub passes-Lit : (t : Literal → Bool) (lit : Literal) → passes t (Lit lit) ≡ t lit
