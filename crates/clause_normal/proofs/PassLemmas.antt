@@ -24,7 +24,7 @@ use Rattle.lin_atoms.specs.declared.form.Form.TheViews.{And, Or, roll-Form}
 use Rattle.lin_atoms.specs.declared.form.Form.TheFolds.{fold-Form, fold-roll-Form}
 use Rattle.linear_terms.specs.Text.{are_truths}
 use Rattle.linear_terms.specs.Linear.{Naming, less, sum_form, variable_form}
-use Rattle.linear_terms.specs.Formula.{Reading, choice, comparison, denied, eq, equal, implied, is_distinct, is_one, joined, le, neighbours, node_formula, odd, complement_of, one_more, operation, pairs, related, same_bits, sides}
+use Rattle.linear_terms.specs.Formula.{Reading, choice, comparison, denied, eq, equal, implied, is_pairwise, is_one, joined, le, neighbours, node_formula, odd, complement_of, one_more, operation, pairs, related, same_bits, sides}
 use Rattle.linear_terms.specs.Place.{abs_place, choice_place, integer_place, quotient_place, remainder_place, truth_place}
 use Rattle.linear_terms.proofs.PartLemmas.{body_among, first_among, later_among}
 use Rattle.clause_form.specs.System.{has_short_in_guard, has_short_guard, guard_step}
@@ -194,9 +194,9 @@ module _ (t : Literal → Bool) (Ok : Linear → Type 0) (les : (l : Linear) →
 
   comparison_passes : (op : OpKind) (truths sign : Bool) (bits forms : List Linear) → AllByRecursion Ok bits → AllByRecursion Ok forms → passes t (comparison op truths sign bits forms) ≡ true
   comparison_passes op true sign bits forms x y =
-      joined_pass t sign (map (λ p. same_bits (if is_distinct op then not sign else sign) p.0 p.1) (sides op bits))
-      (mapped_pass t (λ p. same_bits (if is_distinct op then not sign else sign) p.0 p.1) (λ (p : Linear × Linear). Ok p.0 × Ok p.1) (sides op bits)
-      (λ p ok. bits_pass (if is_distinct op then not sign else sign) p.0 p.1 ok.0 ok.1) (sides_all Ok op bits x))
+      joined_pass t sign (map (λ p. same_bits (if is_pairwise op then not sign else sign) p.0 p.1) (sides op bits))
+      (mapped_pass t (λ p. same_bits (if is_pairwise op then not sign else sign) p.0 p.1) (λ (p : Linear × Linear). Ok p.0 × Ok p.1) (sides op bits)
+      (λ p ok. bits_pass (if is_pairwise op then not sign else sign) p.0 p.1 ok.0 ok.1) (sides_all Ok op bits x))
   comparison_passes op false sign bits forms x y =
       joined_pass t sign (map (λ p. related op sign (less p.0 p.1)) (sides op forms))
       (mapped_pass t (λ p. related op sign (less p.0 p.1)) (λ (p : Linear × Linear). Ok p.0 × Ok p.1) (sides op forms)

@@ -84,13 +84,13 @@ abbrev pub sides : {X : Type 0} → OpKind → List X → List (X × X)
 sides Distinct xs = pairs xs
 sides _ xs = neighbours xs
 
-abbrev pub is_distinct : OpKind → Bool
-is_distinct Distinct = true
-is_distinct _ = false
+abbrev pub is_pairwise : OpKind → Bool
+is_pairwise Distinct = true
+is_pairwise _ = false
 
 -- a relation of Bool terms by their bits, or of integer terms by their differences
 abbrev pub comparison : OpKind → Bool → Bool → List Linear → List Linear → Form
-comparison op true sign bits forms = joined sign (map (λ p. same_bits (if is_distinct op then not sign else sign) p.0 p.1) (sides op bits))
+comparison op true sign bits forms = joined sign (map (λ p. same_bits (if is_pairwise op then not sign else sign) p.0 p.1) (sides op bits))
 comparison op false sign bits forms = joined sign (map (λ p. related op sign (less p.0 p.1)) (sides op forms))
 
 -- an implication: not the parts before the last, or the last
