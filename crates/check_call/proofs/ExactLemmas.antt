@@ -6,7 +6,7 @@ use Rattle.term_tree.specs.declared.refusal.Refusal.{Refusal}
 use Rattle.sort_check.specs.Commands.{Command}
 use Rattle.sort_check.specs.Scripts.{IsRefused, IsScript}
 use Rattle.answer_check.specs.Inputs.{HasNoSystem, HasRefusedScript, IsParted, IsReadAs}
-use Rattle.check_call.specs.Calls.{IsJudged, IsRefusal, IsUnrefused, TellsVerdict}
+use Rattle.check_call.specs.Calls.{IsJudged, IsRefusal, IsUnrefusedCheck, TellsVerdict}
 use Rattle.check_call.specs.Calls.IsRefusal.{script, too_long}
 
 abbrev pub OneScript : Type 0
@@ -50,11 +50,11 @@ untold now more less (inl e) = omega (arith, more, e)
 untold now more less (inr (inl e)) = omega (arith, less, e)
 untold now more less (inr (inr e)) = omega (arith, less, e)
 
-not_refused : (bytes : List ℕ) (refusal : Refusal) → IsRefusal bytes refusal → IsUnrefused bytes → ⊥
+not_refused : (bytes : List ℕ) (refusal : Refusal) → IsRefusal bytes refusal → IsUnrefusedCheck bytes → ⊥
 not_refused bytes refusal (too_long long is) h = let short = h.short in omega (arith, short, long)
 not_refused bytes refusal (script short refused) h = h.script refused.script refused.answer refused.checked refusal refused.read_as refused.refused
 
 -- what has no refusal is not refused
-pub refused_only : (left : Option (List ℕ)) (refusal : Refusal) (status : ℕ) → IfSome left (λ bytes. IsRefusal bytes refusal) → IfSome left (λ bytes. IsUnrefused bytes → status ≢ 1)
+pub refused_only : (left : Option (List ℕ)) (refusal : Refusal) (status : ℕ) → IfSome left (λ bytes. IsRefusal bytes refusal) → IfSome left (λ bytes. IsUnrefusedCheck bytes → status ≢ 1)
 refused_only None refusal status h = tt
 refused_only (Some bytes) refusal status h = λ unrefused e. not_refused bytes refusal h unrefused

@@ -21,7 +21,7 @@ pub data IsRefusal (input : List ℕ) (refusal : Refusal) : Type 0 where
   script : length input ≤ most_bytes → RefusesInput input refusal → IsRefusal input refusal
 
 -- no refusal of it
-pub record IsUnrefused (input : List ℕ) : Type 0 where
+pub record IsUnrefusedCheck (input : List ℕ) : Type 0 where
   pub short : length input ≤ most_bytes
   pub script : HasNoRefusal input
 
@@ -61,7 +61,7 @@ pub record RefusesLeft (left : Option (List ℕ)) (old new : ℕ) (read : List �
   pub bytes : refusal.kind ≢ TooLong → IsRefusal read refusal
 
 -- the sink holds its line
-pub record Refuses (left : Option (List ℕ)) (ends after : ℕ) (read : List ℕ) (refusal : Refusal) (old new : Option (List ℕ)) : Type 0 where
+pub record RefusesCheck (left : Option (List ℕ)) (ends after : ℕ) (read : List ℕ) (refusal : Refusal) (old new : Option (List ℕ)) : Type 0 where
   pub refused : RefusesLeft left ends after read refusal
   pub held : Appends (error_text refusal) old new
 
@@ -80,7 +80,7 @@ pub data IsMeant (nodes : ℕ) (left : Option (List ℕ)) (old new : ℕ) (read 
   memory : text ≡ memory_text → IsMeant nodes left old new read text
 
 -- status 4: a prefix of the text that was meant is held, and not all of it
-pub record WritesPart (nodes : ℕ) (left : Option (List ℕ)) (ends after : ℕ) (read : List ℕ) (old new : Option (List ℕ)) : Type 0 where
+pub record WritesPartOfCheck (nodes : ℕ) (left : Option (List ℕ)) (ends after : ℕ) (read : List ℕ) (old new : Option (List ℕ)) : Type 0 where
   pub text : List ℕ
   pub meant : IsMeant nodes left ends after read text
   pub count : ℕ
