@@ -5,7 +5,7 @@ use Rattle.std.specs.declared.option.Option.{Option}
 use Rattle.term_tree.specs.declared.refusal.Refusal.{Refusal}
 use Rattle.sort_check.specs.Commands.{Command}
 use Rattle.sort_check.specs.Scripts.{IsRefused, IsScript}
-use Rattle.answer_check.specs.Inputs.{HasNoSystem, HasRefusedScript, IsParted, IsReadAs}
+use Rattle.answer_check.specs.Inputs.{HasNoSystemOfCheck, HasRefusedScript, IsParted, IsReadAs}
 use Rattle.check_call.specs.Calls.{IsJudged, IsRefusal, IsUnrefusedCheck, TellsVerdict}
 use Rattle.check_call.specs.Calls.IsRefusal.{script, too_long}
 
@@ -30,7 +30,7 @@ judged_others one not_both nodes (Some bytes) read status now text h same =
 
 -- what is judged has a system
 pub judged_system : (nodes : ℕ) (left : Option (List ℕ)) (read : List ℕ) (status now : ℕ) (text : List ℕ) → IsJudged nodes read status text → IfSome left (λ bytes. read ≡ bytes)
-    → IfSome left (λ bytes. HasNoSystem bytes → TellsVerdict now → ⊥)
+    → IfSome left (λ bytes. HasNoSystemOfCheck bytes → TellsVerdict now → ⊥)
 judged_system nodes None read status now text h same = tt
 judged_system nodes (Some bytes) read status now text h same = λ none told.
     let judges = h.judges in
@@ -41,7 +41,7 @@ pub untold_others : (left : Option (List ℕ)) (now : ℕ) → (TellsVerdict now
 untold_others None now untold = tt
 untold_others (Some bytes) now untold = λ refusal refused. untold
 
-pub untold_system : (left : Option (List ℕ)) (now : ℕ) → (TellsVerdict now → ⊥) → IfSome left (λ bytes. HasNoSystem bytes → TellsVerdict now → ⊥)
+pub untold_system : (left : Option (List ℕ)) (now : ℕ) → (TellsVerdict now → ⊥) → IfSome left (λ bytes. HasNoSystemOfCheck bytes → TellsVerdict now → ⊥)
 untold_system None now untold = tt
 untold_system (Some bytes) now untold = λ none. untold
 

@@ -4,7 +4,7 @@ ghost use Rattle.outside_io.specs.Counts.{counted};
 ghost use Rattle.outside_io.specs.declared.turn.Turn.TheVariants.{Fault};
 ghost use Rattle.term_tree.specs.declared.refusal.Refusal.{Refusal};
 ghost use Rattle.answer_text.specs.Lines.{memory_text};
-ghost use Rattle.answer_check.specs.Inputs.{HasNoSystem, HasRefusedScript};
+ghost use Rattle.answer_check.specs.Inputs.{HasNoSystemOfCheck, HasRefusedScript};
 ghost use Rattle.check_call.specs.Calls.{Checks, EndsLast, IsUnrefusedCheck, ReadsAll, RefusesCheck, TellsVerdict, WritesPartOfCheck};
 
 use crate::plan::{Plan, plan_for};
@@ -63,7 +63,7 @@ pub fn check_call<S: Source, K: Sink>(
     // Both exactly: of an input that has no refusal none is told, and where the script is refused by the rules of commands, or has no system of clauses, no verdict is.
     ensures judges_scripts { IfSome (S.left source.old) (λ bytes. IsUnrefusedCheck bytes → result.status ≢ 1) }
     ensures refuses_others { IfSome (S.left source.old) (λ bytes. (refusal : Refusal) → HasRefusedScript bytes refusal → TellsVerdict result.status → ⊥) }
-    ensures refuses_shapes { IfSome (S.left source.old) (λ bytes. HasNoSystem bytes → TellsVerdict result.status → ⊥) }
+    ensures refuses_shapes { IfSome (S.left source.old) (λ bytes. HasNoSystemOfCheck bytes → TellsVerdict result.status → ⊥) }
 
     // 3: exactly where the source has failed, and then nothing is written.
     ensures source_faults { result.status ≢ 3 → S.faults source.new ≡ S.faults source.old }
