@@ -9,7 +9,7 @@ use Rattle.lin_atoms.specs.declared.form.Form.{Form}
 use Rattle.lin_atoms.specs.declared.form.Form.TheOpen.{Form-F}
 use Rattle.lin_atoms.specs.declared.form.Form.TheFolds.{fold-Form}
 use Rattle.lin_atoms.specs.Truth.{is_below, lit_is_below}
-use Rattle.node_rows.specs.Known.{has_short_in_guard as has_short_known}
+use Rattle.node_rows.specs.Known.{has_short_constant}
 use Rattle.lia_search.specs.Decides.{has_short_multiples, short_step}
 use Rattle.clause_form.specs.System.{has_short_in_guard}
 use Rattle.clause_normal.specs.Normal.{conjunction}
@@ -34,7 +34,7 @@ conjunction_pass t (form ∷ next ∷ forms) h = joined_pass t true (form ∷ ne
 pub is_below_by : (n : ℕ) (form : Form) → passes (lit_is_below n) form ≡ true → is_below n form ≡ true
 is_below_by n form h = below_passes n form ∙ h
 
-same_constant : (lit : Literal) → has_short_known lit ≡ has_short_in_guard lit
+same_constant : (lit : Literal) → has_short_constant lit ≡ has_short_in_guard lit
 same_constant (Le lin) = refl
 same_constant (Eq lin) = refl
 same_constant (Div d lin) = refl
