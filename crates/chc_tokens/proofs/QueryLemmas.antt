@@ -19,7 +19,7 @@ use Rattle.chc_tokens.specs.declared.goal.Goal.TheVariants.{Query, Holds}
 use Rattle.chc_tokens.specs.declared.used.Used.{Used}
 use Rattle.chc_tokens.specs.Instances.{accepts, token_args, token_atom_at, token_head_at}
 use Rattle.chc_tokens.specs.Queries.{base, base_at, base_in, forms_at, forms_in, goal_cube, goal_has_room, has_goal, has_places, has_used, may_use, query, query_at, query_in, used_form, used_have_room}
-use Rattle.chc_tokens.specs.Tokens.{Shows, is_passed, meets}
+use Rattle.chc_tokens.specs.Tokens.{Shows, is_passed, token_meets}
 
 all_literals : (point : List ℤ) (lits : List Lit) → list_all (truth point) (map Literal lits) ≡ list_all (lit_truth point) lits
 all_literals point [] = refl
@@ -42,11 +42,11 @@ truth-used : (point : List ℤ) (atom : Option Atom) (lemma : List Lit) → has_
 truth-used point None lemma h = absurd (cc)
 truth-used point (Some atom) lemma h = truth-lemma_at point atom.args lemma h
 
-truth-goal : (point : List ℤ) (clause : Clause) (goal : Goal) → has_goal clause goal ≡ true → list_all (lit_truth point) (cube_at (token_args clause.head) (goal_cube goal)) ≡ not (meets goal (token_head_at point clause))
+truth-goal : (point : List ℤ) (clause : Clause) (goal : Goal) → has_goal clause goal ≡ true → list_all (lit_truth point) (cube_at (token_args clause.head) (goal_cube goal)) ≡ not (token_meets goal (token_head_at point clause))
 truth-goal point clause Query h = refl
 truth-goal point clause (Holds lemma) h = truth-head point clause.head lemma h
 
-truth-base : (point : List ℤ) (clause : Clause) (goal : Goal) → has_goal clause goal ≡ true → truth point (base clause goal) ≡ (truth point clause.guard && not (meets goal (token_head_at point clause)))
+truth-base : (point : List ℤ) (clause : Clause) (goal : Goal) → has_goal clause goal ≡ true → truth point (base clause goal) ≡ (truth point clause.guard && not (token_meets goal (token_head_at point clause)))
 truth-base point clause goal h =
     let lits = cube_at (token_args clause.head) (goal_cube goal) in
     truth-And point (clause.guard ∷ map Literal lits) ∙ ap (λ b. truth point clause.guard && b) (all_literals point lits ∙ truth-goal point clause goal h)
@@ -59,11 +59,11 @@ all_used point clause (u ∷ us) h =
     ap (λ b. b && list_all (truth point) (map (used_form clause.atoms) us)) first ∙ ap (λ b. is_passed point clause u && b) (all_used point clause us parts.1)
 
 pub truth-query : (point : List ℤ) (clause : Clause) (goal : Goal) (used : List Used) → has_goal clause goal ≡ true → has_used clause.atoms used ≡ true
-    → truth point (query clause goal used) ≡ ((truth point clause.guard && not (meets goal (token_head_at point clause))) && list_all (is_passed point clause) used)
+    → truth point (query clause goal used) ≡ ((truth point clause.guard && not (token_meets goal (token_head_at point clause))) && list_all (is_passed point clause) used)
 truth-query point clause goal used there each =
     truth-And point (base clause goal ∷ map (used_form clause.atoms) used)
     ∙ ap (λ b. b && list_all (truth point) (map (used_form clause.atoms) used)) (truth-base point clause goal there)
-    ∙ ap (λ b. (truth point clause.guard && not (meets goal (token_head_at point clause))) && b) (all_used point clause used each)
+    ∙ ap (λ b. (truth point clause.guard && not (token_meets goal (token_head_at point clause))) && b) (all_used point clause used each)
 
 -- the parts of a query that is there, and its form
 chosen : (b : Bool) (form found : Form) → (if b then Some form else None) ≡ Some found → (b ≡ true) × (form ≡ found)
@@ -84,7 +84,7 @@ shows sys n goal used form is none clause is_there point guard passed =
     let rest = both_true (has_used clause.atoms used && goal_has_room clause goal) (used_have_room clause.atoms used) there.1 in
     let each = both_true (has_used clause.atoms used) (goal_has_room clause goal) rest.0 in
     let false_there : truth point (query clause goal used) ≡ false = ap (truth point) found.1 ∙ none point in
-    left (truth point clause.guard) (meets goal (token_head_at point clause)) (list_all (is_passed point clause) used) guard passed (sym (truth-query point clause goal used there.0 each.0) ∙ false_there)
+    left (truth point clause.guard) (token_meets goal (token_head_at point clause)) (list_all (is_passed point clause) used) guard passed (sym (truth-query point clause goal used there.0 each.0) ∙ false_there)
 
 abbrev joined : Option Form → Option (List Form) → Option Form
 joined None forms = None

@@ -12,7 +12,7 @@ use Rattle.clause_form.proofs.Public.{keeps}
 use Rattle.cube_forms.specs.Cubes.{cube_holds, tuple_at}
 use Rattle.chc_tokens.specs.Instances.{token_atom_at, token_head_at}
 use Rattle.chc_tokens.specs.Kept.{seen_clause, seen_point}
-use Rattle.chc_tokens.specs.Tokens.{is_passed, meets}
+use Rattle.chc_tokens.specs.Tokens.{is_passed, token_meets}
 use Rattle.chc_tokens.specs.declared.goal.Goal.TheVariants.{Holds}
 use Rattle.chc_tokens.specs.declared.seeing.Seen.{Seen}
 use Rattle.book_rules.specs.Proofs.{is_head}
@@ -43,7 +43,7 @@ met-hit b pred k cube met is kept one held =
         number = refl;
         seen_is = one.seen_is;
         placed = has-goal b.system.preds (length clause.sorts) (Some pred) (Holds cube) clause (fits-of b pred cube is) kept headed (keeps b.system.preds clause one.legal).head;
-        head = ap (λ h. meets (Holds cube) h) one.head ∙ ap not held;
+        head = ap (λ h. token_meets (Holds cube) h) one.head ∙ ap not held;
         body = one.body;
       };
     }
