@@ -45,8 +45,8 @@ abbrev pub HasNoRefusal : List ℕ → Type 0
 HasNoRefusal input = (script answer : ℕ) (checked : Checked) (refusal : Refusal) → IsReadAs input script answer checked → system_reading checked ≡ Err refusal → ⊥
 
 -- it has no system of clauses, however its terms are numbered
-abbrev pub HasNoSystem : List ℕ → Type 0
-HasNoSystem input = (script answer : ℕ) (checked : Checked) (system : Clauses) → IsReadAs input script answer checked → system_reading checked ≡ Ok system → ⊥
+abbrev pub HasNoSystemOfCheck : List ℕ → Type 0
+HasNoSystemOfCheck input = (script answer : ℕ) (checked : Checked) (system : Clauses) → IsReadAs input script answer checked → system_reading checked ≡ Ok system → ⊥
 
 -- the verdict on the answer's bytes, and its text
 pub record JudgesInput (nodes : ℕ) (input : List ℕ) (verdict : Verdict) (text : List ℕ) : Type 0 where

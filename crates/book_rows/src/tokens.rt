@@ -3,7 +3,7 @@
 ghost use Rattle.std.specs.Prelude.{◌≡◌, ◌∷◌, [], true};
 ghost use Rattle.lin_atoms.specs.declared.form.Form.TheVariants.{Lit as Literal};
 ghost use Rattle.lin_atoms.specs.declared.form.Form.TheViews.{And, Or};
-ghost use Rattle.chc_tokens.specs.Tokens.{IsNoLift, IsShown, is_seen};
+ghost use Rattle.chc_tokens.specs.Tokens.{IsNoLift, IsShownToken, is_seen};
 
 use crate::clauses::{is, lin, next, values};
 use base::Items;
@@ -86,7 +86,7 @@ fn token(
     used: Vec<Used>,
     proof: &Refutation,
 ) -> Shown
-    ensures { IsShown sys.now result }
+    ensures { IsShownToken sys.now result }
 {
     let found = checked_query_of(alloc, sys, clause, &goal, used.as_slice()).expect(rt, "memory");
     let form = found.expect(rt, "a query");
@@ -96,7 +96,7 @@ fn token(
 
 /// Through the first clause the head, 0, isn't this value, which is above 0.
 pub(crate) fn through_first(rt: &impl Abort, alloc: Global, sys: &System, value: i64) -> Shown
-    ensures { IsShown sys.now result }
+    ensures { IsShownToken sys.now result }
 {
     let proof = leaf(rt, alloc, &[(0, 1), (1, -1)]);
     let goal = Goal::Holds(not(rt, alloc, value));
@@ -105,7 +105,7 @@ pub(crate) fn through_first(rt: &impl Abort, alloc: Global, sys: &System, value:
 
 /// Through the second clause the head isn't this value where the body isn't one less.
 pub(crate) fn through_second(rt: &impl Abort, alloc: Global, sys: &System, value: i64) -> Shown
-    ensures { IsShown sys.now result }
+    ensures { IsShownToken sys.now result }
 {
     let below = [(0, -1), (1, -1), (2, 1)];
     let above = [(0, 1), (1, 1), (2, 1)];
@@ -117,7 +117,7 @@ pub(crate) fn through_second(rt: &impl Abort, alloc: Global, sys: &System, value
 
 /// Through the last clause, where the body isn't 3.
 pub(crate) fn through_last(rt: &impl Abort, alloc: Global, sys: &System) -> Shown
-    ensures { IsShown sys.now result }
+    ensures { IsShownToken sys.now result }
 {
     let proof = by_cases(rt, alloc, &[(0, -1), (1, 1)], &[(0, 1), (1, 1)]);
     let used = used(rt, alloc, 3);

@@ -5,7 +5,7 @@ ghost use Rattle.std.specs.List.{list_all};
 ghost use Rattle.lin_atoms.specs.Truth.{lit_is_below};
 ghost use Rattle.model_project.specs.Projection.{are_true};
 ghost use Rattle.clause_form.specs.System.{Clauses};
-ghost use Rattle.chc_tokens.specs.Tokens.{IsNoLift, IsShown};
+ghost use Rattle.chc_tokens.specs.Tokens.{IsNoLift, IsShownToken};
 ghost use Rattle.book_rules.specs.Walks.{AllOf};
 ghost use Rattle.step_rules.specs.Taken.{IsMadeFor};
 
@@ -158,7 +158,7 @@ fn below(rt: &impl Abort, alloc: Global, sys: &System, parent: u32, knows: bool)
 
 /// The proofs of 'not this value' through the first `count` of the first two clauses.
 fn proofs(rt: &impl Abort, alloc: Global, sys: &System, value: i64, count: u32) -> Items<Shown>
-    ensures { AllOf (IsShown sys.now) result }
+    ensures { AllOf (IsShownToken sys.now) result }
 {
     let mut proofs = Items::new(alloc);
     if count > 0 {
@@ -225,7 +225,7 @@ fn lift(rt: &impl Abort, alloc: Global, sys: &System, lemma: u32, from: u32, val
 
 /// The proof of the last clause, or nothing.
 fn closed(rt: &impl Abort, alloc: Global, sys: &System, is_shown: bool) -> Items<Shown>
-    ensures { AllOf (IsShown sys.now) result }
+    ensures { AllOf (IsShownToken sys.now) result }
 {
     let mut closed = Items::new(alloc);
     if is_shown {

@@ -25,7 +25,7 @@ use Rattle.term_widths.proofs.ConstantLemmas.{judged_same}
 use Rattle.term_widths.proofs.PositionLemmas.{position_is}
 use Rattle.term_formulas.specs.Written.{HasRoom}
 use Rattle.term_formulas.proofs.RoomLemmas.{room_part}
-use Rattle.clause_form.specs.System.{has_short_constant}
+use Rattle.clause_form.specs.System.{has_short_in_guard}
 use Rattle.clause_normal.specs.Normal.{place_forms}
 use Rattle.clause_normal.proofs.MadeLemmas.{from_moved}
 use Rattle.clause_normal.proofs.PassLemmas.{passes}
@@ -94,7 +94,7 @@ module _ (d : Definition) (sorts : List Sort) (is : IsFormula sorts d.terms.node
       (place_below (definition_sorting d) naming d.terms.nodes d.body.0 total is.arena owns named room) sign
 
   pub forms_short : ((id : ℕ) (op : OpKind) (ids : List TermId) → IsSubterm d.terms.nodes d.body.0 id → slice_get d.terms.nodes id ≡ Some (Op op ids) → length ids < 2 ^ 63) → (sign : Bool)
-      → list_all (passes has_short_constant) (definition_forms sign d args first) ≡ true
+      → list_all (passes has_short_in_guard) (definition_forms sign d args first) ≡ true
   forms_short few sign =
-      forms_pass has_short_constant (formula_short (definition_sorting d) naming d.terms.nodes d.body.0 total is.arena owns named room few)
+      forms_pass has_short_in_guard (formula_short (definition_sorting d) naming d.terms.nodes d.body.0 total is.arena owns named room few)
       (place_short (definition_sorting d) naming d.terms.nodes d.body.0 total is.arena owns named room few) sign

@@ -18,7 +18,7 @@ use Rattle.lin_atoms.specs.Truth.{is_below, lit_is_below}
 use Rattle.lin_atoms.specs.declared.lit.Lit.{Lit as Literal}
 use Rattle.linear_terms.specs.Width.{first_wide}
 use Rattle.lia_search.specs.Decides.{has_short_multiples}
-use Rattle.clause_form.specs.System.{has_short_constant, most_variables}
+use Rattle.clause_form.specs.System.{has_short_in_guard, most_variables}
 use Rattle.clause_form.specs.declared.atom.Atom.{Atom}
 use Rattle.clause_normal.specs.Normal.{auxiliaries, first_without_room, guard_of, normal_clause, sorts_of, top_of}
 use Rattle.clause_normal.specs.machinery.Making.{HasFewArguments}
@@ -101,10 +101,10 @@ module _ (script : Script) (clause : HornClause) (arena : IsArena script.terms.n
   form_short have small =
       let uses = use_forms defs (uses_of (normal_clause script clause)) (length (sorts_of script clause)) in
       is_short_by (breaking_form defs (normal_clause script clause))
-      (conjunction_pass has_short_constant (guard_of script clause ∷ uses)
-      (both_hold (passes has_short_constant (guard_of script clause)) (list_all (passes has_short_constant) uses)
+      (conjunction_pass has_short_in_guard (guard_of script clause ∷ uses)
+      (both_hold (passes has_short_in_guard (guard_of script clause)) (list_all (passes has_short_in_guard) uses)
       (guard_short script clause arena legal is narrow total own_fit (few_below script.terms.nodes arena (top_of script clause) have.asserted small))
-      (uses_pass defs Few have.defined has_short_constant total
+      (uses_pass defs Few have.defined has_short_in_guard total
       (λ d ok sorts formula args first count below fits room sign.
       forms_short d sorts formula args first total count below fits room (few_below d.terms.nodes formula.arena d.body.0 ok.0 ok.1) sign)
       (uses_of (normal_clause script clause)) (length (sorts_of script clause)) (length (sorts_of script clause)) can (omega arith))))

@@ -27,7 +27,7 @@ use Rattle.linear_terms.specs.Place.{place_form}
 use Rattle.term_widths.specs.machinery.Apart.{Occurs}
 use Rattle.term_widths.proofs.PositionLemmas.{position_is}
 use Rattle.term_formulas.specs.Written.{HasRoom}
-use Rattle.clause_form.specs.System.{has_short_constant}
+use Rattle.clause_form.specs.System.{has_short_in_guard}
 use Rattle.clause_normal.specs.Normal.{auxiliaries, bits_from, first_without_room, guard_form, guard_of, guard_parts, names_of, place_forms, sorting, top_of}
 use Rattle.clause_normal.proofs.LowLemmas.{added_all, negated_all, scaled_all}
 use Rattle.clause_normal.proofs.MadeLemmas.{from_moved, low_top, placed_top, room_sub, top_is}
@@ -129,12 +129,12 @@ module _ (script : Script) (clause : HornClause) (arena : IsArena script.terms.n
   abbrev any_form : Linear → Type 0
   any_form l = Unit {0}
 
-  pub guard_short : ((id : ℕ) (op : OpKind) (args : List TermId) → IsSubterm nodes top id → slice_get nodes id ≡ Some (Op op args) → length args < 2 ^ 63) → passes has_short_constant (guard_of script clause) ≡ true
+  pub guard_short : ((id : ℕ) (op : OpKind) (args : List TermId) → IsSubterm nodes top id → slice_get nodes id ≡ Some (Op op args) → length args < 2 ^ 63) → passes has_short_in_guard (guard_of script clause) ≡ true
   guard_short few =
-      guard_passes has_short_constant
+      guard_passes has_short_in_guard
       (λ v h. (
-        le_passes has_short_constant any_form (λ l ok. refl) (λ l ok. refl) (λ l ok. tt) (λ a b x y. tt) (λ l k ok. tt) (λ k l ok. tt) (negated (variable_form v)) tt,
-        le_passes has_short_constant any_form (λ l ok. refl) (λ l ok. refl) (λ l ok. tt) (λ a b x y. tt) (λ l k ok. tt) (λ k l ok. tt) (plus (variable_form v) (negsuc 0)) tt,
+        le_passes has_short_in_guard any_form (λ l ok. refl) (λ l ok. refl) (λ l ok. tt) (λ a b x y. tt) (λ l k ok. tt) (λ k l ok. tt) (negated (variable_form v)) tt,
+        le_passes has_short_in_guard any_form (λ l ok. refl) (λ l ok. refl) (λ l ok. tt) (λ a b x y. tt) (λ l k ok. tt) (λ k l ok. tt) (plus (variable_form v) (negsuc 0)) tt,
       ))
       (formula_short (sorting script) (names_of script clause) nodes top total arena owns named room few)
       (place_short (sorting script) (names_of script clause) nodes top total arena owns named room few)

@@ -9,9 +9,9 @@ use Rattle.lin_atoms.specs.declared.form.Form.{Form}
 use Rattle.lin_atoms.specs.declared.form.Form.TheOpen.{Form-F}
 use Rattle.lin_atoms.specs.declared.form.Form.TheFolds.{fold-Form}
 use Rattle.lin_atoms.specs.Truth.{is_below, lit_is_below}
-use Rattle.node_rows.specs.Known.{has_short_constant as has_short_known}
+use Rattle.node_rows.specs.Known.{has_short_constant}
 use Rattle.lia_search.specs.Decides.{has_short_multiples, short_step}
-use Rattle.clause_form.specs.System.{has_short_constant}
+use Rattle.clause_form.specs.System.{has_short_in_guard}
 use Rattle.clause_normal.specs.Normal.{conjunction}
 use Rattle.clause_normal.proofs.PassLemmas.{below_passes, joined_pass, passes, passes-True, passes_step}
 
@@ -34,18 +34,18 @@ conjunction_pass t (form ∷ next ∷ forms) h = joined_pass t true (form ∷ ne
 pub is_below_by : (n : ℕ) (form : Form) → passes (lit_is_below n) form ≡ true → is_below n form ≡ true
 is_below_by n form h = below_passes n form ∙ h
 
-same_constant : (lit : Literal) → has_short_known lit ≡ has_short_constant lit
+same_constant : (lit : Literal) → has_short_constant lit ≡ has_short_in_guard lit
 same_constant (Le lin) = refl
 same_constant (Eq lin) = refl
 same_constant (Div d lin) = refl
 same_constant (NDiv d lin) = refl
 
-same_step : (x : Form-F Bool) → short_step x ≡ passes_step has_short_constant x
+same_step : (x : Form-F Bool) → short_step x ≡ passes_step has_short_in_guard x
 same_step Form-F.True = refl
 same_step Form-F.False = refl
 same_step (Form-F.Lit lit) = same_constant lit
 same_step (Form-F.And parts) = refl
 same_step (Form-F.Or parts) = refl
 
-pub is_short_by : (form : Form) → passes has_short_constant form ≡ true → has_short_multiples form ≡ true
+pub is_short_by : (form : Form) → passes has_short_in_guard form ≡ true → has_short_multiples form ≡ true
 is_short_by form h = ap (λ (step : Form-F Bool → Bool). fold-Form Bool step form) (fun_ext same_step) ∙ h

@@ -24,7 +24,7 @@ use Rattle.term_forms.specs.Found.{is_wide}
 use Rattle.term_forms.proofs.FoundLemmas.{first_at}
 use Rattle.term_widths.specs.Wide.{has_wide_sides}
 use Rattle.term_formulas.specs.Written.{HasRoom}
-use Rattle.clause_form.specs.System.{has_short_constant}
+use Rattle.clause_form.specs.System.{has_short_in_guard}
 use Rattle.clause_normal.proofs.LowLemmas.{added_all, among_low, bit_low, collected_all, formula_passes, length_is, less_variable, linear_low, narrow_constant, negated_all, place_passes, scaled_all, sum_small, sums_low}
 use Rattle.clause_normal.proofs.PassLemmas.{passes}
 use Rattle.chc_checker.proofs.PassLemmas.{both_hold}
@@ -129,14 +129,14 @@ module _ (sorts : Sorting) (naming : Naming) (nodes : List Node) (top total : �
     less_short : (id v : ℕ) → IsSubterm nodes top id → is_short (less (linear_of naming nodes id) (variable_form v)).constant ≡ true
     less_short id v sub = less_variable (linear_of naming nodes id) v (linear_short id sub)
 
-    pub formula_short : (id : ℕ) (sign : Bool) → IsSubterm nodes top id → passes has_short_constant (formula sorts naming nodes id sign) ≡ true
+    pub formula_short : (id : ℕ) (sign : Bool) → IsSubterm nodes top id → passes has_short_in_guard (formula sorts naming nodes id sign) ≡ true
     formula_short id sign sub =
-        formula_passes sorts naming nodes top arena in_total owns named has_short_constant any_form (λ l ok. refl) (λ l ok. refl)
+        formula_passes sorts naming nodes top arena in_total owns named has_short_in_guard any_form (λ l ok. refl) (λ l ok. refl)
         (λ l ok. tt) (λ a b x y. tt) (λ l k ok. tt) (λ k l ok. tt) (λ k s w. tt) (λ k s w. tt) (λ v h. tt) (λ k d s w. (linear_short k s, linear_short k s))
         (λ k v d s w h. (less_short k v s, less_short k v s)) (λ k args s at. (sum_short k args s at, sum_short k args s at)) id sign (sub_there id sub) sub
 
-    pub place_short : (v id : ℕ) → in_total v ≡ true → IsSubterm nodes top id → passes has_short_constant (place_form sorts naming nodes v id) ≡ true
+    pub place_short : (v id : ℕ) → in_total v ≡ true → IsSubterm nodes top id → passes has_short_in_guard (place_form sorts naming nodes v id) ≡ true
     place_short v id h sub =
-        place_passes sorts naming nodes top arena in_total owns named has_short_constant any_form (λ l ok. refl) (λ l ok. refl)
+        place_passes sorts naming nodes top arena in_total owns named has_short_in_guard any_form (λ l ok. refl) (λ l ok. refl)
         (λ l ok. tt) (λ a b x y. tt) (λ l k ok. tt) (λ k l ok. tt) (λ k s w. tt) (λ k s w. tt) (λ u g. tt) (λ k d s w. (linear_short k s, linear_short k s))
         (λ k u d s w g. (less_short k u s, less_short k u s)) (λ k args s at. (sum_short k args s at, sum_short k args s at)) v id h (sub_there id sub) sub

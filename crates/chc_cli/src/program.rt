@@ -12,8 +12,8 @@ ghost use Rattle.solve_words.specs.Words.{IsCall, IsCheckCall};
 ghost use Rattle.solve_words.specs.declared.limits.Limits.{Limits};
 ghost use Rattle.solve_call.specs.Clauses.{HasNoSystem, IsUnrefused};
 ghost use Rattle.solve_call.specs.Headline.{Answers, EndsOnce, IsBookFor, ReadsInput, Refuses, WritesPart, wanting_text};
-ghost use Rattle.answer_check.specs.Inputs.{HasNoSystem as HasNoSystemOfCheck, HasRefusedScript};
-ghost use Rattle.check_call.specs.Calls.{Checks, IsUnrefused as IsUnrefusedCheck, Refuses as RefusesCheck, TellsVerdict, WritesPart as WritesPartOfCheck};
+ghost use Rattle.answer_check.specs.Inputs.{HasNoSystemOfCheck, HasRefusedScript};
+ghost use Rattle.check_call.specs.Calls.{Checks, IsUnrefusedCheck, RefusesCheck, TellsVerdict, WritesPartOfCheck};
 ghost use Rattle.chc_cli.specs.Commands.{ByCommand, HoldsPart, HoldsPartOfUsage, HoldsPartOfWant, IsNoCommand, OfCheck, OfSolve};
 
 use crate::run::{Report, chc_run, no_command, no_memory};

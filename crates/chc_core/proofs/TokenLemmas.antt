@@ -15,10 +15,10 @@ use Rattle.clause_form.specs.declared.clause.Clause.{Clause}
 use Rattle.cube_forms.specs.Cubes.{cube_holds, lemma_at, tuple_at}
 use Rattle.farkas_proof.specs.Kept.{form_of}
 use Rattle.farkas_proof.specs.KeptEvidence.{given_form}
-use Rattle.chc_tokens.specs.Instances.{accepts, args_of, atom_at as token_atom_at, has_values, head_at as token_head_at, is_broken, is_instance_of, may_be_instance}
+use Rattle.chc_tokens.specs.Instances.{accepts, token_args, token_atom_at, has_values, token_head_at, is_broken, is_instance_of, may_be_instance}
 use Rattle.chc_tokens.specs.Kept.{kept_lemma, kept_why, seen_clause, seen_point, shown_clause, shown_goal, shown_proof, shown_used}
 use Rattle.chc_tokens.specs.Queries.{base as token_base, goal_has_room, has_goal, has_places, has_used, may_use, query as token_query, query_in, used_form, used_have_room}
-use Rattle.chc_tokens.specs.Tokens.{IsKept, IsNoLift, IsShown, breaks_in, is_passed, is_seen, meets as token_meets}
+use Rattle.chc_tokens.specs.Tokens.{IsKept, IsNoLift, IsShownToken, breaks_in, is_passed, is_seen, token_meets}
 use Rattle.chc_tokens.specs.declared.goal.Goal.{Goal}
 use Rattle.chc_tokens.specs.declared.goal.Goal.TheVariants.{Query, Holds}
 use Rattle.chc_tokens.specs.declared.keeping.NoLift.{NoLift as NoLiftToken}
@@ -56,7 +56,7 @@ used-alike point clause u there = ap (accepts u.lemma) (slice_get-map (token_ato
   by None never = absurd (cc)
   by (Some atom) is = refl
 
--- where the atom isn't there the two differ (chc_tokens passes nothing there, the rules all), but IsShown says that it is: has_used of query_at
+-- where the atom isn't there the two differ (chc_tokens passes nothing there, the rules all), but IsShownToken says that it is: has_used of query_at
 
 goal-alike : (point : List ℤ) (goal : Goal) (clause : Clause) → token_meets goal (token_head_at point clause) ≡ meets point clause.head (goal_of goal)
 goal-alike point Query clause = refl
@@ -93,7 +93,7 @@ all-passed point clause (u ∷ used) there passed =
     (all-passed point clause used atoms.1 both.1)
 
 -- a refuted query
-pub shown-shows : (sys : Clauses) (shown : ShownToken) → IsShown sys shown → Shows sys (shown_of shown)
+pub shown-shows : (sys : Clauses) (shown : ShownToken) → IsShownToken sys shown → Shows sys (shown_of shown)
 shown-shows sys shown h clause point there instance passed =
     let form = form_of (shown_proof shown) in
     let here : query_in (Some clause) (shown_goal shown) (shown_used shown) ≡ Some form = ap (λ (o : Option Clause). query_in o (shown_goal shown) (shown_used shown)) (sym there) ∙ h in
@@ -107,7 +107,7 @@ broken-alike : (point : List ℤ) (lemma : List Lit) (head : Option Atom) → ha
 broken-alike point lemma None = refl
 broken-alike point lemma (Some atom) = refl
 
-forms-alike : (atoms : List Atom) (used : List UsedLemma) → map (used_form atoms) used ≡ map (λ (u : Used). lemma_at (args_of (slice_get atoms u.atom)) u.cube) (all_used used)
+forms-alike : (atoms : List Atom) (used : List UsedLemma) → map (used_form atoms) used ≡ map (λ (u : Used). lemma_at (token_args (slice_get atoms u.atom)) u.cube) (all_used used)
 forms-alike atoms [] = refl
 forms-alike atoms (u ∷ used) = ap (λ (forms : List Form). used_form atoms u ∷ forms) (forms-alike atoms used)
 
@@ -129,7 +129,7 @@ why-is sys lemma (UnknownBy number used evidence) kept = by (slice_get sys.claus
 pub no_lift-is : (sys : Clauses) (kept : NoLiftToken) → IsNoLift sys kept → IsWhy sys (no_lift_of kept).cube (no_lift_of kept).why
 no_lift-is sys kept h = why-is sys (kept_lemma kept) (kept_why kept) h
 
-all-shown : (sys : Clauses) (proofs : List ShownToken) → AllOf (IsShown sys) proofs → AllOf (Shows sys) (all_shown proofs)
+all-shown : (sys : Clauses) (proofs : List ShownToken) → AllOf (IsShownToken sys) proofs → AllOf (Shows sys) (all_shown proofs)
 all-shown sys [] h = tt
 all-shown sys (p ∷ proofs) h = (shown-shows sys p h.0, all-shown sys proofs h.1)
 

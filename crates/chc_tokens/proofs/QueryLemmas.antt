@@ -17,9 +17,9 @@ use Rattle.cube_forms.proofs.Public.{truth-Literal, truth-cube_at, truth-lemma_a
 use Rattle.chc_tokens.specs.declared.goal.Goal.{Goal}
 use Rattle.chc_tokens.specs.declared.goal.Goal.TheVariants.{Query, Holds}
 use Rattle.chc_tokens.specs.declared.used.Used.{Used}
-use Rattle.chc_tokens.specs.Instances.{accepts, args_of, atom_at, head_at}
+use Rattle.chc_tokens.specs.Instances.{accepts, token_args, token_atom_at, token_head_at}
 use Rattle.chc_tokens.specs.Queries.{base, base_at, base_in, forms_at, forms_in, goal_cube, goal_has_room, has_goal, has_places, has_used, may_use, query, query_at, query_in, used_form, used_have_room}
-use Rattle.chc_tokens.specs.Tokens.{Shows, is_passed, meets}
+use Rattle.chc_tokens.specs.Tokens.{Shows, is_passed, token_meets}
 
 all_literals : (point : List ℤ) (lits : List Lit) → list_all (truth point) (map Literal lits) ≡ list_all (lit_truth point) lits
 all_literals point [] = refl
@@ -34,36 +34,36 @@ get-map f [] n = refl
 get-map f (x ∷ xs) zero = refl
 get-map f (x ∷ xs) (suc n) = get-map f xs n
 
-truth-head : (point : List ℤ) (head : Option Atom) (lemma : List Lit) → has_places head lemma ≡ true → list_all (lit_truth point) (cube_at (args_of head) lemma) ≡ not (accepts lemma (option_map (atom_at point) head))
+truth-head : (point : List ℤ) (head : Option Atom) (lemma : List Lit) → has_places head lemma ≡ true → list_all (lit_truth point) (cube_at (token_args head) lemma) ≡ not (accepts lemma (option_map (token_atom_at point) head))
 truth-head point None lemma h = absurd (cc)
 truth-head point (Some atom) lemma h = truth-cube_at point atom.args lemma h ∙ not_not (cube_holds (tuple_at point atom.args) lemma)
 
-truth-used : (point : List ℤ) (atom : Option Atom) (lemma : List Lit) → has_places atom lemma ≡ true → truth point (lemma_at (args_of atom) lemma) ≡ accepts lemma (option_map (atom_at point) atom)
+truth-used : (point : List ℤ) (atom : Option Atom) (lemma : List Lit) → has_places atom lemma ≡ true → truth point (lemma_at (token_args atom) lemma) ≡ accepts lemma (option_map (token_atom_at point) atom)
 truth-used point None lemma h = absurd (cc)
 truth-used point (Some atom) lemma h = truth-lemma_at point atom.args lemma h
 
-truth-goal : (point : List ℤ) (clause : Clause) (goal : Goal) → has_goal clause goal ≡ true → list_all (lit_truth point) (cube_at (args_of clause.head) (goal_cube goal)) ≡ not (meets goal (head_at point clause))
+truth-goal : (point : List ℤ) (clause : Clause) (goal : Goal) → has_goal clause goal ≡ true → list_all (lit_truth point) (cube_at (token_args clause.head) (goal_cube goal)) ≡ not (token_meets goal (token_head_at point clause))
 truth-goal point clause Query h = refl
 truth-goal point clause (Holds lemma) h = truth-head point clause.head lemma h
 
-truth-base : (point : List ℤ) (clause : Clause) (goal : Goal) → has_goal clause goal ≡ true → truth point (base clause goal) ≡ (truth point clause.guard && not (meets goal (head_at point clause)))
+truth-base : (point : List ℤ) (clause : Clause) (goal : Goal) → has_goal clause goal ≡ true → truth point (base clause goal) ≡ (truth point clause.guard && not (token_meets goal (token_head_at point clause)))
 truth-base point clause goal h =
-    let lits = cube_at (args_of clause.head) (goal_cube goal) in
+    let lits = cube_at (token_args clause.head) (goal_cube goal) in
     truth-And point (clause.guard ∷ map Literal lits) ∙ ap (λ b. truth point clause.guard && b) (all_literals point lits ∙ truth-goal point clause goal h)
 
 all_used : (point : List ℤ) (clause : Clause) (used : List Used) → has_used clause.atoms used ≡ true → list_all (truth point) (map (used_form clause.atoms) used) ≡ list_all (is_passed point clause) used
 all_used point clause [] h = refl
 all_used point clause (u ∷ us) h =
     let parts = both_true (has_places (slice_get clause.atoms u.atom) u.lemma) (has_used clause.atoms us) h in
-    let first : truth point (used_form clause.atoms u) ≡ is_passed point clause u = truth-used point (slice_get clause.atoms u.atom) u.lemma parts.0 ∙ ap (accepts u.lemma) (sym (get-map (atom_at point) clause.atoms u.atom)) in
+    let first : truth point (used_form clause.atoms u) ≡ is_passed point clause u = truth-used point (slice_get clause.atoms u.atom) u.lemma parts.0 ∙ ap (accepts u.lemma) (sym (get-map (token_atom_at point) clause.atoms u.atom)) in
     ap (λ b. b && list_all (truth point) (map (used_form clause.atoms) us)) first ∙ ap (λ b. is_passed point clause u && b) (all_used point clause us parts.1)
 
 pub truth-query : (point : List ℤ) (clause : Clause) (goal : Goal) (used : List Used) → has_goal clause goal ≡ true → has_used clause.atoms used ≡ true
-    → truth point (query clause goal used) ≡ ((truth point clause.guard && not (meets goal (head_at point clause))) && list_all (is_passed point clause) used)
+    → truth point (query clause goal used) ≡ ((truth point clause.guard && not (token_meets goal (token_head_at point clause))) && list_all (is_passed point clause) used)
 truth-query point clause goal used there each =
     truth-And point (base clause goal ∷ map (used_form clause.atoms) used)
     ∙ ap (λ b. b && list_all (truth point) (map (used_form clause.atoms) used)) (truth-base point clause goal there)
-    ∙ ap (λ b. (truth point clause.guard && not (meets goal (head_at point clause))) && b) (all_used point clause used each)
+    ∙ ap (λ b. (truth point clause.guard && not (token_meets goal (token_head_at point clause))) && b) (all_used point clause used each)
 
 -- the parts of a query that is there, and its form
 chosen : (b : Bool) (form found : Form) → (if b then Some form else None) ≡ Some found → (b ≡ true) × (form ≡ found)
@@ -84,7 +84,7 @@ shows sys n goal used form is none clause is_there point guard passed =
     let rest = both_true (has_used clause.atoms used && goal_has_room clause goal) (used_have_room clause.atoms used) there.1 in
     let each = both_true (has_used clause.atoms used) (goal_has_room clause goal) rest.0 in
     let false_there : truth point (query clause goal used) ≡ false = ap (truth point) found.1 ∙ none point in
-    left (truth point clause.guard) (meets goal (head_at point clause)) (list_all (is_passed point clause) used) guard passed (sym (truth-query point clause goal used there.0 each.0) ∙ false_there)
+    left (truth point clause.guard) (token_meets goal (token_head_at point clause)) (list_all (is_passed point clause) used) guard passed (sym (truth-query point clause goal used there.0 each.0) ∙ false_there)
 
 abbrev joined : Option Form → Option (List Form) → Option Form
 joined None forms = None

@@ -33,19 +33,19 @@ abbrev pub is_instance_of : Clauses → ℕ → List ℤ → Bool
 is_instance_of sys n point = may_be_instance (slice_get sys.clauses n) point
 
 -- the variables at which an atom stands
-abbrev pub args_of : Option Atom → List ℕ
-args_of None = []
-args_of (Some atom) = atom.args
+abbrev pub token_args : Option Atom → List ℕ
+token_args None = []
+token_args (Some atom) = atom.args
 
 -- an atom's predicate and tuple at a point, and those of a clause's body and head; a head that is false has none
-abbrev pub atom_at : List ℤ → Atom → ℕ × List ℤ
-atom_at point atom = (atom.pred, tuple_at point atom.args)
+abbrev pub token_atom_at : List ℤ → Atom → ℕ × List ℤ
+token_atom_at point atom = (atom.pred, tuple_at point atom.args)
 
-abbrev pub body_at : List ℤ → Clause → List (ℕ × List ℤ)
-body_at point clause = map (atom_at point) clause.atoms
+abbrev pub token_body_at : List ℤ → Clause → List (ℕ × List ℤ)
+token_body_at point clause = map (token_atom_at point) clause.atoms
 
-abbrev pub head_at : List ℤ → Clause → Option (ℕ × List ℤ)
-head_at point clause = option_map (atom_at point) clause.head
+abbrev pub token_head_at : List ℤ → Clause → Option (ℕ × List ℤ)
+token_head_at point clause = option_map (token_atom_at point) clause.head
 
 -- whether a lemma, written as the cube that it denies, accepts the tuple of an atom, and whether the tuple breaks it; the
 -- tuple of an atom that isn't there does neither

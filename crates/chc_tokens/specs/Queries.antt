@@ -14,7 +14,7 @@ use Rattle.cube_forms.specs.Cubes.{cube_at, cube_is_below, has_room, lemma_at}
 use Rattle.chc_tokens.specs.declared.goal.Goal.{Goal}
 use Rattle.chc_tokens.specs.declared.goal.Goal.TheVariants.{Query, Holds}
 use Rattle.chc_tokens.specs.declared.used.Used.{Used}
-use Rattle.chc_tokens.specs.Instances.{args_of}
+use Rattle.chc_tokens.specs.Instances.{token_args}
 
 -- the cube that a goal asks of the head
 abbrev pub goal_cube : Goal → List Lit
@@ -23,11 +23,11 @@ goal_cube (Holds lemma) = lemma
 
 -- the guard, and each literal of the goal's cube at the head's arguments
 abbrev pub base : Clause → Goal → Form
-base clause goal = And (clause.guard ∷ map Literal (cube_at (args_of clause.head) (goal_cube goal)))
+base clause goal = And (clause.guard ∷ map Literal (cube_at (token_args clause.head) (goal_cube goal)))
 
 -- a used lemma at its atom's arguments
 abbrev pub used_form : List Atom → Used → Form
-used_form atoms used = lemma_at (args_of (slice_get atoms used.atom)) used.lemma
+used_form atoms used = lemma_at (token_args (slice_get atoms used.atom)) used.lemma
 
 -- that form, and each used lemma
 abbrev pub query : Clause → Goal → List Used → Form
@@ -47,10 +47,10 @@ has_used atoms used = list_all (λ (u : Used). has_places (slice_get atoms u.ato
 
 -- whether the numbers have room: the coefficients of an argument that stands at several places add up
 abbrev pub goal_has_room : Clause → Goal → Bool
-goal_has_room clause goal = has_room (args_of clause.head) (goal_cube goal)
+goal_has_room clause goal = has_room (token_args clause.head) (goal_cube goal)
 
 abbrev pub used_has_room : List Atom → Used → Bool
-used_has_room atoms used = has_room (args_of (slice_get atoms used.atom)) used.lemma
+used_has_room atoms used = has_room (token_args (slice_get atoms used.atom)) used.lemma
 
 abbrev pub used_have_room : List Atom → List Used → Bool
 used_have_room atoms used = list_all (used_has_room atoms) used

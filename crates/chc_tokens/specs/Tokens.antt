@@ -19,29 +19,29 @@ use Rattle.chc_tokens.specs.declared.why.Why.TheVariants.{Broken, Unknown}
 use Rattle.chc_tokens.specs.declared.refuting.Shown.{Shown}
 use Rattle.chc_tokens.specs.declared.seeing.Seen.{Seen}
 use Rattle.chc_tokens.specs.declared.keeping.NoLift.{NoLift}
-use Rattle.chc_tokens.specs.Instances.{accepts, body_at, head_at, is_broken, is_instance_of}
+use Rattle.chc_tokens.specs.Instances.{accepts, token_body_at, token_head_at, is_broken, is_instance_of}
 use Rattle.chc_tokens.specs.Queries.{has_places, query_at}
 use Rattle.chc_tokens.specs.Kept.{kept_lemma, kept_why, seen_clause, seen_point, shown_clause, shown_goal, shown_proof, shown_used}
 
 -- its proof is of the form of its query
-abbrev pub IsShown : Clauses → Shown → Type 0
-IsShown sys shown = query_at sys (shown_clause shown) (shown_goal shown) (shown_used shown) ≡ Some (form_of (shown_proof shown))
+abbrev pub IsShownToken : Clauses → Shown → Type 0
+IsShownToken sys shown = query_at sys (shown_clause shown) (shown_goal shown) (shown_used shown) ≡ Some (form_of (shown_proof shown))
 
 -- whether a used lemma accepts the tuple of its atom at a point
 abbrev pub is_passed : List ℤ → Clause → Used → Bool
-is_passed point clause used = accepts used.lemma (slice_get (body_at point clause) used.atom)
+is_passed point clause used = accepts used.lemma (slice_get (token_body_at point clause) used.atom)
 
 -- whether the head's tuple meets the goal: it satisfies the lemma; nothing meets a query
-abbrev pub meets : Goal → Option (ℕ × List ℤ) → Bool
-meets Query head = false
-meets (Holds lemma) head = accepts lemma head
+abbrev pub token_meets : Goal → Option (ℕ × List ℤ) → Bool
+token_meets Query head = false
+token_meets (Holds lemma) head = accepts lemma head
 
 -- wherever the guard holds and each used lemma accepts its atom's tuple, the head's tuple satisfies the goal's lemma;
 -- for a query there is no such point
 abbrev pub Shows : Clauses → ℕ → Goal → List Used → Type 0
 Shows sys n goal used =
     (clause : Clause) → slice_get sys.clauses n ≡ Some clause → (point : List ℤ) → truth point clause.guard ≡ true
-    → list_all (is_passed point clause) used ≡ true → meets goal (head_at point clause) ≡ true
+    → list_all (is_passed point clause) used ≡ true → token_meets goal (token_head_at point clause) ≡ true
 
 -- it is an instance of its clause, and each value is below 2^63 in magnitude
 abbrev pub is_seen : Clauses → Seen → Bool
@@ -55,7 +55,7 @@ has_head (Some clause) lemma = has_places clause.head lemma
 -- whether the head's tuple at a point breaks the lemma
 abbrev pub breaks_in : Option Clause → List ℤ → List Lit → Bool
 breaks_in None point lemma = false
-breaks_in (Some clause) point lemma = is_broken lemma (head_at point clause)
+breaks_in (Some clause) point lemma = is_broken lemma (token_head_at point clause)
 
 abbrev pub breaks : Clauses → Seen → List Lit → Bool
 breaks sys seen lemma = breaks_in (slice_get sys.clauses (seen_clause seen)) (seen_point seen) lemma

@@ -1,5 +1,5 @@
 ghost use Rattle.std.specs.Prelude.{◌≡◌, slice_get};
-ghost use Rattle.chc_tokens.specs.Instances.{args_of};
+ghost use Rattle.chc_tokens.specs.Instances.{token_args};
 ghost use Rattle.chc_tokens.specs.Queries.{has_places, has_used};
 
 use crate::used::Used;
@@ -8,7 +8,7 @@ use cube_forms::Lemma;
 
 /// The variables of the head; none where it is false.
 pub(crate) fn head_args(head: &Option<Atom>) -> &[u32]
-    ensures { result.now ≡ args_of head.now }
+    ensures { result.now ≡ token_args head.now }
 {
     match head {
         Some(atom) => atom.args.as_slice(),
@@ -18,7 +18,7 @@ pub(crate) fn head_args(head: &Option<Atom>) -> &[u32]
 
 /// The variables of an atom; none where it isn't there.
 pub(crate) fn args_at(atoms: &[Atom], number: u32) -> &[u32]
-    ensures { result.now ≡ args_of (slice_get atoms.now number) }
+    ensures { result.now ≡ token_args (slice_get atoms.now number) }
 {
     match atoms.get(number as usize) {
         Some(atom) => atom.args.as_slice(),

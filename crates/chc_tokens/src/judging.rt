@@ -1,5 +1,5 @@
 ghost use Rattle.std.specs.Prelude.{◌≡◌, ◌↔◌, Some, option_map, IfOk, OnOk, IsErrOf, IsTrue, is_some, true};
-ghost use Rattle.chc_tokens.specs.Instances.{atom_at, is_broken};
+ghost use Rattle.chc_tokens.specs.Instances.{token_atom_at, is_broken};
 ghost use Rattle.chc_tokens.specs.Kept.{kept_lemma, kept_why};
 ghost use Rattle.chc_tokens.specs.Queries.{query_at};
 ghost use Rattle.chc_tokens.specs.Tokens.{IsKept, IsNoLift, IsNotBroken, IsOther, MayKeep, breaks};
@@ -26,7 +26,7 @@ fn breaks_head(
     point: &[i64],
     lemma: &Lemma,
 ) -> Result<bool, Memory>
-    ensures { IfOk result (λ b. b ≡ is_broken lemma.now (option_map (atom_at point.now) head.now)) }
+    ensures { IfOk result (λ b. b ≡ is_broken lemma.now (option_map (token_atom_at point.now) head.now)) }
 {
     match head {
         Some(head) => {

@@ -4,7 +4,7 @@ ghost use Rattle.base.specs.Widths.{is_short};
 ghost use Rattle.chc_tokens.specs.Kept.{seen_clause, seen_point, shown_clause, shown_goal, shown_proof, shown_used};
 ghost use Rattle.chc_tokens.specs.Queries.{query_at};
 ghost use Rattle.chc_tokens.specs.Instances.{is_instance_of, is_point_of};
-ghost use Rattle.chc_tokens.specs.Tokens.{IsShown, is_seen};
+ghost use Rattle.chc_tokens.specs.Tokens.{IsShownToken, is_seen};
 ghost use Rattle.farkas_proof.specs.Kept.{form_of};
 
 use crate::asking::query_of;
@@ -34,7 +34,7 @@ pub fn shown(
     ensures goal { IfOk result (λ s. shown_goal s ≡ goal) }
     ensures used { IfOk result (λ s. shown_used s ≡ used.items) }
     ensures proof { IfOk result (λ s. shown_proof s ≡ proof) }
-    ensures shown { IfOk result (λ s. IsShown sys.now s) }
+    ensures shown { IfOk result (λ s. IsShownToken sys.now s) }
     ensures other { IsErrOf result TokenStop.OtherForm → query_at sys.now clause goal used.items ≡ Some (form_of proof) → ⊥ }
     ensures stops { (IsErrOf result TokenStop.NoInstance → ⊥) × (IsErrOf result TokenStop.NotBroken → ⊥) }
 {
@@ -58,7 +58,7 @@ pub fn shown_by(sys: &System, clause: u32, goal: Goal, used: Vec<Used>, proof: R
     ensures goal { shown_goal result ≡ goal }
     ensures used { shown_used result ≡ used.items }
     ensures proof { shown_proof result ≡ proof }
-    ensures shown { IsShown sys.now result }
+    ensures shown { IsShownToken sys.now result }
 {
     let _sys = sys;
     Shown {

@@ -5,8 +5,8 @@ use Rattle.std.specs.declared.option.Option.{Option}
 use Rattle.term_tree.specs.declared.refusal.Refusal.{Refusal}
 use Rattle.sort_check.specs.Commands.{Command}
 use Rattle.sort_check.specs.Scripts.{IsRefused, IsScript}
-use Rattle.answer_check.specs.Inputs.{HasNoSystem, HasRefusedScript, IsParted, IsReadAs}
-use Rattle.check_call.specs.Calls.{IsJudged, IsRefusal, IsUnrefused, TellsVerdict}
+use Rattle.answer_check.specs.Inputs.{HasNoSystemOfCheck, HasRefusedScript, IsParted, IsReadAs}
+use Rattle.check_call.specs.Calls.{IsJudged, IsRefusal, IsUnrefusedCheck, TellsVerdict}
 use Rattle.check_call.specs.Calls.IsRefusal.{script, too_long}
 
 abbrev pub OneScript : Type 0
@@ -30,7 +30,7 @@ judged_others one not_both nodes (Some bytes) read status now text h same =
 
 -- what is judged has a system
 pub judged_system : (nodes : ℕ) (left : Option (List ℕ)) (read : List ℕ) (status now : ℕ) (text : List ℕ) → IsJudged nodes read status text → IfSome left (λ bytes. read ≡ bytes)
-    → IfSome left (λ bytes. HasNoSystem bytes → TellsVerdict now → ⊥)
+    → IfSome left (λ bytes. HasNoSystemOfCheck bytes → TellsVerdict now → ⊥)
 judged_system nodes None read status now text h same = tt
 judged_system nodes (Some bytes) read status now text h same = λ none told.
     let judges = h.judges in
@@ -41,7 +41,7 @@ pub untold_others : (left : Option (List ℕ)) (now : ℕ) → (TellsVerdict now
 untold_others None now untold = tt
 untold_others (Some bytes) now untold = λ refusal refused. untold
 
-pub untold_system : (left : Option (List ℕ)) (now : ℕ) → (TellsVerdict now → ⊥) → IfSome left (λ bytes. HasNoSystem bytes → TellsVerdict now → ⊥)
+pub untold_system : (left : Option (List ℕ)) (now : ℕ) → (TellsVerdict now → ⊥) → IfSome left (λ bytes. HasNoSystemOfCheck bytes → TellsVerdict now → ⊥)
 untold_system None now untold = tt
 untold_system (Some bytes) now untold = λ none. untold
 
@@ -50,11 +50,11 @@ untold now more less (inl e) = omega (arith, more, e)
 untold now more less (inr (inl e)) = omega (arith, less, e)
 untold now more less (inr (inr e)) = omega (arith, less, e)
 
-not_refused : (bytes : List ℕ) (refusal : Refusal) → IsRefusal bytes refusal → IsUnrefused bytes → ⊥
+not_refused : (bytes : List ℕ) (refusal : Refusal) → IsRefusal bytes refusal → IsUnrefusedCheck bytes → ⊥
 not_refused bytes refusal (too_long long is) h = let short = h.short in omega (arith, short, long)
 not_refused bytes refusal (script short refused) h = h.script refused.script refused.answer refused.checked refusal refused.read_as refused.refused
 
 -- what has no refusal is not refused
-pub refused_only : (left : Option (List ℕ)) (refusal : Refusal) (status : ℕ) → IfSome left (λ bytes. IsRefusal bytes refusal) → IfSome left (λ bytes. IsUnrefused bytes → status ≢ 1)
+pub refused_only : (left : Option (List ℕ)) (refusal : Refusal) (status : ℕ) → IfSome left (λ bytes. IsRefusal bytes refusal) → IfSome left (λ bytes. IsUnrefusedCheck bytes → status ≢ 1)
 refused_only None refusal status h = tt
 refused_only (Some bytes) refusal status h = λ unrefused e. not_refused bytes refusal h unrefused

@@ -21,7 +21,7 @@ pub data IsRefusal (input : List ℕ) (refusal : Refusal) : Type 0 where
   script : length input ≤ most_bytes → RefusesInput input refusal → IsRefusal input refusal
 
 -- no refusal of it
-pub record IsUnrefused (input : List ℕ) : Type 0 where
+pub record IsUnrefusedCheck (input : List ℕ) : Type 0 where
   pub short : length input ≤ most_bytes
   pub script : HasNoRefusal input
 
@@ -61,17 +61,17 @@ pub record RefusesLeft (left : Option (List ℕ)) (old new : ℕ) (read : List �
   pub bytes : refusal.kind ≢ TooLong → IsRefusal read refusal
 
 -- the sink holds its line
-pub record Refuses (left : Option (List ℕ)) (ends after : ℕ) (read : List ℕ) (refusal : Refusal) (old new : Option (List ℕ)) : Type 0 where
+pub record RefusesCheck (left : Option (List ℕ)) (ends after : ℕ) (read : List ℕ) (refusal : Refusal) (old new : Option (List ℕ)) : Type 0 where
   pub refused : RefusesLeft left ends after read refusal
   pub held : Appends (error_text refusal) old new
 
 -- where the refusal isn't that the bytes are too many, all of them were read
-abbrev pub ReadsInput : Option (List ℕ) → List ℕ → Refusal → Type 0
-ReadsInput left read refusal = refusal.kind ≢ TooLong → IfSome left (λ bytes. read ≡ bytes)
+abbrev pub ReadsAll : Option (List ℕ) → List ℕ → Refusal → Type 0
+ReadsAll left read refusal = refusal.kind ≢ TooLong → IfSome left (λ bytes. read ≡ bytes)
 
 -- the end of the source was met once at most, and then in its last turn
-abbrev pub EndsOnce : ℕ → ℕ → Turn → Type 0
-EndsOnce old new last = new ≢ old → (new ≡ counted old) × (last ≡ End)
+abbrev pub EndsLast : ℕ → ℕ → Turn → Type 0
+EndsLast old new last = new ≢ old → (new ≡ counted old) × (last ≡ End)
 
 -- the text that the call was to write
 pub data IsMeant (nodes : ℕ) (left : Option (List ℕ)) (old new : ℕ) (read : List ℕ) (text : List ℕ) : Type 0 where
@@ -80,7 +80,7 @@ pub data IsMeant (nodes : ℕ) (left : Option (List ℕ)) (old new : ℕ) (read 
   memory : text ≡ memory_text → IsMeant nodes left old new read text
 
 -- status 4: a prefix of the text that was meant is held, and not all of it
-pub record WritesPart (nodes : ℕ) (left : Option (List ℕ)) (ends after : ℕ) (read : List ℕ) (old new : Option (List ℕ)) : Type 0 where
+pub record WritesPartOfCheck (nodes : ℕ) (left : Option (List ℕ)) (ends after : ℕ) (read : List ℕ) (old new : Option (List ℕ)) : Type 0 where
   pub text : List ℕ
   pub meant : IsMeant nodes left ends after read text
   pub count : ℕ

@@ -4,8 +4,8 @@ ghost use Rattle.outside_io.specs.Counts.{counted};
 ghost use Rattle.outside_io.specs.declared.turn.Turn.TheVariants.{Fault};
 ghost use Rattle.term_tree.specs.declared.refusal.Refusal.{Refusal};
 ghost use Rattle.answer_text.specs.Lines.{memory_text};
-ghost use Rattle.answer_check.specs.Inputs.{HasNoSystem, HasRefusedScript};
-ghost use Rattle.check_call.specs.Calls.{Checks, EndsOnce, IsUnrefused, ReadsInput, Refuses, TellsVerdict, WritesPart};
+ghost use Rattle.answer_check.specs.Inputs.{HasNoSystemOfCheck, HasRefusedScript};
+ghost use Rattle.check_call.specs.Calls.{Checks, EndsLast, IsUnrefusedCheck, ReadsAll, RefusesCheck, TellsVerdict, WritesPartOfCheck};
 
 use crate::plan::{Plan, plan_for};
 use answer_check::inputs_are_parted_once;
@@ -56,14 +56,14 @@ pub fn check_call<S: Source, K: Sink>(
     ensures not_shown { result.status ≡ 7 → Checks nodes (S.left source.old) result.read.items 7 (K.held sink.old) (K.held sink.new) }
 
     // 1: it holds the line of the script's refusal.
-    ensures refused { IfSome result.refusal (λ refusal. Refuses (S.left source.old) (S.ends source.old) (S.ends source.new) result.read.items refusal (K.held sink.old) (K.held sink.new)) }
-    ensures refuses_all { IfSome result.refusal (ReadsInput (S.left source.old) result.read.items) }
+    ensures refused { IfSome result.refusal (λ refusal. RefusesCheck (S.left source.old) (S.ends source.old) (S.ends source.new) result.read.items refusal (K.held sink.old) (K.held sink.new)) }
+    ensures refuses_all { IfSome result.refusal (ReadsAll (S.left source.old) result.read.items) }
     ensures refusal { IsSome result.refusal ↔ (result.status ≡ 1) }
 
     // Both exactly: of an input that has no refusal none is told, and where the script is refused by the rules of commands, or has no system of clauses, no verdict is.
-    ensures judges_scripts { IfSome (S.left source.old) (λ bytes. IsUnrefused bytes → result.status ≢ 1) }
+    ensures judges_scripts { IfSome (S.left source.old) (λ bytes. IsUnrefusedCheck bytes → result.status ≢ 1) }
     ensures refuses_others { IfSome (S.left source.old) (λ bytes. (refusal : Refusal) → HasRefusedScript bytes refusal → TellsVerdict result.status → ⊥) }
-    ensures refuses_shapes { IfSome (S.left source.old) (λ bytes. HasNoSystem bytes → TellsVerdict result.status → ⊥) }
+    ensures refuses_shapes { IfSome (S.left source.old) (λ bytes. HasNoSystemOfCheck bytes → TellsVerdict result.status → ⊥) }
 
     // 3: exactly where the source has failed, and then nothing is written.
     ensures source_faults { result.status ≢ 3 → S.faults source.new ≡ S.faults source.old }
@@ -77,13 +77,13 @@ pub fn check_call<S: Source, K: Sink>(
     ensures sink_faults { result.status ≢ 4 → K.faults sink.new ≡ K.faults sink.old }
     ensures write_fault { result.status ≡ 4 → K.faults sink.new ≡ counted (K.faults sink.old) }
     ensures stops_writing { result.status ≡ 4 → K.last sink.new ≡ Fault }
-    ensures writes_part { result.status ≡ 4 → WritesPart nodes (S.left source.old) (S.ends source.old) (S.ends source.new) result.read.items (K.held sink.old) (K.held sink.new) }
+    ensures writes_part { result.status ≡ 4 → WritesPartOfCheck nodes (S.left source.old) (S.ends source.old) (S.ends source.new) result.read.items (K.held sink.old) (K.held sink.new) }
 
     // 5: want of memory.
     ensures memory { result.status ≡ 5 → Appends memory_text (K.held sink.old) (K.held sink.new) }
 
     // Whatever the status: nothing is asked of the source after its end, and the report keeps all that was read up to it, and nothing of an input whose end wasn't met.
-    ensures ends { EndsOnce (S.ends source.old) (S.ends source.new) (S.last source.new) }
+    ensures ends { EndsLast (S.ends source.old) (S.ends source.new) (S.last source.new) }
     ensures reads_all { S.ends source.new ≢ S.ends source.old → IfSome (S.left source.old) (λ bytes. result.read.items ≡ bytes) }
     ensures reads_none { S.ends source.new ≢ counted (S.ends source.old) → result.read.items ≡ [] }
 {

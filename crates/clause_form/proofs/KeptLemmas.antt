@@ -7,7 +7,7 @@ use Rattle.term_tree.proofs.Public.{both_true}
 use Rattle.lin_atoms.specs.Truth.{is_below}
 use Rattle.clause_form.specs.declared.atom.Atom.{Atom}
 use Rattle.clause_form.specs.declared.clause.Clause.{Clause}
-use Rattle.clause_form.specs.System.{is_atom, is_head, is_clause, has_arguments, has_short_multiples}
+use Rattle.clause_form.specs.System.{is_atom, is_head, is_clause, has_arguments, has_short_guard}
 use Rattle.clause_form.specs.Kept.{Keeps, KeepsAtom}
 
 le_of : (m n : ℕ) → nat_le m n ≡ true → m ≤ n
@@ -20,7 +20,7 @@ eq_of m n h = grind (arith, nat_tests)
 pub keeps : (preds : List (List Sort)) (clause : Clause) → is_clause preds clause ≡ true → Keeps preds clause
 keeps preds clause h =
     let n : ℕ = length clause.sorts in
-    let e = both_true _ (has_short_multiples clause.guard) h in
+    let e = both_true _ (has_short_guard clause.guard) h in
     let d = both_true _ (is_below n clause.guard) e.0 in
     let c = both_true _ (is_head preds n clause.head) d.0 in
     let b = both_true _ (list_all (is_atom preds n) clause.atoms) c.0 in

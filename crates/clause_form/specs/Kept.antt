@@ -6,7 +6,7 @@ use Rattle.term_tree.specs.declared.sort.Sort.{Sort}
 use Rattle.lin_atoms.specs.Truth.{is_below}
 use Rattle.clause_form.specs.declared.atom.Atom.{Atom}
 use Rattle.clause_form.specs.declared.clause.Clause.{Clause}
-use Rattle.clause_form.specs.System.{most_variables, is_atom, is_head, has_short_multiples}
+use Rattle.clause_form.specs.System.{most_variables, is_atom, is_head, has_short_guard}
 
 -- a clause over these predicates
 pub record Keeps (preds : List (List Sort)) (clause : Clause) : Type 0 where
@@ -15,7 +15,7 @@ pub record Keeps (preds : List (List Sort)) (clause : Clause) : Type 0 where
   pub atoms : list_all (is_atom preds (length clause.sorts)) clause.atoms ≡ true
   pub head : is_head preds (length clause.sorts) clause.head ≡ true
   pub below : is_below (length clause.sorts) clause.guard ≡ true
-  pub short : has_short_multiples clause.guard ≡ true
+  pub short : has_short_guard clause.guard ≡ true
 
 -- an atom over these predicates and n variables
 pub record KeepsAtom (preds : List (List Sort)) (n : ℕ) (atom : Atom) : Type 0 where

@@ -38,28 +38,28 @@ is_head preds n None = true
 is_head preds n (Some atom) = is_atom preds n atom
 
 -- the constant of a divisibility is below 2 ^ 63 in magnitude
-abbrev pub has_short_constant : Lit → Bool
-has_short_constant (Le lin) = true
-has_short_constant (Eq lin) = true
-has_short_constant (Div d lin) = is_short lin.constant
-has_short_constant (NDiv d lin) = is_short lin.constant
+abbrev pub has_short_in_guard : Lit → Bool
+has_short_in_guard (Le lin) = true
+has_short_in_guard (Eq lin) = true
+has_short_in_guard (Div d lin) = is_short lin.constant
+has_short_in_guard (NDiv d lin) = is_short lin.constant
 
-abbrev pub short_step : Form-F Bool → Bool
-short_step Form-F.True = true
-short_step Form-F.False = true
-short_step (Form-F.Lit lit) = has_short_constant lit
-short_step (Form-F.And parts) = list_all (λ b. b) parts
-short_step (Form-F.Or parts) = list_all (λ b. b) parts
+abbrev pub guard_step : Form-F Bool → Bool
+guard_step Form-F.True = true
+guard_step Form-F.False = true
+guard_step (Form-F.Lit lit) = has_short_in_guard lit
+guard_step (Form-F.And parts) = list_all (λ b. b) parts
+guard_step (Form-F.Or parts) = list_all (λ b. b) parts
 
-abbrev pub has_short_multiples : Form → Bool
-has_short_multiples = fold-Form Bool short_step
+abbrev pub has_short_guard : Form → Bool
+has_short_guard = fold-Form Bool guard_step
 
 -- a clause over these predicates: it has at most 2,048 variables, of which the first are the assertion's own, and names
 -- no others
 abbrev pub is_clause : List (List Sort) → Clause → Bool
 is_clause preds clause =
     nat_le clause.user (length clause.sorts) && nat_le (length clause.sorts) most_variables && list_all (is_atom preds (length clause.sorts)) clause.atoms
-    && is_head preds (length clause.sorts) clause.head && is_below (length clause.sorts) clause.guard && has_short_multiples clause.guard
+    && is_head preds (length clause.sorts) clause.head && is_below (length clause.sorts) clause.guard && has_short_guard clause.guard
 
 abbrev pub are_clauses : List (List Sort) → List Clause → Bool
 are_clauses preds clauses = list_all (is_clause preds) clauses

@@ -1,7 +1,7 @@
 ghost use Rattle.std.specs.Prelude.{◌≡◌};
 ghost use Rattle.std.specs.List.{list_all};
 ghost use Rattle.lin_atoms.specs.Linear.{is_short};
-ghost use Rattle.clause_form.specs.System.{has_short_constant, has_short_multiples};
+ghost use Rattle.clause_form.specs.System.{has_short_in_guard, has_short_guard};
 
 use lin_atoms::{Form, Lit};
 
@@ -13,7 +13,7 @@ fn is_short(n: i128) -> bool
 }
 
 fn has_short_constant(lit: &Lit) -> bool
-    ensures { result ≡ has_short_constant lit.now }
+    ensures { result ≡ has_short_in_guard lit.now }
 {
     match lit {
         Lit::Le(_) | Lit::Eq(_) => true,
@@ -25,7 +25,7 @@ fn has_short_constant(lit: &Lit) -> bool
 /// Whether the constant of each `Div` and `NDiv` is below 2^63 in magnitude.
 #[cycle(has_short_multiples)]
 pub(crate) fn has_short_multiples(form: &Form) -> bool
-    ensures { result ≡ has_short_multiples form.now }
+    ensures { result ≡ has_short_guard form.now }
 {
     match form {
         Form::True => true,
@@ -38,7 +38,7 @@ pub(crate) fn has_short_multiples(form: &Form) -> bool
 
 #[cycle(has_short_multiples)]
 fn all_have_short_multiples(parts: &[Form]) -> bool
-    ensures { result ≡ list_all has_short_multiples parts.now }
+    ensures { result ≡ list_all has_short_guard parts.now }
 {
     for part in parts {
         if !has_short_multiples(part) {

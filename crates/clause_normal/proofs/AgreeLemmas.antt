@@ -19,7 +19,7 @@ use Rattle.lin_atoms.specs.declared.form.Form.TheVariants.{Lit}
 use Rattle.lin_atoms.specs.declared.form.Form.TheViews.{And, Or}
 use Rattle.linear_terms.specs.Text.{Sorting, are_truths, is_truth}
 use Rattle.linear_terms.specs.Linear.{Naming, bit_of, less, linear_of, variable_form}
-use Rattle.linear_terms.specs.Formula.{choice, comparison, denied, eq, formula, implied, joined, le, node_formula, one_minus, operation}
+use Rattle.linear_terms.specs.Formula.{choice, comparison, denied, eq, formula, implied, joined, le, node_formula, complement_of, operation}
 use Rattle.linear_terms.specs.Place.{abs_place, choice_place, constant_value, integer_place, place_form, quotient_place, remainder_place, truth_place}
 use Rattle.linear_terms.proofs.PartLemmas.{body_among, first_among, later_among}
 use Rattle.linear_terms.proofs.Public.{formula_at}
@@ -54,9 +54,9 @@ module _ (bit : ℕ → Linear) (S T : Sorting) (L M : ℕ → Linear) (naming :
   choice_same sign (c ∷ []) same = refl
   choice_same sign (c ∷ s ∷ []) same = refl
   choice_same sign (c ∷ s ∷ r ∷ []) same =
-      ap (λ (f : Form). And (Or (le (bit c.0) ∷ f ∷ []) ∷ Or (le (one_minus (bit c.0)) ∷ p r.0 sign ∷ []) ∷ []))
+      ap (λ (f : Form). And (Or (le (bit c.0) ∷ f ∷ []) ∷ Or (le (complement_of (bit c.0)) ∷ p r.0 sign ∷ []) ∷ []))
       (same s.0 sign (later_among s.0 c (s ∷ r ∷ []) (first_among s (r ∷ []))))
-      ∙ ap (λ (f : Form). And (Or (le (bit c.0) ∷ q s.0 sign ∷ []) ∷ Or (le (one_minus (bit c.0)) ∷ f ∷ []) ∷ []))
+      ∙ ap (λ (f : Form). And (Or (le (bit c.0) ∷ q s.0 sign ∷ []) ∷ Or (le (complement_of (bit c.0)) ∷ f ∷ []) ∷ []))
       (same r.0 sign (later_among r.0 c (s ∷ r ∷ []) (later_among r.0 s (r ∷ []) (first_among r []))))
   choice_same sign (c ∷ s ∷ r ∷ d ∷ ids) same = refl
 

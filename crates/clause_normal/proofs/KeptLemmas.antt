@@ -43,7 +43,7 @@ use Rattle.term_forms.proofs.FoundLemmas.{first_at}
 use Rattle.term_widths.specs.Wide.{has_wide_sides}
 use Rattle.term_widths.specs.machinery.Apart.{Occurs}
 use Rattle.term_formulas.specs.Written.{HasRoom}
-use Rattle.clause_form.specs.System.{has_arguments, has_short_constant, has_short_multiples, is_atom, is_clause, is_head, most_variables}
+use Rattle.clause_form.specs.System.{has_arguments, has_short_in_guard, has_short_guard, is_atom, is_clause, is_head, most_variables}
 use Rattle.clause_normal.specs.Normal.{argument_variable, auxiliaries, bits_from, conjunction, first_without_room, guard_form, guard_of, guard_parts, is_too_large, most_atoms, most_own, names_of, normal_atom, normal_clause, place_forms, sorting, sorts_of, top_of}
 use Rattle.clause_normal.proofs.Lower.{position_is}
 use Rattle.clause_normal.proofs.LowLemmas.{added_all, among_low, bit_low, collected_all, formula_passes, length_is, less_variable, linear_low, narrow_constant, negated_all, place_passes, scaled_all, sum_small, sums_low}
@@ -265,18 +265,18 @@ module _ (script : Script) (clause : HornClause) (arena : IsArena script.terms.n
         let few : length args < 2 ^ 63 = few_args id Xor args sub at in
         lt-ltb (nat_abs (all_constants bits)) (2 ^ 63) (omega (arith, small, same, few))
 
-    guard_short : AllByRecursion (λ part. IsSubterm script.terms.nodes (top_of script clause) part.term.0) clause.guards → has_short_multiples (guard_of script clause) ≡ true
+    guard_short : AllByRecursion (λ part. IsSubterm script.terms.nodes (top_of script clause) part.term.0) clause.guards → has_short_guard (guard_of script clause) ≡ true
     guard_short all =
         short_passes (guard_of script clause)
-        ∙ guard_passes has_short_constant
+        ∙ guard_passes has_short_in_guard
         (λ v h. (
-          le_passes has_short_constant any_form (λ l ok. refl) (λ l ok. refl) (λ l ok. tt) (λ a b x y. tt) (λ l k ok. tt) (λ k l ok. tt) (negated (variable_form v)) tt,
-          le_passes has_short_constant any_form (λ l ok. refl) (λ l ok. refl) (λ l ok. tt) (λ a b x y. tt) (λ l k ok. tt) (λ k l ok. tt) (plus (variable_form v) (negsuc 0)) tt,
+          le_passes has_short_in_guard any_form (λ l ok. refl) (λ l ok. refl) (λ l ok. tt) (λ a b x y. tt) (λ l k ok. tt) (λ k l ok. tt) (negated (variable_form v)) tt,
+          le_passes has_short_in_guard any_form (λ l ok. refl) (λ l ok. refl) (λ l ok. tt) (λ a b x y. tt) (λ l k ok. tt) (λ k l ok. tt) (plus (variable_form v) (negsuc 0)) tt,
         ))
-        (λ id sign sub. formula_passes (sorting script) (names_of script clause) script.terms.nodes (top_of script clause) arena in_total own_in named_in has_short_constant any_form (λ l ok. refl) (λ l ok. refl)
+        (λ id sign sub. formula_passes (sorting script) (names_of script clause) script.terms.nodes (top_of script clause) arena in_total own_in named_in has_short_in_guard any_form (λ l ok. refl) (λ l ok. refl)
         (λ l ok. tt) (λ a b x y. tt) (λ l k ok. tt) (λ k l ok. tt) (λ k s w. tt) (λ k s w. tt) (λ v h. tt) (λ k d s w. (linear_short k s, linear_short k s))
         (λ k v d s w h. (less_short k v s, less_short k v s)) (λ k args s at. (sum_short k args s at, sum_short k args s at)) id sign (sub_there id sub) sub)
-        (λ v id h sub. place_passes (sorting script) (names_of script clause) script.terms.nodes (top_of script clause) arena in_total own_in named_in has_short_constant any_form (λ l ok. refl) (λ l ok. refl)
+        (λ v id h sub. place_passes (sorting script) (names_of script clause) script.terms.nodes (top_of script clause) arena in_total own_in named_in has_short_in_guard any_form (λ l ok. refl) (λ l ok. refl)
         (λ l ok. tt) (λ a b x y. tt) (λ l k ok. tt) (λ k l ok. tt) (λ k s w. tt) (λ k s w. tt) (λ u g. tt) (λ k d s w. (linear_short k s, linear_short k s))
         (λ k u d s w g. (less_short k u s, less_short k u s)) (λ k args s at. (sum_short k args s at, sum_short k args s at)) v id h (sub_there id sub) sub)
         all
@@ -368,7 +368,7 @@ module _ (script : Script) (clause : HornClause) (arena : IsArena script.terms.n
         let most : nat_le total most_variables ≡ true = ap (λ (k : ℕ). nat_le k most_variables) long ∙ le_from (length clause.vars + length (auxiliaries script clause)) most_variables size in
         let atoms : list_all (is_atom sorts_given total) (map (normal_atom (names_of script clause) script.terms.nodes) clause.atoms) ≡ true =
         mapped_all (normal_atom (names_of script clause) script.terms.nodes) (is_atom sorts_given total) clause.atoms parts.atoms in
-        both_hold _ (has_short_multiples (guard_of script clause))
+        both_hold _ (has_short_guard (guard_of script clause))
         (both_hold _ (names_below total (guard_of script clause))
         (both_hold _ (is_head sorts_given total (option_map (normal_atom (names_of script clause) script.terms.nodes) clause.head))
         (both_hold _ (list_all (is_atom sorts_given total) (map (normal_atom (names_of script clause) script.terms.nodes) clause.atoms))

@@ -24,10 +24,10 @@ use Rattle.lin_atoms.specs.declared.form.Form.TheViews.{And, Or, roll-Form}
 use Rattle.lin_atoms.specs.declared.form.Form.TheFolds.{fold-Form, fold-roll-Form}
 use Rattle.linear_terms.specs.Text.{are_truths}
 use Rattle.linear_terms.specs.Linear.{Naming, less, sum_form, variable_form}
-use Rattle.linear_terms.specs.Formula.{Reading, choice, comparison, denied, eq, equal, implied, is_distinct, is_one, joined, le, neighbours, node_formula, odd, one_minus, one_more, operation, pairs, related, same_bits, sides}
+use Rattle.linear_terms.specs.Formula.{Reading, choice, comparison, denied, eq, equal, implied, is_pairwise, is_one, joined, le, neighbours, node_formula, odd, complement_of, one_more, operation, pairs, related, same_bits, sides}
 use Rattle.linear_terms.specs.Place.{abs_place, choice_place, integer_place, quotient_place, remainder_place, truth_place}
 use Rattle.linear_terms.proofs.PartLemmas.{body_among, first_among, later_among}
-use Rattle.clause_form.specs.System.{has_short_constant, has_short_multiples, short_step}
+use Rattle.clause_form.specs.System.{has_short_in_guard, has_short_guard, guard_step}
 
 abbrev pub passes_step : (Literal → Bool) → Form-F Bool → Bool
 passes_step t Form-F.True = true
@@ -50,14 +50,14 @@ below_step_is test (Form-F.Or parts) = refl
 pub below_passes : (n : ℕ) (form : Form) → is_below n form ≡ passes (lit_is_below n) form
 below_passes n form = ap (λ (step : Form-F Bool → Bool). fold-Form Bool step form) (fun_ext (below_step_is (λ v. nat_lt v n)))
 
-short_step_is : (x : Form-F Bool) → short_step x ≡ passes_step has_short_constant x
+short_step_is : (x : Form-F Bool) → guard_step x ≡ passes_step has_short_in_guard x
 short_step_is Form-F.True = refl
 short_step_is Form-F.False = refl
 short_step_is (Form-F.Lit lit) = refl
 short_step_is (Form-F.And parts) = refl
 short_step_is (Form-F.Or parts) = refl
 
-pub short_passes : (form : Form) → has_short_multiples form ≡ passes has_short_constant form
+pub short_passes : (form : Form) → has_short_guard form ≡ passes has_short_in_guard form
 short_passes form = ap (λ (step : Form-F Bool → Bool). fold-Form Bool step form) (fun_ext short_step_is)
 
 pub passes-Lit : (t : Literal → Bool) (lit : Literal) → passes t (Lit lit) ≡ t lit
@@ -156,24 +156,24 @@ module _ (t : Literal → Bool) (Ok : Linear → Type 0) (les : (l : Linear) →
   less_ok : (a b : Linear) → Ok a → Ok b → Ok (less a b)
   less_ok a b x y = adds a (negated b) x (negates b y)
 
-  minus_ok : (l : Linear) → Ok l → Ok (one_minus l)
+  minus_ok : (l : Linear) → Ok l → Ok (complement_of l)
   minus_ok l ok = moves (negated l) (pos 1) (negates l ok)
 
   equal_passes : (sign : Bool) (d : Linear) → Ok d → passes t (equal sign d) ≡ true
   equal_passes true d ok = eq_passes d ok
   equal_passes false d ok =
-      passes_or t (le (one_more d) ∷ le (one_minus d) ∷ []) (two_pass t (le (one_more d)) (le (one_minus d)) (le_passes (one_more d) (moves d (pos 1) ok)) (le_passes (one_minus d) (minus_ok d ok)))
+      passes_or t (le (one_more d) ∷ le (complement_of d) ∷ []) (two_pass t (le (one_more d)) (le (complement_of d)) (le_passes (one_more d) (moves d (pos 1) ok)) (le_passes (complement_of d) (minus_ok d ok)))
 
   related_passes : (op : OpKind) (sign : Bool) (d : Linear) → Ok d → passes t (related op sign d) ≡ true
   related_passes Equal sign d ok = equal_passes sign d ok
   related_passes Distinct sign d ok = equal_passes (not sign) d ok
   related_passes AtMost true d ok = le_passes d ok
-  related_passes AtMost false d ok = le_passes (one_minus d) (minus_ok d ok)
+  related_passes AtMost false d ok = le_passes (complement_of d) (minus_ok d ok)
   related_passes Lt true d ok = le_passes (one_more d) (moves d (pos 1) ok)
   related_passes Lt false d ok = le_passes (negated d) (negates d ok)
   related_passes Ge true d ok = le_passes (negated d) (negates d ok)
   related_passes Ge false d ok = le_passes (one_more d) (moves d (pos 1) ok)
-  related_passes Gt true d ok = le_passes (one_minus d) (minus_ok d ok)
+  related_passes Gt true d ok = le_passes (complement_of d) (minus_ok d ok)
   related_passes Gt false d ok = le_passes d ok
   related_passes Not sign d ok = passes-False t
   related_passes AndOp sign d ok = passes-False t
@@ -194,16 +194,16 @@ module _ (t : Literal → Bool) (Ok : Linear → Type 0) (les : (l : Linear) →
 
   comparison_passes : (op : OpKind) (truths sign : Bool) (bits forms : List Linear) → AllByRecursion Ok bits → AllByRecursion Ok forms → passes t (comparison op truths sign bits forms) ≡ true
   comparison_passes op true sign bits forms x y =
-      joined_pass t sign (map (λ p. same_bits (if is_distinct op then not sign else sign) p.0 p.1) (sides op bits))
-      (mapped_pass t (λ p. same_bits (if is_distinct op then not sign else sign) p.0 p.1) (λ (p : Linear × Linear). Ok p.0 × Ok p.1) (sides op bits)
-      (λ p ok. bits_pass (if is_distinct op then not sign else sign) p.0 p.1 ok.0 ok.1) (sides_all Ok op bits x))
+      joined_pass t sign (map (λ p. same_bits (if is_pairwise op then not sign else sign) p.0 p.1) (sides op bits))
+      (mapped_pass t (λ p. same_bits (if is_pairwise op then not sign else sign) p.0 p.1) (λ (p : Linear × Linear). Ok p.0 × Ok p.1) (sides op bits)
+      (λ p ok. bits_pass (if is_pairwise op then not sign else sign) p.0 p.1 ok.0 ok.1) (sides_all Ok op bits x))
   comparison_passes op false sign bits forms x y =
       joined_pass t sign (map (λ p. related op sign (less p.0 p.1)) (sides op forms))
       (mapped_pass t (λ p. related op sign (less p.0 p.1)) (λ (p : Linear × Linear). Ok p.0 × Ok p.1) (sides op forms)
       (λ p ok. related_passes op sign (less p.0 p.1) (less_ok p.0 p.1 ok.0 ok.1)) (sides_all Ok op forms y))
 
   one_passes : (sign : Bool) (bit : Linear) → Ok bit → passes t (is_one sign bit) ≡ true
-  one_passes true bit ok = le_passes (one_minus bit) (minus_ok bit ok)
+  one_passes true bit ok = le_passes (complement_of bit) (minus_ok bit ok)
   one_passes false bit ok = le_passes bit ok
 
   -- parts that pass
@@ -230,10 +230,10 @@ module _ (t : Literal → Bool) (Ok : Linear → Type 0) (les : (l : Linear) →
       let one = bits c.0 (first_among c (s ∷ r ∷ [])) in
       let yes_part = parts s.0 sign (later_among s.0 c (s ∷ r ∷ []) (first_among s (r ∷ []))) in
       let no_part = parts r.0 sign (later_among r.0 c (s ∷ r ∷ []) (later_among r.0 s (r ∷ []) (first_among r []))) in
-      passes_and t (Or (le (bit c.0) ∷ p s.0 sign ∷ []) ∷ Or (le (one_minus (bit c.0)) ∷ p r.0 sign ∷ []) ∷ [])
-      (two_pass t (Or (le (bit c.0) ∷ p s.0 sign ∷ [])) (Or (le (one_minus (bit c.0)) ∷ p r.0 sign ∷ []))
+      passes_and t (Or (le (bit c.0) ∷ p s.0 sign ∷ []) ∷ Or (le (complement_of (bit c.0)) ∷ p r.0 sign ∷ []) ∷ [])
+      (two_pass t (Or (le (bit c.0) ∷ p s.0 sign ∷ [])) (Or (le (complement_of (bit c.0)) ∷ p r.0 sign ∷ []))
       (passes_or t (le (bit c.0) ∷ p s.0 sign ∷ []) (two_pass t (le (bit c.0)) (p s.0 sign) (le_passes (bit c.0) one) yes_part))
-      (passes_or t (le (one_minus (bit c.0)) ∷ p r.0 sign ∷ []) (two_pass t (le (one_minus (bit c.0))) (p r.0 sign) (le_passes (one_minus (bit c.0)) (minus_ok (bit c.0) one)) no_part)))
+      (passes_or t (le (complement_of (bit c.0)) ∷ p r.0 sign ∷ []) (two_pass t (le (complement_of (bit c.0))) (p r.0 sign) (le_passes (complement_of (bit c.0)) (minus_ok (bit c.0) one)) no_part)))
   choice_passes p bit sign (c ∷ s ∷ r ∷ d ∷ ids) parts bits = passes-False t
 
   -- what divides, or doesn't
@@ -326,19 +326,19 @@ module _ (t : Literal → Bool) (Ok : Linear → Type 0) (les : (l : Linear) →
   -- what determines an auxiliary variable
   pub truth_place_passes : (v : Linear) (holds fails : Form) → Ok v → passes t holds ≡ true → passes t fails ≡ true → passes t (truth_place v holds fails) ≡ true
   truth_place_passes v holds fails ok x y =
-      passes_and t (le (negated v) ∷ le (plus v (negsuc 0)) ∷ Or (And (le (one_minus v) ∷ holds ∷ []) ∷ And (le v ∷ fails ∷ []) ∷ []) ∷ [])
-      (three_pass t (le (negated v)) (le (plus v (negsuc 0))) (Or (And (le (one_minus v) ∷ holds ∷ []) ∷ And (le v ∷ fails ∷ []) ∷ []))
+      passes_and t (le (negated v) ∷ le (plus v (negsuc 0)) ∷ Or (And (le (complement_of v) ∷ holds ∷ []) ∷ And (le v ∷ fails ∷ []) ∷ []) ∷ [])
+      (three_pass t (le (negated v)) (le (plus v (negsuc 0))) (Or (And (le (complement_of v) ∷ holds ∷ []) ∷ And (le v ∷ fails ∷ []) ∷ []))
       (le_passes (negated v) (negates v ok)) (le_passes (plus v (negsuc 0)) (moves v (negsuc 0) ok))
-      (passes_or t (And (le (one_minus v) ∷ holds ∷ []) ∷ And (le v ∷ fails ∷ []) ∷ [])
-      (two_pass t (And (le (one_minus v) ∷ holds ∷ [])) (And (le v ∷ fails ∷ []))
-      (passes_and t (le (one_minus v) ∷ holds ∷ []) (two_pass t (le (one_minus v)) holds (le_passes (one_minus v) (minus_ok v ok)) x))
+      (passes_or t (And (le (complement_of v) ∷ holds ∷ []) ∷ And (le v ∷ fails ∷ []) ∷ [])
+      (two_pass t (And (le (complement_of v) ∷ holds ∷ [])) (And (le v ∷ fails ∷ []))
+      (passes_and t (le (complement_of v) ∷ holds ∷ []) (two_pass t (le (complement_of v)) holds (le_passes (complement_of v) (minus_ok v ok)) x))
       (passes_and t (le v ∷ fails ∷ []) (two_pass t (le v) fails (le_passes v ok) y)))))
 
   choice_place_passes : (v bit s r : Linear) → Ok v → Ok bit → Ok s → Ok r → passes t (choice_place v bit s r) ≡ true
   choice_place_passes v bit s r ov ob os or =
-      passes_or t (And (le (one_minus bit) ∷ eq (less v s) ∷ []) ∷ And (le bit ∷ eq (less v r) ∷ []) ∷ [])
-      (two_pass t (And (le (one_minus bit) ∷ eq (less v s) ∷ [])) (And (le bit ∷ eq (less v r) ∷ []))
-      (passes_and t (le (one_minus bit) ∷ eq (less v s) ∷ []) (two_pass t (le (one_minus bit)) (eq (less v s)) (le_passes (one_minus bit) (minus_ok bit ob)) (eq_passes (less v s) (less_ok v s ov os))))
+      passes_or t (And (le (complement_of bit) ∷ eq (less v s) ∷ []) ∷ And (le bit ∷ eq (less v r) ∷ []) ∷ [])
+      (two_pass t (And (le (complement_of bit) ∷ eq (less v s) ∷ [])) (And (le bit ∷ eq (less v r) ∷ []))
+      (passes_and t (le (complement_of bit) ∷ eq (less v s) ∷ []) (two_pass t (le (complement_of bit)) (eq (less v s)) (le_passes (complement_of bit) (minus_ok bit ob)) (eq_passes (less v s) (less_ok v s ov os))))
       (passes_and t (le bit ∷ eq (less v r) ∷ []) (two_pass t (le bit) (eq (less v r)) (le_passes bit ob) (eq_passes (less v r) (less_ok v r ov or)))))
 
   abs_place_passes : (v l : Linear) → Ok v → Ok l → passes t (abs_place v l) ≡ true

@@ -8,10 +8,10 @@ use Rattle.lin_atoms.specs.declared.form.Form.{Form}
 use Rattle.lin_atoms.specs.declared.form.Form.TheViews.{And}
 use Rattle.clause_form.specs.System.{Clauses}
 use Rattle.clause_form.specs.declared.clause.Clause.{Clause}
-use Rattle.chc_tokens.specs.Instances.{has_values, head_at, is_instance_of, is_point_of, may_be_instance, may_be_point}
+use Rattle.chc_tokens.specs.Instances.{has_values, token_head_at, is_instance_of, is_point_of, may_be_instance, may_be_point}
 use Rattle.chc_tokens.specs.Kept.{seen_clause, seen_point}
 use Rattle.chc_tokens.specs.Queries.{base_at, base_in, forms_at, has_goal, query, used_form}
-use Rattle.chc_tokens.specs.Tokens.{is_passed, is_seen, meets}
+use Rattle.chc_tokens.specs.Tokens.{is_passed, is_seen, token_meets}
 use Rattle.chc_tokens.specs.declared.goal.Goal.{Goal}
 use Rattle.chc_tokens.specs.declared.seeing.Seen.{Seen}
 use Rattle.chc_tokens.specs.declared.used.Used.{Used}
@@ -31,7 +31,7 @@ pub record IsModel (sys : Clauses) (n : ℕ) (goal : Goal) (used : List Used) (c
   pub values : has_values clause point ≡ true
   pub placed : has_goal clause goal ≡ true
   pub guard : truth point clause.guard ≡ true
-  pub head : meets goal (head_at point clause) ≡ false
+  pub head : token_meets goal (token_head_at point clause) ≡ false
   pub body : list_all (is_passed point clause) used ≡ true
 
 pub model : (sys : Clauses) (n : ℕ) (goal : Goal) (used : List Used) (clause : Clause) (form : Form) (forms : List Form) (point : List ℤ)
@@ -42,14 +42,14 @@ model sys n goal used clause form forms point there base_is forms_are long holds
     let theirs = forms-parts sys n clause used forms there forms_are in
     let is : truth point (query clause goal used) ≡ true = ap (λ (f : Form). truth point (And (f ∷ map (used_form clause.atoms) used))) its.2 ∙ ap (λ (fs : List Form). truth point (And (form ∷ fs))) theirs.1 ∙ holds in
     let whole = sym (truth-query point clause goal used its.0 theirs.0) ∙ is in
-    let both = both_true (truth point clause.guard && not (meets goal (head_at point clause))) _ whole in
+    let both = both_true (truth point clause.guard && not (token_meets goal (token_head_at point clause))) _ whole in
     let first = both_true (truth point clause.guard) _ both.0 in
     record {
       there = there;
       values = ap (λ (k : ℕ). k == length clause.sorts) long ∙ own_number (length clause.sorts);
       placed = its.0;
       guard = first.0;
-      head = not_is (meets goal (head_at point clause)) first.1;
+      head = not_is (token_meets goal (token_head_at point clause)) first.1;
       body = both.1;
     }
 
@@ -67,7 +67,7 @@ model-instance sys n goal used clause point seen m number is seen_is = record {
   number = number;
   seen_is = seen_is;
   placed = m.placed;
-  head = ap (λ (p : List ℤ). meets goal (head_at p clause)) is ∙ m.head;
+  head = ap (λ (p : List ℤ). token_meets goal (token_head_at p clause)) is ∙ m.head;
   body = ap (λ (p : List ℤ). list_all (is_passed p clause) used) is ∙ m.body;
 }
 

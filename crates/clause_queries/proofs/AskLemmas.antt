@@ -17,7 +17,7 @@ use Rattle.clause_form.proofs.Public.{keeps, keeps_atom}
 use Rattle.cube_forms.specs.Cubes.{cube_at, cube_is_below, cube_is_short, has_room, lemma_at}
 use Rattle.cube_forms.proofs.Public.{narrow-room}
 use Rattle.lemma_frames.specs.declared.framed.Framed.{Framed}
-use Rattle.chc_tokens.specs.Instances.{args_of}
+use Rattle.chc_tokens.specs.Instances.{token_args}
 use Rattle.chc_tokens.specs.Queries.{base, base_at, base_in, forms_at, forms_in, goal_cube, goal_has_room, has_goal, has_places, has_used, used_form, used_has_room, used_have_room}
 use Rattle.chc_tokens.specs.declared.goal.Goal.{Goal}
 use Rattle.chc_tokens.specs.declared.goal.Goal.TheVariants.{Query, Holds}
@@ -65,7 +65,7 @@ found-if false x y h = absurd (cc)
 -- the goal at the head
 
 pub head-goal : (preds : List (List Sort)) (n : ℕ) (pred : Option ℕ) (goal : Goal) (head : Option Atom) → GoalFits preds pred goal → is_kept (goal_cube goal) ≡ true → is_head pred head ≡ true → is_head_of preds n head ≡ true
-    → (cube_is_below (length (args_of head)) (goal_cube goal) ≡ true) × (has_room (args_of head) (goal_cube goal) ≡ true)
+    → (cube_is_below (length (token_args head)) (goal_cube goal) ≡ true) × (has_room (token_args head) (goal_cube goal) ≡ true)
 head-goal preds n pred Query head fits kept is one = (refl, refl)
 head-goal preds n pred (Holds cube) None fits kept is one = absurd (true≢false (sym (ap (λ (p : Option ℕ). is_head p None) (sym fits.1) ∙ is)))
 head-goal preds n pred (Holds cube) (Some atom) fits kept is one =
@@ -109,7 +109,7 @@ used-places sys k fs clause one all =
 
 used-room : (sys : Clauses) (k : ℕ) (fs : List Framed) (clause : Clause) → is_clause sys.preds clause ≡ true → AllOf (IsUsable sys.preds) fs → used_have_room clause.atoms (uses k fs clause) ≡ true
 used-room sys k fs clause one all =
-    uses-have sys k fs clause (used_has_room clause.atoms) one all (λ n atom f there on kept. ap (λ (o : Option Atom). has_room (args_of o) f.lemma) there ∙ on.room)
+    uses-have sys k fs clause (used_has_room clause.atoms) one all (λ n atom f there on kept. ap (λ (o : Option Atom). has_room (token_args o) f.lemma) there ∙ on.room)
 
 used-short : (sys : Clauses) (k : ℕ) (fs : List Framed) (clause : Clause) → is_clause sys.preds clause ≡ true → AllOf (IsUsable sys.preds) fs → list_all (λ (u : Used). cube_is_short u.lemma) (uses k fs clause) ≡ true
 used-short sys k fs clause one all = uses-have sys k fs clause (λ (u : Used). cube_is_short u.lemma) one all (λ n atom f there on kept. (both_true _ _ kept).1)
@@ -139,15 +139,15 @@ base-parts sys n clause goal form there is =
     let both = both_true (has_goal clause goal) _ found.0 in
     (both.0, both.1, found.1)
 
-goal-places : (clause : Clause) (goal : Goal) → has_goal clause goal ≡ true → cube_is_below (length (args_of clause.head)) (goal_cube goal) ≡ true
+goal-places : (clause : Clause) (goal : Goal) → has_goal clause goal ≡ true → cube_is_below (length (token_args clause.head)) (goal_cube goal) ≡ true
 goal-places clause Query h = refl
 goal-places clause (Holds cube) h = by clause.head h
   where
-    by : (head : Option Atom) → has_places head cube ≡ true → cube_is_below (length (args_of head)) cube ≡ true
+    by : (head : Option Atom) → has_places head cube ≡ true → cube_is_below (length (token_args head)) cube ≡ true
     by None k = absurd (true≢false (sym k))
     by (Some atom) k = k
 
-head-args : (preds : List (List Sort)) (n : ℕ) (head : Option Atom) → is_head_of preds n head ≡ true → list_all (λ v. nat_lt v n) (args_of head) ≡ true
+head-args : (preds : List (List Sort)) (n : ℕ) (head : Option Atom) → is_head_of preds n head ≡ true → list_all (λ v. nat_lt v n) (token_args head) ≡ true
 head-args preds n None h = refl
 head-args preds n (Some atom) h = (keeps_atom preds n atom h).below
 
@@ -155,17 +155,17 @@ pub base-below : (sys : Clauses) (n : ℕ) (clause : Clause) (goal : Goal) (form
 base-below sys n clause goal form one there is =
     let its = keeps sys.preds clause one in
     let parts = base-parts sys n clause goal form there is in
-    let lits = cube_at (args_of clause.head) (goal_cube goal) in
+    let lits = cube_at (token_args clause.head) (goal_cube goal) in
     ap (is_below (length clause.sorts)) (sym parts.2) ∙ is_below-And (length clause.sorts) (clause.guard ∷ map Literal lits)
-    ∙ from_both _ _ its.below (below-literals (length clause.sorts) lits (cube-at (λ v. nat_lt v (length clause.sorts)) (args_of clause.head) (goal_cube goal) (head-args sys.preds (length clause.sorts) clause.head its.head) (goal-places clause goal parts.0)))
+    ∙ from_both _ _ its.below (below-literals (length clause.sorts) lits (cube-at (λ v. nat_lt v (length clause.sorts)) (token_args clause.head) (goal_cube goal) (head-args sys.preds (length clause.sorts) clause.head its.head) (goal-places clause goal parts.0)))
 
 pub base-short : (sys : Clauses) (n : ℕ) (clause : Clause) (goal : Goal) (form : Form) → is_clause sys.preds clause ≡ true → slice_get sys.clauses n ≡ Some clause → base_at sys n goal ≡ Some form → cube_is_short (goal_cube goal) ≡ true → has_short_multiples form ≡ true
 base-short sys n clause goal form one there is short =
     let its = keeps sys.preds clause one in
     let parts = base-parts sys n clause goal form there is in
-    let lits = cube_at (args_of clause.head) (goal_cube goal) in
+    let lits = cube_at (token_args clause.head) (goal_cube goal) in
     ap has_short_multiples (sym parts.2) ∙ short-And (clause.guard ∷ map Literal lits)
-    ∙ from_both _ _ (sym (short-guard clause.guard) ∙ its.short) (short-literals lits (short-cube (args_of clause.head) (goal_cube goal) short))
+    ∙ from_both _ _ (sym (short-guard clause.guard) ∙ its.short) (short-literals lits (short-cube (token_args clause.head) (goal_cube goal) short))
 
 pub forms-parts : (sys : Clauses) (n : ℕ) (clause : Clause) (used : List Used) (forms : List Form) → slice_get sys.clauses n ≡ Some clause → forms_at sys n used ≡ Some forms → (has_used clause.atoms used ≡ true) × (map (used_form clause.atoms) used ≡ forms)
 forms-parts sys n clause used forms there is =
@@ -175,7 +175,7 @@ forms-parts sys n clause used forms there is =
 atom-form-below : (preds : List (List Sort)) (n : ℕ) (atoms : List Atom) (u : Used) → list_all (is_atom preds n) atoms ≡ true → has_places (slice_get atoms u.atom) u.lemma ≡ true → is_below n (used_form atoms u) ≡ true
 atom-form-below preds n atoms u all h = by (slice_get atoms u.atom) refl h
   where
-    by : (o : Option Atom) → slice_get atoms u.atom ≡ o → has_places o u.lemma ≡ true → is_below n (lemma_at (args_of o) u.lemma) ≡ true
+    by : (o : Option Atom) → slice_get atoms u.atom ≡ o → has_places o u.lemma ≡ true → is_below n (lemma_at (token_args o) u.lemma) ≡ true
     by None there k = absurd (true≢false (sym k))
     by (Some atom) there k = below-lemma n atom.args u.lemma (keeps_atom preds n atom (all_at (is_atom preds n) atoms u.atom atom there all)).below k
 
@@ -191,7 +191,7 @@ forms-below sys n clause used forms one there is =
 
 all-forms-short : (atoms : List Atom) (used : List Used) → list_all (λ (u : Used). cube_is_short u.lemma) used ≡ true → list_all has_short_multiples (map (used_form atoms) used) ≡ true
 all-forms-short atoms [] h = refl
-all-forms-short atoms (u ∷ used) h = let both = both_true (cube_is_short u.lemma) _ h in from_both _ _ (short-lemma (args_of (slice_get atoms u.atom)) u.lemma both.0) (all-forms-short atoms used both.1)
+all-forms-short atoms (u ∷ used) h = let both = both_true (cube_is_short u.lemma) _ h in from_both _ _ (short-lemma (token_args (slice_get atoms u.atom)) u.lemma both.0) (all-forms-short atoms used both.1)
 
 pub forms-short : (sys : Clauses) (n : ℕ) (clause : Clause) (used : List Used) (forms : List Form) → slice_get sys.clauses n ≡ Some clause → forms_at sys n used ≡ Some forms → list_all (λ (u : Used). cube_is_short u.lemma) used ≡ true → list_all has_short_multiples forms ≡ true
 forms-short sys n clause used forms there is short =

@@ -7,10 +7,10 @@ use Rattle.clause_form.specs.declared.clause.Clause.{Clause}
 use Rattle.term_tree.specs.declared.sort.Sort.{Sort}
 use Rattle.lia_search.specs.Decides.{CountsTo}
 use Rattle.lemma_frames.specs.declared.framed.Framed.{Framed}
-use Rattle.chc_tokens.specs.Instances.{head_at}
+use Rattle.chc_tokens.specs.Instances.{token_head_at}
 use Rattle.chc_tokens.specs.Kept.{seen_clause, seen_point, shown_clause, shown_goal, shown_used}
 use Rattle.chc_tokens.specs.Queries.{has_goal, query_at}
-use Rattle.chc_tokens.specs.Tokens.{IsShown, is_passed, is_seen, meets}
+use Rattle.chc_tokens.specs.Tokens.{IsShownToken, is_passed, is_seen, token_meets}
 use Rattle.chc_tokens.specs.declared.goal.Goal.{Goal}
 use Rattle.chc_tokens.specs.declared.goal.Goal.TheVariants.{Query, Holds}
 use Rattle.chc_tokens.specs.declared.refuting.Shown.{Shown}
@@ -50,7 +50,7 @@ pub record IsInstanceFor (sys : Clauses) (n : ℕ) (goal : Goal) (used : List Us
   pub number : seen_clause seen ≡ n
   pub seen_is : is_seen sys seen ≡ true
   pub placed : has_goal clause goal ≡ true
-  pub head : meets goal (head_at (seen_point seen) clause) ≡ false
+  pub head : token_meets goal (token_head_at (seen_point seen) clause) ≡ false
   pub body : list_all (is_passed (seen_point seen) clause) used ≡ true
 
 -- the query is refuted
@@ -58,7 +58,7 @@ pub record IsRefutedFor (sys : Clauses) (n : ℕ) (goal : Goal) (used : List Use
   pub number : shown_clause shown ≡ n
   pub goal_is : shown_goal shown ≡ goal
   pub used_is : shown_used shown ≡ used
-  pub shown_is : IsShown sys shown
+  pub shown_is : IsShownToken sys shown
 
 -- the query is given up
 pub record IsGivenUpFor (sys : Clauses) (n : ℕ) (goal : Goal) (used : List Used) (nodes : ℕ) (lost : Lost) : Type 0 where

@@ -10,9 +10,9 @@ use Rattle.clause_form.specs.declared.atom.Atom.{Atom}
 use Rattle.clause_form.specs.declared.clause.Clause.{Clause}
 use Rattle.clause_form.proofs.Public.{keeps}
 use Rattle.cube_forms.specs.Cubes.{cube_holds, tuple_at}
-use Rattle.chc_tokens.specs.Instances.{atom_at, head_at}
+use Rattle.chc_tokens.specs.Instances.{token_atom_at, token_head_at}
 use Rattle.chc_tokens.specs.Kept.{seen_clause, seen_point}
-use Rattle.chc_tokens.specs.Tokens.{is_passed, meets}
+use Rattle.chc_tokens.specs.Tokens.{is_passed, token_meets}
 use Rattle.chc_tokens.specs.declared.goal.Goal.TheVariants.{Holds}
 use Rattle.chc_tokens.specs.declared.seeing.Seen.{Seen}
 use Rattle.book_rules.specs.Proofs.{is_head}
@@ -43,7 +43,7 @@ met-hit b pred k cube met is kept one held =
         number = refl;
         seen_is = one.seen_is;
         placed = has-goal b.system.preds (length clause.sorts) (Some pred) (Holds cube) clause (fits-of b pred cube is) kept headed (keeps b.system.preds clause one.legal).head;
-        head = ap (λ h. meets (Holds cube) h) one.head ∙ ap not held;
+        head = ap (λ h. token_meets (Holds cube) h) one.head ∙ ap not held;
         body = one.body;
       };
     }
@@ -74,7 +74,7 @@ hit-met b pred k cube seen tuple clause atom there legal hit head is =
     let headed = (both_true (is_head (Some pred) ((hit.at).clause).head) _ (hit.at).asked).0 in
     let at_head : ((hit.at).clause).head ≡ Some atom = ap (λ (c : Clause). c.head) first ∙ head in
     let own : atom.pred ≡ pred = head-pred pred ((hit.at).clause).head atom headed at_head in
-    let met : head_at point (hit.at).clause ≡ Some (pred, tuple) = ap (option_map (atom_at point)) at_head ∙ ap₂ (λ (p : ℕ) (values : List ℤ). Some (p, values)) own (sym is) in
+    let met : token_head_at point (hit.at).clause ≡ Some (pred, tuple) = ap (option_map (token_atom_at point)) at_head ∙ ap₂ (λ (p : ℕ) (values : List ℤ). Some (p, values)) own (sym is) in
     record {
       at = hit.at;
       seen_is = (hit.instance).seen_is;

@@ -6,7 +6,7 @@ use Rattle.lin_atoms.specs.declared.lit.Lit.{Lit}
 use Rattle.clause_form.specs.System.{is_clause}
 use Rattle.cube_forms.specs.Cubes.{cube_holds}
 use Rattle.obligation_tree.specs.Nodes.{node_at, obligation_in}
-use Rattle.chc_tokens.specs.Instances.{head_at}
+use Rattle.chc_tokens.specs.Instances.{token_head_at}
 use Rattle.chc_tokens.specs.Kept.{seen_clause, seen_point}
 use Rattle.chc_tokens.specs.Tokens.{is_passed, is_seen}
 use Rattle.book_rules.specs.Areas.{is_wide}
@@ -38,7 +38,7 @@ pub record IsMet (b : Standing) (pred k : ℕ) (met : Breaking) : Type 0 where
   pub at : IsAskedAt b.system (Some pred) k (seen_clause met.seen)
   pub seen_is : is_seen b.system met.seen ≡ true
   pub legal : is_clause b.system.preds at.clause ≡ true
-  pub head : head_at (seen_point met.seen) at.clause ≡ Some (pred, met.tuple)
+  pub head : token_head_at (seen_point met.seen) at.clause ≡ Some (pred, met.tuple)
   pub body : list_all (is_passed (seen_point met.seen) at.clause) (uses k b.frames.lemmas at.clause) ≡ true
 
 -- the lemma as it stands after the tries so far

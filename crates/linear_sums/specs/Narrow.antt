@@ -3,8 +3,8 @@ use Rattle.std.specs.Prelude.{ℕ, List, [], ◌∷◌, ℤ, ◌*ℤ◌, nat_abs
 use Rattle.std.specs.List.{list_any}
 use Rattle.lin_atoms.specs.Linear.{Linear, is_short}
 
-abbrev pub if_short : ℤ → Option ℤ
-if_short n = if is_short n then Some n else None
+abbrev pub narrow_number : ℤ → Option ℤ
+narrow_number n = if is_short n then Some n else None
 
 abbrev pub times : ℤ → Option ℤ → ℤ
 times n None = n

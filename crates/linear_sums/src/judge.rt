@@ -4,7 +4,7 @@ ghost use Rattle.std.specs.Prelude.{◌≡◌, ◌&&◌, IsTrue, IfOk, OnOk, IfS
 ghost use Rattle.lin_atoms.specs.Linear.{are_ordered, are_short, is_short};
 ghost use Rattle.lin_atoms.specs.Algebra.{collected};
 ghost use Rattle.linear_terms.specs.Linear.{is_narrow};
-ghost use Rattle.linear_sums.specs.Narrow.{if_short};
+ghost use Rattle.linear_sums.specs.Narrow.{narrow_number};
 
 use crate::collect::collected;
 use base::Memory;
@@ -20,7 +20,7 @@ pub(crate) fn is_short(n: i128) -> bool
 
 /// The number with 64 bits, where it is narrow.
 pub(crate) fn narrow(n: i128) -> Option<i64>
-    ensures is { result ≡ if_short n }
+    ensures is { result ≡ narrow_number n }
     ensures some { IfSome result (λ m. m ≡ n) }
     ensures none { IsNone result ↔ (is_short n ≡ false) }
 {

@@ -6,7 +6,7 @@ ghost use Rattle.term_tree.specs.Constants.{constants_among};
 ghost use Rattle.lin_atoms.specs.Algebra.{scaled};
 ghost use Rattle.lin_atoms.specs.Linear.{are_ordered};
 ghost use Rattle.linear_terms.specs.Linear.{is_narrow, product_form, varying};
-ghost use Rattle.linear_sums.specs.Narrow.{has_zero, if_short, is_nothing, is_zero_constant, is_zero_form, times};
+ghost use Rattle.linear_sums.specs.Narrow.{has_zero, narrow_number, is_nothing, is_zero_constant, is_zero_form, times};
 
 use crate::judge::{judged, narrow};
 use lin_atoms::{Lin, WideStop};
@@ -36,7 +36,7 @@ fn exact_product(a: i64, b: i64) -> i128
 
 /// The product, where it is narrow; nothing is no factor.
 fn times(product: i64, constant: Option<i64>) -> Option<i64>
-    ensures { result ≡ if_short (times product constant) }
+    ensures { result ≡ narrow_number (times product constant) }
 {
     match constant {
         None => narrow(i128::from(product)),
@@ -46,7 +46,7 @@ fn times(product: i64, constant: Option<i64>) -> Option<i64>
 
 /// The product of those that are constant, where it is narrow.
 fn product(constants: &[Option<i64>]) -> Option<i64>
-    ensures { result ≡ if_short (product_of (constants_among constants.now)) }
+    ensures { result ≡ narrow_number (product_of (constants_among constants.now)) }
 {
     if has_zero(constants) {
         return Some(0);
@@ -77,9 +77,9 @@ fn is_zero(form: &Lin) -> bool
 
 /// The form times a number that is given where it is narrow.
 fn multiple(alloc: Global, factor: Option<i64>, form: &Lin) -> Result<Lin, WideStop>
-    ensures made { (k : ℤ) → factor ≡ if_short k → IfOk result (λ made. made ≡ scaled k form.now) }
-    ensures narrow { (k : ℤ) → factor ≡ if_short k → OnOk result (is_narrow (scaled k form.now) ≡ true) }
-    ensures wide { (k : ℤ) → factor ≡ if_short k → IsErrOf result WideStop.Wide → is_narrow (scaled k form.now) ≡ false }
+    ensures made { (k : ℤ) → factor ≡ narrow_number k → IfOk result (λ made. made ≡ scaled k form.now) }
+    ensures narrow { (k : ℤ) → factor ≡ narrow_number k → OnOk result (is_narrow (scaled k form.now) ≡ true) }
+    ensures wide { (k : ℤ) → factor ≡ narrow_number k → IsErrOf result WideStop.Wide → is_narrow (scaled k form.now) ≡ false }
 {
     match factor {
         Some(k) => judged(form.scaled(alloc, k)?),

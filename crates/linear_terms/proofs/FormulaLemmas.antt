@@ -37,7 +37,7 @@ use Rattle.lin_atoms.specs.declared.form.Form.TheViews.{And, Or}
 use Rattle.lin_atoms.proofs.Public.{truth-And, truth-Or}
 use Rattle.linear_terms.specs.Text.{are_truths}
 use Rattle.linear_terms.specs.Linear.{Naming, variable_form, sum_form}
-use Rattle.linear_terms.specs.Formula.{Reading, le, one_minus, implied, choice, denied, comparison, operation, node_formula, told_formula, formula, reading_of, odd}
+use Rattle.linear_terms.specs.Formula.{Reading, le, complement_of, implied, choice, denied, comparison, operation, node_formula, told_formula, formula, reading_of, odd}
 use Rattle.linear_terms.specs.Meeting.{number, truth_number, signed, asks, IsTyped, MeetsVariables, MeetsBelow, NamesUnits, NamesBits}
 use Rattle.linear_terms.proofs.PartLemmas.{by_parts, formula_at, first_among, later_among, body_among}
 use Rattle.linear_terms.proofs.SortLemmas.{sort_if_is, has_sort_is, let_sort, AreSorted, value_sort, three_sorts, one_sort, two_sorts, four_sorts}
@@ -163,12 +163,12 @@ pick_value false v w = refl
 
 choice_truth : (point : List ℤ) (sign : Bool) (bit : Linear) (yes_form no_form : Form) (c : Bool) (v w : Value) → worth_at point bit ≡ truth_number c
     → truth point yes_form ≡ signed sign (truth_of v) → truth point no_form ≡ signed sign (truth_of w)
-    → truth point (And (Or (le bit ∷ yes_form ∷ []) ∷ Or (le (one_minus bit) ∷ no_form ∷ []) ∷ [])) ≡ signed sign (truth_of (if c then v else w))
+    → truth point (And (Or (le bit ∷ yes_form ∷ []) ∷ Or (le (complement_of bit) ∷ no_form ∷ []) ∷ [])) ≡ signed sign (truth_of (if c then v else w))
 choice_truth point sign bit yes_form no_form c v w is first second =
-    truth-And point (Or (le bit ∷ yes_form ∷ []) ∷ Or (le (one_minus bit) ∷ no_form ∷ []) ∷ [])
-    ∙ ap (λ (b : Bool). b && (truth point (Or (le (one_minus bit) ∷ no_form ∷ [])) && true)) (truth-Or point (le bit ∷ yes_form ∷ []))
-    ∙ ap (λ (b : Bool). (truth point (le bit) || (truth point yes_form || false)) && (b && true)) (truth-Or point (le (one_minus bit) ∷ no_form ∷ []))
-    ∙ ap (λ (b : Bool). (b || (truth point yes_form || false)) && ((truth point (le (one_minus bit)) || (truth point no_form || false)) && true)) (one_truth point false bit c is)
+    truth-And point (Or (le bit ∷ yes_form ∷ []) ∷ Or (le (complement_of bit) ∷ no_form ∷ []) ∷ [])
+    ∙ ap (λ (b : Bool). b && (truth point (Or (le (complement_of bit) ∷ no_form ∷ [])) && true)) (truth-Or point (le bit ∷ yes_form ∷ []))
+    ∙ ap (λ (b : Bool). (truth point (le bit) || (truth point yes_form || false)) && (b && true)) (truth-Or point (le (complement_of bit) ∷ no_form ∷ []))
+    ∙ ap (λ (b : Bool). (b || (truth point yes_form || false)) && ((truth point (le (complement_of bit)) || (truth point no_form || false)) && true)) (one_truth point false bit c is)
     ∙ ap (λ (b : Bool). (not c || (truth point yes_form || false)) && ((b || (truth point no_form || false)) && true)) (one_truth point true bit c is)
     ∙ ap (λ (b : Bool). (not c || (b || false)) && ((c || (truth point no_form || false)) && true)) first
     ∙ ap (λ (b : Bool). (not c || (signed sign (truth_of v) || false)) && ((c || (b || false)) && true)) second

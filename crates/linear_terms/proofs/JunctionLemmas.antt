@@ -19,7 +19,7 @@ use Rattle.lin_atoms.specs.declared.form.Form.TheViews.{roll-Form}
 use Rattle.lin_atoms.specs.declared.form.Form.TheFolds.{fold-roll-Form}
 use Rattle.lin_atoms.proofs.Public.{truth-And, truth-Or}
 use Rattle.lin_atoms.proofs.Public.{value_at-negated}
-use Rattle.linear_terms.specs.Formula.{le, eq, one_more, one_minus, all_of, any_of, joined, neighbours, pairs, is_one}
+use Rattle.linear_terms.specs.Formula.{le, eq, one_more, complement_of, all_of, any_of, joined, neighbours, pairs, is_one}
 use Rattle.linear_terms.specs.Meeting.{signed, truth_number}
 
 pub truth-Lit : (point : List ℤ) (lit : Literal) → truth point (Lit lit) ≡ lit_truth point lit
@@ -188,7 +188,7 @@ module _ (point : List ℤ) (sign : Bool) (R : Linear → Value → Type 0) (G :
       ∙ ap (map (signed sign)) (sym (map-append q (map (λ w. (v, w)) vs) (pairs vs)))
 
 -- literals over one form
-pub one_minus_value : (point : List ℤ) (lin : Linear) → worth_at point (one_minus lin) ≡ pos 1 -ℤ worth_at point lin
+pub one_minus_value : (point : List ℤ) (lin : Linear) → worth_at point (complement_of lin) ≡ pos 1 -ℤ worth_at point lin
 one_minus_value point lin = let e = value_at-negated point lin in omega (arith, ints)
 
 pub one_more_value : (point : List ℤ) (lin : Linear) → worth_at point (one_more lin) ≡ worth_at point lin +ℤ pos 1
@@ -200,8 +200,8 @@ le_truth point lin n is = truth-Lit point _ ∙ ap (λ (x : ℤ). int_le x (pos 
 pub eq_truth : (point : List ℤ) (lin : Linear) (n : ℤ) → worth_at point lin ≡ n → truth point (eq lin) ≡ (nat_abs n == 0)
 eq_truth point lin n is = truth-Lit point _ ∙ ap (λ (x : ℤ). nat_abs x == 0) is
 
-pub minus_truth : (point : List ℤ) (lin : Linear) (n : ℤ) → worth_at point lin ≡ n → truth point (le (one_minus lin)) ≡ int_le (pos 1 -ℤ n) (pos 0)
-minus_truth point lin n is = le_truth point (one_minus lin) (pos 1 -ℤ n) (one_minus_value point lin ∙ ap (λ (x : ℤ). pos 1 -ℤ x) is)
+pub minus_truth : (point : List ℤ) (lin : Linear) (n : ℤ) → worth_at point lin ≡ n → truth point (le (complement_of lin)) ≡ int_le (pos 1 -ℤ n) (pos 0)
+minus_truth point lin n is = le_truth point (complement_of lin) (pos 1 -ℤ n) (one_minus_value point lin ∙ ap (λ (x : ℤ). pos 1 -ℤ x) is)
 
 pub more_truth : (point : List ℤ) (lin : Linear) (n : ℤ) → worth_at point lin ≡ n → truth point (le (one_more lin)) ≡ int_le (n +ℤ pos 1) (pos 0)
 more_truth point lin n is = le_truth point (one_more lin) (n +ℤ pos 1) (one_more_value point lin ∙ ap (λ (x : ℤ). x +ℤ pos 1) is)

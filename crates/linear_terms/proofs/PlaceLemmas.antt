@@ -16,7 +16,7 @@ use Rattle.lin_atoms.specs.declared.form.Form.TheViews.{And, Or}
 use Rattle.lin_atoms.proofs.Public.{truth-And, truth-Or}
 use Rattle.lin_atoms.proofs.Public.{value_at-added, value_at-scaled}
 use Rattle.linear_terms.specs.Linear.{less}
-use Rattle.linear_terms.specs.Formula.{le, eq, one_more, one_minus}
+use Rattle.linear_terms.specs.Formula.{le, eq, one_more, complement_of}
 use Rattle.linear_terms.specs.Place.{truth_place, choice_place, abs_place, quotient_place, remainder_place}
 use Rattle.linear_terms.specs.Meeting.{truth_number}
 use Rattle.linear_terms.proofs.LinearLemmas.{less_value}
@@ -48,19 +48,19 @@ sum_value point f g a b fa gb = value_at-added point f g ∙ ap (λ (x : ℤ). x
 pub truth_place_is : (point : List ℤ) (v : Linear) (holds fails : Form) (x : ℤ) (b : Bool) → worth_at point v ≡ x → truth point holds ≡ b → truth point fails ≡ not b
     → truth point (truth_place v holds fails) ≡ int_eq x (truth_number b)
 truth_place_is point v holds fails x b is yes_is no_is =
-    three_all point (le (negated v)) (le (plus v (negsuc 0))) (Or (And (le (one_minus v) ∷ holds ∷ []) ∷ And (le v ∷ fails ∷ []) ∷ [])) _ _ _
+    three_all point (le (negated v)) (le (plus v (negsuc 0))) (Or (And (le (complement_of v) ∷ holds ∷ []) ∷ And (le v ∷ fails ∷ []) ∷ [])) _ _ _
     (negated_truth point v x is)
     (le_truth point (plus v (negsuc 0)) (x +ℤ negsuc 0) (plus_value point v (negsuc 0) x is))
-    (two_any point (And (le (one_minus v) ∷ holds ∷ [])) (And (le v ∷ fails ∷ [])) _ _
-    (two_all point (le (one_minus v)) holds _ b (minus_truth point v x is) yes_is)
+    (two_any point (And (le (complement_of v) ∷ holds ∷ [])) (And (le v ∷ fails ∷ [])) _ _
+    (two_all point (le (complement_of v)) holds _ b (minus_truth point v x is) yes_is)
     (two_all point (le v) fails _ (not b) (le_truth point v x is) no_is))
     ∙ truth_holds x b
 
 pub choice_place_is : (point : List ℤ) (v bit s r : Linear) (x m n : ℤ) (c : Bool) → worth_at point v ≡ x → worth_at point bit ≡ truth_number c → worth_at point s ≡ m → worth_at point r ≡ n
     → truth point (choice_place v bit s r) ≡ (if c then int_eq x m else int_eq x n)
 choice_place_is point v bit s r x m n c is bit_value s_is r_is =
-    two_any point (And (le (one_minus bit) ∷ eq (less v s) ∷ [])) (And (le bit ∷ eq (less v r) ∷ [])) _ _
-    (two_all point (le (one_minus bit)) (eq (less v s)) c (int_eq x m) (one_truth point true bit c bit_value) (eq_truth point (less v s) (x -ℤ m) (gap_value point v s x m is s_is) ∙ gap_is x m))
+    two_any point (And (le (complement_of bit) ∷ eq (less v s) ∷ [])) (And (le bit ∷ eq (less v r) ∷ [])) _ _
+    (two_all point (le (complement_of bit)) (eq (less v s)) c (int_eq x m) (one_truth point true bit c bit_value) (eq_truth point (less v s) (x -ℤ m) (gap_value point v s x m is s_is) ∙ gap_is x m))
     (two_all point (le bit) (eq (less v r)) (not c) (int_eq x n) (one_truth point false bit c bit_value) (eq_truth point (less v r) (x -ℤ n) (gap_value point v r x n is r_is) ∙ gap_is x n))
     ∙ choice_holds c (int_eq x m) (int_eq x n)
 

@@ -23,7 +23,7 @@ use Rattle.lin_atoms.proofs.Public.{multiple_where, positive}
 use Rattle.lin_atoms.proofs.Public.{truth-Or}
 use Rattle.lin_atoms.proofs.Public.{value_at-added, value_at-negated}
 use Rattle.linear_terms.specs.Linear.{less}
-use Rattle.linear_terms.specs.Formula.{le, one_more, one_minus, equal, related, same_bits, joined, sides, neighbours, pairs}
+use Rattle.linear_terms.specs.Formula.{le, one_more, complement_of, equal, related, same_bits, joined, sides, neighbours, pairs}
 use Rattle.linear_terms.specs.Meeting.{number, truth_number, signed}
 use Rattle.linear_terms.proofs.JunctionLemmas.{Linked, neighbours_truth, pairs_truth, chained_is, pairwise_is, joined_all, signed_not, le_truth, eq_truth, minus_truth, more_truth}
 use Rattle.linear_terms.proofs.LinearLemmas.{less_value}
@@ -83,8 +83,8 @@ negated_truth point lin n is = le_truth point (negated lin) (neg_ℤ n) (value_a
 equal_truth : (point : List ℤ) (sign : Bool) (d : Linear) (n : ℤ) → worth_at point d ≡ n → truth point (equal sign d) ≡ signed sign (nat_abs n == 0)
 equal_truth point true d n is = eq_truth point d n is
 equal_truth point false d n is =
-    truth-Or point (le (one_more d) ∷ le (one_minus d) ∷ [])
-    ∙ ap (λ (b : Bool). b || (truth point (le (one_minus d)) || false)) (more_truth point d n is)
+    truth-Or point (le (one_more d) ∷ le (complement_of d) ∷ [])
+    ∙ ap (λ (b : Bool). b || (truth point (le (complement_of d)) || false)) (more_truth point d n is)
     ∙ ap (λ (b : Bool). int_le (n +ℤ pos 1) (pos 0) || (b || false)) (minus_truth point d n is)
     ∙ apart n
 

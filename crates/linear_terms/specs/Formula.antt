@@ -27,8 +27,8 @@ eq lin = Lit (Eq lin)
 abbrev pub one_more : Linear → Linear
 one_more lin = plus lin (pos 1)
 
-abbrev pub one_minus : Linear → Linear
-one_minus lin = plus (negated lin) (pos 1)
+abbrev pub complement_of : Linear → Linear
+complement_of lin = plus (negated lin) (pos 1)
 
 -- a conjunction or a disjunction of one part is that part
 abbrev pub all_of : List Form → Form
@@ -58,19 +58,19 @@ pairs (x ∷ xs) = map (λ y. (x, y)) xs ++ pairs xs
 -- the difference of the sides is 0, or isn't
 abbrev pub equal : Bool → Linear → Form
 equal true d = eq d
-equal false d = Or (le (one_more d) ∷ le (one_minus d) ∷ [])
+equal false d = Or (le (one_more d) ∷ le (complement_of d) ∷ [])
 
 -- the relation of two sides with this difference, or its denial
 abbrev pub related : OpKind → Bool → Linear → Form
 related Equal sign d = equal sign d
 related Distinct sign d = equal (not sign) d
 related AtMost true d = le d
-related AtMost false d = le (one_minus d)
+related AtMost false d = le (complement_of d)
 related Lt true d = le (one_more d)
 related Lt false d = le (negated d)
 related Ge true d = le (negated d)
 related Ge false d = le (one_more d)
-related Gt true d = le (one_minus d)
+related Gt true d = le (complement_of d)
 related Gt false d = le d
 related _ sign d = False
 
@@ -84,13 +84,13 @@ abbrev pub sides : {X : Type 0} → OpKind → List X → List (X × X)
 sides Distinct xs = pairs xs
 sides _ xs = neighbours xs
 
-abbrev pub is_distinct : OpKind → Bool
-is_distinct Distinct = true
-is_distinct _ = false
+abbrev pub is_pairwise : OpKind → Bool
+is_pairwise Distinct = true
+is_pairwise _ = false
 
 -- a relation of Bool terms by their bits, or of integer terms by their differences
 abbrev pub comparison : OpKind → Bool → Bool → List Linear → List Linear → Form
-comparison op true sign bits forms = joined sign (map (λ p. same_bits (if is_distinct op then not sign else sign) p.0 p.1) (sides op bits))
+comparison op true sign bits forms = joined sign (map (λ p. same_bits (if is_pairwise op then not sign else sign) p.0 p.1) (sides op bits))
 comparison op false sign bits forms = joined sign (map (λ p. related op sign (less p.0 p.1)) (sides op forms))
 
 -- an implication: not the parts before the last, or the last
@@ -111,12 +111,12 @@ odd false sum = Lit (Div 2 sum)
 -- the one branch where the condition's bit is 1, the other where it is 0
 abbrev pub choice : (ℕ → Bool → Form) → (ℕ → Linear) → Bool → List TermId → Form
 choice part bit sign (c ∷ s ∷ r ∷ []) =
-    And (Or (le (bit c.0) ∷ part s.0 sign ∷ []) ∷ Or (le (one_minus (bit c.0)) ∷ part r.0 sign ∷ []) ∷ [])
+    And (Or (le (bit c.0) ∷ part s.0 sign ∷ []) ∷ Or (le (complement_of (bit c.0)) ∷ part r.0 sign ∷ []) ∷ [])
 choice part bit sign _ = False
 
 -- the bit is 1, or 0
 abbrev pub is_one : Bool → Linear → Form
-is_one true bit = le (one_minus bit)
+is_one true bit = le (complement_of bit)
 is_one false bit = le bit
 
 -- what the bits, the linear forms and the sorts of terms are

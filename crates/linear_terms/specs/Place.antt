@@ -13,15 +13,15 @@ use Rattle.lin_atoms.specs.declared.form.Form.TheVariants.{Lit}
 use Rattle.lin_atoms.specs.declared.form.Form.TheViews.{And, Or}
 use Rattle.linear_terms.specs.Text.{Sorting, is_truth}
 use Rattle.linear_terms.specs.Linear.{Naming, variable_form, linear_of, bit_of, less}
-use Rattle.linear_terms.specs.Formula.{le, eq, one_more, one_minus, formula}
+use Rattle.linear_terms.specs.Formula.{le, eq, one_more, complement_of, formula}
 
 -- 1 where the term is true, 0 where it is false
 abbrev pub truth_place : Linear → Form → Form → Form
 truth_place v holds fails =
-    And (le (negated v) ∷ le (plus v (negsuc 0)) ∷ Or (And (le (one_minus v) ∷ holds ∷ []) ∷ And (le v ∷ fails ∷ []) ∷ []) ∷ [])
+    And (le (negated v) ∷ le (plus v (negsuc 0)) ∷ Or (And (le (complement_of v) ∷ holds ∷ []) ∷ And (le v ∷ fails ∷ []) ∷ []) ∷ [])
 
 abbrev pub choice_place : Linear → Linear → Linear → Linear → Form
-choice_place v bit s r = Or (And (le (one_minus bit) ∷ eq (less v s) ∷ []) ∷ And (le bit ∷ eq (less v r) ∷ []) ∷ [])
+choice_place v bit s r = Or (And (le (complement_of bit) ∷ eq (less v s) ∷ []) ∷ And (le bit ∷ eq (less v r) ∷ []) ∷ [])
 
 abbrev pub abs_place : Linear → Linear → Form
 abs_place v lin = Or (And (le (negated lin) ∷ eq (less v lin) ∷ []) ∷ And (le (one_more lin) ∷ eq (added v lin) ∷ []) ∷ [])

@@ -8,7 +8,7 @@ use Rattle.clause_form.specs.declared.atom.Atom.{Atom}
 use Rattle.clause_form.specs.declared.clause.Clause.{Clause}
 use Rattle.cube_forms.specs.Cubes.{cube_holds, tuple_at}
 use Rattle.lemma_frames.specs.declared.framed.Framed.{Framed as KeptLemma}
-use Rattle.chc_tokens.specs.Instances.{accepts, atom_at as token_atom_at}
+use Rattle.chc_tokens.specs.Instances.{accepts, token_atom_at}
 use Rattle.chc_tokens.specs.Tokens.{is_passed}
 use Rattle.book_rules.specs.Frames.{Framed, excludes}
 use Rattle.book_rules.specs.Instances.{atom_at, body_at}

@@ -10,7 +10,7 @@ use Rattle.clause_form.specs.declared.atom.Atom.{Atom}
 use Rattle.clause_form.specs.declared.clause.Clause.{Clause}
 use Rattle.cube_forms.specs.Cubes.{cube_holds, tuple_at}
 use Rattle.lemma_frames.specs.declared.framed.Framed.{Framed as KeptLemma}
-use Rattle.chc_tokens.specs.Instances.{accepts, atom_at as token_atom_at, head_at, is_broken, is_instance_of, may_be_instance}
+use Rattle.chc_tokens.specs.Instances.{accepts, token_atom_at, token_head_at, is_broken, is_instance_of, may_be_instance}
 use Rattle.chc_tokens.specs.Kept.{seen_clause, seen_point}
 use Rattle.chc_tokens.specs.Queries.{has_places}
 use Rattle.chc_tokens.specs.Tokens.{is_passed, is_seen}
@@ -114,7 +114,7 @@ of-hit sys fs pred lemma k seen clause there hit =
     let second : own ≡ clause = (let both = sym hit.at.there ∙ there in cc) in
     let body = subst (λ (c : Clause). list_all (is_passed point c) (uses k fs own) ≡ true) first is.body in
     let placed = subst (λ (c : Clause). has_places c.head lemma ≡ true) first is.placed in
-    let head = subst (λ (c : Clause). accepts lemma (head_at point c) ≡ false) first is.head in
+    let head = subst (λ (c : Clause). accepts lemma (token_head_at point c) ≡ false) first is.head in
     let inside = body-inside point own k (lemmas_of fs) (body-accepted point own k fs body) in
     subst (λ (c : Clause). is_hit_at fs pred lemma k point c ≡ true) second
     (from_both (is_asked (Some pred) k own) _ hit.at.asked

@@ -11,8 +11,8 @@ use Rattle.clause_form.specs.declared.clause.Clause.{Clause}
 use Rattle.cube_forms.specs.Cubes.{cube_holds, cube_is_below, tuple_at}
 use Rattle.obligation_tree.specs.Nodes.{closed_in, node_at, obligation_in}
 use Rattle.obligation_tree.specs.declared.node.Node.{Node}
-use Rattle.chc_tokens.specs.Instances.{accepts, head_at as token_head_at}
-use Rattle.chc_tokens.specs.Tokens.{meets}
+use Rattle.chc_tokens.specs.Instances.{accepts, token_head_at}
+use Rattle.chc_tokens.specs.Tokens.{token_meets}
 use Rattle.book_rules.specs.Areas.{is_wide}
 use Rattle.book_rules.specs.Instances.{atom_at, head_at}
 use Rattle.book_rules.specs.Kept.{IsPlaced}
@@ -115,7 +115,7 @@ accepted p cube point (Some atom) is h = from_both (p == atom.pred) _ is (by (cu
     by true k = refl
     by false k = absurd (true≢false k)
 
-held-of : (pred : Option ℕ) (cube : List Lit) (point : List ℤ) (clause : Clause) → is_head pred clause.head ≡ true → meets (goal_by pred cube) (token_head_at point clause) ≡ false → holds_of pred cube (head_at point clause) ≡ true
+held-of : (pred : Option ℕ) (cube : List Lit) (point : List ℤ) (clause : Clause) → is_head pred clause.head ≡ true → token_meets (goal_by pred cube) (token_head_at point clause) ≡ false → holds_of pred cube (head_at point clause) ≡ true
 held-of None cube point clause is h = by clause.head is
   where
     by : (head : Option Atom) → is_head None head ≡ true → holds_of None cube (option_map (atom_at point) head) ≡ true
@@ -123,5 +123,5 @@ held-of None cube point clause is h = by clause.head is
     by (Some atom) k = absurd (true≢false (sym k))
 held-of (Some p) cube point clause is h = accepted p cube point clause.head is h
 
-pub job-held : (b : Standing) (job : ℕ) (clause : Clause) (point : List ℤ) → is_head (job_of b job).pred clause.head ≡ true → meets (goal_for (job_of b job)) (token_head_at point clause) ≡ false → holds (asked_at b job) (head_at point clause) ≡ true
+pub job-held : (b : Standing) (job : ℕ) (clause : Clause) (point : List ℤ) → is_head (job_of b job).pred clause.head ≡ true → token_meets (goal_for (job_of b job)) (token_head_at point clause) ≡ false → holds (asked_at b job) (head_at point clause) ≡ true
 job-held b job clause point is h = held-of (job_of b job).pred (job_of b job).cube point clause is h

@@ -12,7 +12,7 @@ use Rattle.clause_form.specs.declared.atom.Atom.{Atom}
 use Rattle.clause_form.specs.declared.clause.Clause.{Clause}
 use Rattle.lemma_frames.specs.Frames.{lemma_of, level_of, pred_of as pred_at}
 use Rattle.lemma_frames.specs.declared.framed.Framed.{Framed as KeptLemma}
-use Rattle.chc_tokens.specs.Instances.{accepts, atom_at as token_atom_at, is_broken}
+use Rattle.chc_tokens.specs.Instances.{accepts, token_atom_at, is_broken}
 use Rattle.chc_tokens.specs.Kept.{kept_lemma, kept_why, seen_clause, seen_point}
 use Rattle.chc_tokens.specs.Queries.{has_places, query_at}
 use Rattle.chc_tokens.specs.Tokens.{IsKept, IsNoLift, breaks_in, has_head, is_passed}

@@ -9,7 +9,7 @@ use Rattle.clause_form.specs.declared.atom.Atom.{Atom}
 use Rattle.clause_form.specs.declared.clause.Clause.{Clause}
 use Rattle.lemma_frames.specs.declared.framed.Framed.{Framed as KeptLemma}
 use Rattle.chc_tokens.specs.Kept.{shown_clause, shown_goal, shown_used}
-use Rattle.chc_tokens.specs.Tokens.{IsShown}
+use Rattle.chc_tokens.specs.Tokens.{IsShownToken}
 use Rattle.chc_tokens.specs.declared.goal.Goal.{Goal}
 use Rattle.chc_tokens.specs.declared.goal.Goal.TheVariants.{Query, Holds}
 use Rattle.chc_tokens.specs.declared.refuting.Shown.{Shown}
@@ -114,7 +114,7 @@ goal-over sys (Some lemma) n clause there is over = ap (λ (o : Option Clause). 
 -- one proof
 
 record IsGood (sys : Clauses) (es : List Framed) (k : ℕ) (claim own : Option Lemma) (shown : Shown) : Type 0 where
-  shown_is : IsShown sys shown
+  shown_is : IsShownToken sys shown
   goal_is : same_goal (goal_of (shown_goal shown)) claim ≡ true
   may : all_may_use sys es k own (shown_clause shown) (all_used (shown_used shown)) ≡ true
   places : shown_has_places sys (shown_of shown) ≡ true
@@ -137,7 +137,7 @@ good sys fs k claim own over claimed shown proof =
 -- what the rules want of all of them
 
 pub record IsProved (sys : Clauses) (es : List Framed) (k : ℕ) (claim own : Option Lemma) (proofs : List Shown) : Type 0 where
-  pub made : AllOf (IsShown sys) proofs
+  pub made : AllOf (IsShownToken sys) proofs
   pub places : list_all (shown_has_places sys) (all_shown proofs) ≡ true
   pub unshown : unshown sys k claim (all_shown proofs) ≡ None
   pub misused : misused sys es k own (all_shown proofs) ≡ None
@@ -164,7 +164,7 @@ pub proved : (sys : Clauses) (fs : List KeptLemma) (k : ℕ) (claim own : Option
 proved sys fs k claim own proofs over claimed are =
     let each = all_of-so (IsProof sys fs (pred_of claim) (claim_goal claim) k) (IsGood sys (lemmas_of fs) k claim own) (good sys fs k claim own over claimed) proofs are.each in
     record {
-      made = all_of-so (IsGood sys (lemmas_of fs) k claim own) (IsShown sys) (λ shown is. is.shown_is) proofs each;
+      made = all_of-so (IsGood sys (lemmas_of fs) k claim own) (IsShownToken sys) (λ shown is. is.shown_is) proofs each;
       places = all-of-map (IsGood sys (lemmas_of fs) k claim own) shown_of (shown_has_places sys) (λ shown is. is.places) proofs each;
       unshown = all-shown-from k claim (all_shown proofs) 0 sys.clauses (λ i clause there needed. (let first : i ≡ 0 + i = omega arith in subst (λ (m : ℕ). list_any (is_proof_of claim m) (all_shown proofs) ≡ true) first
           (any-of-map (IsGood sys (lemmas_of fs) k claim own) shown_of (is_through i) (is_proof_of claim i) (λ shown is through. from_both (shown_clause shown == i) _ through is.goal_is) proofs each (are.complete i clause there needed))));

@@ -4,7 +4,7 @@ use Rattle.std.specs.Prelude.{Option}
 use Rattle.std.specs.List.{list_all}
 use mathlib.Core.Bool.{true≢false}
 use Rattle.clause_form.specs.System.{Clauses}
-use Rattle.chc_tokens.specs.Tokens.{IsShown as IsShownToken}
+use Rattle.chc_tokens.specs.Tokens.{IsShownToken}
 use Rattle.chc_tokens.specs.declared.goal.Goal.TheVariants.{Query}
 use Rattle.chc_tokens.specs.declared.keeping.NoLift.{NoLift as NoLiftToken}
 use Rattle.chc_tokens.specs.declared.refuting.Shown.{Shown}

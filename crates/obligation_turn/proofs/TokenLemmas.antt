@@ -13,10 +13,10 @@ use Rattle.clause_form.specs.declared.atom.Atom.{Atom}
 use Rattle.clause_form.specs.declared.clause.Clause.{Clause}
 use Rattle.cube_forms.specs.Cubes.{cube_holds, lemma_at, tuple_at}
 use Rattle.farkas_proof.specs.Kept.{form_of}
-use Rattle.chc_tokens.specs.Instances.{accepts, args_of, atom_at as token_atom_at, has_values, head_at as token_head_at, is_instance_of, may_be_instance}
+use Rattle.chc_tokens.specs.Instances.{accepts, token_args, token_atom_at, has_values, token_head_at, is_instance_of, may_be_instance}
 use Rattle.chc_tokens.specs.Kept.{seen_clause, seen_point, shown_clause, shown_goal, shown_proof, shown_used}
 use Rattle.chc_tokens.specs.Queries.{goal_has_room, has_goal, has_places, has_used, may_use, query as token_query, query_in, used_form, used_have_room}
-use Rattle.chc_tokens.specs.Tokens.{IsShown, is_passed, is_seen, meets as token_meets}
+use Rattle.chc_tokens.specs.Tokens.{IsShownToken, is_passed, is_seen, token_meets}
 use Rattle.chc_tokens.specs.declared.goal.Goal.{Goal}
 use Rattle.chc_tokens.specs.declared.goal.Goal.TheVariants.{Query, Holds}
 use Rattle.chc_tokens.specs.declared.refuting.Shown.{Shown as ShownToken}
@@ -48,7 +48,7 @@ used-alike point clause u there = ap (accepts u.lemma) (slice_get-map (token_ato
   by None never = absurd (cc)
   by (Some atom) is = refl
 
--- where the atom isn't there the two differ (chc_tokens passes nothing there, the rules all), but IsShown says that it is: has_used of query_at
+-- where the atom isn't there the two differ (chc_tokens passes nothing there, the rules all), but IsShownToken says that it is: has_used of query_at
 
 goal-alike : (point : List ℤ) (goal : Goal) (clause : Clause) → token_meets goal (token_head_at point clause) ≡ meets point clause.head (goal_of goal)
 goal-alike point Query clause = refl
@@ -85,7 +85,7 @@ all-passed point clause (u ∷ used) there passed =
     (all-passed point clause used atoms.1 both.1)
 
 -- a refuted query
-pub shown-shows : (sys : Clauses) (shown : ShownToken) → IsShown sys shown → Shows sys (shown_of shown)
+pub shown-shows : (sys : Clauses) (shown : ShownToken) → IsShownToken sys shown → Shows sys (shown_of shown)
 shown-shows sys shown h clause point there instance passed =
     let form = form_of (shown_proof shown) in
     let here : query_in (Some clause) (shown_goal shown) (shown_used shown) ≡ Some form = ap (λ (o : Option Clause). query_in o (shown_goal shown) (shown_used shown)) (sym there) ∙ h in
@@ -93,6 +93,6 @@ shown-shows sys shown h clause point there instance passed =
     sym (goal-alike point (shown_goal shown) clause)
     ∙ shows sys (shown_clause shown) (shown_goal shown) (shown_used shown) form h (shown_proof shown).no_point clause there point instance.guard (all-passed point clause (shown_used shown) uses.0 passed)
 
-pub forms-alike : (atoms : List Atom) (used : List UsedLemma) → map (used_form atoms) used ≡ map (λ (u : Used). lemma_at (args_of (slice_get atoms u.atom)) u.cube) (all_used used)
+pub forms-alike : (atoms : List Atom) (used : List UsedLemma) → map (used_form atoms) used ≡ map (λ (u : Used). lemma_at (token_args (slice_get atoms u.atom)) u.cube) (all_used used)
 forms-alike atoms [] = refl
 forms-alike atoms (u ∷ used) = ap (λ (forms : List Form). used_form atoms u ∷ forms) (forms-alike atoms used)

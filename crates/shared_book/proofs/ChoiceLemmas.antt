@@ -15,7 +15,7 @@ use Rattle.chc_core.proofs.EndLemmas.{leaves-there}
 use Rattle.obligation_turn.specs.Turns.{IsOpenLeaf}
 use Rattle.shared_book.specs.Jobs.{AreHeld}
 use Rattle.shared_book.specs.Locks.{claimed_by, with_claims}
-use Rattle.shared_book.specs.machinery.Choices.{IsChosen, IsLeaf, is_out}
+use Rattle.shared_book.specs.machinery.Choices.{IsChosen, IsLiveLeaf, is_out}
 
 -- a worker's own claim tells nothing of what others hold, and gives way to the next
 
@@ -65,7 +65,7 @@ or_right false b h = h
 
 -- leaves
 
-pub open_leaf : (b : Contents) (id : ℕ) → IsLeaf b.tree.nodes id → is_stalled_in (node_at b.tree.nodes id) ≡ false → IsOpenLeaf (standing_of b) id
+pub open_leaf : (b : Contents) (id : ℕ) → IsLiveLeaf b.tree.nodes id → is_stalled_in (node_at b.tree.nodes id) ≡ false → IsOpenLeaf (standing_of b) id
 open_leaf b id h unmarked = record { there = h.there; live = h.live; leaf = h.leaf; unmarked = unmarked }
 
 passes : (p : ℕ → Bool) (xs : List ℕ) (i d : ℕ) → i < length (filter p xs) → p (get_or (filter p xs) i d) ≡ true
@@ -77,7 +77,7 @@ passes p (x ∷ xs) i d within = by (λ j w. passes p xs j d w) (p x) refl i wit
   by rest true is (suc j) within = rest j (omega (arith, within))
   by rest false is i within = rest i within
 
-pub leaf_at : (nodes : List Node) (i : ℕ) → i < length (leaf_numbers nodes) → IsLeaf nodes (get_or (leaf_numbers nodes) i 0)
+pub leaf_at : (nodes : List Node) (i : ℕ) → i < length (leaf_numbers nodes) → IsLiveLeaf nodes (get_or (leaf_numbers nodes) i 0)
 leaf_at nodes i within = record {
   there = leaves-there nodes i 0 within;
   live = All-filter (λ m. not (has_live_child nodes m)) (λ n. is_live_at nodes n ≡ true) (live_numbers nodes) (λ k d w. passes (is_live_at nodes) (range_with_len 0 (length nodes)) k d w) i 0 within;

@@ -9,7 +9,7 @@ ghost use Rattle.clause_queries.specs.Answers.{AreFew};
 ghost use Rattle.obligation_turn.specs.Turns.{IsNarrow, IsOpenLeaf};
 ghost use Rattle.shared_book.specs.Jobs.{AreHeld, IsFree};
 ghost use Rattle.shared_book.specs.Locks.{claimed_by, with_claims};
-ghost use Rattle.shared_book.specs.machinery.Choices.{IsChosen, IsLeaf, LeavesNone};
+ghost use Rattle.shared_book.specs.machinery.Choices.{IsChosen, IsLiveLeaf, LeavesNone};
 
 use crate::job::Job;
 use crate::run::Run;
@@ -102,7 +102,7 @@ fn with_leaf(
     requires first { 0 < worker }
     requires last { worker ≤ most_workers }
     requires chosen { IsChosen snapshot.now worker best book.old }
-    requires leaf { IsLeaf snapshot.now.tree.nodes id }
+    requires leaf { IsLiveLeaf snapshot.now.tree.nodes id }
     ensures chosen { IsChosen snapshot.now worker result book.new }
     ensures none { result ≡ None → LeavesNone snapshot.now worker best id }
 {

@@ -9,11 +9,11 @@ use Rattle.solve_words.specs.declared.limits.Limits.{Limits}
 -- what a call may give; how many units a book may be given is said apart, by chc_core, for who reads of books alone
 
 -- one worker searches
-abbrev pub most_workers : ℕ
-most_workers = 1
+abbrev pub most_call_workers : ℕ
+most_call_workers = 1
 
-abbrev pub most_units : ℕ
-most_units = 1000000
+abbrev pub most_call_units : ℕ
+most_call_units = 1000000
 
 abbrev pub most_nodes : ℕ
 most_nodes = 10000
@@ -53,8 +53,8 @@ IsGivenOr least most default (Some text) n = IsNumber least most text n
 pub record IsCall (words : List (List ℕ)) (limits : Limits) : Type 0 where
   pub options : List Row
   pub names : Names words (codes "solve") options
-  pub workers : IsGivenOr 1 most_workers default_workers (first_of (codes "workers") options) limits.workers
-  pub units : IsGivenOr 0 most_units default_units (first_of (codes "units") options) limits.units
+  pub workers : IsGivenOr 1 most_call_workers default_workers (first_of (codes "workers") options) limits.workers
+  pub units : IsGivenOr 0 most_call_units default_units (first_of (codes "units") options) limits.units
   pub nodes : IsGivenOr 1 most_nodes default_nodes (first_of (codes "nodes") options) limits.nodes
 
 abbrev pub IsNoCall : List (List ℕ) → Type 0

@@ -18,7 +18,7 @@ use Rattle.lin_atoms.specs.declared.form.Form.TheFolds.{fold-roll-Form}
 use Rattle.clause_form.specs.declared.atom.Atom.{Atom}
 use Rattle.clause_form.specs.declared.clause.Clause.{Clause}
 use Rattle.cube_forms.specs.Cubes.{cube_at, cube_is_short, denials, has_room, lemma_at, lit_at, lit_is_short, or_of}
-use Rattle.chc_tokens.specs.Instances.{args_of as token_args}
+use Rattle.chc_tokens.specs.Instances.{token_args}
 use Rattle.chc_tokens.specs.Queries.{goal_cube, goal_has_room, has_goal, has_places, has_used, may_use, query as token_query, query_in, used_form, used_has_room, used_have_room}
 use Rattle.chc_tokens.specs.declared.goal.Goal.{Goal}
 use Rattle.chc_tokens.specs.declared.used.Used.{Used as UsedLemma}

@@ -1,7 +1,7 @@
 -- The steps that a book takes, as the plain steps of the rules, and the systems that their tokens were made for.
 use Rattle.std.specs.Prelude.{◌≡◌, true}
 use Rattle.clause_form.specs.System.{Clauses}
-use Rattle.chc_tokens.specs.Tokens.{IsNoLift, IsShown, is_seen}
+use Rattle.chc_tokens.specs.Tokens.{IsNoLift, IsShownToken, is_seen}
 use Rattle.book_rules.specs.Frames.{Lemma}
 use Rattle.book_rules.specs.Steps.{IsProjected, Opens, Learns, Records, Lifts, Raises, Stalls, FactStep as PlainFact, LemmaStep as PlainLemma, LiftStep as PlainLift, OpenStep as PlainOpen, RaiseStep as PlainRaise, StallStep as PlainStall, Step as PlainStep}
 use Rattle.book_rules.specs.Walks.{AllOf}
@@ -47,10 +47,10 @@ step_of (StallStep t) = Stalls (stall_of t)
 -- the step's tokens were made for the system
 abbrev pub IsMadeFor : Clauses → Step → Type 0
 IsMadeFor sys (OpenStep o) = is_seen sys o.seen ≡ true
-IsMadeFor sys (LemmaStep l) = AllOf (IsShown sys) l.proofs
+IsMadeFor sys (LemmaStep l) = AllOf (IsShownToken sys) l.proofs
 IsMadeFor sys (FactStep f) = is_seen sys f.seen ≡ true
-IsMadeFor sys (LiftStep l) = AllOf (IsShown sys) l.proofs
-IsMadeFor sys (RaiseStep r) = AllOf (IsShown sys) r.closed × AllOf (IsNoLift sys) r.kept
+IsMadeFor sys (LiftStep l) = AllOf (IsShownToken sys) l.proofs
+IsMadeFor sys (RaiseStep r) = AllOf (IsShownToken sys) r.closed × AllOf (IsNoLift sys) r.kept
 IsMadeFor sys (StallStep t) = Unit {0}
 
 -- what every area keeps

@@ -87,16 +87,6 @@ wanted Distinct = Alike
 wanted Ite = Choice
 wanted _ = Ints
 
--- whether the operator gives an integer for integers
-abbrev pub is_arithmetic : OpKind → Bool
-is_arithmetic Add = true
-is_arithmetic Mul = true
-is_arithmetic Sub = true
-is_arithmetic Abs = true
-is_arithmetic Div = true
-is_arithmetic Mod = true
-is_arithmetic _ = false
-
 abbrev pub is_division : OpKind → Bool
 is_division Div = true
 is_division Mod = true

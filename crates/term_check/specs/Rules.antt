@@ -12,12 +12,13 @@ use Rattle.term_tree.specs.declared.sort.Sort.{Sort}
 use Rattle.term_tree.specs.declared.sort.Sort.TheVariants.{Int as IntSort, Bool as BoolSort}
 use Rattle.term_tree.specs.declared.refusal.Kind.{Kind}
 use Rattle.term_tree.specs.declared.refusal.Kind.TheVariants.{Arity, Count, SortMismatch, NotLinear, ZeroDivisor, TooWide}
+use Rattle.term_tree.specs.Constants.{is_arithmetic}
 use Rattle.term_tree.specs.Operators.{sum_of, difference_of, on_two, first_of_all}
 use Rattle.term_check.specs.declared.operators.Sorts.{Sorts}
 use Rattle.term_check.specs.declared.operators.Sorts.TheVariants.{Bools, Ints, Alike, Choice}
 use Rattle.term_check.specs.declared.part.Part.{Part}
 use Rattle.term_check.specs.declared.part.Fault.{Fault}
-use Rattle.term_check.specs.Operators.{least_operands, most_operands, wanted, is_arithmetic, is_division, is_product, is_choice, is_distinct}
+use Rattle.term_check.specs.Operators.{least_operands, most_operands, wanted, is_division, is_product, is_choice, is_distinct}
 
 abbrev pub fault : Kind → ℕ → Fault
 fault kind offset = record { kind = kind; offset = offset }

@@ -14,7 +14,7 @@ use Rattle.lin_atoms.specs.declared.form.Form.{Form}
 use Rattle.lin_atoms.specs.declared.form.Form.TheVariants.{False}
 use Rattle.linear_terms.specs.Linear.{Naming, less}
 use Rattle.linear_terms.specs.Text.{Sorting, are_truths}
-use Rattle.linear_terms.specs.Formula.{Reading, comparison, denied, eq, implied, is_distinct, neighbours, operation, related, sides}
+use Rattle.linear_terms.specs.Formula.{Reading, comparison, denied, eq, implied, is_pairwise, neighbours, operation, related, sides}
 use Rattle.linear_terms.specs.Place.{integer_place}
 use Rattle.term_formulas.specs.Written.{HasRoom, place_form_by, place_forms_by}
 use Rattle.term_formulas.specs.machinery.Fresh.{IsFresh}
@@ -67,7 +67,7 @@ pub other_sides : {X : Type 0} (op : OpKind) (xs : List X) → (op ≡ Distinct 
 other_sides Distinct xs h = absurd (h refl)
 other_sides _ xs h = refl
 
-pub not_distinct : (op : OpKind) → (op ≡ Distinct → ⊥) → is_distinct op ≡ false
+pub not_distinct : (op : OpKind) → (op ≡ Distinct → ⊥) → is_pairwise op ≡ false
 not_distinct Distinct h = absurd (h refl)
 not_distinct _ h = refl
 

@@ -5,7 +5,7 @@ ghost use Rattle.lin_atoms.specs.declared.form.Form.TheViews.{And};
 ghost use Rattle.lin_atoms.specs.Algebra.{added, negated, plus, scaled};
 ghost use Rattle.lin_atoms.specs.Linear.{is_short};
 ghost use Rattle.linear_terms.specs.Linear.{is_narrow, less, variable_form};
-ghost use Rattle.linear_terms.specs.Formula.{eq, le, one_minus, one_more};
+ghost use Rattle.linear_terms.specs.Formula.{eq, le, complement_of, one_more};
 ghost use Rattle.linear_terms.specs.Place.{abs_place, choice_place, quotient_place, remainder_place, truth_place};
 ghost use Rattle.term_formulas.specs.machinery.Parts.{IsApart};
 
@@ -39,7 +39,7 @@ fn at_most_one(alloc: Global, v: u32) -> Result<Form, Memory>
 }
 
 fn where_true(alloc: Global, v: u32, holds: Form) -> Result<Form, Memory>
-    ensures { IfOk result (λ form. form ≡ And (le (one_minus (variable_form v)) ∷ holds ∷ [])) }
+    ensures { IfOk result (λ form. form ≡ And (le (complement_of (variable_form v)) ∷ holds ∷ [])) }
 {
     let one = one_minus(alloc, &variable_form(alloc, v)?)?;
     both(alloc, le(one), holds)
@@ -112,7 +112,7 @@ fn multiple(alloc: Global, n: i64, v: u32) -> Result<Lin, Memory>
 fn where_one(alloc: Global, bit: &Lin, v: u32, s: &Lin) -> Result<Form, Memory>
     requires bit { IsTrue (is_narrow bit.now) }
     requires apart { IsApart v s.now }
-    ensures { IfOk result (λ form. form ≡ And (le (one_minus bit.now) ∷ eq (less (variable_form v) s.now) ∷ [])) }
+    ensures { IfOk result (λ form. form ≡ And (le (complement_of bit.now) ∷ eq (less (variable_form v) s.now) ∷ [])) }
 {
     let chosen = eq(variable_less(alloc, v, s)?);
     both(alloc, le(one_minus(alloc, bit)?), chosen)

@@ -5,7 +5,7 @@ ghost use Rattle.lin_atoms.specs.declared.form.Form.TheVariants.{True, False};
 ghost use Rattle.lin_atoms.specs.declared.form.Form.TheViews.{And, Or};
 ghost use Rattle.lin_atoms.specs.Linear.{is_short};
 ghost use Rattle.linear_terms.specs.Linear.{is_narrow};
-ghost use Rattle.linear_terms.specs.Formula.{eq, equal, is_one, joined, le, odd, one_minus, one_more};
+ghost use Rattle.linear_terms.specs.Formula.{eq, equal, is_one, joined, le, odd, complement_of, one_more};
 
 use base::{Items, Memory};
 use lin_atoms::{Divisor, Form, Lin, Lit};
@@ -51,7 +51,7 @@ pub(crate) fn one_more(lin: Lin) -> Lin
 /// 1 less the form.
 pub(crate) fn one_minus(alloc: Global, lin: &Lin) -> Result<Lin, Memory>
     requires { IsTrue (is_narrow lin.now) }
-    ensures { IfOk result (λ made. made ≡ one_minus lin.now) }
+    ensures { IfOk result (λ made. made ≡ complement_of lin.now) }
 {
     narrow_constant(lin);
     let turned = lin.negated(alloc)?;

@@ -6,7 +6,7 @@ ghost use Rattle.lin_atoms.specs.declared.form.Form.TheVariants.{Lit as Literal}
 ghost use Rattle.lin_atoms.specs.declared.form.Form.TheViews.{And, Or};
 ghost use Rattle.linear_terms.specs.Text.{are_truths, is_truth};
 ghost use Rattle.linear_terms.specs.Linear.{bit_of, is_narrow, variable_form};
-ghost use Rattle.linear_terms.specs.Formula.{choice, comparison, denied, implied, is_one, le, node_formula, one_minus, operation};
+ghost use Rattle.linear_terms.specs.Formula.{choice, comparison, denied, implied, is_one, le, node_formula, complement_of, operation};
 ghost use Rattle.term_tables.specs.machinery.Table.{constant_in, sort_in};
 ghost use Rattle.term_forms.specs.Found.{AreFound, form_by};
 ghost use Rattle.term_widths.specs.machinery.Seen.{IsNarrowTerm};
@@ -384,7 +384,7 @@ fn branches(
 
 fn of_choice(alloc: Global, bit: Lin, chosen: Form, other: Form) -> Result<Form, Memory>
     requires { IsTrue (is_narrow bit) }
-    ensures { IfOk result (λ form. form ≡ And (Or (le bit ∷ chosen ∷ []) ∷ Or (le (one_minus bit) ∷ other ∷ []) ∷ [])) }
+    ensures { IfOk result (λ form. form ≡ And (Or (le bit ∷ chosen ∷ []) ∷ Or (le (complement_of bit) ∷ other ∷ []) ∷ [])) }
 {
     let not_one = one_minus(alloc, &bit)?;
     let one = either(alloc, le(bit), chosen)?;

@@ -15,10 +15,10 @@ use Rattle.term_tree.specs.Operators.{difference_of, first_of_all, integer, on_t
 use Rattle.term_tree.specs.Subterms.{EverySubterm, IsSubterm, inside, is_among, is_part}
 use Rattle.term_tree.specs.Width.{prefix_results}
 use Rattle.term_tree.proofs.Public.{arena_below, both_true, constant_at, eqb_self, part_below, there_is}
-use Rattle.term_tables.specs.machinery.Table.{if_short, product_from, short_constant, short_constant_of, short_kept, short_operation, short_product}
+use Rattle.term_tables.specs.machinery.Table.{short_integer, product_from, short_constant, short_constant_of, short_kept, short_operation, short_product}
 use Rattle.term_tables.proofs.TableLemmas.{short_at}
 
-short_is : (n : ℤ) → is_short n ≡ true → if_short n ≡ Some n
+short_is : (n : ℤ) → is_short n ≡ true → short_integer n ≡ Some n
 short_is n h = ap (λ (b : Bool). if b then Some n else None) h
 
 kept_is : (o : Option ℤ) → is_short_constant o ≡ true → short_kept o ≡ o
@@ -36,8 +36,8 @@ product_is a (n ∷ ns) h =
     ap (λ (b : Bool). if b then product_from (a *ℤ n) ns else None) both.0 ∙ product_is (a *ℤ n) ns both.1
 
 -- an operation other than a product, whose value f gives
-by_value : (f : List ℤ → ℤ) (ns : List ℤ) → is_short (f (map integer (map (λ n. Int n) ns))) ≡ true → if_short (f ns) ≡ Some (f (map integer (map (λ n. Int n) ns)))
-by_value f ns h = ap (λ (xs : List ℤ). if_short (f xs)) (sym (same_numbers ns)) ∙ short_is (f (map integer (map (λ n. Int n) ns))) h
+by_value : (f : List ℤ → ℤ) (ns : List ℤ) → is_short (f (map integer (map (λ n. Int n) ns))) ≡ true → short_integer (f ns) ≡ Some (f (map integer (map (λ n. Int n) ns)))
+by_value f ns h = ap (λ (xs : List ℤ). short_integer (f xs)) (sym (same_numbers ns)) ∙ short_is (f (map integer (map (λ n. Int n) ns))) h
 
 among_step : (n : ℤ) (given : List (Option ℤ)) (ns : List ℤ) (o : Option (List ℤ)) → ((ms : List ℤ) → o ≡ Some ms → constants_among given ≡ ms) → option_map (λ ms. n ∷ ms) o ≡ Some ns
     → n ∷ constants_among given ≡ ns

@@ -4,7 +4,7 @@ ghost use Rattle.std.specs.Prelude.{◌≡◌, ◌<◌, ◌^◌, ◌*ℤ◌, nat
 ghost use Rattle.std.specs.Int.{int_div_euclid, int_rem_euclid};
 ghost use Rattle.term_tree.specs.Constants.{all_constant};
 ghost use Rattle.term_tree.specs.Operators.{difference_of, on_two, first_of_all, sum_of};
-ghost use Rattle.term_tables.specs.machinery.Table.{constant_in, if_short, short_applied, short_constant, short_kept, short_operation, short_product, signed_sum};
+ghost use Rattle.term_tables.specs.machinery.Table.{constant_in, short_integer, short_applied, short_constant, short_kept, short_operation, short_product, signed_sum};
 
 use base::Memory;
 use std::alloc::Global;
@@ -52,7 +52,7 @@ fn all_constant(alloc: Global, given: &[Option<i64>]) -> Result<Option<Vec<i64>>
 
 /// The number with 64 bits, where it is below 2^63 in magnitude.
 fn if_short(n: i128) -> Option<i64>
-    ensures { result ≡ if_short n }
+    ensures { result ≡ short_integer n }
 {
     if n.unsigned_abs() < 1 << 63 {
         Some(n as i64)

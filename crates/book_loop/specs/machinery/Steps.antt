@@ -1,7 +1,7 @@
 -- Steps that the book takes, and what their entries add to the journal.
 use Rattle.std.specs.Prelude.{◌≡◌, ◌<◌, ◌≤◌, ℕ, List, Bool, true, false, None, length}
 use Rattle.clause_form.specs.System.{Clauses}
-use Rattle.chc_tokens.specs.Tokens.{IsShown}
+use Rattle.chc_tokens.specs.Tokens.{IsShownToken}
 use Rattle.chc_tokens.specs.declared.refuting.Shown.{Shown}
 use Rattle.book_rules.specs.Places.{has_places, shown_has_places}
 use Rattle.book_rules.specs.Rules.{broken}
@@ -35,7 +35,7 @@ pub record IsOffered (sys : Clauses) (nodes : ℕ) (step : Step) : Type 0 where
 
 -- proofs of a lemma that were made for the system
 pub record AreFor (sys : Clauses) (proofs : List Shown) : Type 0 where
-  pub made : AllOf (IsShown sys) proofs
+  pub made : AllOf (IsShownToken sys) proofs
   pub places : list_all (shown_has_places sys) (all_shown proofs) ≡ true
 
 -- the book took steps of its own, or none

@@ -8,7 +8,7 @@ use Rattle.shared_book.specs.Jobs.{IsFree}
 use Rattle.shared_book.specs.Locks.{claimed_by}
 
 -- a live obligation without live children
-pub record IsLeaf (nodes : List Node) (n : ℕ) : Type 0 where
+pub record IsLiveLeaf (nodes : List Node) (n : ℕ) : Type 0 where
   pub there : n < length nodes
   pub live : is_live_at nodes n ≡ true
   pub leaf : has_live_child nodes n ≡ false

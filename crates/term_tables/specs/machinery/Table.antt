@@ -24,12 +24,12 @@ abbrev pub constant_in : List (Option ℤ) → ℕ → Option ℤ
 constant_in known id = slice_index_or known id None
 
 -- the number, where it is short
-abbrev pub if_short : ℤ → Option ℤ
-if_short n = if is_short n then Some n else None
+abbrev pub short_integer : ℤ → Option ℤ
+short_integer n = if is_short n then Some n else None
 
 abbrev pub short_kept : Option ℤ → Option ℤ
 short_kept None = None
-short_kept (Some n) = if_short n
+short_kept (Some n) = short_integer n
 
 -- the product, where each prefix of it is short
 abbrev pub product_from : ℤ → List ℤ → Option ℤ
@@ -44,12 +44,12 @@ signed_sum a ns = fold (λ x n. x -ℤ n) a ns
 
 -- what the operator gives for constants, where that and each prefix of a product are short
 abbrev pub short_applied : OpKind → List ℤ → Option ℤ
-short_applied Add ns = if_short (sum_of ns)
+short_applied Add ns = short_integer (sum_of ns)
 short_applied Mul ns = short_product ns
-short_applied Sub ns = if_short (difference_of ns)
-short_applied Abs ns = if_short (pos (nat_abs (first_of_all ns)))
-short_applied Div ns = if_short (on_two int_div_euclid ns)
-short_applied Mod ns = if_short (on_two int_rem_euclid ns)
+short_applied Sub ns = short_integer (difference_of ns)
+short_applied Abs ns = short_integer (pos (nat_abs (first_of_all ns)))
+short_applied Div ns = short_integer (on_two int_div_euclid ns)
+short_applied Mod ns = short_integer (on_two int_rem_euclid ns)
 short_applied _ ns = None
 
 abbrev pub short_operation : OpKind → Option (List ℤ) → Option ℤ
@@ -58,7 +58,7 @@ short_operation op (Some ns) = short_applied op ns
 
 -- the value of a constant, where it and all that it is made of are short
 abbrev pub short_constant : (ℕ → Option ℤ) → Node → Option ℤ
-short_constant part (Num n) = if_short n
+short_constant part (Num n) = short_integer n
 short_constant part (LetVar bound) = short_kept (part bound.0)
 short_constant part (Op op args) = short_operation op (all_constant (map (λ arg. part arg.0) args))
 short_constant part (Let bound body) = short_kept (part body.0)

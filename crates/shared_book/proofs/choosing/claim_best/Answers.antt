@@ -1,6 +1,6 @@
 use Rattle.std.proofs.Common.{◌≡◌, ℕ, ◌<◌, ◌≤◌, List, length, get_or, refl, sym, ◌∙◌, subst, true}
 use Rattle.obligation_tree.specs.Nodes.{leaf_numbers}
-use Rattle.shared_book.specs.machinery.Choices.{IsLeaf, is_out}
+use Rattle.shared_book.specs.machinery.Choices.{IsLiveLeaf, is_out}
 use Rattle.shared_book.proofs.ChoiceLemmas.{all-on, all-over, all_held, leaf_at}
 use Rattle.shared_book.proofs.choosing.claim_best.Goals as goal
 
@@ -15,7 +15,7 @@ with_leaf-best-requires-clause-leaf c =
     let nodes = c.args.snapshot.now.tree.nodes in
     let i = c.loop-id.id-index in
     let within = subst (λ (xs : List ℕ). i < length xs) c.leaves_of-id-items.ensures c.loop-id-test.true in
-    subst (λ (xs : List ℕ). IsLeaf nodes (get_or xs i 0)) (sym c.leaves_of-id-items.ensures) (leaf_at nodes i within)
+    subst (λ (xs : List ℕ). IsLiveLeaf nodes (get_or xs i 0)) (sym c.leaves_of-id-items.ensures) (leaf_at nodes i within)
 
 pub loop-id-preserved : goal.loop-id-preserved
 loop-id-preserved c =
