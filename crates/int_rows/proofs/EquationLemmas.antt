@@ -150,6 +150,6 @@ first-solved variables lins below legal few =
       lowers = length-replicate (variables + n) None ∙ ap (λ k. variables + k) (sym count);
       uppers = length-replicate (variables + n) None ∙ ap (λ k. variables + k) (sym count);
       few = omega (arith, count, few);
-      small_lower = λ v b some. absurd (none-some (bound (replicate (variables + n) None) v) b (no-bound (variables + n) v) some);
-      small_upper = λ v b some. absurd (none-some (bound (replicate (variables + n) None) v) b (no-bound (variables + n) v) some);
+      long_lower = λ v b some. absurd (none-some (bound (replicate (variables + n) None) v) b (no-bound (variables + n) v) some);
+      long_upper = λ v b some. absurd (none-some (bound (replicate (variables + n) None) v) b (no-bound (variables + n) v) some);
     }

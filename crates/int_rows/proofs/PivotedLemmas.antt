@@ -250,8 +250,8 @@ pivoted-table t i column is h there factor room =
       lowers = is.lowers ∙ sym wide;
       uppers = is.uppers ∙ sym wide;
       few = omega (arith, count, is.few);
-      small_lower = is.small_lower;
-      small_upper = is.small_upper;
+      long_lower = is.long_lower;
+      long_upper = is.long_upper;
     }
 
 -- a list over which a function is written from the front: what is read, and the end

@@ -41,8 +41,8 @@ pub record IsTable (t : Table) : Type 0 where
   pub lowers : length t.lower ≡ width t
   pub uppers : length t.upper ≡ width t
   pub few : length t.rows ≤ most_rows
-  pub small_lower : (v : ℕ) (b : ℤ) → bound t.lower v ≡ Some b → nat_abs b < 2 ^ 64
-  pub small_upper : (v : ℕ) (b : ℤ) → bound t.upper v ≡ Some b → nat_abs b < 2 ^ 64
+  pub long_lower : (v : ℕ) (b : ℤ) → bound t.lower v ≡ Some b → nat_abs b < 2 ^ 64
+  pub long_upper : (v : ℕ) (b : ℤ) → bound t.upper v ≡ Some b → nat_abs b < 2 ^ 64
 
 -- before the first pivot: each slack is basic in its own row, and there are no bounds
 abbrev pub first_table : ℕ → List Linear → Table

@@ -1,4 +1,4 @@
--- Numbers that are given where they are narrow.
+-- Numbers that are given where they are short.
 use Rattle.std.specs.Prelude.{ℕ, List, [], ◌∷◌, ℤ, ◌*ℤ◌, nat_abs, ◌==◌, Option, Some, None, Bool, true, false, ◌&&◌, if◌then◌else◌}
 use Rattle.std.specs.List.{list_any}
 use Rattle.lin_atoms.specs.Linear.{Linear, is_short}

@@ -34,7 +34,7 @@ fn exact_product(a: i64, b: i64) -> i128
     i128::from(a) * i128::from(b)
 }
 
-/// The product, where it is narrow; nothing is no factor.
+/// The product, where it is short; nothing is no factor.
 fn times(product: i64, constant: Option<i64>) -> Option<i64>
     ensures { result ≡ if_short (times product constant) }
 {
@@ -44,7 +44,7 @@ fn times(product: i64, constant: Option<i64>) -> Option<i64>
     }
 }
 
-/// The product of those that are constant, where it is narrow.
+/// The product of those that are constant, where it is short.
 fn product(constants: &[Option<i64>]) -> Option<i64>
     ensures { result ≡ if_short (product_of (constants_among constants.now)) }
 {
@@ -75,7 +75,7 @@ fn is_zero(form: &Lin) -> bool
     form.terms().is_empty() && form.constant() == 0
 }
 
-/// The form times a number that is given where it is narrow.
+/// The form times a number that is given where it is short.
 fn multiple(alloc: Global, factor: Option<i64>, form: &Lin) -> Result<Lin, WideStop>
     ensures made { (k : ℤ) → factor ≡ if_short k → IfOk result (λ made. made ≡ scaled k form.now) }
     ensures narrow { (k : ℤ) → factor ≡ if_short k → OnOk result (is_narrow (scaled k form.now) ≡ true) }

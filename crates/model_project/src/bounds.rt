@@ -3,7 +3,7 @@
 ghost use Rattle.std.specs.Prelude.{Some, ◌≡◌, ◌<◌, ◌≤◌, ◌^◌, ◌*◌, nat_abs, None, true, false, IfOk, IfSome, IsErr, IsNone, IsSome, OnOk};
 ghost use Rattle.std.specs.Option.{option_map};
 ghost use Rattle.lin_atoms.specs.Linear.{value_at, variable_at};
-ghost use Rattle.model_project.specs.Elimination.{gap, gaps_are_small, is_bound, is_nearer, nearer, nearest};
+ghost use Rattle.model_project.specs.Elimination.{gap, gaps_are_short, is_bound, is_nearer, nearer, nearest};
 ghost use Rattle.model_project.specs.Substitution.{coefficient};
 
 use crate::period::short;
@@ -109,8 +109,8 @@ pub(crate) fn nearest<'a>(
 ) -> Result<Option<Bound<'a>>, Wide>
     ensures is { IfOk result (λ best. option_map (λ b. b.lin.now) best ≡ nearest model.now below variable lits.now) }
     ensures gap { IfOk result (λ best. IfSome best (λ b. b.gap ≡ gap model.now b.lin.now)) }
-    ensures small { OnOk result (gaps_are_small model.now below variable lits.now ≡ true) }
-    ensures wide { IsErr result → gaps_are_small model.now below variable lits.now ≡ false }
+    ensures small { OnOk result (gaps_are_short model.now below variable lits.now ≡ true) }
+    ensures wide { IsErr result → gaps_are_short model.now below variable lits.now ≡ false }
 {
     let mut best = None;
     let mut left = lits.len();

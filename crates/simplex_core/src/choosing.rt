@@ -58,7 +58,7 @@ fn wide_floor(values: &[Coordinate], variables: usize) -> Option<usize>
 {
     values[..variables]
         .iter()
-        .position(|value| !value.has_small_floor())
+        .position(|value| !value.has_short_floor())
 }
 
 /// Whether the value is below the bound.

@@ -144,7 +144,7 @@ impl Coordinate {
     }
 
     /// Whether the greatest integer that is at most the value has room: its magnitude is below 2^63.
-    pub fn has_small_floor(&self) -> bool
+    pub fn has_short_floor(&self) -> bool
         ensures { result ≡ is_short (int_div_euclid self.now.num self.now.den) }
     {
         match self.sum.quotient(self.den).to_i128() {
