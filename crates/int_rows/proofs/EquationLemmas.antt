@@ -112,7 +112,7 @@ equation-solved variables count i lin h small below =
     let basic = range-at variables count i 0 h in
     record {
       width = long;
-      small = all-mapped is_short (equation_entry slack lin) (range_with_len 0 columns) (λ c. small-entry slack lin c (c == slack) small);
+      short = all-mapped is_short (equation_entry slack lin) (range_with_len 0 columns) (λ c. small-entry slack lin c (c == slack) small);
       primitive = eq-eqb (content row) 1 (one-primitive row slack place own);
       positive = subst (λ v. pos 0 <ℤ get_or row v (pos 0)) (sym basic) (subst (λ z. pos 0 <ℤ z) (sym own) (omega (arith, ints)));
       zero = λ j less other.
