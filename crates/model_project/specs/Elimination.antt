@@ -33,7 +33,7 @@ abbrev pub period : ℕ → List Lit → ℕ
 period v [] = 1
 period v (lit ∷ lits) = if occurs v lit then least_multiple (period v lits) (divisor lit) else period v lits
 
--- whether each number of a literal is below 2 ^ 63 in magnitude
+-- whether each number of a literal is short
 abbrev pub has_short_numbers : Lit → Bool
 has_short_numbers lit = list_all (λ t. is_short t.1) (linear_of lit).terms && (is_short (linear_of lit).constant && nat_lt (divisor lit) (2 ^ 63))
 
