@@ -12,7 +12,7 @@ use Rattle.lin_atoms.specs.Linear.{Linear, is_short, are_short, are_ordered}
 use Rattle.lin_atoms.specs.Algebra.{scaled, scaled_terms, term_on}
 use Rattle.lin_atoms.proofs.Public.{both_true}
 use Rattle.linear_terms.specs.Linear.{is_narrow, varying}
-use Rattle.linear_sums.specs.Narrow.{has_zero, is_nothing, if_short, is_zero_form, has_no_terms, times}
+use Rattle.linear_sums.specs.Short.{has_zero, is_nothing, if_short, is_zero_form, has_no_terms, times}
 
 pub abs_product : (a b : ℤ) → nat_abs (a *ℤ b) ≡ nat_abs a * nat_abs b
 abs_product a b = unsigned_abs-mul a b

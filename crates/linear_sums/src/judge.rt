@@ -4,7 +4,7 @@ ghost use Rattle.std.specs.Prelude.{◌≡◌, ◌&&◌, IsTrue, IfOk, OnOk, IfS
 ghost use Rattle.lin_atoms.specs.Linear.{are_ordered, are_short, is_short};
 ghost use Rattle.lin_atoms.specs.Algebra.{collected};
 ghost use Rattle.linear_terms.specs.Linear.{is_narrow};
-ghost use Rattle.linear_sums.specs.Narrow.{if_short};
+ghost use Rattle.linear_sums.specs.Short.{if_short};
 
 use crate::collect::collected;
 use base::Memory;

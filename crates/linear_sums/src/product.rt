@@ -6,7 +6,7 @@ ghost use Rattle.term_tree.specs.Constants.{constants_among};
 ghost use Rattle.lin_atoms.specs.Algebra.{scaled};
 ghost use Rattle.lin_atoms.specs.Linear.{are_ordered};
 ghost use Rattle.linear_terms.specs.Linear.{is_narrow, product_form, varying};
-ghost use Rattle.linear_sums.specs.Narrow.{has_zero, if_short, is_nothing, is_zero_constant, is_zero_form, times};
+ghost use Rattle.linear_sums.specs.Short.{has_zero, if_short, is_nothing, is_zero_constant, is_zero_form, times};
 
 use crate::judge::{judged, narrow};
 use lin_atoms::{Lin, WideStop};
