@@ -169,11 +169,11 @@ pub record IsNext (m n : Moment) : Type 0 where
   pub column : ℕ
   pub side : Side
   pub turns : turn m ≡ Pivot row column side
-  pub small : list_all are_short (pivoted row column m.table.rows) ≡ true
+  pub short : list_all are_short (pivoted row column m.table.rows) ≡ true
   pub moment : n ≡ after m row column side
 
 next-cases : (m n : Moment) (i c : ℕ) (side : Side) (b : Bool) → turn m ≡ Pivot i c side → list_all are_short (pivoted i c m.table.rows) ≡ b → cond b (Next (after m i c side)) (Ended (Pivot i c side)) ≡ Next n → IsNext m n
-next-cases m n i c side true t small e = record { row = i; column = c; side = side; turns = t; small = small; moment = cc }
+next-cases m n i c side true t small e = record { row = i; column = c; side = side; turns = t; short = small; moment = cc }
 next-cases m n i c side false t small e = absurd (cc)
 
 outcome-next : (m n : Moment) (t : Turn) → turn m ≡ t → outcome m t ≡ Next n → IsNext m n
