@@ -1,4 +1,6 @@
 -- Widths of integers, each named once. A short one has room beside its sign in a word of 64 bits, a long one in 65 bits.
+-- A form is narrow where all its numbers are short. A cube is thin where its coefficients are below 2 ^ 54 in magnitude. What
+-- is wide has no room for its use: the crate that says it says which.
 use Rattle.std.specs.Prelude.{◌^◌, ℤ, nat_abs, Bool, nat_lt}
 
 -- below 2 ^ 63 in magnitude

@@ -19,7 +19,7 @@ use Rattle.chc_core.specs.Views.{standing_of}
 use Rattle.derivation_lines.specs.Claims.{DeriveFalse}
 use Rattle.derivation_lines.specs.Lines.{fact_lines}
 use Rattle.interpretations.specs.Definitions.{AreDefinitionsOf}
-use Rattle.obligation_turn.specs.Turns.{IsNarrow}
+use Rattle.obligation_turn.specs.Turns.{IsThin}
 use Rattle.answer_text.specs.declared.answer.Answer.{Answer}
 use Rattle.answer_text.specs.declared.answer.Answer.TheVariants.{Sat, Unsat, Unknown}
 use Rattle.answer_text.specs.declared.answer.UnknownCause.TheVariants.{Units, Stalled as StalledCause}
@@ -56,5 +56,5 @@ pub record HasText (script : Script) (b : Contents) (e : End) (text : List ℕ) 
 
 -- the book that a script opens, with these units to spend and nothing written yet; or the script's refusal
 abbrev pub IsOpened : Checked → ℕ → Opened → Type 0
-IsOpened checked units (Book b) = IsBookOf checked b × (b.given ≡ units) × (b.journal ≡ []) × IsNarrow (standing_of b)
+IsOpened checked units (Book b) = IsBookOf checked b × (b.given ≡ units) × (b.journal ≡ []) × IsThin (standing_of b)
 IsOpened checked units (Refused refusal) = system_reading checked ≡ Err refusal

@@ -17,11 +17,11 @@ use Rattle.chc_core.specs.Contents.{Contents}
 use Rattle.chc_core.specs.Views.{standing_of, state_of}
 use Rattle.chc_core.specs.declared.entry.Entry.{Entry}
 use Rattle.obligation_turn.specs.Counts.{StepCounts}
-use Rattle.obligation_turn.specs.Turns.{IsNarrow, StepIsNarrow}
+use Rattle.obligation_turn.specs.Turns.{IsThin, StepIsThin}
 use Rattle.book_loop.specs.Runs.{IsOwn}
 use Rattle.book_loop.specs.machinery.Steps.{IsFurther}
 
--- narrow cubes
+-- thin cubes
 
 all_map : {X Y : Type 0} (P : Y → Type 0) (f : X → Y) (xs : List X) → AllOf (λ x. P (f x)) xs → AllOf P (map f xs)
 all_map P f [] h = tt
@@ -31,23 +31,23 @@ all_unmap : {X Y : Type 0} (P : Y → Type 0) (f : X → Y) (xs : List X) → Al
 all_unmap P f [] h = tt
 all_unmap P f (x ∷ xs) h = (h.0, all_unmap P f xs h.1)
 
-abbrev NarrowLemma : Framed → Type 0
-NarrowLemma e = is_wide e.lemma.cube ≡ false
+abbrev ThinLemma : Framed → Type 0
+ThinLemma e = is_wide e.lemma.cube ≡ false
 
-abbrev NarrowObligation : Obligation → Type 0
-NarrowObligation o = is_wide o.cube ≡ false
+abbrev ThinObligation : Obligation → Type 0
+ThinObligation o = is_wide o.cube ≡ false
 
-record IsNarrowState (s : State) : Type 0 where
-  lemmas : AllOf NarrowLemma s.lemmas
-  obligations : AllOf NarrowObligation s.obligations
+record IsThinState (s : State) : Type 0 where
+  lemmas : AllOf ThinLemma s.lemmas
+  obligations : AllOf ThinObligation s.obligations
 
-narrow_state : (b : Contents) → IsNarrow (standing_of b) → IsNarrowState (state_of b)
-narrow_state b h = record { lemmas = all_map NarrowLemma framed_of b.frames.lemmas h.lemmas; obligations = all_map NarrowObligation obligation_of b.tree.nodes h.obligations }
+thin_state : (b : Contents) → IsThin (standing_of b) → IsThinState (state_of b)
+thin_state b h = record { lemmas = all_map ThinLemma framed_of b.frames.lemmas h.lemmas; obligations = all_map ThinObligation obligation_of b.tree.nodes h.obligations }
 
-state_narrow : (b : Contents) → IsNarrowState (state_of b) → IsNarrow (standing_of b)
-state_narrow b h = record { lemmas = all_unmap NarrowLemma framed_of b.frames.lemmas h.lemmas; obligations = all_unmap NarrowObligation obligation_of b.tree.nodes h.obligations }
+state_thin : (b : Contents) → IsThinState (state_of b) → IsThin (standing_of b)
+state_thin b h = record { lemmas = all_unmap ThinLemma framed_of b.frames.lemmas h.lemmas; obligations = all_unmap ThinObligation obligation_of b.tree.nodes h.obligations }
 
-lemma_new : (step : Step) → StepIsNarrow step → LemmaHas NarrowLemma (step_of step)
+lemma_new : (step : Step) → StepIsThin step → LemmaHas ThinLemma (step_of step)
 lemma_new (OpenStep o) h = tt
 lemma_new (LemmaStep l) h = h
 lemma_new (FactStep f) h = tt
@@ -55,7 +55,7 @@ lemma_new (LiftStep l) h = tt
 lemma_new (RaiseStep r) h = tt
 lemma_new (StallStep t) h = tt
 
-child_new : (sys : Clauses) (s : State) (step : Step) → StepIsNarrow step → ChildHas NarrowObligation sys s (step_of step)
+child_new : (sys : Clauses) (s : State) (step : Step) → StepIsThin step → ChildHas ThinObligation sys s (step_of step)
 child_new sys s (OpenStep o) h = λ parent atom there is. h
 child_new sys s (LemmaStep l) h = tt
 child_new sys s (FactStep f) h = tt
@@ -63,22 +63,22 @@ child_new sys s (LiftStep l) h = tt
 child_new sys s (RaiseStep r) h = tt
 child_new sys s (StallStep t) h = tt
 
-narrow_step : (sys : Clauses) (s : State) (step : Step) → IsNarrowState s → StepIsNarrow step → IsNarrowState (after sys s (step_of step))
-narrow_step sys s step h new = record {
-  lemmas = lemmas-after NarrowLemma (λ e level k. k) sys s (step_of step) h.lemmas (lemma_new step new);
-  obligations = steady-after NarrowObligation (λ o level closed stalled k. k) sys s (step_of step) h.obligations (child_new sys s step new);
+thin_step : (sys : Clauses) (s : State) (step : Step) → IsThinState s → StepIsThin step → IsThinState (after sys s (step_of step))
+thin_step sys s step h new = record {
+  lemmas = lemmas-after ThinLemma (λ e level k. k) sys s (step_of step) h.lemmas (lemma_new step new);
+  obligations = steady-after ThinObligation (λ o level closed stalled k. k) sys s (step_of step) h.obligations (child_new sys s step new);
 }
 
-narrow-after : (b c : Contents) (step : Step) → state_of c ≡ after b.system (state_of b) (step_of step) → IsNarrow (standing_of b) → StepIsNarrow step → IsNarrow (standing_of c)
-narrow-after b c step is h new = state_narrow c (subst IsNarrowState (sym is) (narrow_step b.system (state_of b) step (narrow_state b h) new))
+thin-after : (b c : Contents) (step : Step) → state_of c ≡ after b.system (state_of b) (step_of step) → IsThin (standing_of b) → StepIsThin step → IsThin (standing_of c)
+thin-after b c step is h new = state_thin c (subst IsThinState (sym is) (thin_step b.system (state_of b) step (thin_state b h) new))
 
-pub narrow-opening : (b : Contents) (units : ℕ) → state_of b ≡ opening units → IsNarrow (standing_of b)
-narrow-opening b units is = state_narrow b (subst IsNarrowState (sym is) (record { lemmas = tt; obligations = (refl, tt) }))
+pub thin-opening : (b : Contents) (units : ℕ) → state_of b ≡ opening units → IsThin (standing_of b)
+thin-opening b units is = state_thin b (subst IsThinState (sym is) (record { lemmas = tt; obligations = (refl, tt) }))
 
 -- books that took steps
 
 pub further-none : (nodes : ℕ) (b : Contents) → IsFurther nodes b b
-further-none nodes b = record { system = refl; given = refl; narrow = λ h. h; own = λ h. h; longer = omega arith }
+further-none nodes b = record { system = refl; given = refl; thin = λ h. h; own = λ h. h; longer = omega arith }
 
 pub further-then : (nodes : ℕ) (b c d : Contents) → IsFurther nodes b c → IsFurther nodes c d → IsFurther nodes b d
 further-then nodes b c d first second =
@@ -87,7 +87,7 @@ further-then nodes b c d first second =
     record {
       system = second.system ∙ first.system;
       given = second.given ∙ first.given;
-      narrow = λ h. second.narrow (first.narrow h);
+      thin = λ h. second.thin (first.thin h);
       own = λ h. second.own (first.own h);
       longer = omega (arith, one, two);
     }
@@ -98,14 +98,14 @@ grown b c entry is =
     omega (arith, more)
 
 pub further-step : (nodes : ℕ) (b c : Contents) (step : Step) → state_of c ≡ after b.system (state_of b) (step_of step) → c.system ≡ b.system → c.given ≡ b.given
-    → c.journal ≡ b.journal ++ (record { worker = 1; step = step }) ∷ [] → StepCounts nodes step → StepIsNarrow step → IsFurther nodes b c
-further-step nodes b c step is system given journal counts narrow =
+    → c.journal ≡ b.journal ++ (record { worker = 1; step = step }) ∷ [] → StepCounts nodes step → StepIsThin step → IsFurther nodes b c
+further-step nodes b c step is system given journal counts thin =
     let entry : Entry = record { worker = 1; step = step } in
     let more = grown b c entry journal in
     record {
       system = system;
       given = given;
-      narrow = λ h. narrow-after b c step is h narrow;
+      thin = λ h. thin-after b c step is h thin;
       own = λ h. subst (AllOf (IsOwn nodes)) (sym journal) (all_of-push (IsOwn nodes) b.journal entry h (record { worker = refl; counts = counts }));
       longer = omega (arith, more);
     }

@@ -19,31 +19,31 @@ use Rattle.step_rules.specs.declared.step.Step.TheVariants.{LemmaStep, LiftStep}
 use Rattle.chc_core.specs.Contents.{Contents}
 use Rattle.chc_core.specs.Openings.{opening_of}
 use Rattle.chc_core.specs.Views.{standing_of, state_of, steps_of}
-use Rattle.obligation_turn.specs.Turns.{GoesOn, IsNarrow, IsTurn}
+use Rattle.obligation_turn.specs.Turns.{GoesOn, IsThin, IsTurn}
 use Rattle.lemma_general.specs.Generals.{IsLearnt, IsLiftOf}
 use Rattle.book_loop.specs.Runs.{CanRun}
 use Rattle.book_loop.specs.machinery.Steps.{IsOffered, IsTaken}
 
 pub goes_on : (b : Contents) → CanRun b.system → IsStanding (standing_of b) → IsOrdered (state_of b) → AreRecorded b.system [] (state_of b).facts → end (state_of b) ≡ None
-    → IsNarrow (standing_of b) → GoesOn (standing_of b)
-goes_on b can standing ordered recorded goes narrow = record { few = can.few; standing = standing; ordered = ordered; recorded = recorded; goes_on = goes; narrow = narrow }
+    → IsThin (standing_of b) → GoesOn (standing_of b)
+goes_on b can standing ordered recorded goes thin = record { few = can.few; standing = standing; ordered = ordered; recorded = recorded; goes_on = goes; thin = thin }
 
 pub taken : (b : Standing) (job nodes : ℕ) (step : Step) → IsTurn b job nodes step → IsTaken b nodes step
-taken b job nodes step h = record { unbroken = h.unbroken; made = h.made; places = h.places; counts = h.counts; narrow = h.narrow }
+taken b job nodes step h = record { unbroken = h.unbroken; made = h.made; places = h.places; counts = h.counts; thin = h.thin }
 
 -- lemmas and lifts
 
 pub learnt : (b : Standing) (nodes : ℕ) (part : LemmaPart) → IsTaken b nodes (LemmaStep part) → IsLearnt b part
-learnt b nodes part h = record { unbroken = h.unbroken; made = h.made; places = h.places; narrow = h.narrow }
+learnt b nodes part h = record { unbroken = h.unbroken; made = h.made; places = h.places; thin = h.thin }
 
 pub taken-learnt : (b : Standing) (nodes : ℕ) (part : LemmaPart) → IsLearnt b part → IsTaken b nodes (LemmaStep part)
-taken-learnt b nodes part h = record { unbroken = h.unbroken; made = h.made; places = h.places; counts = tt; narrow = h.narrow }
+taken-learnt b nodes part h = record { unbroken = h.unbroken; made = h.made; places = h.places; counts = tt; thin = h.thin }
 
 pub taken-lift : (b : Standing) (id nodes : ℕ) (part : LiftPart) → IsLiftOf b id part → IsTaken b nodes (LiftStep part)
-taken-lift b id nodes part h = record { unbroken = h.unbroken; made = h.made; places = h.places; counts = tt; narrow = tt }
+taken-lift b id nodes part h = record { unbroken = h.unbroken; made = h.made; places = h.places; counts = tt; thin = tt }
 
 pub offered : (b : Standing) (nodes : ℕ) (step : Step) → IsTaken b nodes step → IsOffered b.system nodes step
-offered b nodes step h = record { made = h.made; places = h.places; counts = h.counts; narrow = h.narrow }
+offered b nodes step h = record { made = h.made; places = h.places; counts = h.counts; thin = h.thin }
 
 -- an obligation for which a lemma is learnt
 

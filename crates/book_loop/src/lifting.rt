@@ -5,7 +5,7 @@ ghost use Rattle.std.specs.Bool.{OnTrue};
 ghost use Rattle.lemma_frames.specs.Frames.{level_of};
 ghost use Rattle.book_rules.specs.Legal.{end};
 ghost use Rattle.chc_core.specs.Views.{standing_of, state_of};
-ghost use Rattle.obligation_turn.specs.Turns.{IsNarrow};
+ghost use Rattle.obligation_turn.specs.Turns.{IsThin};
 ghost use Rattle.obligation_turn.specs.Workspaces.{IsWorkspaceFor};
 ghost use Rattle.book_loop.specs.Runs.{CanRun};
 ghost use Rattle.book_loop.specs.machinery.Steps.{IsFurther, IsTaken};
@@ -58,7 +58,7 @@ fn lift_of(book: &Book, id: u32, nodes: u32, work: &mut Workspace) -> Result<Opt
     requires can_run { CanRun book.now.system }
     requires some { 0 < nodes }
     requires goes_on { end (state_of book.now) ≡ None }
-    requires narrow { IsNarrow (standing_of book.now) }
+    requires thin { IsThin (standing_of book.now) }
     requires there { id < length book.now.frames.lemmas }
     requires below { level_of book.now.frames.lemmas id < book.now.level }
     requires work { IsWorkspaceFor book.now.system work.old }
@@ -83,7 +83,7 @@ fn lift_once(
 ) -> Result<bool, Memory>
     requires can_run { CanRun book.old.system }
     requires some { 0 < nodes }
-    requires narrow { IsNarrow (standing_of book.old) }
+    requires thin { IsThin (standing_of book.old) }
     requires work { IsWorkspaceFor book.old.system work.old }
     ensures further { IsFurther nodes book.old book.new }
     ensures work { OnOk result (IsWorkspaceFor book.old.system work.new) }
@@ -113,7 +113,7 @@ fn lift_up(
 ) -> Result<(), Memory>
     requires can_run { CanRun book.old.system }
     requires some { 0 < nodes }
-    requires narrow { IsNarrow (standing_of book.old) }
+    requires thin { IsThin (standing_of book.old) }
     requires work { IsWorkspaceFor book.old.system work.old }
     ensures further { IsFurther nodes book.old book.new }
     ensures work { OnOk result (IsWorkspaceFor book.old.system work.new) }
@@ -130,7 +130,7 @@ fn lift_up(
 fn lift_all(book: &mut Book, pass: Pass, nodes: u32, work: &mut Workspace) -> Result<(), Memory>
     requires can_run { CanRun book.old.system }
     requires some { 0 < nodes }
-    requires narrow { IsNarrow (standing_of book.old) }
+    requires thin { IsThin (standing_of book.old) }
     requires work { IsWorkspaceFor book.old.system work.old }
     ensures further { IsFurther nodes book.old book.new }
     ensures work { OnOk result (IsWorkspaceFor book.old.system work.new) }
@@ -150,7 +150,7 @@ pub(crate) fn lift_after(
 ) -> Result<(), Memory>
     requires can_run { CanRun book.old.system }
     requires some { 0 < nodes }
-    requires narrow { IsNarrow (standing_of book.old) }
+    requires thin { IsThin (standing_of book.old) }
     requires work { IsWorkspaceFor book.old.system work.old }
     ensures further { IsFurther nodes book.old book.new }
     ensures work { OnOk result (IsWorkspaceFor book.old.system work.new) }

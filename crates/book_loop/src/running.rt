@@ -5,7 +5,7 @@ ghost use Rattle.book_rules.specs.Legal.{end};
 ghost use Rattle.book_rules.specs.Walks.{AllOf};
 ghost use Rattle.chc_core.specs.Openings.{most_units};
 ghost use Rattle.chc_core.specs.Views.{standing_of, state_of};
-ghost use Rattle.obligation_turn.specs.Turns.{IsNarrow};
+ghost use Rattle.obligation_turn.specs.Turns.{IsThin};
 ghost use Rattle.obligation_turn.specs.Workspaces.{IsWorkspaceFor};
 ghost use Rattle.book_loop.specs.Runs.{CanRun, IsOwn};
 ghost use Rattle.book_loop.specs.machinery.Steps.{IsFurther, IsTaken};
@@ -33,7 +33,7 @@ fn next_step(
     requires can_run { CanRun book.now.system }
     requires some { 0 < nodes }
     requires goes_on { end (state_of book.now) ≡ None }
-    requires narrow { IsNarrow (standing_of book.now) }
+    requires thin { IsThin (standing_of book.now) }
     requires work { IsWorkspaceFor book.now.system work.old }
     ensures taken { IfOk result (IsTaken (standing_of book.now) nodes) }
     ensures work { OnOk result (IsWorkspaceFor book.now.system work.new) }
@@ -70,7 +70,7 @@ fn advance(
     requires can_run { CanRun book.old.system }
     requires some { 0 < nodes }
     requires goes_on { end (state_of book.old) ≡ None }
-    requires narrow { IsNarrow (standing_of book.old) }
+    requires thin { IsThin (standing_of book.old) }
     requires work { IsWorkspaceFor book.old.system work.old }
     ensures further { IsFurther nodes book.old book.new }
     ensures work { OnOk result (IsWorkspaceFor book.old.system work.new) }
@@ -91,13 +91,13 @@ fn advance(
 pub fn search(book: &mut Book, nodes: u32) -> Result<(), Memory>
     requires can_run { CanRun book.old.system }
     requires some { 0 < nodes }
-    requires narrow { IsNarrow (standing_of book.old) }
+    requires thin { IsThin (standing_of book.old) }
     requires own { AllOf (IsOwn nodes) book.old.journal }
     ensures ended { OnOk result (IsSome (end (state_of book.new))) }
     ensures system { book.new.system ≡ book.old.system }
     ensures given { book.new.given ≡ book.old.given }
     ensures own { AllOf (IsOwn nodes) book.new.journal }
-    ensures narrow { IsNarrow (standing_of book.new) }
+    ensures thin { IsThin (standing_of book.new) }
 {
     let mut hints = hints_of(book.lend().alloc, book.system())?;
     let mut work = Workspace::new(book.lend().alloc);
@@ -114,7 +114,7 @@ pub fn begin(alloc: Global, system: System, units: u32) -> Result<Book, Memory>
     ensures system { IfOk result (λ book. book.system ≡ system) }
     ensures given { IfOk result (λ book. book.given ≡ units) }
     ensures new { IfOk result (λ book. book.journal ≡ []) }
-    ensures narrow { IfOk result (λ book. IsNarrow (standing_of book)) }
+    ensures thin { IfOk result (λ book. IsThin (standing_of book)) }
 {
     let book = Book::new(alloc, system, units)?;
     Ok(book)

@@ -4,7 +4,7 @@ ghost use Rattle.std.specs.Prelude.{◌≡◌, ◌<◌, None, length, IfOk, OnOk
 ghost use Rattle.std.specs.Bool.{OnFalse, OnTrue};
 ghost use Rattle.book_rules.specs.Legal.{end};
 ghost use Rattle.chc_core.specs.Views.{standing_of, state_of};
-ghost use Rattle.obligation_turn.specs.Turns.{GoesOn, IsNarrow};
+ghost use Rattle.obligation_turn.specs.Turns.{GoesOn, IsThin};
 ghost use Rattle.book_loop.specs.Runs.{CanRun};
 ghost use Rattle.book_loop.specs.machinery.Steps.{HasTaken, IsFurther, IsOffered, IsTaken};
 
@@ -30,7 +30,7 @@ pub(crate) fn has_ended(book: &Book) -> bool
 pub(crate) fn lend(book: &Book) -> Lent
     requires can_run { CanRun book.now.system }
     requires goes_on { end (state_of book.now) ≡ None }
-    requires narrow { IsNarrow (standing_of book.now) }
+    requires thin { IsThin (standing_of book.now) }
     ensures is { result ≡ standing_of book.now }
     ensures goes_on { GoesOn result }
 {

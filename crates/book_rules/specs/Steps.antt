@@ -86,7 +86,7 @@ pub data Step : Type 0 where
 
 -- what the tokens stand for
 
--- an instance of a clause that is there, with each value below 2 ^ 63 in magnitude
+-- an instance of a clause that is there, with short values
 pub record IsSeen (sys : Clauses) (seen : Seen) : Type 0 where
   pub clause : Clause
   pub there : slice_get sys.clauses seen.clause ≡ Some clause

@@ -37,7 +37,7 @@ abbrev pub is_head : List (List Sort) → ℕ → Option Atom → Bool
 is_head preds n None = true
 is_head preds n (Some atom) = is_atom preds n atom
 
--- the constant of a divisibility is below 2 ^ 63 in magnitude
+-- the constant of a divisibility is short
 abbrev pub has_short_in_guard : Lit → Bool
 has_short_in_guard (Le lin) = true
 has_short_in_guard (Eq lin) = true

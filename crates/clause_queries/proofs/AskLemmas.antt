@@ -15,7 +15,7 @@ use Rattle.clause_form.specs.declared.atom.Atom.{Atom}
 use Rattle.clause_form.specs.declared.clause.Clause.{Clause}
 use Rattle.clause_form.proofs.Public.{keeps, keeps_atom}
 use Rattle.cube_forms.specs.Cubes.{cube_at, cube_is_below, cube_is_short, has_room, lemma_at}
-use Rattle.cube_forms.proofs.Public.{narrow-room}
+use Rattle.cube_forms.proofs.Public.{thin-room}
 use Rattle.lemma_frames.specs.declared.framed.Framed.{Framed}
 use Rattle.chc_tokens.specs.Instances.{token_args}
 use Rattle.chc_tokens.specs.Queries.{base, base_at, base_in, forms_at, forms_in, goal_cube, goal_has_room, has_goal, has_places, has_used, used_form, used_has_room, used_have_room}
@@ -38,7 +38,7 @@ use Rattle.clause_queries.specs.Uses.{IsAskedAt, is_asked, uses}
 use Rattle.clause_queries.specs.machinery.Asking.{MayAsk}
 use Rattle.clause_queries.proofs.BoolLemmas.{number_is, same_some}
 use Rattle.clause_queries.proofs.FormLemmas.{below-lemma, below-literals, cube-at, short-cube, short-guard, short-lemma, short-literals}
-use Rattle.clause_queries.proofs.UseLemmas.{narrow, uses-all, uses_on-all}
+use Rattle.clause_queries.proofs.UseLemmas.{thin-cube, uses-all, uses_on-all}
 
 -- a cube over a predicate, on an atom of it: it has the atom's places, and room there
 pub record FitsOn (args : List ℕ) (cube : List Lit) : Type 0 where
@@ -51,7 +51,7 @@ fits-on preds n atom pred cube one same over thin kept =
     let is : pred ≡ atom.pred = number_is pred atom.pred same in
     let there : places_of preds (Some pred) ≡ Some (length atom.args) = ap (λ (p : ℕ). places_of preds (Some p)) is ∙ atom_places preds n atom one in
     let places : cube_is_below (length atom.args) cube ≡ true = ap (λ (o : Option ℕ). has o (λ m. cube_is_below m cube)) (sym there) ∙ over in
-    record { places = places; room = narrow-room atom.args cube (keeps_atom preds n atom one).few (narrow cube thin (both_true _ _ kept).0) places }
+    record { places = places; room = thin-room atom.args cube (keeps_atom preds n atom one).few (thin-cube cube thin (both_true _ _ kept).0) places }
 
 -- the parts of an option that is there by a test
 some-if : {X : Type 0} (b : Bool) (x : X) → b ≡ true → is_some (cond {A = Option X} b (Some x) None) ≡ true
@@ -118,7 +118,7 @@ pub may-ask : (sys : Clauses) (fs : List Framed) (pred : Option ℕ) (goal : Goa
     → slice_get sys.clauses n ≡ Some clause → is_asked pred k clause ≡ true → MayAsk sys n goal (uses k fs clause)
 may-ask sys fs pred goal k n clause asks one kept goal_kept there asked =
     let its = keeps sys.preds clause one in
-    let all = usable sys.preds fs asks.over asks.narrow kept in
+    let all = usable sys.preds fs asks.over asks.thin kept in
     let headed = (both_true (is_head pred clause.head) _ asked).0 in
     let at_head = head-goal sys.preds (length clause.sorts) pred goal clause.head asks.fits goal_kept headed its.head in
     let goal_there = has-goal sys.preds (length clause.sorts) pred goal clause asks.fits goal_kept headed its.head in

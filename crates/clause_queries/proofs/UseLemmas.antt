@@ -9,7 +9,7 @@ use Rattle.lin_atoms.specs.Denial.{linear_of}
 use Rattle.lin_atoms.specs.Linear.{is_linear}
 use Rattle.lin_atoms.specs.declared.lit.Lit.{Lit}
 use Rattle.clause_form.specs.declared.atom.Atom.{Atom}
-use Rattle.cube_forms.specs.Cubes.{cube_is_narrow, lit_is_narrow}
+use Rattle.cube_forms.specs.Cubes.{cube_is_thin, lit_is_thin}
 use Rattle.lemma_frames.specs.declared.framed.Framed.{Framed}
 use Rattle.chc_tokens.specs.declared.used.Used.{Used}
 use Rattle.book_rules.specs.Areas.{is_wide}
@@ -75,18 +75,18 @@ pub uses-back : (test : Used → Bool) (k : ℕ) (fs : List Framed) (i : ℕ) (a
     → list_all test (uses_on k i atom.pred fs) ≡ true
 uses-back test k fs i atoms atom there h = ap (λ (m : ℕ). list_all test (uses_on k m atom.pred fs)) (let e : i ≡ 0 + i = omega arith in e) ∙ uses_from-back test k fs 0 i atoms atom there h
 
--- cubes that aren't wide are narrow
+-- cubes that aren't wide are thin
 
-narrow_terms : (ts : List (ℕ × ℤ)) → list_any (λ (t : ℕ × ℤ). nat_le (2 ^ 54) (nat_abs t.1)) ts ≡ false → are_within (2 ^ 54) ts ≡ true
-narrow_terms [] h = refl
-narrow_terms (t ∷ ts) h =
+thin_terms : (ts : List (ℕ × ℤ)) → list_any (λ (t : ℕ × ℤ). nat_le (2 ^ 54) (nat_abs t.1)) ts ≡ false → are_within (2 ^ 54) ts ≡ true
+thin_terms [] h = refl
+thin_terms (t ∷ ts) h =
     let both = both_false (nat_le (2 ^ 54) (nat_abs t.1)) _ h in
     let here : nat_le (nat_abs t.1) (2 ^ 54) ≡ true = grind (arith, nat_tests, both) in
-    from_both (nat_le (nat_abs t.1) (2 ^ 54)) _ here (narrow_terms ts both.1)
+    from_both (nat_le (nat_abs t.1) (2 ^ 54)) _ here (thin_terms ts both.1)
 
-pub narrow : (cube : List Lit) → is_wide cube ≡ false → are_linear cube ≡ true → cube_is_narrow cube ≡ true
-narrow [] h linear = refl
-narrow (lit ∷ lits) h linear =
+pub thin-cube : (cube : List Lit) → is_wide cube ≡ false → are_linear cube ≡ true → cube_is_thin cube ≡ true
+thin-cube [] h linear = refl
+thin-cube (lit ∷ lits) h linear =
     let both = both_false (list_any (λ (t : ℕ × ℤ). nat_le (2 ^ 54) (nat_abs t.1)) (linear_of lit).terms) _ h in
     let is = both_true (is_linear (linear_of lit)) _ linear in
-    from_both (lit_is_narrow lit) _ (from_both (is_linear (linear_of lit)) _ is.0 (narrow_terms (linear_of lit).terms both.0)) (narrow lits both.1 is.1)
+    from_both (lit_is_thin lit) _ (from_both (is_linear (linear_of lit)) _ is.0 (thin_terms (linear_of lit).terms both.0)) (thin-cube lits both.1 is.1)

@@ -40,7 +40,7 @@ pub record MayAskAll (sys : Clauses) (fs : List Framed) (pred : Option ℕ) (goa
   pub numbered : length sys.clauses < 2 ^ 32
   pub few : AreFew sys
   pub over : AllOf (λ (e : FramedLemma). is_over sys.preds e.lemma.pred e.lemma.cube ≡ true) (lemmas_of fs)
-  pub narrow : AllOf (λ (f : Framed). is_wide f.lemma ≡ false) fs
+  pub thin : AllOf (λ (f : Framed). is_wide f.lemma ≡ false) fs
   pub fits : GoalFits sys.preds pred goal
 
 -- an instance of the clause of a number whose head doesn't meet the goal's lemma, and whose body the used lemmas accept

@@ -1,4 +1,4 @@
--- Narrow cubes have room at every list of up to 256 arguments.
+-- Thin cubes have room at every list of up to 256 arguments.
 use Rattle.std.proofs.Common.{◌≡◌, ℕ, suc, List, [], ◌∷◌, map, refl, ap, ◌∙◌, arith, ◌<◌, ◌≤◌, ◌+◌, ◌*◌, ◌^◌, length, ◌&&◌, true, false, Bool}
 use Rattle.std.specs.Prelude.{ℤ, nat_abs, nat_le, nat_lt}
 use Rattle.std.specs.List.{list_all}
@@ -11,7 +11,7 @@ use Rattle.lin_atoms.specs.Truth.{lit_is_below}
 use Rattle.lin_atoms.specs.declared.lit.Lit.{Lit}
 use Rattle.lin_atoms.specs.declared.lit.Lit.TheVariants.{Le, Eq, Div, NDiv}
 use Rattle.lin_atoms.proofs.Public.{both_true, within-collected}
-use Rattle.cube_forms.specs.Cubes.{cube_is_below, cube_is_narrow, has_room, lit_at, lit_is_narrow}
+use Rattle.cube_forms.specs.Cubes.{cube_is_below, cube_is_thin, has_room, lit_at, lit_is_thin}
 
 both : (a b : Bool) → a ≡ true → b ≡ true → (a && b) ≡ true
 both true b h is = is
@@ -45,26 +45,26 @@ within-short m (t ∷ ts) h is =
 
 lin-room : (args : List ℕ) (lin : Linear) → length args ≤ 256 → is_linear lin ≡ true → lin_is_below (length args) lin ≡ true → are_within (2 ^ 54) lin.terms ≡ true
     → fits (record { terms = collected (map (λ t. (name_in args t.0, t.1)) lin.terms); constant = lin.constant }) ≡ true
-lin-room args lin few legal below narrow =
+lin-room args lin few legal below thin =
     let parts = both_true (are_ordered 0 lin.terms) _ legal in
     let long = (both_true (are_short lin.terms) (is_long lin.constant) parts.1).1 in
     let terms : List (ℕ × ℤ) = map (λ (t : ℕ × ℤ). (name_in args t.0, t.1)) lin.terms in
     let same : length terms ≡ length lin.terms = length-named (name_in args) lin.terms in
     let most : 0 + length lin.terms ≤ length args = few_terms (length args) 0 lin.terms (omega arith) parts.0 below in
     let count : length terms ≤ 256 = omega (arith, same, most, few) in
-    let within : are_within (length terms * 2 ^ 54) (collected terms) ≡ true = within-collected (2 ^ 54) terms (within-named (2 ^ 54) (name_in args) lin.terms ∙ narrow) in
+    let within : are_within (length terms * 2 ^ 54) (collected terms) ≡ true = within-collected (2 ^ 54) terms (within-named (2 ^ 54) (name_in args) lin.terms ∙ thin) in
     let room : length terms * 2 ^ 54 < 2 ^ 63 = omega (arith, count) in
     both (are_short (collected terms)) (is_long lin.constant) (within-short (length terms * 2 ^ 54) (collected terms) room within) long
 
-lit-room : (args : List ℕ) (lit : Lit) → length args ≤ 256 → lit_is_narrow lit ≡ true → lit_is_below (length args) lit ≡ true → lit_fits (lit_at args lit) ≡ true
+lit-room : (args : List ℕ) (lit : Lit) → length args ≤ 256 → lit_is_thin lit ≡ true → lit_is_below (length args) lit ≡ true → lit_fits (lit_at args lit) ≡ true
 lit-room args (Le lin) few is below = (let parts = both_true (is_linear lin) _ is in lin-room args lin few parts.0 below parts.1)
 lit-room args (Eq lin) few is below = (let parts = both_true (is_linear lin) _ is in lin-room args lin few parts.0 below parts.1)
 lit-room args (Div d lin) few is below = (let parts = both_true (is_linear lin) _ is in lin-room args lin few parts.0 below parts.1)
 lit-room args (NDiv d lin) few is below = (let parts = both_true (is_linear lin) _ is in lin-room args lin few parts.0 below parts.1)
 
-pub narrow-room : (args : List ℕ) (cube : List Lit) → length args ≤ 256 → cube_is_narrow cube ≡ true → cube_is_below (length args) cube ≡ true → has_room args cube ≡ true
-narrow-room args [] few is below = refl
-narrow-room args (l ∷ ls) few is below =
-    let parts = both_true (lit_is_narrow l) _ is in
+pub thin-room : (args : List ℕ) (cube : List Lit) → length args ≤ 256 → cube_is_thin cube ≡ true → cube_is_below (length args) cube ≡ true → has_room args cube ≡ true
+thin-room args [] few is below = refl
+thin-room args (l ∷ ls) few is below =
+    let parts = both_true (lit_is_thin l) _ is in
     let under = both_true (lit_is_below (length args) l) _ below in
-    both (lit_fits (lit_at args l)) (has_room args ls) (lit-room args l few parts.0 under.0) (narrow-room args ls few parts.1 under.1)
+    both (lit_fits (lit_at args l)) (has_room args ls) (lit-room args l few parts.0 under.0) (thin-room args ls few parts.1 under.1)

@@ -48,11 +48,11 @@ abbrev pub has_room : List ℕ → List Lit → Bool
 has_room args cube = list_all lit_fits (cube_at args cube)
 
 -- whether each coefficient is at most 2 ^ 54 in magnitude, in a form that the code can have
-abbrev pub lit_is_narrow : Lit → Bool
-lit_is_narrow lit = is_linear (linear_of lit) && are_within (2 ^ 54) (linear_of lit).terms
+abbrev pub lit_is_thin : Lit → Bool
+lit_is_thin lit = is_linear (linear_of lit) && are_within (2 ^ 54) (linear_of lit).terms
 
-abbrev pub cube_is_narrow : List Lit → Bool
-cube_is_narrow cube = list_all lit_is_narrow cube
+abbrev pub cube_is_thin : List Lit → Bool
+cube_is_thin cube = list_all lit_is_thin cube
 
 -- the literals at the arguments, denied one after another
 abbrev pub denials : List ℕ → List Lit → List Lit

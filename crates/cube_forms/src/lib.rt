@@ -16,7 +16,7 @@ mod tuple;
 
 pub use cube::Cube;
 pub use held::{Held, share_all};
-pub use laws::{a_cube_follows_its_arguments, a_lemma_denies_its_cube, narrow_cubes_have_room};
+pub use laws::{a_cube_follows_its_arguments, a_lemma_denies_its_cube, thin_cubes_have_room};
 pub use lemma::{Lemma, negate};
 pub use placed::lit_at;
 pub use stop::CubeStop;

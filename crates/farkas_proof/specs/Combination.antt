@@ -17,7 +17,7 @@ may_be_multiplied k (Eq lin) = true
 may_be_multiplied k (Div d lin) = false
 may_be_multiplied k (NDiv d lin) = false
 
--- the number of a literal that is there, and a multiplier for it, below 2 ^ 63 in magnitude
+-- the number of a literal that is there, and a short multiplier for it
 abbrev pub is_multiplier : List Lit → ℕ × ℤ → Bool
 is_multiplier lits m = is_short m.1 && option_map_or (may_be_multiplied m.1) (slice_get lits m.0) false
 

@@ -14,7 +14,7 @@ use std::alloc::Global;
 /// The number with 64 bits, unless it has no room in a form.
 fn narrow(n: i128) -> Option<i64>
     ensures some { IfSome result (λ m. m ≡ n) }
-    ensures small { IsSome result → is_short n ≡ true }
+    ensures short { IsSome result → is_short n ≡ true }
     ensures none { IsNone result → is_short n ≡ false }
 {
     if n.unsigned_abs() < 1 << 63 {
@@ -36,7 +36,7 @@ fn minus(n: i128) -> Option<i128>
 fn quotient_of(total: &Accumulator, divisor: i64) -> Option<i64>
     requires { pos 0 <ℤ divisor }
     ensures some { IfSome result (λ n. n ≡ int_div_euclid total.now.value divisor) }
-    ensures small { IsSome result → is_short (int_div_euclid total.now.value divisor) ≡ true }
+    ensures short { IsSome result → is_short (int_div_euclid total.now.value divisor) ≡ true }
     ensures none { IsNone result → is_short (int_div_euclid total.now.value divisor) ≡ false }
 {
     match quotient(total, divisor) {

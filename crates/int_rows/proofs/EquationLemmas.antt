@@ -112,7 +112,7 @@ equation-solved variables count i lin h small below =
     let basic = range-at variables count i 0 h in
     record {
       width = long;
-      small = all-mapped is_short (equation_entry slack lin) (range_with_len 0 columns) (λ c. small-entry slack lin c (c == slack) small);
+      short = all-mapped is_short (equation_entry slack lin) (range_with_len 0 columns) (λ c. small-entry slack lin c (c == slack) small);
       primitive = eq-eqb (content row) 1 (one-primitive row slack place own);
       positive = subst (λ v. pos 0 <ℤ get_or row v (pos 0)) (sym basic) (subst (λ z. pos 0 <ℤ z) (sym own) (omega (arith, ints)));
       zero = λ j less other.
@@ -150,6 +150,6 @@ first-solved variables lins below legal few =
       lowers = length-replicate (variables + n) None ∙ ap (λ k. variables + k) (sym count);
       uppers = length-replicate (variables + n) None ∙ ap (λ k. variables + k) (sym count);
       few = omega (arith, count, few);
-      small_lower = λ v b some. absurd (none-some (bound (replicate (variables + n) None) v) b (no-bound (variables + n) v) some);
-      small_upper = λ v b some. absurd (none-some (bound (replicate (variables + n) None) v) b (no-bound (variables + n) v) some);
+      long_lower = λ v b some. absurd (none-some (bound (replicate (variables + n) None) v) b (no-bound (variables + n) v) some);
+      long_upper = λ v b some. absurd (none-some (bound (replicate (variables + n) None) v) b (no-bound (variables + n) v) some);
     }

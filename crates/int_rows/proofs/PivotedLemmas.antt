@@ -217,13 +217,13 @@ table-pivots t i column is h there factor =
     let all = table-solved t is in
     record {
       within = h;
-      small = own.small;
+      short = own.short;
       there = omega (arith, there, own.width);
       others = λ j less away.
           let k : j < length t.basic = omega (arith, less, is.basics) in
           let row = is.solved j less in
           record {
-            small = row.small;
+            short = row.short;
             same = row.width ∙ sym own.width;
             there = omega (arith, there, row.width);
             some = crossed-some (width t) i j column t.basic (row_at t.rows i) (row_at t.rows j) away k (is.within j k) factor (all.solved i h) (all.solved j less);
@@ -246,12 +246,12 @@ pivoted-table t i column is h there factor room =
       within = λ j less. subst (λ n. basic_at (set t.basic i column) j < n) (sym wide) (all.within j less);
       solved = λ j less.
           let solved = all.solved j less in
-          subst (λ n. IsSolved n (set t.basic i column) j (row_at rows j)) (sym wide) (record { width = solved.width; small = all-at are_short rows j [] less room; primitive = solved.primitive; positive = solved.positive; zero = solved.zero });
+          subst (λ n. IsSolved n (set t.basic i column) j (row_at rows j)) (sym wide) (record { width = solved.width; short = all-at are_short rows j [] less room; primitive = solved.primitive; positive = solved.positive; zero = solved.zero });
       lowers = is.lowers ∙ sym wide;
       uppers = is.uppers ∙ sym wide;
       few = omega (arith, count, is.few);
-      small_lower = is.small_lower;
-      small_upper = is.small_upper;
+      long_lower = is.long_lower;
+      long_upper = is.long_upper;
     }
 
 -- a list over which a function is written from the front: what is read, and the end

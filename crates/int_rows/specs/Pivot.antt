@@ -27,7 +27,7 @@ eliminated column other row = if nat_abs (entry row column) == 0 then row else r
 
 -- a row that can be freed of a column by another: it has room, is as long, has the column, and the crossing isn't 0 everywhere
 pub record CanCross (column : ℕ) (other row : List ℤ) : Type 0 where
-  pub small : are_short row ≡ true
+  pub short : are_short row ≡ true
   pub same : length row ≡ length other
   pub there : column < length row
   pub some : 0 < content (crossed column row other)

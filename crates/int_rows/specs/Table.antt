@@ -29,7 +29,7 @@ basic_at basic i = slice_index_or basic i 0
 -- a row is primitive, positive in its own basic variable and 0 in the others
 pub record IsSolved (columns : ℕ) (basic : List ℕ) (i : ℕ) (row : List ℤ) : Type 0 where
   pub width : length row ≡ columns
-  pub small : are_short row ≡ true
+  pub short : are_short row ≡ true
   pub primitive : is_primitive row ≡ true
   pub positive : pos 0 <ℤ entry row (basic_at basic i)
   pub zero : (j : ℕ) → j < length basic → (j ≡ i → ⊥) → entry row (basic_at basic j) ≡ pos 0
@@ -41,8 +41,8 @@ pub record IsTable (t : Table) : Type 0 where
   pub lowers : length t.lower ≡ width t
   pub uppers : length t.upper ≡ width t
   pub few : length t.rows ≤ most_rows
-  pub small_lower : (v : ℕ) (b : ℤ) → bound t.lower v ≡ Some b → nat_abs b < 2 ^ 64
-  pub small_upper : (v : ℕ) (b : ℤ) → bound t.upper v ≡ Some b → nat_abs b < 2 ^ 64
+  pub long_lower : (v : ℕ) (b : ℤ) → bound t.lower v ≡ Some b → nat_abs b < 2 ^ 64
+  pub long_upper : (v : ℕ) (b : ℤ) → bound t.upper v ≡ Some b → nat_abs b < 2 ^ 64
 
 -- before the first pivot: each slack is basic in its own row, and there are no bounds
 abbrev pub first_table : ℕ → List Linear → Table
@@ -65,7 +65,7 @@ pivoted i column rows = slice_set (map (eliminated column (row_at rows i)) rows)
 -- rows that can pivot: the row has room and the column, and each other row can be freed of the column by it
 pub record CanPivot (i column : ℕ) (rows : List (List ℤ)) : Type 0 where
   pub within : i < length rows
-  pub small : are_short (row_at rows i) ≡ true
+  pub short : are_short (row_at rows i) ≡ true
   pub there : column < length (row_at rows i)
   pub others : (j : ℕ) → j < length rows → (j ≡ i → ⊥) → CanCross column (row_at rows i) (row_at rows j)
 

@@ -11,7 +11,7 @@ use crate::combine::{combine, combined_content, wide_entry};
 fn magnitude(a: i64) -> i64
     requires { nat_abs a < 2 ^ 63 }
     ensures is { result ≡ pos (nat_abs a) }
-    ensures small { nat_abs result < 2 ^ 63 }
+    ensures short { nat_abs result < 2 ^ 63 }
 {
     if a < 0 { -a } else { a }
 }
@@ -20,17 +20,17 @@ fn magnitude(a: i64) -> i64
 fn turned(a: i64, b: i64) -> i64
     requires { nat_abs b < 2 ^ 63 }
     ensures is { result ≡ turned a b }
-    ensures small { nat_abs result < 2 ^ 63 }
+    ensures short { nat_abs result < 2 ^ 63 }
 {
     if a < 0 { -b } else { b }
 }
 
 /// The entry of a row.
 pub(crate) fn entry(row: &[i64], column: usize) -> i64
-    requires small { are_short row.now ≡ true }
+    requires short { are_short row.now ≡ true }
     requires within { column < length row.now }
     ensures is { result ≡ entry row.now column }
-    ensures small { nat_abs result < 2 ^ 63 }
+    ensures short { nat_abs result < 2 ^ 63 }
 {
     row[column]
 }

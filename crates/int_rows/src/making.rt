@@ -73,9 +73,9 @@ fn divided(alloc: Global, terms: &[(u32, i64)], divisor: i64) -> Result<Vec<(u32
 /// The quotient of a form's constant, rounded down. Mostly the divisor is 1, and nothing is divided.
 fn quotient(constant: i128, divisor: i64) -> i128
     requires positive { pos 0 <ℤ divisor }
-    requires small { nat_abs constant < 2 ^ 64 }
+    requires long { nat_abs constant < 2 ^ 64 }
     ensures is { result ≡ int_div_euclid constant divisor }
-    ensures small { nat_abs result < 2 ^ 64 }
+    ensures long { nat_abs result < 2 ^ 64 }
 {
     if divisor == 1 {
         constant
@@ -102,7 +102,7 @@ fn most(lin: &Lin, divisor: i64) -> i128
     requires content { divisor ≡ pos (lin_content lin.now) }
     requires positive { pos 0 <ℤ divisor }
     ensures is { result ≡ most lin.now }
-    ensures small { nat_abs result < 2 ^ 64 }
+    ensures long { nat_abs result < 2 ^ 64 }
 {
     quotient(-lin.constant(), divisor)
 }
@@ -112,7 +112,7 @@ fn least(lin: &Lin, divisor: i64) -> i128
     requires content { divisor ≡ pos (lin_content lin.now) }
     requires positive { pos 0 <ℤ divisor }
     ensures is { result ≡ least lin.now }
-    ensures small { nat_abs result < 2 ^ 64 }
+    ensures long { nat_abs result < 2 ^ 64 }
 {
     -quotient(lin.constant(), divisor)
 }

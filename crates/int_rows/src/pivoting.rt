@@ -38,7 +38,7 @@ pub(crate) fn first_wide(rows: &[Vec<i64>], pivot: usize, column: usize) -> Opti
 
 /// Frees each of the rows of the column.
 fn eliminate_each(rows: &mut [Vec<i64>], other: &[i64], column: usize)
-    requires small { are_short other.now ≡ true }
+    requires short { are_short other.now ≡ true }
     requires can { All (λ r. CanCross column other.now r.items) rows.old }
     requires room { All (λ r. are_short (eliminated column other.now r.items) ≡ true) rows.old }
     ensures { map (λ r. r.items) rows.new ≡ map (eliminated column other.now) (map (λ r. r.items) rows.old) }
@@ -50,7 +50,7 @@ fn eliminate_each(rows: &mut [Vec<i64>], other: &[i64], column: usize)
 
 /// Makes the entry in the column positive, where it isn't 0.
 fn face(row: &mut [i64], column: usize)
-    requires small { are_short row.old ≡ true }
+    requires short { are_short row.old ≡ true }
     requires there { column < length row.old }
     ensures { row.new ≡ facing column row.old }
 {

@@ -106,7 +106,7 @@ impl Tableau {
     /// Gives a variable a lower bound, in place of the one it has.
     pub fn set_lower(&mut self, variable: usize, bound: i128)
         requires variable { variable < width self.old }
-        requires small { nat_abs bound < 2 ^ 64 }
+        requires long { nat_abs bound < 2 ^ 64 }
         ensures { self.new ≡ record self.old { lower = slice_set self.old.lower variable (Some bound) } }
     {
         self.lower[variable] = Some(bound);
@@ -115,7 +115,7 @@ impl Tableau {
     /// Gives a variable an upper bound, in place of the one it has.
     pub fn set_upper(&mut self, variable: usize, bound: i128)
         requires variable { variable < width self.old }
-        requires small { nat_abs bound < 2 ^ 64 }
+        requires long { nat_abs bound < 2 ^ 64 }
         ensures { self.new ≡ record self.old { upper = slice_set self.old.upper variable (Some bound) } }
     {
         self.upper[variable] = Some(bound);

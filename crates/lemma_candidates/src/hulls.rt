@@ -153,7 +153,7 @@ pub(crate) fn hull_of(alloc: Global, tuple: &[i64]) -> Result<Hull, Memory> {
     })
 }
 
-fn is_narrow(lin: &Lin) -> bool {
+fn is_within_widest(lin: &Lin) -> bool {
     for (_, coefficient) in lin.terms() {
         if *coefficient > WIDEST || *coefficient < -WIDEST {
             return false;
@@ -192,7 +192,7 @@ fn mended(
             match combined(alloc, value, lin, less, broken)? {
                 Some(made) => {
                     let made = primitive(alloc, &made)?;
-                    if is_narrow(&made) && made.terms().len() > 0 {
+                    if is_within_widest(&made) && made.terms().len() > 0 {
                         Ok(Some(made))
                     } else {
                         Ok(None)

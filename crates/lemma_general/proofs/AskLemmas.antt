@@ -17,7 +17,7 @@ cube-asks a b pred cube goal same goes is of_goal =
       numbered = (goes.standing).numbered.0;
       few = goes.few;
       over = ((goes.standing).over).lemmas;
-      narrow = (goes.narrow).lemmas;
+      thin = (goes.thin).lemmas;
       fits = subst (GoalFits b.system.preds (Some pred)) (sym of_goal) (fits-of b pred cube is);
     })
 

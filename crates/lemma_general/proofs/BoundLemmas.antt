@@ -92,8 +92,8 @@ negated-wide : (terms : List (ℕ × ℤ)) → list_any (λ t. nat_le (2 ^ 54) (
 negated-wide [] = refl
 negated-wide (t ∷ terms) = ap₂ (λ a b. a || b) (ap (nat_le (2 ^ 54)) (abs-neg t.1)) (negated-wide terms)
 
-pub bounds-narrow : (cube : List Lit) → list_any (λ lit. list_any (λ t. nat_le (2 ^ 54) (nat_abs t.1)) (linear_of lit).terms) cube ≡ false → list_any (λ lit. list_any (λ t. nat_le (2 ^ 54) (nat_abs t.1)) (linear_of lit).terms) (bounds_of cube) ≡ false
-bounds-narrow cube h = bounds-none (λ lit. list_any (λ t. nat_le (2 ^ 54) (nat_abs t.1)) (linear_of lit).terms) (λ l. refl) (λ l. negated-wide l.terms) cube h
+pub bounds-thin : (cube : List Lit) → list_any (λ lit. list_any (λ t. nat_le (2 ^ 54) (nat_abs t.1)) (linear_of lit).terms) cube ≡ false → list_any (λ lit. list_any (λ t. nat_le (2 ^ 54) (nat_abs t.1)) (linear_of lit).terms) (bounds_of cube) ≡ false
+bounds-thin cube h = bounds-none (λ lit. list_any (λ t. nat_le (2 ^ 54) (nat_abs t.1)) (linear_of lit).terms) (λ l. refl) (λ l. negated-wide l.terms) cube h
 
 short-negated : (c : ℤ) → is_short (neg_ℤ c) ≡ is_short c
 short-negated c = ap (λ n. nat_lt n (2 ^ 63)) (abs-neg c)

@@ -121,5 +121,5 @@ relearnt b part level cube proofs goes learnt from to is held are =
       unbroken = kept 10 (rule_10 s l) _ r10 (kept 11 (rule_11 b.system l) _ its.unshown (kept 12 (rule_12 b.system s l) _ its.misused (kept 13 (rule_13 s l) _ before.live (kept 14 (rule_14 s l) None r14 refl))));
       made = its.made;
       places = from_both (is_over b.system.preds part.pred cube) (list_all (shown_has_places b.system) (all_shown proofs)) is.over its.places;
-      narrow = is.narrow;
+      thin = is.thin;
     }

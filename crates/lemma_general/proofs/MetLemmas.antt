@@ -29,7 +29,7 @@ use Rattle.lemma_general.specs.machinery.Passes.{IsCubeOf}
 use Rattle.lemma_general.specs.declared.breaking.Breaking.{Breaking}
 
 pub fits-of : (b : Standing) (pred : ℕ) (cube : List Lit) → IsCubeOf b pred cube → GoalFits b.system.preds (Some pred) (Holds cube)
-fits-of b pred cube is = (pred, refl, is.over, is.narrow)
+fits-of b pred cube is = (pred, refl, is.over, is.thin)
 
 pub met-hit : (b : Standing) (pred k : ℕ) (cube : List Lit) (met : Breaking) → IsCubeOf b pred cube → is_kept cube ≡ true → IsMet b pred k met → cube_holds met.tuple cube ≡ true → IsHit b.system b.frames.lemmas (Some pred) (Holds cube) k met.seen
 met-hit b pred k cube met is kept one held =

@@ -15,7 +15,7 @@ use Rattle.step_rules.specs.declared.lemma_part.LemmaPart.{LemmaPart}
 use Rattle.lemma_general.specs.Generals.{IsAgainst, IsForSame, IsGeneralised, IsLearnt, IsLeast, IsPart, IsRaised, bounds_of, without}
 use Rattle.lemma_general.specs.machinery.Passes.{AreMet, IsCubeOf, IsPassed, IsRaisedOnce, IsSplit, IsTaken}
 use Rattle.lemma_general.specs.declared.breaking.Breaking.{Breaking}
-use Rattle.lemma_general.proofs.BoundLemmas.{bounds-below, bounds-narrow}
+use Rattle.lemma_general.proofs.BoundLemmas.{bounds-below, bounds-thin}
 use Rattle.lemma_general.proofs.LearnLemmas.{placed}
 use Rattle.lemma_general.proofs.PartLemmas.{part-all, part-none, part-self, part-trans, part-without, shorter}
 
@@ -27,18 +27,18 @@ over-by None cube made f h = h
 over-by (Some n) cube made f h = f n h
 
 pub own-cube : (b : Standing) (part : LemmaPart) → IsLearnt b part → IsCubeOf b part.pred part.lemma
-own-cube b part learnt = record { over = (placed b part learnt).over; narrow = learnt.narrow }
+own-cube b part learnt = record { over = (placed b part learnt).over; thin = learnt.thin }
 
 pub part-cube : (b : Standing) (part : LemmaPart) (made : List Lit) → IsLearnt b part → IsPart made part.lemma → IsCubeOf b part.pred made
 part-cube b part made learnt is = record {
   over = over-by (places_of b.system.preds (Some part.pred)) part.lemma made (λ n below. part-all (lit_is_below n) made part.lemma is below) (placed b part learnt).over;
-  narrow = part-none (λ lit. list_any (λ t. nat_le (2 ^ 54) (nat_abs t.1)) (linear_of lit).terms) made part.lemma is learnt.narrow;
+  thin = part-none (λ lit. list_any (λ t. nat_le (2 ^ 54) (nat_abs t.1)) (linear_of lit).terms) made part.lemma is learnt.thin;
 }
 
 pub bounds-cube : (b : Standing) (part : LemmaPart) → IsLearnt b part → IsCubeOf b part.pred (bounds_of part.lemma)
 bounds-cube b part learnt = record {
   over = over-by (places_of b.system.preds (Some part.pred)) part.lemma (bounds_of part.lemma) (λ n below. bounds-below n part.lemma below) (placed b part learnt).over;
-  narrow = bounds-narrow part.lemma learnt.narrow;
+  thin = bounds-thin part.lemma learnt.thin;
 }
 
 -- the same obligation

@@ -24,7 +24,7 @@ pub record IsLearnt (b : Standing) (part : LemmaPart) : Type 0 where
   pub unbroken : broken b.system (state_of b) (step_of (LemmaStep part)) ≡ None
   pub made : IsMadeFor b.system (LemmaStep part)
   pub places : has_places b.system (step_of (LemmaStep part)) ≡ true
-  pub narrow : is_wide part.lemma ≡ false
+  pub thin : is_wide part.lemma ≡ false
 
 -- the literals, each equation as two bounds
 abbrev pub bounds_of : List Lit → List Lit

@@ -13,20 +13,20 @@ use Rattle.step_rules.specs.Taken.{IsMadeFor, step_of}
 use Rattle.step_rules.specs.declared.step.Step.{Step}
 use Rattle.chc_core.specs.Contents.{Contents}
 use Rattle.chc_core.specs.Views.{standing_of, state_of}
-use Rattle.obligation_turn.specs.Turns.{IsNarrow, StepIsNarrow}
+use Rattle.obligation_turn.specs.Turns.{IsThin, StepIsThin}
 use Rattle.book_loop.specs.Runs.{CanRun}
 
--- narrow cubes of lemmas, and of obligations
-abbrev pub AreNarrow : List Framed → Type 0
-AreNarrow fs = AllOf (λ (f : Framed). is_wide f.lemma ≡ false) fs
+-- thin cubes of lemmas, and of obligations
+abbrev pub AreThin : List Framed → Type 0
+AreThin fs = AllOf (λ (f : Framed). is_wide f.lemma ≡ false) fs
 
-abbrev pub HaveNarrow : List Node → Type 0
-HaveNarrow nodes = AllOf (λ (n : Node). is_wide (obligation_in n).cube ≡ false) nodes
+abbrev pub HaveThin : List Node → Type 0
+HaveThin nodes = AllOf (λ (n : Node). is_wide (obligation_in n).cube ≡ false) nodes
 
--- a book that can be searched, with narrow cubes, and hasn't ended
+-- a book that can be searched, with thin cubes, and hasn't ended
 pub record IsOn (b : Contents) : Type 0 where
   pub can_run : CanRun b.system
-  pub narrow : IsNarrow (standing_of b)
+  pub thin : IsThin (standing_of b)
   pub goes_on : end (state_of b) ≡ None
 
 -- an obligation that may be asked
@@ -36,9 +36,9 @@ pub record IsFree (nodes : List Node) (n : ℕ) : Type 0 where
   pub leaf : has_live_child nodes n ≡ false
   pub unmarked : is_stalled_in (node_at nodes n) ≡ false
 
--- a step that the book takes, with narrow cubes
+-- a step that the book takes, with thin cubes
 pub record IsGiven (b : Standing) (step : Step) : Type 0 where
   pub unbroken : broken b.system (state_at b) (step_of step) ≡ None
   pub made : IsMadeFor b.system step
   pub places : has_places b.system (step_of step) ≡ true
-  pub narrow : StepIsNarrow step
+  pub thin : StepIsThin step

@@ -7,7 +7,7 @@ ghost use Rattle.book_rules.specs.Legal.{end};
 ghost use Rattle.chc_core.specs.Views.{standing_of, state_of};
 ghost use Rattle.book_loop.specs.Runs.{CanRun};
 ghost use Rattle.lemma_general.specs.Generals.{IsLearnt};
-ghost use Rattle.lemma_rows.specs.Led.{AreNarrow, HaveNarrow, IsFree, IsGiven, IsOn};
+ghost use Rattle.lemma_rows.specs.Led.{AreThin, HaveThin, IsFree, IsGiven, IsOn};
 
 use base::Memory;
 use chc_core::{Book, Step};
@@ -41,9 +41,9 @@ fn job_of(tree: &Tree) -> Option<u32>
     None
 }
 
-/// Whether the cubes of all lemmas are narrow.
-fn are_narrow(frames: &Frames) -> bool
-    ensures { OnTrue result (AreNarrow frames.now.lemmas) }
+/// Whether the cubes of all lemmas are thin.
+fn are_thin(frames: &Frames) -> bool
+    ensures { OnTrue result (AreThin frames.now.lemmas) }
 {
     for id in 0..frames.count() {
         if is_wide(frames.lemma(id).cube().lits()) {
@@ -54,8 +54,8 @@ fn are_narrow(frames: &Frames) -> bool
 }
 
 /// Whether those of all obligations are.
-fn have_narrow(tree: &Tree) -> bool
-    ensures { OnTrue result (HaveNarrow tree.now.nodes) }
+fn have_thin(tree: &Tree) -> bool
+    ensures { OnTrue result (HaveThin tree.now.nodes) }
 {
     for id in 0..tree.count() {
         if is_wide(tree.obligation(id).cube.lits()) {
@@ -72,12 +72,12 @@ pub(crate) fn goes_on(book: &Book) -> bool
     book.end().is_none()
 }
 
-/// Whether the book can be led on: its cubes are narrow, as they always are.
+/// Whether the book can be led on: its cubes are thin, as they always are.
 fn is_on(book: &Book) -> bool
     requires { CanRun book.now.system }
     ensures { OnTrue result (IsOn book.now) }
 {
-    goes_on(book) && are_narrow(book.frames()) && have_narrow(book.tree())
+    goes_on(book) && are_thin(book.frames()) && have_thin(book.tree())
 }
 
 /// A more general lemma, as high as it goes.

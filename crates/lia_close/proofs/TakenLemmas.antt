@@ -195,9 +195,9 @@ taken-is q lits ms point legal known is =
     let highs = dot-made up high 0 n in
     let both = total-minus (λ c. lo c *ℤ low c) (λ c. up c *ℤ high c) 0 n in
     let constant = total (λ c. lo c *ℤ low c -ℤ up c *ℤ high c) 0 n in
-    let is_constant : summed_bounds t ms ≡ constant = omega (arith, ints, lows, highs, both) in
+    let constant_is : summed_bounds t ms ≡ constant = omega (arith, ints, lows, highs, both) in
     let less_value = total-minus (part q lits ms point) (λ c. (up c -ℤ lo c) *ℤ x c) 0 n in
     let left : total (λ c. part q lits ms point c -ℤ (up c -ℤ lo c) *ℤ x c) 0 n ≡ constant =
     total-same (λ c. part q lits ms point c -ℤ (up c -ℤ lo c) *ℤ x c) (λ c. lo c *ℤ low c -ℤ up c *ℤ high c) 0 n (λ c from less. part-less (lo c) (up c) (low c) (x c) (high c)) in
-    let sum : total (part q lits ms point) 0 n ≡ summed_bounds t ms = omega (arith, ints, none, is_constant, less_value, left) in
+    let sum : total (part q lits ms point) 0 n ≡ summed_bounds t ms = omega (arith, ints, none, constant_is, less_value, left) in
     taken-total q lits ms point legal known is ∙ sum

@@ -91,7 +91,7 @@ no-solution t ms p is some long solves meets =
     let highs = dot-made up high 0 n in
     let both = total-minus (λ c. lo c *ℤ low c) (λ c. up c *ℤ high c) 0 n in
     let constant = total (λ c. lo c *ℤ low c -ℤ up c *ℤ high c) 0 n in
-    let is_constant : summed_bounds t ms ≡ constant = omega (arith, ints, lows, highs, both) in
+    let constant_is : summed_bounds t ms ≡ constant = omega (arith, ints, lows, highs, both) in
     let scaled = total-times (λ c. lo c *ℤ low c -ℤ up c *ℤ high c) d 0 n in
     let below : total (λ c. (lo c *ℤ low c -ℤ up c *ℤ high c) *ℤ d) 0 n ≤ℤ total (λ c. pos 0 -ℤ (up c -ℤ lo c) *ℤ x c) 0 n =
     total-below (λ c. (lo c *ℤ low c -ℤ up c *ℤ high c) *ℤ d) (λ c. pos 0 -ℤ (up c -ℤ lo c) *ℤ x c) 0 n (λ c from less.
@@ -103,7 +103,7 @@ no-solution t ms p is some long solves meets =
     omega (arith, ints, first, second, apart, other)) in
     let zeros = total-minus (λ c. pos 0) (λ c. (up c -ℤ lo c) *ℤ x c) 0 n in
     let zero_total = total-none 0 n in
-    let more = keeps-strict (pos 0) constant p.den some (let above = is.above in omega (arith, ints, above, is_constant)) in
+    let more = keeps-strict (pos 0) constant p.den some (let above = is.above in omega (arith, ints, above, constant_is)) in
     let zero_d = zero-*ℤ d in
     absurd (omega (arith, ints, none, scaled, below, zeros, zero_total, more, zero_d)) where
       minus-times : (a b z : ℤ) → (a -ℤ b) *ℤ z ≡ a *ℤ z -ℤ b *ℤ z

@@ -14,7 +14,7 @@ use Rattle.node_rows.specs.Known.{has_short_constant}
 use Rattle.lia_search.specs.declared.decision.Decision.{Decision}
 use Rattle.lia_search.specs.declared.decision.Decision.TheVariants.{Model, Refuted, GaveUp}
 
--- the constant of each divisibility is below 2 ^ 63 in magnitude
+-- the constant of each divisibility is short
 abbrev pub short_step : Form-F Bool → Bool
 short_step Form-F.True = true
 short_step Form-F.False = true

@@ -65,7 +65,7 @@ impl Accumulator {
     /// Adds a product.
     pub fn add(&mut self, a: i64, b: i128)
         requires room { self.old.added < 2 ^ 32 }
-        requires small { nat_abs b < 2 ^ 64 }
+        requires long { nat_abs b < 2 ^ 64 }
         ensures value { self.new.value ≡ self.old.value +ℤ a *ℤ b }
         ensures added { self.new.added ≡ self.old.added + 1 }
     {

@@ -39,7 +39,7 @@ impl Divisor {
     pub fn get(self) -> i64
         ensures value { result ≡ pos self }
         ensures positive { 0 < self }
-        ensures small { self < 2 ^ 63 }
+        ensures short { self < 2 ^ 63 }
     {
         self.value
     }

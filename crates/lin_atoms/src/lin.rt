@@ -94,7 +94,7 @@ impl Lin {
 
     pub fn constant(&self) -> i128
         ensures is { result ≡ self.now.constant }
-        ensures small { nat_abs self.now.constant < 2 ^ 64 }
+        ensures long { nat_abs self.now.constant < 2 ^ 64 }
         ensures legal { is_linear self.now ≡ true }
     {
         self.constant

@@ -1,7 +1,7 @@
 ghost use Rattle.std.specs.Prelude.{◌≡◌, ◌+◌, ◌-◌, ◌*◌, ◌^◌, ◌≤◌, nat_lt};
 
 /// The exact product of two words, which leaves room for two words more.
-fn small_product(a: u64, b: u64) -> u128
+fn word_product(a: u64, b: u64) -> u128
     ensures value { result ≡ a * b }
     ensures room { result ≤ (2 ^ 64 - 1) * (2 ^ 64 - 1) }
 {
@@ -21,10 +21,10 @@ fn wide_product(a: u128, b: u128) -> (u128, u128)
 {
     let (a_high, a_low) = split(a);
     let (b_high, b_low) = split(b);
-    let (carry, lowest) = split(small_product(a_low, b_low));
-    let (first, middle) = split(small_product(a_high, b_low) + u128::from(carry));
-    let (second, middle) = split(small_product(a_low, b_high) + u128::from(middle));
-    let high = small_product(a_high, b_high) + u128::from(first) + u128::from(second);
+    let (carry, lowest) = split(word_product(a_low, b_low));
+    let (first, middle) = split(word_product(a_high, b_low) + u128::from(carry));
+    let (second, middle) = split(word_product(a_low, b_high) + u128::from(middle));
+    let high = word_product(a_high, b_high) + u128::from(first) + u128::from(second);
     (high, (u128::from(middle) << 64) + u128::from(lowest))
 }
 

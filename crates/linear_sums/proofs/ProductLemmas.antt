@@ -12,7 +12,7 @@ use Rattle.lin_atoms.specs.Linear.{Linear, is_short, are_short, are_ordered}
 use Rattle.lin_atoms.specs.Algebra.{scaled, scaled_terms, term_on}
 use Rattle.lin_atoms.proofs.Public.{both_true}
 use Rattle.linear_terms.specs.Linear.{is_narrow, varying}
-use Rattle.linear_sums.specs.Narrow.{has_zero, is_nothing, narrow_number, is_zero_form, has_no_terms, times}
+use Rattle.linear_sums.specs.Short.{has_zero, is_nothing, short_or_none, is_zero_form, has_no_terms, times}
 
 pub abs_product : (a b : ℤ) → nat_abs (a *ℤ b) ≡ nat_abs a * nat_abs b
 abs_product a b = unsigned_abs-mul a b
@@ -57,8 +57,8 @@ has_one a (None ∷ cs) h = has_one a cs h
 has_one a (Some k ∷ cs) h = at_zero a k cs (λ x z. has_one x cs z) (nat_abs k == 0) refl h
 
 -- with a factor 0 the product is 0
-pub zero_among : (cs : List (Option ℤ)) → has_zero cs ≡ true → Some (pos 0) ≡ narrow_number (product_of (constants_among cs))
-zero_among cs h = ap (λ (x : ℤ). narrow_number x) (sym (has_one (pos 1) cs h))
+pub zero_among : (cs : List (Option ℤ)) → has_zero cs ≡ true → Some (pos 0) ≡ short_or_none (product_of (constants_among cs))
+zero_among cs h = ap (λ (x : ℤ). short_or_none x) (sym (has_one (pos 1) cs h))
 
 times_on : (a : ℤ) (c : Option ℤ) (cs : List (Option ℤ)) → fold (λ x n. x *ℤ n) a (constants_among (c ∷ cs)) ≡ fold (λ x n. x *ℤ n) (times a c) (constants_among cs)
 times_on a None cs = refl
@@ -76,24 +76,24 @@ zero_rest (Some k) cs h = (either_false (nat_abs k == 0) (has_zero cs) h).1
 pub zero_more : (cs : List (Option ℤ)) (i : ℕ) (d : Option ℤ) → i < length cs → has_zero (drop i cs) ≡ false → has_zero (drop (i + 1) cs) ≡ false
 zero_more cs i d h some = zero_rest (get_or cs i d) (drop (i + 1) cs) (ap has_zero (sym (drop_more cs i d h)) ∙ some)
 
-pub short_some : (n m : ℤ) → Some m ≡ narrow_number n → (m ≡ n) × (is_short n ≡ true)
+pub short_some : (n m : ℤ) → Some m ≡ short_or_none n → (m ≡ n) × (is_short n ≡ true)
 short_some n m h = by_test (is_short n) refl h
   where
     by_test : (b : Bool) → is_short n ≡ b → Some m ≡ (if b then Some n else None) → (m ≡ n) × (is_short n ≡ true)
     by_test true is h = (cc, is)
     by_test false is h = absurd (cc)
 
-pub short_none : (n : ℤ) → None ≡ narrow_number n → is_short n ≡ false
+pub short_none : (n : ℤ) → None ≡ short_or_none n → is_short n ≡ false
 short_none n h = by_test (is_short n) refl h
   where
     by_test : (b : Bool) → is_short n ≡ b → None ≡ (if b then Some n else None) → is_short n ≡ false
     by_test true is h = absurd (cc)
     by_test false is h = is
 
-pub short_is : (n : ℤ) → is_short n ≡ true → Some n ≡ narrow_number n
+pub short_is : (n : ℤ) → is_short n ≡ true → Some n ≡ short_or_none n
 short_is n h = ap (λ (b : Bool). if b then Some n else None) (sym h)
 
-pub wide_is : (n : ℤ) → is_short n ≡ false → None ≡ narrow_number n
+pub wide_is : (n : ℤ) → is_short n ≡ false → None ≡ short_or_none n
 wide_is n h = ap (λ (b : Bool). if b then Some n else None) (sym h)
 
 kept : (v : ℕ) (a : ℤ) (ts : List (ℕ × ℤ)) → is_short a ≡ false → are_short (term_on v a ts) ≡ false
@@ -147,7 +147,7 @@ varying_end cs fs i h = ap (λ (xs : List (Option ℤ)). varying xs (drop i fs))
 
 -- once a product is wide, and no factor is 0, it stays so
 pub product_wide : (a : ℤ) (cs : List (Option ℤ)) (i : ℕ) (d : Option ℤ) (whole : ℤ) → i < length cs → fold (λ x n. x *ℤ n) a (constants_among (drop i cs)) ≡ whole
-    → has_zero (drop i cs) ≡ false → None ≡ narrow_number (times a (get_or cs i d)) → None ≡ narrow_number whole
+    → has_zero (drop i cs) ≡ false → None ≡ short_or_none (times a (get_or cs i d)) → None ≡ short_or_none whole
 product_wide a cs i d whole h is some none =
     let wide = wide_product (times a (get_or cs i d)) (drop (i + 1) cs) (zero_more cs i d h some) (short_none (times a (get_or cs i d)) none) in
     wide_is whole (ap is_short (sym is ∙ product_more a cs i d h) ∙ wide)

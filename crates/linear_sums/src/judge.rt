@@ -1,10 +1,10 @@
-//! Which forms have narrow numbers: coefficients and a constant below 2^63 in magnitude.
+//! Which forms are narrow: their coefficients and constant are short, below 2^63 in magnitude.
 
 ghost use Rattle.std.specs.Prelude.{◌≡◌, ◌&&◌, IsTrue, IfOk, OnOk, IfSome, IsNone, IsErrOf, ◌↔◌, true, false};
 ghost use Rattle.lin_atoms.specs.Linear.{are_ordered, are_short, is_short};
 ghost use Rattle.lin_atoms.specs.Algebra.{collected};
 ghost use Rattle.linear_terms.specs.Linear.{is_narrow};
-ghost use Rattle.linear_sums.specs.Narrow.{narrow_number};
+ghost use Rattle.linear_sums.specs.Short.{short_or_none};
 
 use crate::collect::collected;
 use base::Memory;
@@ -18,9 +18,9 @@ pub(crate) fn is_short(n: i128) -> bool
     n.unsigned_abs() < 1 << 63
 }
 
-/// The number with 64 bits, where it is narrow.
+/// The number with 64 bits, where it is short.
 pub(crate) fn narrow(n: i128) -> Option<i64>
-    ensures is { result ≡ narrow_number n }
+    ensures is { result ≡ short_or_none n }
     ensures some { IfSome result (λ m. m ≡ n) }
     ensures none { IsNone result ↔ (is_short n ≡ false) }
 {
@@ -45,7 +45,7 @@ fn narrowed(alloc: Global, terms: &[(u32, i128)]) -> Result<Vec<(u32, i64)>, Wid
     Ok(made)
 }
 
-/// The form of terms that are in order and narrow.
+/// The form of terms that are in order, with short numbers.
 fn form_of(terms: Vec<(u32, i64)>, constant: i128) -> Lin
     requires ordered { IsTrue (are_ordered 0 terms.items) }
     requires short { IsTrue (are_short terms.items) }
@@ -78,7 +78,7 @@ fn are_short(terms: &[(u32, i64)]) -> bool
     terms.iter().all(|term| term.1 != i64::MIN)
 }
 
-/// Whether all numbers of the form are narrow.
+/// Whether the form is narrow: all its numbers are short.
 pub fn is_narrow(form: &Lin) -> bool
     ensures { result ≡ is_narrow form.now }
 {

@@ -6,7 +6,7 @@ ghost use Rattle.term_tree.specs.Constants.{constants_among};
 ghost use Rattle.lin_atoms.specs.Algebra.{scaled};
 ghost use Rattle.lin_atoms.specs.Linear.{are_ordered};
 ghost use Rattle.linear_terms.specs.Linear.{is_narrow, product_form, varying};
-ghost use Rattle.linear_sums.specs.Narrow.{has_zero, narrow_number, is_nothing, is_zero_constant, is_zero_form, times};
+ghost use Rattle.linear_sums.specs.Short.{has_zero, short_or_none, is_nothing, is_zero_constant, is_zero_form, times};
 
 use crate::judge::{judged, narrow};
 use lin_atoms::{Lin, WideStop};
@@ -34,9 +34,9 @@ fn exact_product(a: i64, b: i64) -> i128
     i128::from(a) * i128::from(b)
 }
 
-/// The product, where it is narrow; nothing is no factor.
+/// The product, where it is short; nothing is no factor.
 fn times(product: i64, constant: Option<i64>) -> Option<i64>
-    ensures { result ≡ narrow_number (times product constant) }
+    ensures { result ≡ short_or_none (times product constant) }
 {
     match constant {
         None => narrow(i128::from(product)),
@@ -44,9 +44,9 @@ fn times(product: i64, constant: Option<i64>) -> Option<i64>
     }
 }
 
-/// The product of those that are constant, where it is narrow.
+/// The product of those that are constant, where it is short.
 fn product(constants: &[Option<i64>]) -> Option<i64>
-    ensures { result ≡ narrow_number (product_of (constants_among constants.now)) }
+    ensures { result ≡ short_or_none (product_of (constants_among constants.now)) }
 {
     if has_zero(constants) {
         return Some(0);
@@ -75,11 +75,11 @@ fn is_zero(form: &Lin) -> bool
     form.terms().is_empty() && form.constant() == 0
 }
 
-/// The form times a number that is given where it is narrow.
+/// The form times a number that is given where it is short.
 fn multiple(alloc: Global, factor: Option<i64>, form: &Lin) -> Result<Lin, WideStop>
-    ensures made { (k : ℤ) → factor ≡ narrow_number k → IfOk result (λ made. made ≡ scaled k form.now) }
-    ensures narrow { (k : ℤ) → factor ≡ narrow_number k → OnOk result (is_narrow (scaled k form.now) ≡ true) }
-    ensures wide { (k : ℤ) → factor ≡ narrow_number k → IsErrOf result WideStop.Wide → is_narrow (scaled k form.now) ≡ false }
+    ensures made { (k : ℤ) → factor ≡ short_or_none k → IfOk result (λ made. made ≡ scaled k form.now) }
+    ensures narrow { (k : ℤ) → factor ≡ short_or_none k → OnOk result (is_narrow (scaled k form.now) ≡ true) }
+    ensures wide { (k : ℤ) → factor ≡ short_or_none k → IsErrOf result WideStop.Wide → is_narrow (scaled k form.now) ≡ false }
 {
     match factor {
         Some(k) => judged(form.scaled(alloc, k)?),

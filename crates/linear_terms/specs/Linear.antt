@@ -115,6 +115,6 @@ told_bit naming = told_of (λ own. zero_form) (node_bit naming)
 abbrev pub bit_of : Naming → List Node → ℕ → Linear
 bit_of naming nodes id = told_bit naming nodes id id
 
--- all numbers of the form are below 2 ^ 63 in magnitude
+-- all numbers of the form are short
 abbrev pub is_narrow : Linear → Bool
 is_narrow lin = are_short lin.terms && is_short lin.constant

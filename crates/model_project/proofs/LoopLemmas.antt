@@ -11,7 +11,7 @@ use Rattle.lin_atoms.specs.declared.lit.Lit.{Lit}
 use Rattle.lin_atoms.specs.declared.lit.Lit.TheVariants.{Le, Eq, Div, NDiv}
 use Rattle.lin_atoms.proofs.Public.{both_true}
 use Rattle.model_project.specs.Substitution.{coefficient, equation_in, is_equation, occurs, replaced, solved, by_equation, upright}
-use Rattle.model_project.specs.Elimination.{by_bounds, by_nearest, by_rest, divisor, gap, gaps_are_small, is_bound, least_multiple, nearer, nearest, on_side, period, removed, tidied}
+use Rattle.model_project.specs.Elimination.{by_bounds, by_nearest, by_rest, divisor, gap, gaps_are_short, is_bound, least_multiple, nearer, nearest, on_side, period, removed, tidied}
 use Rattle.model_project.specs.Projection.{eliminated, is_kept}
 use Rattle.model_project.specs.machinery.Steps.{EquationIs, has_divisor, have_divisors}
 use Rattle.model_project.proofs.PeriodLemmas.{least_multiple-le}
@@ -108,20 +108,20 @@ small_test n h = grind (arith, nat_tests)
 wide_test : (n : ℕ) → 2 ^ 63 ≤ n → nat_lt n (2 ^ 63) ≡ false
 wide_test n h = grind (arith, nat_tests)
 
-pub gaps_skip : (p : List ℤ) (below : Bool) (v : ℕ) (lits : List Lit) (i : ℕ) (d : Lit) → i < length lits → is_bound below v (get_or lits i d) ≡ false → gaps_are_small p below v (drop (i + 1) lits) ≡ true → gaps_are_small p below v (drop i lits) ≡ true
+pub gaps_skip : (p : List ℤ) (below : Bool) (v : ℕ) (lits : List Lit) (i : ℕ) (d : Lit) → i < length lits → is_bound below v (get_or lits i d) ≡ false → gaps_are_short p below v (drop (i + 1) lits) ≡ true → gaps_are_short p below v (drop i lits) ≡ true
 gaps_skip p below v lits i d h free small =
     let lit = get_or lits i d in
-    ap (gaps_are_small p below v) (drop_more lits i d h) ∙ ap (λ b. (not b || nat_lt (gap p (linear_of lit)) (2 ^ 63)) && gaps_are_small p below v (drop (i + 1) lits)) free ∙ small
+    ap (gaps_are_short p below v) (drop_more lits i d h) ∙ ap (λ b. (not b || nat_lt (gap p (linear_of lit)) (2 ^ 63)) && gaps_are_short p below v (drop (i + 1) lits)) free ∙ small
 
 either_or : (b : Bool) → (b || true) ≡ true
 either_or true = refl
 either_or false = refl
 
-pub gaps_take : (p : List ℤ) (below : Bool) (v : ℕ) (lits : List Lit) (i : ℕ) (d : Lit) → i < length lits → gap p (linear_of (get_or lits i d)) < 2 ^ 63 → gaps_are_small p below v (drop (i + 1) lits) ≡ true → gaps_are_small p below v (drop i lits) ≡ true
+pub gaps_take : (p : List ℤ) (below : Bool) (v : ℕ) (lits : List Lit) (i : ℕ) (d : Lit) → i < length lits → gap p (linear_of (get_or lits i d)) < 2 ^ 63 → gaps_are_short p below v (drop (i + 1) lits) ≡ true → gaps_are_short p below v (drop i lits) ≡ true
 gaps_take p below v lits i d h here small =
     let lit = get_or lits i d in
-    ap (gaps_are_small p below v) (drop_more lits i d h) ∙ ap (λ b. (not (is_bound below v lit) || b) && gaps_are_small p below v (drop (i + 1) lits)) (small_test (gap p (linear_of lit)) here)
-    ∙ ap (λ b. b && gaps_are_small p below v (drop (i + 1) lits)) (either_or (not (is_bound below v lit))) ∙ small
+    ap (gaps_are_short p below v) (drop_more lits i d h) ∙ ap (λ b. (not (is_bound below v lit) || b) && gaps_are_short p below v (drop (i + 1) lits)) (small_test (gap p (linear_of lit)) here)
+    ∙ ap (λ b. b && gaps_are_short p below v (drop (i + 1) lits)) (either_or (not (is_bound below v lit))) ∙ small
 
 and_false : (b c : Bool) → c ≡ false → (b && c) ≡ false
 and_false true c h = h
@@ -132,12 +132,12 @@ all_drop test lits zero h = h
 all_drop test [] (suc i) h = h
 all_drop test (lit ∷ lits) (suc i) h = and_false (test lit) (list_all test lits) (all_drop test lits i h)
 
-pub gaps_wide : (p : List ℤ) (below : Bool) (v : ℕ) (lits : List Lit) (i : ℕ) (d : Lit) → i < length lits → is_bound below v (get_or lits i d) ≡ true → 2 ^ 63 ≤ gap p (linear_of (get_or lits i d)) → gaps_are_small p below v lits ≡ false
+pub gaps_wide : (p : List ℤ) (below : Bool) (v : ℕ) (lits : List Lit) (i : ℕ) (d : Lit) → i < length lits → is_bound below v (get_or lits i d) ≡ true → 2 ^ 63 ≤ gap p (linear_of (get_or lits i d)) → gaps_are_short p below v lits ≡ false
 gaps_wide p below v lits i d h is wide =
     let lit = get_or lits i d in
-    all_drop (λ lit. not (is_bound below v lit) || nat_lt (gap p (linear_of lit)) (2 ^ 63)) lits i (ap (gaps_are_small p below v) (drop_more lits i d h)
-    ∙ ap (λ b. (not b || nat_lt (gap p (linear_of lit)) (2 ^ 63)) && gaps_are_small p below v (drop (i + 1) lits)) is
-    ∙ ap (λ b. b && gaps_are_small p below v (drop (i + 1) lits)) (wide_test (gap p (linear_of lit)) wide))
+    all_drop (λ lit. not (is_bound below v lit) || nat_lt (gap p (linear_of lit)) (2 ^ 63)) lits i (ap (gaps_are_short p below v) (drop_more lits i d h)
+    ∙ ap (λ b. (not b || nat_lt (gap p (linear_of lit)) (2 ^ 63)) && gaps_are_short p below v (drop (i + 1) lits)) is
+    ∙ ap (λ b. b && gaps_are_short p below v (drop (i + 1) lits)) (wide_test (gap p (linear_of lit)) wide))
 
 -- the nearest bound has the variable
 bound_side : (below : Bool) (v : ℕ) (lit : Lit) → is_bound below v lit ≡ true → on_side below (coefficient v (linear_of lit)) ≡ true
@@ -167,10 +167,10 @@ pub nearest_has : (p : List ℤ) (below : Bool) (v : ℕ) (lits : List Lit) (lin
 nearest_has p below v lits lin h = side_some below (coefficient v lin) (nearest_side p below v lits lin h)
 
 -- what a bound gives
-pub bounds_small : (p : List ℤ) (below : Bool) (v : ℕ) (lits : List Lit) (o : Option Linear) → gaps_are_small p below v lits ≡ true → nearest p below v lits ≡ o → by_bounds p below v lits ≡ by_nearest p v lits o
+pub bounds_small : (p : List ℤ) (below : Bool) (v : ℕ) (lits : List Lit) (o : Option Linear) → gaps_are_short p below v lits ≡ true → nearest p below v lits ≡ o → by_bounds p below v lits ≡ by_nearest p v lits o
 bounds_small p below v lits o small is = ap (λ b. cond b (by_nearest p v lits (nearest p below v lits)) None) small ∙ ap (by_nearest p v lits) is
 
-pub bounds_wide : (p : List ℤ) (below : Bool) (v : ℕ) (lits : List Lit) → gaps_are_small p below v lits ≡ false → by_bounds p below v lits ≡ None
+pub bounds_wide : (p : List ℤ) (below : Bool) (v : ℕ) (lits : List Lit) → gaps_are_short p below v lits ≡ false → by_bounds p below v lits ≡ None
 bounds_wide p below v lits wide = ap (λ b. cond b (by_nearest p v lits (nearest p below v lits)) None) wide
 
 -- one variable more

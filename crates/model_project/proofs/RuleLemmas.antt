@@ -17,7 +17,7 @@ use Rattle.lin_atoms.specs.declared.lit.Lit.{Lit}
 use Rattle.lin_atoms.specs.declared.lit.Lit.TheVariants.{Le, Eq, Div, NDiv}
 use Rattle.lin_atoms.proofs.Public.{both_true, quotient-rest}
 use Rattle.model_project.specs.Substitution.{coefficient, equation_in, is_equation, lin_has, occurs, solved}
-use Rattle.model_project.specs.Elimination.{by_bound, by_bounds, by_nearest, by_rest, gap, gaps_are_small, has_variable, is_bound, has_short_numbers, nearer, nearest, is_nearer, on_side, period, put_before, removed, rest_equation, tidied}
+use Rattle.model_project.specs.Elimination.{by_bound, by_bounds, by_nearest, by_rest, gap, gaps_are_short, has_variable, is_bound, has_short_numbers, nearer, nearest, is_nearer, on_side, period, put_before, removed, rest_equation, tidied}
 use Rattle.model_project.specs.machinery.Steps.{are_narrow, has_divisor}
 use Rattle.model_project.proofs.JudgeLemmas.{tidied-narrow}
 use Rattle.model_project.specs.Projection.{are_true}
@@ -207,7 +207,7 @@ bounds_here model below v lits new true t free_eq free h = by_nearest_step model
 bounds_here model below v lits new false t free_eq free h = absurd (cc)
 
 by_bounds_step : (model : List ℤ) (below : Bool) (v : ℕ) (lits new : List Lit) → are_true model lits ≡ true → list_any (is_equation v) lits ≡ false → (below ≡ false → list_any (is_bound true v) lits ≡ false) → by_bounds model below v lits ≡ Some new → Step model v lits new
-by_bounds_step model below v lits new t free_eq free h = bounds_here model below v lits new (gaps_are_small model below v lits) t free_eq free h
+by_bounds_step model below v lits new t free_eq free h = bounds_here model below v lits new (gaps_are_short model below v lits) t free_eq free h
 
 -- rule 5: without bounds nothing but the divisors matters
 unbound : (v : ℕ) (d : ℤ) (p : List ℤ) (lit : Lit) → lit_truth p lit ≡ true → is_bound true v lit ≡ false → is_bound false v lit ≡ false → Holds v d p lit

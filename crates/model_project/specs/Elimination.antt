@@ -33,7 +33,7 @@ abbrev pub period : ℕ → List Lit → ℕ
 period v [] = 1
 period v (lit ∷ lits) = if occurs v lit then least_multiple (period v lits) (divisor lit) else period v lits
 
--- whether each number of a literal is below 2 ^ 63 in magnitude
+-- whether each number of a literal is short
 abbrev pub has_short_numbers : Lit → Bool
 has_short_numbers lit = list_all (λ t. is_short t.1) (linear_of lit).terms && (is_short (linear_of lit).constant && nat_lt (divisor lit) (2 ^ 63))
 
@@ -75,8 +75,8 @@ abbrev pub nearest : List ℤ → Bool → ℕ → List Lit → Option Linear
 nearest model below v [] = None
 nearest model below v (lit ∷ lits) = if is_bound below v lit then nearer model v (linear_of lit) (nearest model below v lits) else nearest model below v lits
 
-abbrev pub gaps_are_small : List ℤ → Bool → ℕ → List Lit → Bool
-gaps_are_small model below v lits = list_all (λ lit. not (is_bound below v lit) || nat_lt (gap model (linear_of lit)) (2 ^ 63)) lits
+abbrev pub gaps_are_short : List ℤ → Bool → ℕ → List Lit → Bool
+gaps_are_short model below v lits = list_all (λ lit. not (is_bound below v lit) || nat_lt (gap model (linear_of lit)) (2 ^ 63)) lits
 
 -- an equation is put before the literals, and removes v
 abbrev pub put_before : ℕ → Linear → List Lit → Option (List Lit)
@@ -92,7 +92,7 @@ by_nearest model v lits None = None
 by_nearest model v lits (Some lin) = by_bound model v lits (period v lits) lin
 
 abbrev pub by_bounds : List ℤ → Bool → ℕ → List Lit → Option (List Lit)
-by_bounds model below v lits = if gaps_are_small model below v lits then by_nearest model v lits (nearest model below v lits) else None
+by_bounds model below v lits = if gaps_are_short model below v lits then by_nearest model v lits (nearest model below v lits) else None
 
 -- v is its rest modulo D: v - r = 0
 abbrev pub rest_equation : ℕ → ℤ → Linear

@@ -3,7 +3,7 @@
 ghost use Rattle.std.specs.Prelude.{Some, ◌≡◌, ◌<◌, ◌≤◌, ◌^◌, ◌*◌, nat_abs, None, true, false, IfOk, IfSome, IsErr, IsNone, IsSome, OnOk};
 ghost use Rattle.std.specs.Option.{option_map};
 ghost use Rattle.lin_atoms.specs.Linear.{value_at, variable_at};
-ghost use Rattle.model_project.specs.Elimination.{gap, gaps_are_small, is_bound, is_nearer, nearer, nearest};
+ghost use Rattle.model_project.specs.Elimination.{gap, gaps_are_short, is_bound, is_nearer, nearer, nearest};
 ghost use Rattle.model_project.specs.Substitution.{coefficient};
 
 use crate::period::short;
@@ -36,7 +36,7 @@ fn total_at(lin: &Lin, point: &[i64]) -> Accumulator
 /// The gap of a bound, unless it is wide.
 fn gap(lin: &Lin, model: &[i64]) -> Option<u64>
     ensures some { IfSome result (λ n. n ≡ gap model.now lin.now) }
-    ensures small { IfSome result (λ n. gap model.now lin.now < 2 ^ 63) }
+    ensures short { IfSome result (λ n. gap model.now lin.now < 2 ^ 63) }
     ensures none { IsNone result → 2 ^ 63 ≤ gap model.now lin.now }
 {
     match total_at(lin, model).to_i128() {
@@ -48,7 +48,7 @@ fn gap(lin: &Lin, model: &[i64]) -> Option<u64>
 /// The magnitude of a coefficient.
 pub(crate) fn size(lin: &Lin, variable: usize) -> u64
     ensures is { result ≡ nat_abs (coefficient variable lin.now) }
-    ensures small { result < 2 ^ 63 }
+    ensures short { result < 2 ^ 63 }
 {
     reading::coefficient(lin, variable).unsigned_abs()
 }
@@ -109,8 +109,8 @@ pub(crate) fn nearest<'a>(
 ) -> Result<Option<Bound<'a>>, Wide>
     ensures is { IfOk result (λ best. option_map (λ b. b.lin.now) best ≡ nearest model.now below variable lits.now) }
     ensures gap { IfOk result (λ best. IfSome best (λ b. b.gap ≡ gap model.now b.lin.now)) }
-    ensures small { OnOk result (gaps_are_small model.now below variable lits.now ≡ true) }
-    ensures wide { IsErr result → gaps_are_small model.now below variable lits.now ≡ false }
+    ensures short { OnOk result (gaps_are_short model.now below variable lits.now ≡ true) }
+    ensures wide { IsErr result → gaps_are_short model.now below variable lits.now ≡ false }
 {
     let mut best = None;
     let mut left = lits.len();

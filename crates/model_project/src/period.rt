@@ -22,7 +22,7 @@ fn exact(a: u64, b: u64) -> u128
 /// The number with 64 bits, unless it is wide.
 pub(crate) fn short(n: u128) -> Option<u64>
     ensures some { IfSome result (λ short. short ≡ n) }
-    ensures small { IfSome result (λ short. n < 2 ^ 63) }
+    ensures short { IfSome result (λ short. n < 2 ^ 63) }
     ensures none { IsNone result → 2 ^ 63 ≤ n }
 {
     if n < 1 << 63 { Some(n as u64) } else { None }
@@ -32,7 +32,7 @@ pub(crate) fn short(n: u128) -> Option<u64>
 pub(crate) fn period(lits: &[Lit], variable: usize) -> Option<u64>
     requires { have_divisors lits.now ≡ true }
     ensures some { IfSome result (λ n. n ≡ period variable lits.now) }
-    ensures small { IfSome result (λ n. n < 2 ^ 63) }
+    ensures short { IfSome result (λ n. n < 2 ^ 63) }
     ensures above { IfSome result (λ n. 0 < n) }
     ensures none { IsNone result → 2 ^ 63 ≤ period variable lits.now }
 {

@@ -11,7 +11,7 @@ use lin_atoms::{Lin, Lit};
 /// The coefficient of a variable, 0 where it doesn't occur.
 pub(crate) fn coefficient(lin: &Lin, variable: usize) -> i64
     ensures is { result ≡ coefficient variable lin.now }
-    ensures small { nat_abs result < 2 ^ 63 }
+    ensures short { nat_abs result < 2 ^ 63 }
     ensures named { 0 < nat_abs result → variable < 2 ^ 32 }
 {
     for (v, a) in lin.terms() {
@@ -113,7 +113,7 @@ pub(crate) fn has_bound(lits: &[Lit], below: bool, variable: usize) -> bool
 pub(crate) fn divisor(lit: &Lit) -> u64
     ensures is { result ≡ divisor lit.now }
     ensures some { 0 < result }
-    ensures small { result < 2 ^ 63 }
+    ensures short { result < 2 ^ 63 }
 {
     match lit {
         Lit::Le(_) => 1,

@@ -56,7 +56,7 @@ fn put_first(lits: &mut Vec<Lit>, lit: Lit) -> Result<(), Memory>
 fn shifted(alloc: Global, variable: usize, bound: Bound<'_>, period: u64) -> Result<Lin, WideStop>
     requires has { 0 < nat_abs (coefficient variable bound.lin.now) }
     requires above { 0 < period }
-    requires small { period < 2 ^ 63 }
+    requires short { period < 2 ^ 63 }
     ensures made { IfOk result (λ made. made ≡ plus bound.entry.lin.now (pos (bound.entry.gap % (nat_abs (coefficient variable bound.entry.lin.now) * period)))) }
     ensures narrow { OnOk result (nat_abs (coefficient variable bound.entry.lin.now) * period < 2 ^ 63) }
     ensures wide { IsErrOf result WideStop.Wide → (nat_abs (coefficient variable bound.entry.lin.now) * period < 2 ^ 63) → fits (plus bound.entry.lin.now (pos (bound.entry.gap % (nat_abs (coefficient variable bound.entry.lin.now) * period)))) ≡ false }
@@ -119,7 +119,7 @@ fn by_bounds(
 /// The equation that the variable is a number.
 fn rest_equation(alloc: Global, variable: usize, rest: i64) -> Result<Lin, Memory>
     requires named { variable < 2 ^ 32 }
-    requires small { nat_abs rest < 2 ^ 63 }
+    requires short { nat_abs rest < 2 ^ 63 }
     ensures { IfOk result (λ made. made ≡ rest_equation variable rest) }
 {
     terms::one_variable(alloc, variable as u32, i128::from(-rest))
@@ -128,7 +128,7 @@ fn rest_equation(alloc: Global, variable: usize, rest: i64) -> Result<Lin, Memor
 /// What a number leaves modulo another.
 fn rest_of(a: i64, period: u64) -> i64
     requires above { 0 < period }
-    requires small { period < 2 ^ 63 }
+    requires short { period < 2 ^ 63 }
     ensures is { result ≡ int_rem_euclid a (pos period) }
     ensures bound { nat_abs result < 2 ^ 63 }
 {

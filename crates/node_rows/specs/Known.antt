@@ -11,7 +11,7 @@ abbrev pub are_known : ℕ → List Lit → Bool
 are_known q [] = true
 are_known q (lit ∷ lits) = lit_is_below q lit && are_known (q + quotients lit) lits
 
--- the constant of a divisibility is below 2 ^ 63 in magnitude, so that both bounds on its remainder have room
+-- the constant of a divisibility is short, so that both bounds on its remainder have room
 abbrev pub has_short_constant : Lit → Bool
 has_short_constant (Le lin) = true
 has_short_constant (Eq lin) = true

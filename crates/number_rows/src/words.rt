@@ -10,7 +10,7 @@ const BOTTOM: i64 = -i64::MAX;
 
 fn add_five(sum: &mut Accumulator, a: i64, b: i128)
     requires room { sum.old.added < 2 ^ 30 }
-    requires small { nat_abs b < 2 ^ 64 }
+    requires long { nat_abs b < 2 ^ 64 }
     ensures { sum.new.added ≡ sum.old.added + 5 }
 {
     sum.add(a, b);

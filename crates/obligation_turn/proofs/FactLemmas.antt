@@ -75,6 +75,6 @@ recorded b job nodes seen premises goes leaf hit are =
       places = refl;
       projected = tt;
       counts = tt;
-      narrow = tt;
+      thin = tt;
       serves = refl;
     }

@@ -83,7 +83,7 @@ root-level-of b job o goes within there none =
 pub root-level : (b : Standing) (job : ℕ) → GoesOn b → IsOpenLeaf b job → (job_of b job).pred ≡ None → (job_of b job).level ≡ b.level + 1
 root-level b job goes leaf none = root-level-of b job (asked_at b job) goes leaf.there (job-there b job leaf) none
 
--- its cube is over its predicate, and narrow
+-- its cube is over its predicate, and thin
 
 fits-over : (preds : List (List Sort)) (pred : Option ℕ) (p : ℕ) (cube : List Lit) (point : List ℤ) → pred ≡ Some p → has (places_of preds pred) (λ n. cube_is_below n cube && (length point == n)) ≡ true → is_over preds p cube ≡ true
 fits-over preds pred p cube point is h = by (places_of preds (Some p)) (ap (λ (o : Option ℕ). has (places_of preds o) (λ n. cube_is_below n cube && (length point == n))) (sym is) ∙ h)
@@ -102,8 +102,8 @@ nodes-at P [] n within all = absurd (omega arith)
 nodes-at P (x ∷ nodes) zero within all = all.0
 nodes-at P (x ∷ nodes) (suc n) within all = nodes-at P nodes n (omega arith) all.1
 
-pub job-narrow : (b : Standing) (job : ℕ) → GoesOn b → IsOpenLeaf b job → is_wide (job_of b job).cube ≡ false
-job-narrow b job goes leaf = nodes-at (λ (n : Node). is_wide (obligation_in n).cube ≡ false) b.tree.nodes job leaf.there (goes.narrow).obligations
+pub job-thin : (b : Standing) (job : ℕ) → GoesOn b → IsOpenLeaf b job → is_wide (job_of b job).cube ≡ false
+job-thin b job goes leaf = nodes-at (λ (n : Node). is_wide (obligation_in n).cube ≡ false) b.tree.nodes job leaf.there (goes.thin).obligations
 
 -- an instance of the query has its head in the cube
 

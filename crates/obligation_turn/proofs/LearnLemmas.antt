@@ -23,7 +23,7 @@ use Rattle.step_rules.specs.declared.lemma_part.LemmaPart.{LemmaPart}
 use Rattle.step_rules.specs.declared.step.Step.TheVariants.{LemmaStep}
 use Rattle.obligation_turn.specs.Turns.{GoesOn, IsOpenLeaf, IsTurn}
 use Rattle.obligation_turn.specs.machinery.Jobs.{AreJobProofs, goal_by, job_of}
-use Rattle.obligation_turn.proofs.JobLemmas.{asked_at, job-level, job-live, job-narrow, job-over, job-placed, job-there}
+use Rattle.obligation_turn.proofs.JobLemmas.{asked_at, job-level, job-live, job-over, job-placed, job-there, job-thin}
 use Rattle.obligation_turn.proofs.ProvedLemmas.{proved}
 use Rattle.obligation_turn.proofs.RuleLemmas.{kept, passed, told-of}
 
@@ -59,7 +59,7 @@ learnt b job nodes pred proofs goes leaf some are =
       places = from_both (is_over b.system.preds pred o.cube) (list_all (shown_has_places b.system) (all_shown proofs)) claimed is.places;
       projected = tt;
       counts = tt;
-      narrow = job-narrow b job goes leaf;
+      thin = job-thin b job goes leaf;
       serves = refl;
     }
 

@@ -274,7 +274,7 @@ opens b job nodes number seen atom cube area goes leaf system hit at missing cov
       places = ap (λ (x : Option Atom). is_over_atom sys.preds x cube) atom_there ∙ ap (λ (x : Option ℕ). has x (λ m. cube_is_below m cube)) (atom_places sys.preds (length clause.sorts) atom one) ∙ new.below;
       projected = projected;
       counts = tt;
-      narrow = new.thin;
+      thin = new.thin;
       serves = (refl, clause, there, covers);
     }
 

@@ -59,7 +59,7 @@ lifted b job nodes closed part goes leaf none are legal = record {
   places = legal.places;
   projected = tt;
   counts = tt;
-  narrow = tt;
+  thin = tt;
   serves = (none, root-refuted b closed (root-proved b job closed goes leaf none are));
 }
 
@@ -111,6 +111,6 @@ raised b job nodes n closed tokens goes leaf none are past keeps =
       places = from_both (list_all (shown_has_places sys) (all_shown closed)) (list_all (no_lift_has_places sys) (all_no_lifts tokens)) is.places keeps.places;
       projected = tt;
       counts = keeps.counts;
-      narrow = tt;
+      thin = tt;
       serves = (none, root-refuted b closed is);
     }

@@ -42,7 +42,7 @@ use Rattle.step_rules.specs.Standing.{Standing}
 use Rattle.obligation_turn.specs.Turns.{GoesOn, IsOpenLeaf}
 use Rattle.obligation_turn.specs.machinery.Jobs.{IsJobHit, goal_by, goal_for, job_of}
 use Rattle.obligation_turn.proofs.BodyLemmas.{body-accepted}
-use Rattle.obligation_turn.proofs.JobLemmas.{asked_at, job-bare, job-held, job-narrow, job-over}
+use Rattle.obligation_turn.proofs.JobLemmas.{asked_at, job-bare, job-held, job-over, job-thin}
 use Rattle.obligation_turn.proofs.StallLemmas.{goal-cube}
 use Rattle.obligation_turn.proofs.TokenLemmas.{seen-is}
 
@@ -50,21 +50,21 @@ use Rattle.obligation_turn.proofs.TokenLemmas.{seen-is}
 
 fits-of : (b : Standing) (job : ℕ) (pred : Option ℕ) → GoesOn b → IsOpenLeaf b job → (job_of b job).pred ≡ pred → GoalFits b.system.preds pred (goal_by pred (job_of b job).cube)
 fits-of b job None goes leaf is = refl
-fits-of b job (Some p) goes leaf is = (p, refl, job-over b job p goes leaf is, job-narrow b job goes leaf)
+fits-of b job (Some p) goes leaf is = (p, refl, job-over b job p goes leaf is, job-thin b job goes leaf)
 
 pub job-asks : (b : Standing) (job : ℕ) (goal : Goal) → GoesOn b → IsOpenLeaf b job → goal ≡ goal_for (job_of b job) → MayAskAll b.system b.frames.lemmas (job_of b job).pred goal
 job-asks b job goal goes leaf is = record {
   numbered = (goes.standing).numbered.0;
   few = goes.few;
   over = ((goes.standing).over).lemmas;
-  narrow = (goes.narrow).lemmas;
+  thin = (goes.thin).lemmas;
   fits = subst (GoalFits b.system.preds (job_of b job).pred) (sym is) (fits-of b job (job_of b job).pred goes leaf refl);
 }
 
-narrow-at : (fs : List KeptLemma) (id : ℕ) → id < length fs → AllOf (λ (f : KeptLemma). is_wide f.lemma ≡ false) fs → is_wide (lemma_of fs id) ≡ false
-narrow-at [] id within all = absurd (omega arith)
-narrow-at (f ∷ fs) zero within all = all.0
-narrow-at (f ∷ fs) (suc id) within all = narrow-at fs id (omega arith) all.1
+thin-at : (fs : List KeptLemma) (id : ℕ) → id < length fs → AllOf (λ (f : KeptLemma). is_wide f.lemma ≡ false) fs → is_wide (lemma_of fs id) ≡ false
+thin-at [] id within all = absurd (omega arith)
+thin-at (f ∷ fs) zero within all = all.0
+thin-at (f ∷ fs) (suc id) within all = thin-at fs id (omega arith) all.1
 
 pub lemma-asks : (b : Standing) (id pred : ℕ) (goal : Goal) → GoesOn b → id < length b.frames.lemmas → pred ≡ pred_at b.frames.lemmas id → goal ≡ Holds (lemma_of b.frames.lemmas id) → MayAskAll b.system b.frames.lemmas (Some pred) goal
 lemma-asks b id pred goal goes within of_pred is =
@@ -74,8 +74,8 @@ lemma-asks b id pred goal goes within of_pred is =
       numbered = (goes.standing).numbered.0;
       few = goes.few;
       over = ((goes.standing).over).lemmas;
-      narrow = (goes.narrow).lemmas;
-      fits = subst (GoalFits b.system.preds (Some pred)) (sym is) (pred, refl, ap (λ (p : ℕ). is_over b.system.preds p (lemma_of fs id)) of_pred ∙ over, narrow-at fs id within (goes.narrow).lemmas);
+      thin = (goes.thin).lemmas;
+      fits = subst (GoalFits b.system.preds (Some pred)) (sym is) (pred, refl, ap (λ (p : ℕ). is_over b.system.preds p (lemma_of fs id)) of_pred ∙ over, thin-at fs id within (goes.thin).lemmas);
     }
 
 -- an area at an instance
@@ -138,7 +138,7 @@ ready b job seen clause goes leaf hit there one kept cube_kept =
     let held : holds (asked_at b job) (head_at point clause) ≡ true =
     ap (λ (c : Clause). holds (asked_at b job) (head_at point c)) (sym third) ∙ job-held b job (hit.instance).clause point (ap (λ (c : Clause). is_head pred c.head) third ∙ headed) (hit.instance).head in
     let body = subst (λ (c : Clause). list_all (is_passed point c) (uses k fs c) ≡ true) second (subst (λ (c : Clause). list_all (is_passed point c) (uses k fs (hit.at).clause) ≡ true) (third ∙ sym second) (hit.instance).body) in
-    let all = usable sys.preds fs ((goes.standing).over).lemmas (goes.narrow).lemmas kept in
+    let all = usable sys.preds fs ((goes.standing).over).lemmas (goes.thin).lemmas kept in
     record {
       guard = ap (λ (c : Clause). truth point c.guard) (sym first) ∙ (seen_is.instance).guard;
       long = (seen_is.instance).whole ∙ ap (λ (c : Clause). length c.sorts) first;

@@ -95,6 +95,6 @@ stalled b job nodes lost goes leaf is =
       places = ap (λ (us : List UsedLemma). list_all (used_has_places b.system lost.clause) (all_used us)) up.used_is ∙ uses-over b.system k b.frames.lemmas lost.clause clause over there;
       projected = tt;
       counts = up.counts;
-      narrow = tt;
+      thin = tt;
       serves = refl;
     }

@@ -24,7 +24,7 @@ use Rattle.step_rules.specs.declared.step.Step.{Step}
 use Rattle.step_rules.specs.declared.step.Step.TheVariants.{OpenStep, LemmaStep, FactStep, LiftStep, RaiseStep, StallStep}
 
 -- every cube in the book has coefficients below 2 ^ 54 in magnitude
-pub record IsNarrow (b : Standing) : Type 0 where
+pub record IsThin (b : Standing) : Type 0 where
   pub lemmas : AllOf (λ (f : KeptLemma). is_wide f.lemma ≡ false) b.frames.lemmas
   pub obligations : AllOf (λ (n : Node). is_wide (obligation_in n).cube ≡ false) b.tree.nodes
 
@@ -35,7 +35,7 @@ pub record GoesOn (b : Standing) : Type 0 where
   pub ordered : IsOrdered (state_of b)
   pub recorded : AreRecorded b.system [] (facts_of b.facts)
   pub goes_on : end (state_of b) ≡ None
-  pub narrow : IsNarrow b
+  pub thin : IsThin b
 
 -- a live obligation without live children that isn't stalled
 pub record IsOpenLeaf (b : Standing) (job : ℕ) : Type 0 where
@@ -44,14 +44,14 @@ pub record IsOpenLeaf (b : Standing) (job : ℕ) : Type 0 where
   pub leaf : has_live_child b.tree.nodes job ≡ false
   pub unmarked : is_stalled_in (node_at b.tree.nodes job) ≡ false
 
--- a cube that the step adds to the book is narrow, too
-abbrev pub StepIsNarrow : Step → Type 0
-StepIsNarrow (OpenStep o) = is_wide o.cube ≡ false
-StepIsNarrow (LemmaStep l) = is_wide l.lemma ≡ false
-StepIsNarrow (FactStep f) = Unit {0}
-StepIsNarrow (LiftStep l) = Unit {0}
-StepIsNarrow (RaiseStep r) = Unit {0}
-StepIsNarrow (StallStep t) = Unit {0}
+-- a cube that the step adds to the book is thin, too
+abbrev pub StepIsThin : Step → Type 0
+StepIsThin (OpenStep o) = is_wide o.cube ≡ false
+StepIsThin (LemmaStep l) = is_wide l.lemma ≡ false
+StepIsThin (FactStep f) = Unit {0}
+StepIsThin (LiftStep l) = Unit {0}
+StepIsThin (RaiseStep r) = Unit {0}
+StepIsThin (StallStep t) = Unit {0}
 
 -- the step is for the obligation. In the area of an Open the guard's literals come first, then those of the obligation's cube, then those of the lemmas.
 -- A Lift or a Raise is for the root, where no instance of false has its body in F(N)
@@ -72,5 +72,5 @@ pub record IsTurn (b : Standing) (job nodes : ℕ) (step : Step) : Type 0 where
   pub places : has_places b.system (step_of step) ≡ true
   pub projected : AreProjected step
   pub counts : StepCounts nodes step
-  pub narrow : StepIsNarrow step
+  pub thin : StepIsThin step
   pub serves : Serves b job step

@@ -11,4 +11,4 @@ use Rattle.shared_book.specs.Jobs.{Asked, IsJob}
 pub goes_on : (sys : Clauses) (asked : Asked) → IsJob sys asked → IsStanding (standing_of asked.snapshot) → IsOrdered (state_of asked.snapshot)
     → AreRecorded (asked.snapshot).system [] (state_of asked.snapshot).facts → GoesOn (standing_of asked.snapshot)
 goes_on sys asked h standing ordered recorded =
-    record { few = subst AreFew (sym h.system) h.few; standing = standing; ordered = ordered; recorded = recorded; goes_on = h.goes_on; narrow = h.narrow }
+    record { few = subst AreFew (sym h.system) h.few; standing = standing; ordered = ordered; recorded = recorded; goes_on = h.goes_on; thin = h.thin }

@@ -21,11 +21,11 @@ use Rattle.chc_core.specs.Openings.{opening_of}
 use Rattle.chc_core.specs.Views.{standing_of, state_of, steps_of}
 use Rattle.chc_core.specs.declared.entry.Entry.{Entry}
 use Rattle.clause_queries.specs.Answers.{AreFew}
-use Rattle.obligation_turn.specs.Turns.{IsNarrow, StepIsNarrow}
+use Rattle.obligation_turn.specs.Turns.{IsThin, StepIsThin}
 use Rattle.shared_book.specs.Locks.{with_claims}
 use Rattle.shared_book.specs.Runs.{IsEntry, IsRunBook}
 
--- narrow cubes
+-- thin cubes
 
 all_map : {X Y : Type 0} (P : Y → Type 0) (f : X → Y) (xs : List X) → AllOf (λ x. P (f x)) xs → AllOf P (map f xs)
 all_map P f [] h = tt
@@ -35,23 +35,23 @@ all_unmap : {X Y : Type 0} (P : Y → Type 0) (f : X → Y) (xs : List X) → Al
 all_unmap P f [] h = tt
 all_unmap P f (x ∷ xs) h = (h.0, all_unmap P f xs h.1)
 
-abbrev NarrowLemma : Framed → Type 0
-NarrowLemma e = is_wide e.lemma.cube ≡ false
+abbrev ThinLemma : Framed → Type 0
+ThinLemma e = is_wide e.lemma.cube ≡ false
 
-abbrev NarrowObligation : Obligation → Type 0
-NarrowObligation o = is_wide o.cube ≡ false
+abbrev ThinObligation : Obligation → Type 0
+ThinObligation o = is_wide o.cube ≡ false
 
-record IsNarrowState (s : State) : Type 0 where
-  lemmas : AllOf NarrowLemma s.lemmas
-  obligations : AllOf NarrowObligation s.obligations
+record IsThinState (s : State) : Type 0 where
+  lemmas : AllOf ThinLemma s.lemmas
+  obligations : AllOf ThinObligation s.obligations
 
-narrow_state : (b : Contents) → IsNarrow (standing_of b) → IsNarrowState (state_of b)
-narrow_state b h = record { lemmas = all_map NarrowLemma framed_of b.frames.lemmas h.lemmas; obligations = all_map NarrowObligation obligation_of b.tree.nodes h.obligations }
+thin_state : (b : Contents) → IsThin (standing_of b) → IsThinState (state_of b)
+thin_state b h = record { lemmas = all_map ThinLemma framed_of b.frames.lemmas h.lemmas; obligations = all_map ThinObligation obligation_of b.tree.nodes h.obligations }
 
-state_narrow : (b : Contents) → IsNarrowState (state_of b) → IsNarrow (standing_of b)
-state_narrow b h = record { lemmas = all_unmap NarrowLemma framed_of b.frames.lemmas h.lemmas; obligations = all_unmap NarrowObligation obligation_of b.tree.nodes h.obligations }
+state_thin : (b : Contents) → IsThinState (state_of b) → IsThin (standing_of b)
+state_thin b h = record { lemmas = all_unmap ThinLemma framed_of b.frames.lemmas h.lemmas; obligations = all_unmap ThinObligation obligation_of b.tree.nodes h.obligations }
 
-lemma_new : (step : Step) → StepIsNarrow step → LemmaHas NarrowLemma (step_of step)
+lemma_new : (step : Step) → StepIsThin step → LemmaHas ThinLemma (step_of step)
 lemma_new (OpenStep o) h = tt
 lemma_new (LemmaStep l) h = h
 lemma_new (FactStep f) h = tt
@@ -59,7 +59,7 @@ lemma_new (LiftStep l) h = tt
 lemma_new (RaiseStep r) h = tt
 lemma_new (StallStep t) h = tt
 
-child_new : (sys : Clauses) (s : State) (step : Step) → StepIsNarrow step → ChildHas NarrowObligation sys s (step_of step)
+child_new : (sys : Clauses) (s : State) (step : Step) → StepIsThin step → ChildHas ThinObligation sys s (step_of step)
 child_new sys s (OpenStep o) h = λ parent atom there is. h
 child_new sys s (LemmaStep l) h = tt
 child_new sys s (FactStep f) h = tt
@@ -67,44 +67,44 @@ child_new sys s (LiftStep l) h = tt
 child_new sys s (RaiseStep r) h = tt
 child_new sys s (StallStep t) h = tt
 
-narrow_step : (sys : Clauses) (s : State) (step : Step) → IsNarrowState s → StepIsNarrow step → IsNarrowState (after sys s (step_of step))
-narrow_step sys s step h new = record {
-  lemmas = lemmas-after NarrowLemma (λ e level k. k) sys s (step_of step) h.lemmas (lemma_new step new);
-  obligations = steady-after NarrowObligation (λ o level closed stalled k. k) sys s (step_of step) h.obligations (child_new sys s step new);
+thin_step : (sys : Clauses) (s : State) (step : Step) → IsThinState s → StepIsThin step → IsThinState (after sys s (step_of step))
+thin_step sys s step h new = record {
+  lemmas = lemmas-after ThinLemma (λ e level k. k) sys s (step_of step) h.lemmas (lemma_new step new);
+  obligations = steady-after ThinObligation (λ o level closed stalled k. k) sys s (step_of step) h.obligations (child_new sys s step new);
 }
 
-narrow-after : (b c : Contents) (step : Step) → state_of c ≡ after b.system (state_of b) (step_of step) → IsNarrow (standing_of b) → StepIsNarrow step → IsNarrow (standing_of c)
-narrow-after b c step is h new = state_narrow c (subst IsNarrowState (sym is) (narrow_step b.system (state_of b) step (narrow_state b h) new))
+thin-after : (b c : Contents) (step : Step) → state_of c ≡ after b.system (state_of b) (step_of step) → IsThin (standing_of b) → StepIsThin step → IsThin (standing_of c)
+thin-after b c step is h new = state_thin c (subst IsThinState (sym is) (thin_step b.system (state_of b) step (thin_state b h) new))
 
-pub narrow-opening : (b : Contents) (units : ℕ) → state_of b ≡ opening units → IsNarrow (standing_of b)
-narrow-opening b units is = state_narrow b (subst IsNarrowState (sym is) (record { lemmas = tt; obligations = (refl, tt) }))
+pub thin-opening : (b : Contents) (units : ℕ) → state_of b ≡ opening units → IsThin (standing_of b)
+thin-opening b units is = state_thin b (subst IsThinState (sym is) (record { lemmas = tt; obligations = (refl, tt) }))
 
 -- claims and entries
 
-pub narrow-claims : (b : Contents) (claims : List (Option ℕ)) → IsNarrow (standing_of b) → IsNarrow (standing_of (with_claims claims b))
-narrow-claims b claims h = record { lemmas = h.lemmas; obligations = h.obligations }
+pub thin-claims : (b : Contents) (claims : List (Option ℕ)) → IsThin (standing_of b) → IsThin (standing_of (with_claims claims b))
+thin-claims b claims h = record { lemmas = h.lemmas; obligations = h.obligations }
 
 pub run-claims : (sys : Clauses) (units nodes workers : ℕ) (b c : Contents) (claims : List (Option ℕ)) → c ≡ with_claims claims b → IsRunBook sys units nodes workers b → IsRunBook sys units nodes workers c
 run-claims sys units nodes workers b c claims is h =
-    subst (IsRunBook sys units nodes workers) (sym is) (record { system = h.system; given = h.given; few = h.few; entries = h.entries; narrow = narrow-claims b claims h.narrow })
+    subst (IsRunBook sys units nodes workers) (sym is) (record { system = h.system; given = h.given; few = h.few; entries = h.entries; thin = thin-claims b claims h.thin })
 
 pub run-step : (sys : Clauses) (units nodes workers worker : ℕ) (b c : Contents) (step : Step) → IsRunBook sys units nodes workers b → state_of c ≡ after b.system (state_of b) (step_of step)
     → c.system ≡ b.system → c.given ≡ b.given → c.journal ≡ b.journal ++ (record { worker = worker; step = step }) ∷ []
-    → IsEntry workers nodes (record { worker = worker; step = step }) → StepIsNarrow step → IsRunBook sys units nodes workers c
-run-step sys units nodes workers worker b c step h state system given journal entry narrow = record {
+    → IsEntry workers nodes (record { worker = worker; step = step }) → StepIsThin step → IsRunBook sys units nodes workers c
+run-step sys units nodes workers worker b c step h state system given journal entry thin = record {
   system = system ∙ h.system;
   given = given ∙ h.given;
   few = h.few;
   entries = subst (AllOf (IsEntry workers nodes)) (sym journal) (all_of-push (IsEntry workers nodes) b.journal (record { worker = worker; step = step }) h.entries entry);
-  narrow = narrow-after b c step state h.narrow narrow;
+  thin = thin-after b c step state h.thin thin;
 }
 
 pub longer : (b c : Contents) (entry : Entry) → c.journal ≡ b.journal ++ entry ∷ [] → length c.journal ≡ length b.journal + 1
 longer b c entry is = ap (λ (j : List Entry). length j) is ∙ length_push b.journal entry
 
-pub run-opening : (sys : Clauses) (units nodes workers : ℕ) (b : Contents) → b.system ≡ sys → b.given ≡ units → b.journal ≡ [] → AreFew b.system → IsNarrow (standing_of b) → IsRunBook sys units nodes workers b
-run-opening sys units nodes workers b system given new few narrow =
-    record { system = system; given = given; few = subst AreFew system few; entries = subst (AllOf (IsEntry workers nodes)) (sym new) tt; narrow = narrow }
+pub run-opening : (sys : Clauses) (units nodes workers : ℕ) (b : Contents) → b.system ≡ sys → b.given ≡ units → b.journal ≡ [] → AreFew b.system → IsThin (standing_of b) → IsRunBook sys units nodes workers b
+run-opening sys units nodes workers b system given new few thin =
+    record { system = system; given = given; few = subst AreFew system few; entries = subst (AllOf (IsEntry workers nodes)) (sym new) tt; thin = thin }
 
 -- by the run's name of the opening
 

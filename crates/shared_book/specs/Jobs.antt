@@ -6,19 +6,19 @@ use Rattle.book_rules.specs.Legal.{end}
 use Rattle.chc_core.specs.Contents.{Contents}
 use Rattle.chc_core.specs.Views.{standing_of, state_of}
 use Rattle.clause_queries.specs.Answers.{AreFew}
-use Rattle.obligation_turn.specs.Turns.{IsNarrow, IsOpenLeaf}
+use Rattle.obligation_turn.specs.Turns.{IsOpenLeaf, IsThin}
 
 -- an obligation, and the book in which it is asked
 pub record Asked : Type 0 where
   pub obligation : ℕ
   pub snapshot : Contents
 
--- a live leaf that isn't stalled, of a book of these clauses that hasn't ended and whose cubes are narrow
+-- a live leaf that isn't stalled, of a book of these clauses that hasn't ended and whose cubes are thin
 pub record IsJob (sys : Clauses) (asked : Asked) : Type 0 where
   pub system : asked.snapshot.system ≡ sys
   pub few : AreFew sys
   pub goes_on : end (state_of asked.snapshot) ≡ None
-  pub narrow : IsNarrow (standing_of asked.snapshot)
+  pub thin : IsThin (standing_of asked.snapshot)
   pub leaf : IsOpenLeaf (standing_of asked.snapshot) asked.obligation
 
 -- a live leaf that isn't stalled and that no other worker holds

@@ -7,7 +7,7 @@ use Rattle.chc_core.specs.Views.{standing_of}
 use Rattle.chc_core.specs.declared.entry.Entry.{Entry}
 use Rattle.clause_queries.specs.Answers.{AreFew}
 use Rattle.obligation_turn.specs.Counts.{StepCounts}
-use Rattle.obligation_turn.specs.Turns.{IsNarrow}
+use Rattle.obligation_turn.specs.Turns.{IsThin}
 
 -- an entry of one of the workers, who are numbered from 1; evidence that counts inner nodes counts those that the run allows
 pub record IsEntry (workers nodes : ℕ) (entry : Entry) : Type 0 where
@@ -15,10 +15,10 @@ pub record IsEntry (workers nodes : ℕ) (entry : Entry) : Type 0 where
   pub last : entry.worker ≤ workers
   pub counts : StepCounts nodes entry.step
 
--- the book that the clauses open with the given number of units, in which workers of the run alone have written; its cubes are narrow
+-- the book that the clauses open with the given number of units, in which workers of the run alone have written; its cubes are thin
 pub record IsRunBook (sys : Clauses) (units nodes workers : ℕ) (b : Contents) : Type 0 where
   pub system : b.system ≡ sys
   pub given : b.given ≡ units
   pub few : AreFew sys
   pub entries : AllOf (IsEntry workers nodes) b.journal
-  pub narrow : IsNarrow (standing_of b)
+  pub thin : IsThin (standing_of b)

@@ -6,7 +6,7 @@ ghost use Rattle.obligation_tree.specs.Claims.{most_workers};
 ghost use Rattle.obligation_tree.specs.Nodes.{is_stalled_in, leaf_numbers, node_at};
 ghost use Rattle.chc_core.specs.Views.{standing_of, state_of};
 ghost use Rattle.clause_queries.specs.Answers.{AreFew};
-ghost use Rattle.obligation_turn.specs.Turns.{IsNarrow, IsOpenLeaf};
+ghost use Rattle.obligation_turn.specs.Turns.{IsOpenLeaf, IsThin};
 ghost use Rattle.shared_book.specs.Jobs.{AreHeld, IsFree};
 ghost use Rattle.shared_book.specs.Locks.{claimed_by, with_claims};
 ghost use Rattle.shared_book.specs.machinery.Choices.{IsChosen, IsLiveLeaf, LeavesNone};
@@ -137,7 +137,7 @@ pub(crate) fn job_of<R: Run>(book: &mut Book, worker: u32) -> Result<Option<Job<
     requires system { book.old.system ≡ R.system }
     requires few { AreFew R.system }
     requires goes_on { end (state_of book.old) ≡ None }
-    requires narrow { IsNarrow (standing_of book.old) }
+    requires thin { IsThin (standing_of book.old) }
     ensures none { IfOk result (λ answer. answer ≡ None → AreHeld book.old worker) }
     ensures unclaimed { IfOk result (λ answer. answer ≡ None → book.new ≡ book.old) }
     ensures free { IfOk result (λ answer. IfSome answer (λ job. IsFree book.old worker job.obligation)) }

@@ -2,7 +2,7 @@ ghost use Rattle.std.specs.Prelude.{◌≡◌, None};
 ghost use Rattle.book_rules.specs.Legal.{end};
 ghost use Rattle.chc_core.specs.Views.{standing_of, state_of};
 ghost use Rattle.clause_queries.specs.Answers.{AreFew};
-ghost use Rattle.obligation_turn.specs.Turns.{GoesOn, IsNarrow, IsOpenLeaf};
+ghost use Rattle.obligation_turn.specs.Turns.{GoesOn, IsOpenLeaf, IsThin};
 ghost use Rattle.shared_book.specs.Jobs.{IsJob};
 
 use crate::run::Run;
@@ -62,7 +62,7 @@ impl<R: Run> Job<R> {
         ensures system { result.now.system ≡ R.system }
         ensures few { AreFew R.system }
         ensures goes_on { end (state_of result.now) ≡ None }
-        ensures narrow { IsNarrow (standing_of result.now) }
+        ensures thin { IsThin (standing_of result.now) }
     {
         &self.snapshot
     }

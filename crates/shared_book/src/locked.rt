@@ -13,7 +13,7 @@ ghost use Rattle.book_rules.specs.Walks.{AllOf};
 ghost use Rattle.chc_core.specs.Views.{standing_of, state_of, steps_of};
 ghost use Rattle.clause_queries.specs.Answers.{AreFew};
 ghost use Rattle.obligation_turn.specs.Counts.{StepCounts};
-ghost use Rattle.obligation_turn.specs.Turns.{IsNarrow, StepIsNarrow};
+ghost use Rattle.obligation_turn.specs.Turns.{IsThin, StepIsThin};
 ghost use Rattle.step_rules.specs.Taken.{IsMadeFor, step_of};
 ghost use Rattle.shared_book.specs.Jobs.{AreHeld, IsFree};
 ghost use Rattle.shared_book.specs.Locks.{AreReleased, IsOlder, claimed_by, released_by, with_claims};
@@ -96,7 +96,7 @@ impl<R: Run> Locked<R> {
 
     /// The book: of the run's clauses and units, the replay of its journal, in which each entry is legal
     /// where it is written. Its lemmas are good, each entry is of a worker of the run and of the run's
-    /// nodes, its cubes are narrow, and the shares' counts sum to the length of its journal.
+    /// nodes, its cubes are thin, and the shares' counts sum to the length of its journal.
     pub fn book(&self) -> &Book
         ensures is { result.now ≡ self.now.book }
         ensures system { result.now.system ≡ R.system }
@@ -105,7 +105,7 @@ impl<R: Run> Locked<R> {
         ensures legal { AreLegal R.system (opening R.units) (steps_of result.now.journal) }
         ensures good { AreGood (instances R.system) (state_of result.now).lemmas }
         ensures entries { AllOf (IsEntry R.workers R.nodes) result.now.journal }
-        ensures narrow { IsNarrow (standing_of result.now) }
+        ensures thin { IsThin (standing_of result.now) }
         ensures counted { self.now.total ≡ length result.now.journal }
     {
         self.book.is_replayed();
@@ -128,7 +128,7 @@ impl<R: Run> Locked<R> {
         requires made { IsMadeFor R.system step }
         requires places { has_places R.system (step_of step) ≡ true }
         requires counts { StepCounts R.nodes step }
-        requires narrow { StepIsNarrow step }
+        requires thin { StepIsThin step }
         ensures number { IfOk result (λ number. number ≡ length self.old.book.journal + 1) }
         ensures legal { OnOk result (IsLegal R.system (state_of self.old.book) (step_of step)) }
         ensures state { OnOk result (state_of self.new.book ≡ after R.system (state_of self.old.book) (step_of step)) }

@@ -6,7 +6,7 @@ ghost use Rattle.chc_core.specs.Views.{standing_of};
 ghost use Rattle.clause_queries.specs.Answers.{AreFew};
 ghost use Rattle.obligation_tree.specs.Claims.{most_workers};
 ghost use Rattle.obligation_turn.specs.Counts.{StepCounts};
-ghost use Rattle.obligation_turn.specs.Turns.{IsNarrow, StepIsNarrow};
+ghost use Rattle.obligation_turn.specs.Turns.{IsThin, StepIsThin};
 ghost use Rattle.step_rules.specs.Taken.{IsMadeFor, step_of};
 ghost use Rattle.shared_book.specs.Runs.{IsEntry};
 
@@ -56,7 +56,7 @@ fn shares_of<R: Run>(
 impl<R: Run> SharedBook<R> {
     /// The book behind a lock, with all claims on it released, and a share for each worker, numbered from
     /// 1. There are from 1 to 64 workers. The book is the run's and has no entries, the bodies of its
-    /// clauses have few atoms, and its cubes are narrow.
+    /// clauses have few atoms, and its cubes are thin.
     pub fn new(
         alloc: Global,
         blank: Blank,
@@ -73,7 +73,7 @@ impl<R: Run> SharedBook<R> {
         requires given { book.given ≡ R.units }
         requires new { book.journal ≡ [] }
         requires few { AreFew book.system }
-        requires narrow { IsNarrow (standing_of book) }
+        requires thin { IsThin (standing_of book) }
         ensures workers { IfOk result (λ made. map (λ share. share.worker) made.1.items ≡ range_with_len 1 workers) }
         ensures counts { IfOk result (λ made. map (λ share. share.count) made.1.items ≡ replicate workers 0) }
     {
@@ -89,7 +89,7 @@ impl<R: Run> SharedBook<R> {
         requires made { IsMadeFor R.system step }
         requires places { has_places R.system (step_of step) ≡ true }
         requires counts { StepCounts R.nodes step }
-        requires narrow { StepIsNarrow step }
+        requires thin { StepIsThin step }
         ensures counted { OnOk result (share.new.count ≡ share.old.count + 1) }
         ensures uncounted { OnErr result (share.new.count ≡ share.old.count) }
         ensures worker { share.new.worker ≡ share.old.worker }
@@ -143,7 +143,7 @@ impl<R: Run> SharedBook<R> {
         ensures system { result.system ≡ R.system }
         ensures given { result.given ≡ R.units }
         ensures entries { AllOf (IsEntry R.workers R.nodes) result.journal }
-        ensures narrow { IsNarrow (standing_of result) }
+        ensures thin { IsThin (standing_of result) }
     {
         let SharedBook { lock, .. } = self;
         write_counts(shares.as_slice(), counts);

@@ -5,7 +5,7 @@ ghost use Rattle.std.specs.List.{list_all};
 ghost use Rattle.clause_form.specs.declared.clause.Clause.{Clause};
 ghost use Rattle.chc_core.specs.Views.{standing_of};
 ghost use Rattle.clause_queries.specs.Answers.{AreFew};
-ghost use Rattle.obligation_turn.specs.Turns.{IsNarrow};
+ghost use Rattle.obligation_turn.specs.Turns.{IsThin};
 
 use base::Items;
 use chc_core::Book;
@@ -72,7 +72,7 @@ fn system(rt: &impl Abort, alloc: Global, clauses: Items<Clause>) -> System {
 fn book(rt: &impl Abort, alloc: Global, clauses: Items<Clause>, units: u32) -> Book
     ensures few { AreFew result.system }
     ensures new { result.journal ≡ [] }
-    ensures narrow { IsNarrow (standing_of result) }
+    ensures thin { IsThin (standing_of result) }
 {
     let system = system(rt, alloc, clauses);
     assert!(rt; system.clauses().len() <= 2, "too many clauses");
@@ -86,7 +86,7 @@ fn book(rt: &impl Abort, alloc: Global, clauses: Items<Clause>, units: u32) -> B
 pub(crate) fn opened(rt: &impl Abort, alloc: Global, contradicts: bool, units: u32) -> Book
     ensures few { AreFew result.system }
     ensures new { result.journal ≡ [] }
-    ensures narrow { IsNarrow (standing_of result) }
+    ensures thin { IsThin (standing_of result) }
 {
     let mut clauses = Items::new(alloc);
     let zero = clause(rt, alloc, is(rt, alloc, 0), false, Some(atom(rt, alloc)));

@@ -4,7 +4,7 @@ ghost use Rattle.std.specs.Prelude.{◌≡◌, ◌<◌, ◌≤◌, [], length};
 ghost use Rattle.chc_core.specs.Views.{standing_of};
 ghost use Rattle.clause_queries.specs.Answers.{AreFew};
 ghost use Rattle.obligation_tree.specs.Claims.{most_workers};
-ghost use Rattle.obligation_turn.specs.Turns.{IsNarrow};
+ghost use Rattle.obligation_turn.specs.Turns.{IsThin};
 
 use crate::books::opened;
 use crate::moves::{Made, Move, Told, is_written, moved};
@@ -61,7 +61,7 @@ fn run<R: Run, W: Wait + Abort>(
     requires given { book.given ≡ R.units }
     requires new { book.journal ≡ [] }
     requires few { AreFew book.system }
-    requires narrow { IsNarrow (standing_of book) }
+    requires thin { IsThin (standing_of book) }
 {
     let mut counts = vec![in alloc; 0; workers as usize].expect(rt, "memory");
     let (shared, mut shares) = SharedBook::<R>::new(alloc, blank, book, workers).expect(

@@ -120,8 +120,8 @@ wide_quotient q d some is =
     wide_where q (nat_abs d) (nat_abs num) is g_some size
 
 -- where the numerator has room, it has room in lowest terms
-pub narrow : (q : Fraction) → pos 0 <ℤ q.den → nat_abs q.num < 2 ^ 127 → is_wide q ≡ false
-narrow q some small =
+pub fitting : (q : Fraction) → pos 0 <ℤ q.den → nat_abs q.num < 2 ^ 127 → is_wide q ≡ false
+fitting q some small =
     let e = nat_abs q.den in
     let some' : 0 < e = omega (arith, ints) in
     let found = euclid (suc e) (nat_abs q.num) e (omega arith) in
@@ -129,8 +129,8 @@ narrow q some small =
     let more : 2 ^ 127 * 1 ≤ 2 ^ 127 * found.0 = omega arith in
     wide_is q found.0 found.1 ∙ lt-leb (2 ^ 127 * found.0) (nat_abs q.num) (omega arith)
 
-pub narrow_numerator : (q : Fraction) → pos 0 <ℤ q.den → is_wide q ≡ false → (num : ℤ) × IsNumerator num q.num q.den × (nat_abs num < 2 ^ 127)
-narrow_numerator q some is =
+pub fitting_numerator : (q : Fraction) → pos 0 <ℤ q.den → is_wide q ≡ false → (num : ℤ) × IsNumerator num q.num q.den × (nat_abs num < 2 ^ 127)
+fitting_numerator q some is =
     let e = nat_abs q.den in
     let some' : 0 < e = omega (arith, ints) in
     let found = euclid (suc e) (nat_abs q.num) e (omega arith) in

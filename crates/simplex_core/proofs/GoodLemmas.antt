@@ -240,7 +240,7 @@ good-after t m i c side good turns small =
 pub good-next : (t : Table) (m n : Moment) → IsGood t m → next m ≡ Next n → IsGood t n
 good-next t m n good e =
     let is = next-is m n e in
-    subst (IsGood t) (sym is.moment) (good-after t m is.row is.column is.side good is.turns is.small)
+    subst (IsGood t) (sym is.moment) (good-after t m is.row is.column is.side good is.turns is.short)
 
 pub good-first : (t : Table) → IsTable t → width t < 2 ^ 32 → IsGood t (first_moment t)
 good-first t table few = record { table = table; legal = first-legal t few; variables = refl; count = refl; lower = refl; upper = refl; space = same-reflexive t.rows }

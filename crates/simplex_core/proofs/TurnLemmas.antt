@@ -169,11 +169,11 @@ pub record IsNext (m n : Moment) : Type 0 where
   pub column : ℕ
   pub side : Side
   pub turns : turn m ≡ Pivot row column side
-  pub small : list_all are_short (pivoted row column m.table.rows) ≡ true
+  pub short : list_all are_short (pivoted row column m.table.rows) ≡ true
   pub moment : n ≡ after m row column side
 
 next-cases : (m n : Moment) (i c : ℕ) (side : Side) (b : Bool) → turn m ≡ Pivot i c side → list_all are_short (pivoted i c m.table.rows) ≡ b → cond b (Next (after m i c side)) (Ended (Pivot i c side)) ≡ Next n → IsNext m n
-next-cases m n i c side true t small e = record { row = i; column = c; side = side; turns = t; small = small; moment = cc }
+next-cases m n i c side true t small e = record { row = i; column = c; side = side; turns = t; short = small; moment = cc }
 next-cases m n i c side false t small e = absurd (cc)
 
 outcome-next : (m n : Moment) (t : Turn) → turn m ≡ t → outcome m t ≡ Next n → IsNext m n
@@ -232,7 +232,7 @@ turn-wides m c e =
 -- a vertex: all bounds are in order, all values have room, and none is outside its bounds
 pub record IsAtVertex (m : Moment) : Type 0 where
   pub ordered : crossed m.table ≡ None
-  pub narrow : wide m ≡ None
+  pub fitting : wide m ≡ None
   pub within : leaving m ≡ None
   pub floors : wide_floor m ≡ None
 
@@ -242,7 +242,7 @@ settled-vertex m (Some v) l e = absurd (enter-vertex (row_of m.table.basic v) (u
 
 pub turn-vertex : (m : Moment) → turn m ≡ Vertex → IsAtVertex m
 turn-vertex m e =
-    ⊎_elim (λ x. absurd (let bad : Vertex ≡ Crossed x.0 = x.2 in cc)) (λ rest. ⊎_elim (λ x. absurd (let bad : Vertex ≡ Wide x.0 = x.3 in cc)) (λ s. let both = settled-vertex m (leaving m) refl s.2 in record { ordered = s.0; narrow = s.1; within = both.0; floors = both.1 }) rest) (turn-comes m Vertex e)
+    ⊎_elim (λ x. absurd (let bad : Vertex ≡ Crossed x.0 = x.2 in cc)) (λ rest. ⊎_elim (λ x. absurd (let bad : Vertex ≡ Wide x.0 = x.3 in cc)) (λ s. let both = settled-vertex m (leaving m) refl s.2 in record { ordered = s.0; fitting = s.1; within = both.0; floors = both.1 }) rest) (turn-comes m Vertex e)
 
 pub wides-within : (m : Moment) (c : ℕ) → Wides m c → c < width m.table
 unfolding wide wide_floor

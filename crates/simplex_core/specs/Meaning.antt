@@ -60,7 +60,7 @@ Means t (Conflict ms) = IsConflict t ms.items
 Means t (Wide (Row basis wide)) = IsWideRow (width t) t.rows basis.items wide
 Means t (Wide (Coordinate basis outside c)) = IsWideCoordinate (system_of t) basis.items outside.items c
 
--- at a vertex each variable that is no slack, rounded down, is below 2 ^ 63 in magnitude
+-- at a vertex each variable that is no slack, rounded down, is short
 abbrev pub HasShortFloors : Table → Feasible → Type 0
 HasShortFloors t (Vertex ratios) = (v : ℕ) (d : Fraction) → v < t.variables → is_short (int_div_euclid (slice_index_or ratios.items v d).num (slice_index_or ratios.items v d).den) ≡ true
 HasShortFloors t (Conflict ms) = Unit {0}

@@ -58,7 +58,7 @@ fn wide_floor(values: &[Coordinate], variables: usize) -> Option<usize>
 {
     values[..variables]
         .iter()
-        .position(|value| !value.has_small_floor())
+        .position(|value| !value.has_short_floor())
 }
 
 /// Whether the value is below the bound.
@@ -178,7 +178,7 @@ fn can_sink(t: &Tableau, standings: &[Standing], column: usize) -> bool
 pub(crate) fn seen_from(side: Side, a: i64) -> i64
     requires { nat_abs a < 2 ^ 63 }
     ensures is { result ≡ seen_from side a }
-    ensures small { nat_abs result < 2 ^ 63 }
+    ensures short { nat_abs result < 2 ^ 63 }
 {
     match side {
         Side::Lower => a,

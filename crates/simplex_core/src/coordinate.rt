@@ -72,7 +72,7 @@ pub fn held(alloc: Global, values: &[i128]) -> Result<Vec<usize>, Memory>
 /// Takes a product away from a sum.
 fn take_away(sum: &mut Accumulator, entry: i64, value: i128)
     requires room { sum.old.added < 2 ^ 32 }
-    requires small { nat_abs value < 2 ^ 64 }
+    requires long { nat_abs value < 2 ^ 64 }
     ensures value { sum.new.value ≡ sum.old.value -ℤ entry *ℤ value }
     ensures added { sum.new.added ≤ sum.old.added + 1 }
 {
@@ -85,7 +85,7 @@ fn take_away(sum: &mut Accumulator, entry: i64, value: i128)
 fn take_column(sum: &mut Accumulator, row: &[i64], values: &[i128], column: usize, own: usize)
     requires width { length row.now ≡ length values.now }
     requires within { column < length row.now }
-    requires small { list_all is_long values.now ≡ true }
+    requires long { list_all is_long values.now ≡ true }
     requires room { sum.old.added < 2 ^ 32 }
     ensures value { sum.new.value ≡ sum.old.value -ℤ (if column == own then pos 0 else entry row.now column) *ℤ entry values.now column }
     ensures added { sum.new.added ≤ sum.old.added + 1 }
@@ -112,7 +112,7 @@ impl Coordinate {
         requires few { length row.now ≤ 2 ^ 32 }
         requires own { own < length row.now }
         requires positive { pos 0 <ℤ entry row.now own }
-        requires small { list_all is_long values.now ≡ true }
+        requires long { list_all is_long values.now ≡ true }
         requires places { places.now ≡ held values.now }
         ensures { result ≡ coordinate row.now values.now own }
     {
@@ -144,7 +144,7 @@ impl Coordinate {
     }
 
     /// Whether the greatest integer that is at most the value has room: its magnitude is below 2^63.
-    pub fn has_small_floor(&self) -> bool
+    pub fn has_short_floor(&self) -> bool
         ensures { result ≡ is_short (int_div_euclid self.now.num self.now.den) }
     {
         match self.sum.quotient(self.den).to_i128() {

@@ -73,7 +73,7 @@ pub(crate) fn ratios(
     values: &[Coordinate],
 ) -> Result<Vec<Ratio>, Memory>
     requires values { values.now ≡ coordinates (moment t.now standings.now) }
-    requires narrow { position is_wide values.now ≡ None }
+    requires fitting { position is_wide values.now ≡ None }
     ensures { IfOk result (λ made. AreCoordinates (moment t.now standings.now) made.items) }
 {
     let mut made = Vec::with_capacity(alloc, values.len())?;

@@ -119,7 +119,7 @@ pub(crate) fn stood_at(t: &Tableau, standings: &[Standing], column: usize) -> i1
     requires each { length standings.now ≡ width t.now }
     requires column { column < width t.now }
     ensures is { result ≡ stood_at (moment t.now standings.now) column }
-    ensures small { nat_abs result < 2 ^ 64 }
+    ensures long { nat_abs result < 2 ^ 64 }
 {
     t.is_table();
     stood(t.lower(column), t.upper(column), standings[column])
@@ -133,7 +133,7 @@ pub(crate) fn values(
 ) -> Result<Vec<i128>, Memory>
     requires { length standings.now ≡ width t.now }
     ensures is { IfOk result (λ made. made.items ≡ values (moment t.now standings.now)) }
-    ensures small { IfOk result (λ made. list_all is_long made.items ≡ true) }
+    ensures long { IfOk result (λ made. list_all is_long made.items ≡ true) }
 {
     let mut made = Vec::with_capacity(alloc, standings.len())?;
     for column in 0..standings.len() {
@@ -147,7 +147,7 @@ fn row_value(t: &Tableau, values: &[i128], places: &[usize], row: usize) -> Coor
     requires row { row < length t.now.rows }
     requires each { length values.now ≡ width t.now }
     requires few { width t.now < 2 ^ 32 }
-    requires small { list_all is_long values.now ≡ true }
+    requires long { list_all is_long values.now ≡ true }
     requires places { places.now ≡ held values.now }
     ensures { result ≡ coordinate (row_at t.now.rows row) values.now (basic_at t.now.basic row) }
 {
@@ -165,7 +165,7 @@ pub(crate) fn coordinate_at(
 ) -> Coordinate
     requires legal { AreStandings t.now standings.now }
     requires known { known.now ≡ values (moment t.now standings.now) }
-    requires small { list_all is_long known.now ≡ true }
+    requires long { list_all is_long known.now ≡ true }
     requires places { places.now ≡ held known.now }
     requires column { column < width t.now }
     ensures { result ≡ coordinate_at (moment t.now standings.now) column }

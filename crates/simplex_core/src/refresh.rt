@@ -78,7 +78,7 @@ fn renew(
 )
     requires legal { AreStandings t.now standings.now }
     requires known { known.now ≡ values (moment t.now standings.now) }
-    requires small { list_all is_long known.now ≡ true }
+    requires long { list_all is_long known.now ≡ true }
     requires places { places.now ≡ held known.now }
     requires column { column < width t.now }
     requires each { column < length kept.old }
@@ -104,7 +104,7 @@ pub(crate) fn refresh(
 )
     requires legal { AreStandings t.now standings.now }
     requires known { known.now ≡ values (moment t.now standings.now) }
-    requires small { list_all is_long known.now ≡ true }
+    requires long { list_all is_long known.now ≡ true }
     requires places { places.now ≡ held known.now }
     requires marks { length marks.now ≡ width t.now }
     requires each { length kept.old ≡ width t.now }

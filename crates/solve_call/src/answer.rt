@@ -6,7 +6,7 @@ ghost use Rattle.book_answers.specs.Answers.{IsBookOf};
 ghost use Rattle.book_rules.specs.Legal.{end};
 ghost use Rattle.chc_core.specs.Openings.{most_units};
 ghost use Rattle.chc_core.specs.Views.{standing_of, state_of};
-ghost use Rattle.obligation_turn.specs.Turns.{IsNarrow};
+ghost use Rattle.obligation_turn.specs.Turns.{IsThin};
 ghost use Rattle.solve_call.specs.machinery.Answers.{IsAnswerTo, IsSearched, IsSearchedBook, IsToldOf};
 
 use crate::lines::refusal_line;
@@ -50,7 +50,7 @@ fn ended(alloc: Global, checked: &Checked, book: Book, limits: Limits) -> Answer
 fn searched(alloc: Global, checked: &Checked, book: Book, limits: Limits) -> Answer
     requires of { IsBookOf checked.now book }
     requires given { book.given ≡ limits.units }
-    requires narrow { IsNarrow (standing_of book) }
+    requires thin { IsThin (standing_of book) }
     requires new { book.journal ≡ [] }
     requires some { 0 < limits.nodes }
     ensures { IsSearched limits checked.now result }

@@ -21,7 +21,7 @@ pub fn varying(parts: &[Part]) -> usize
     count
 }
 
-/// The number, where it is below 2 ^ 63 in magnitude.
+/// The number, where it is short.
 pub fn if_short(value: i128) -> Option<i64>
     ensures { result ≡ if_short value }
 {
@@ -150,7 +150,7 @@ fn value_at(op: OpKind, parts: &[Part]) -> i128
     }
 }
 
-/// The value of an operator other than `*` at constants, where it is below 2 ^ 63 in magnitude.
+/// The value of an operator other than `*` at constants, where it is short.
 pub fn value_if_short(op: OpKind, parts: &[Part]) -> Option<i64>
     ensures { result ≡ if_short (value_at op (map worth parts.now)) }
 {

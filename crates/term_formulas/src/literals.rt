@@ -30,7 +30,7 @@ pub(crate) fn truth(sign: bool) -> Form
     if sign { Form::True } else { Form::False }
 }
 
-/// That the constant of a form with narrow numbers is narrow, for a proof that needs it.
+/// That the constant of a narrow form is short, for a proof that needs it.
 pub(crate) fn narrow_constant(lin: &Lin)
     requires { IsTrue (is_narrow lin.now) }
     ensures { IsTrue (is_short lin.now.constant) }
@@ -38,7 +38,7 @@ pub(crate) fn narrow_constant(lin: &Lin)
     let _ = lin;
 }
 
-/// The form and 1. A form with narrow numbers has room for it.
+/// The form and 1. A narrow form has room for it.
 pub(crate) fn one_more(lin: Lin) -> Lin
     requires { IsTrue (is_narrow lin) }
     ensures { result ≡ one_more lin }

@@ -17,8 +17,8 @@ use Rattle.term_tree.specs.Operators.{result_of, divides, integer}
 use Rattle.term_tree.specs.Subterms.{is_among, is_part, IsSubterm, itself, inside}
 use Rattle.term_tree.specs.Value.{Environment, Worth, node_worth, value_of}
 use Rattle.term_tree.specs.machinery.Walk.{has_number, IsClosed}
-use Rattle.term_tree.specs.Width.{is_narrow, narrow_result, is_wide, IsWideTerm}
-use Rattle.term_tree.specs.machinery.Known.{known_worth, AreKnown, narrow_worth}
+use Rattle.term_tree.specs.Width.{results_fit, fitting_result, is_wide, IsWideTerm}
+use Rattle.term_tree.specs.machinery.Known.{known_worth, AreKnown, fitting_worth}
 use Rattle.term_tree.proofs.ValueLemmas.{value_at}
 
 own_number : (k : ℕ) → (k == k) ≡ true
@@ -55,19 +55,19 @@ same_width p q False env same = refl
 same_width p q (Var binder sort) env same = refl
 same_width p q (LetVar bound) env same = refl
 same_width p q (Pred pred args) env same = refl
-same_width p q (Op op args) env same = ap (λ (vs : List Value). not (is_narrow op vs)) (same_arguments p q args env same)
+same_width p q (Op op args) env same = ap (λ (vs : List Value). not (results_fit op vs)) (same_arguments p q args env same)
 same_width p q (Divisible by arg) env same = refl
 same_width p q (Let bound body) env same = refl
 same_width p q (Forall first sorts body) env same = refl
 same_width p q (Exists first sorts body) env same = refl
 
-narrow_some : (b : Bool) (v w : Value) → Some w ≡ cond {A = Option Value} b None (Some v) → (b ≡ false) × (w ≡ v)
-narrow_some true v w h = absurd (cc)
-narrow_some false v w h = (refl, cc)
+fitting_some : (b : Bool) (v w : Value) → Some w ≡ cond {A = Option Value} b None (Some v) → (b ≡ false) × (w ≡ v)
+fitting_some true v w h = absurd (cc)
+fitting_some false v w h = (refl, cc)
 
-narrow_none : (b : Bool) (v : Value) → None ≡ cond {A = Option Value} b None (Some v) → b ≡ true
-narrow_none true v h = refl
-narrow_none false v h = absurd (cc)
+fitting_none : (b : Bool) (v : Value) → None ≡ cond {A = Option Value} b None (Some v) → b ≡ true
+fitting_none true v h = refl
+fitting_none false v h = absurd (cc)
 
 flipped : (b : Bool) (v : Value) → cond {A = Option Value} b (Some v) None ≡ cond {A = Option Value} (not b) None (Some v)
 flipped true v = refl
@@ -75,8 +75,8 @@ flipped false v = refl
 
 -- an operation over its arguments is its node
 pub operation : (part : ℕ → Worth) (op : OpKind) (args : List TermId) (env : Environment)
-    → narrow_result op (map (λ arg. part arg.0 env) args) ≡ narrow_worth part (Op op args) env
-operation part op args env = flipped (is_narrow op (map (λ arg. part arg.0 env) args)) (result_of op (map (λ arg. part arg.0 env) args))
+    → fitting_result op (map (λ arg. part arg.0 env) args) ≡ fitting_worth part (Op op args) env
+operation part op args env = flipped (results_fit op (map (λ arg. part arg.0 env) args)) (result_of op (map (λ arg. part arg.0 env) args))
 
 pub has_at : (ks : List ℕ) (j : ℕ) → j < length ks → has_number (get_or ks j 0) ks ≡ true
 has_at [] j h = absurd (omega arith)
@@ -102,9 +102,9 @@ module _ (nodes : List Node) (env : Environment) (known : BTreeMap ℕ Value) (i
   agree : AgreeOn (λ q e. known_worth known q) (value_of nodes) env (λ part. is_part part node)
   agree part has = before part (parts_after nodes ids i 0 node part closed there (subst (λ (k : ℕ). slice_get nodes k ≡ Some node) is at) has)
 
-  worth_there : (value : Value) → Some value ≡ narrow_worth (λ q e. known_worth known q) node env → value ≡ value_of nodes id env
+  worth_there : (value : Value) → Some value ≡ fitting_worth (λ q e. known_worth known q) node env → value ≡ value_of nodes id env
   worth_there value found =
-      (narrow_some (is_wide (λ q e. known_worth known q) node env) (node_worth (λ q e. known_worth known q) node env) value found).1
+      (fitting_some (is_wide (λ q e. known_worth known q) node env) (node_worth (λ q e. known_worth known q) node env) value found).1
       ∙ same_worth (λ q e. known_worth known q) (value_of nodes) node env agree ∙ sym (value_at nodes id node env at below)
 
   first_of : drop i ids ≡ id ∷ drop (i + 1) ids
@@ -116,33 +116,33 @@ module _ (nodes : List Node) (env : Environment) (known : BTreeMap ℕ Value) (i
       other : (k q : ℕ) (b : Bool) → (k ≡ q → ⊥) → ((k == q) || b) ≡ true → b ≡ true
       other k q b ne h = grind (arith, nat_tests)
 
-  pub known_more : (value : Value) (more : BTreeMap ℕ Value) → Some value ≡ narrow_worth (λ q e. known_worth known q) node env
+  pub known_more : (value : Value) (more : BTreeMap ℕ Value) → Some value ≡ fitting_worth (λ q e. known_worth known q) node env
       → known_worth more id ≡ value → ((q : ℕ) → (id ≡ q → ⊥) → known_worth more q ≡ known_worth known q) → AreKnown nodes env more (drop i ids)
   known_more value more found put others = λ q h. elim (cases_eq id q) [
     | inl e ↦ subst (λ (k : ℕ). known_worth more k ≡ value_of nodes k env) e (put ∙ worth_there value found)
     | inr ne ↦ others q ne ∙ before q (after_first q ne h)
   ]
 
-  pub narrow_more : (value : Value) → Some value ≡ narrow_worth (λ q e. known_worth known q) node env
+  pub fitting_more : (value : Value) → Some value ≡ fitting_worth (λ q e. known_worth known q) node env
       → ((q : ℕ) → has_number q (drop (i + 1) ids) ≡ true → IsWideTerm nodes q env → ⊥) → (q : ℕ) → has_number q (drop i ids) ≡ true → IsWideTerm nodes q env → ⊥
-  narrow_more value found narrow q h wide = elim (cases_eq id q) [ inl e ↦ not_wide (subst (λ (k : ℕ). IsWideTerm nodes k env) (sym e) wide) | inr ne ↦ narrow q (after_first q ne h) wide ]
+  fitting_more value found fitting q h wide = elim (cases_eq id q) [ inl e ↦ not_wide (subst (λ (k : ℕ). IsWideTerm nodes k env) (sym e) wide) | inr ne ↦ fitting q (after_first q ne h) wide ]
     where
       not_wide : IsWideTerm nodes id env → ⊥
       not_wide w =
           let same : w.0 ≡ node = cc (w.1, at) in
           let here : is_wide (value_of nodes) node env ≡ true = subst (λ (n : Node). is_wide (value_of nodes) n env ≡ true) same w.2 in
-          let calm = narrow_some (is_wide (λ q e. known_worth known q) node env) (node_worth (λ q e. known_worth known q) node env) value found in
+          let calm = fitting_some (is_wide (λ q e. known_worth known q) node env) (node_worth (λ q e. known_worth known q) node env) value found in
           let clash : true ≡ false = sym here ∙ sym (same_width (λ q e. known_worth known q) (value_of nodes) node env agree) ∙ calm.0 in
           absurd (cc)
 
-  pub wide_here : None ≡ narrow_worth (λ q e. known_worth known q) node env → (has_number id ids ≡ true) × IsWideTerm nodes id env
+  pub wide_here : None ≡ fitting_worth (λ q e. known_worth known q) node env → (has_number id ids ≡ true) × IsWideTerm nodes id env
   wide_here none = (
     ap (λ (k : ℕ). has_number k ids) is ∙ has_at ids i there,
     (
       node,
       at,
       sym (same_width (λ q e. known_worth known q) (value_of nodes) node env agree)
-          ∙ narrow_none (is_wide (λ q e. known_worth known q) node env) (node_worth (λ q e. known_worth known q) node env) none,
+          ∙ fitting_none (is_wide (λ q e. known_worth known q) node env) (node_worth (λ q e. known_worth known q) node env) none,
     ),
   )
 

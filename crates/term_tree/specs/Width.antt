@@ -44,16 +44,16 @@ exact_results Div ns = on_two int_div_euclid ns ∷ []
 exact_results _ ns = []
 
 -- all of them fit
-abbrev pub is_narrow : OpKind → List Value → Bool
-is_narrow op values = list_all fits_128 (exact_results op (map integer values))
+abbrev pub results_fit : OpKind → List Value → Bool
+results_fit op values = list_all fits_128 (exact_results op (map integer values))
 
 -- the value of an operation all of whose exact results fit
-abbrev pub narrow_result : OpKind → List Value → Option Value
-narrow_result op values = if is_narrow op values then Some (result_of op values) else None
+abbrev pub fitting_result : OpKind → List Value → Option Value
+fitting_result op values = if results_fit op values then Some (result_of op values) else None
 
 -- the node's exact value, or a prefix of its sum, product or difference, doesn't fit
 abbrev pub is_wide : (ℕ → Worth) → Node → Environment → Bool
-is_wide part (Op op args) env = not (is_narrow op (map (λ arg. part arg.0 env) args))
+is_wide part (Op op args) env = not (results_fit op (map (λ arg. part arg.0 env) args))
 is_wide part _ env = false
 
 -- the term's exact value, or a prefix of its sum, product or difference, doesn't fit

@@ -6,7 +6,7 @@ ghost use Rattle.term_tree.specs.Subterms.{IsSubterm};
 ghost use Rattle.term_tree.specs.Value.{environment_of, node_worth, value_of};
 ghost use Rattle.term_tree.specs.machinery.Walk.{has_number, IsClosed};
 ghost use Rattle.term_tree.specs.Width.{is_wide, IsWideTerm};
-ghost use Rattle.term_tree.specs.machinery.Known.{known_worth, narrow_worth, AreKnown};
+ghost use Rattle.term_tree.specs.machinery.Known.{known_worth, fitting_worth, AreKnown};
 
 use crate::arithmetic::remainder;
 use crate::logic::integer;
@@ -48,7 +48,7 @@ impl From<Memory> for ValueStop {
 pub fn value(alloc: Global, terms: &Terms, id: TermId, env: &[Value]) -> Result<Value, ValueStop>
     requires { id.0 < length terms.now.nodes }
     ensures value { IfOk result (λ v. v ≡ value_of terms.now.nodes id.0 (environment_of env.now)) }
-    ensures narrow { OnOk result ((part : ℕ) → IsSubterm terms.now.nodes id.0 part → IsWideTerm terms.now.nodes part (environment_of env.now) → ⊥) }
+    ensures fitting { OnOk result ((part : ℕ) → IsSubterm terms.now.nodes id.0 part → IsWideTerm terms.now.nodes part (environment_of env.now) → ⊥) }
     ensures wide { (term : TermId) → IsErrOf result (ValueStop.ValueWide term) → IsSubterm terms.now.nodes id.0 term.0 × IsWideTerm terms.now.nodes term.0 (environment_of env.now) }
 {
     let ids = subterms(alloc, terms, id)?;
@@ -66,7 +66,7 @@ fn values(
     requires there { (q : ℕ) → has_number q ids.now ≡ true → q < length terms.now.nodes }
     requires closed { IsClosed terms.now.nodes (λ q. false) ids.now }
     ensures known { IfOk result (λ known. AreKnown terms.now.nodes (environment_of env.now) known ids.now) }
-    ensures narrow { OnOk result ((q : ℕ) → has_number q ids.now ≡ true → IsWideTerm terms.now.nodes q (environment_of env.now) → ⊥) }
+    ensures fitting { OnOk result ((q : ℕ) → has_number q ids.now ≡ true → IsWideTerm terms.now.nodes q (environment_of env.now) → ⊥) }
     ensures wide { (term : TermId) → IsErrOf result (ValueStop.ValueWide term) → (has_number term.0 ids.now ≡ true) × IsWideTerm terms.now.nodes term.0 (environment_of env.now) }
 {
     let mut known = BTreeMap::new(alloc);
@@ -129,7 +129,7 @@ fn node_value(
     known: &BTreeMap<u32, Value>,
     env: &[Value],
 ) -> Result<Option<Value>, Memory>
-    ensures { IfOk result (λ value. value ≡ narrow_worth (λ q e. known_worth known.now q) node.now (environment_of env.now)) }
+    ensures { IfOk result (λ value. value ≡ fitting_worth (λ q e. known_worth known.now q) node.now (environment_of env.now)) }
 {
     let value = match node {
         Node::Num(n) => Value::Int(i128::from(*n)),

@@ -2,7 +2,7 @@ ghost use Rattle.std.specs.Prelude.{◌≡◌, map, option_map};
 ghost use Rattle.std.specs.Int.{int_div_euclid, int_rem_euclid};
 ghost use Rattle.term_tree.specs.Operators.{integer, on_two};
 ghost use Rattle.term_tree.specs.declared.scalar.Value.TheVariants.{Int};
-ghost use Rattle.term_tree.specs.Width.{checked, narrow_result};
+ghost use Rattle.term_tree.specs.Width.{checked, fitting_result};
 
 use crate::arithmetic::{absolute, difference, number, product, quotient, remainder, sum};
 use crate::logic::{
@@ -22,7 +22,7 @@ fn as_value(n: Option<i128>) -> Option<Value>
 
 /// What the operator gives for these values, where all of its exact results fit 128 bits.
 pub(crate) fn apply(op: OpKind, values: &[Value]) -> Option<Value>
-    ensures { result ≡ narrow_result op values.now }
+    ensures { result ≡ fitting_result op values.now }
 {
     match op {
         OpKind::Not => Some(Value::Bool(is_negated(values))),

@@ -2,7 +2,7 @@
 
 ghost use Rattle.std.specs.Prelude.{◌<◌};
 ghost use Rattle.chc_core.specs.Views.{standing_of};
-ghost use Rattle.obligation_turn.specs.Turns.{IsNarrow};
+ghost use Rattle.obligation_turn.specs.Turns.{IsThin};
 ghost use Rattle.book_loop.specs.Runs.{CanRun};
 
 use crate::books::opened;
@@ -46,7 +46,7 @@ fn summary(found: &Found) -> Told {
 /// Asks all clauses for false.
 fn asked(rt: &impl Abort, alloc: Global, book: &Book, k: u32) -> Told
     requires can_run { CanRun book.now.system }
-    requires narrow { IsNarrow (standing_of book.now) }
+    requires thin { IsThin (standing_of book.now) }
 {
     book.is_replayed();
     let sys = book.system();

@@ -5,7 +5,7 @@ ghost use Rattle.term_tree.specs.Arena.{IsArena};
 ghost use Rattle.horn_shape.specs.Clause.{IsLegalScript};
 ghost use Rattle.chc_core.specs.Openings.{most_units};
 ghost use Rattle.chc_core.specs.Views.{standing_of};
-ghost use Rattle.obligation_turn.specs.Turns.{IsNarrow};
+ghost use Rattle.obligation_turn.specs.Turns.{IsThin};
 ghost use Rattle.book_loop.specs.Runs.{CanRun};
 
 use base::Memory;
@@ -34,7 +34,7 @@ fn checked(alloc: Global, text: &[u8]) -> Result<Checked, Memory>
 pub(crate) fn opened(rt: &impl Abort, alloc: Global, text: &str, units: u32) -> Book
     requires units { units ≤ most_units }
     ensures can_run { CanRun result.system }
-    ensures narrow { IsNarrow (standing_of result) }
+    ensures thin { IsThin (standing_of result) }
     ensures new { result.journal ≡ [] }
 {
     systems_of_scripts_can_be_run();

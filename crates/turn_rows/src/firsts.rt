@@ -4,7 +4,7 @@ ghost use Rattle.std.specs.Prelude.{◌≡◌, None};
 ghost use Rattle.std.specs.Bool.{OnTrue};
 ghost use Rattle.book_rules.specs.Legal.{end};
 ghost use Rattle.chc_core.specs.Views.{standing_of, state_of};
-ghost use Rattle.obligation_turn.specs.Turns.{IsNarrow};
+ghost use Rattle.obligation_turn.specs.Turns.{IsThin};
 ghost use Rattle.book_loop.specs.Runs.{CanRun};
 ghost use Rattle.book_loop.specs.machinery.Jobs.{IsJob};
 
@@ -43,7 +43,7 @@ fn root_may_be_asked(rt: &impl Abort, book: &Book)
 /// The step for the root.
 fn first_step(rt: &impl Abort, book: &Book) -> Step
     requires can_run { CanRun book.now.system }
-    requires narrow { IsNarrow (standing_of book.now) }
+    requires thin { IsThin (standing_of book.now) }
 {
     goes_on(rt, book);
     root_may_be_asked(rt, book);

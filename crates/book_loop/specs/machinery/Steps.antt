@@ -14,24 +14,24 @@ use Rattle.step_rules.specs.Taken.{IsMadeFor, step_of}
 use Rattle.step_rules.specs.Tokens.{all_shown}
 use Rattle.step_rules.specs.declared.step.Step.{Step}
 use Rattle.obligation_turn.specs.Counts.{StepCounts}
-use Rattle.obligation_turn.specs.Turns.{IsNarrow, StepIsNarrow}
+use Rattle.obligation_turn.specs.Turns.{IsThin, StepIsThin}
 use Rattle.book_loop.specs.Runs.{IsOwn}
 
 -- what is needed of a turn: the step breaks no rule, its tokens are the system's and its cubes over their predicates; evidence
--- counts the nodes that were allowed, and what is added is narrow
+-- counts the nodes that were allowed, and what is added is thin
 pub record IsTaken (b : Standing) (nodes : ℕ) (step : Step) : Type 0 where
   pub unbroken : broken b.system (state_of b) (step_of step) ≡ None
   pub made : IsMadeFor b.system step
   pub places : has_places b.system (step_of step) ≡ true
   pub counts : StepCounts nodes step
-  pub narrow : StepIsNarrow step
+  pub thin : StepIsThin step
 
 -- the same of a step that may break a rule
 pub record IsOffered (sys : Clauses) (nodes : ℕ) (step : Step) : Type 0 where
   pub made : IsMadeFor sys step
   pub places : has_places sys (step_of step) ≡ true
   pub counts : StepCounts nodes step
-  pub narrow : StepIsNarrow step
+  pub thin : StepIsThin step
 
 -- proofs of a lemma that were made for the system
 pub record AreFor (sys : Clauses) (proofs : List Shown) : Type 0 where
@@ -42,7 +42,7 @@ pub record AreFor (sys : Clauses) (proofs : List Shown) : Type 0 where
 pub record IsFurther (nodes : ℕ) (old new : Contents) : Type 0 where
   pub system : new.system ≡ old.system
   pub given : new.given ≡ old.given
-  pub narrow : IsNarrow (standing_of old) → IsNarrow (standing_of new)
+  pub thin : IsThin (standing_of old) → IsThin (standing_of new)
   pub own : AllOf (IsOwn nodes) old.journal → AllOf (IsOwn nodes) new.journal
   pub longer : length old.journal ≤ length new.journal
 

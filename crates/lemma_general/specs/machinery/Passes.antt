@@ -18,7 +18,7 @@ use Rattle.lemma_general.specs.declared.breaking.Breaking.{Breaking}
 -- a cube of which a lemma may be asked
 pub record IsCubeOf (b : Standing) (pred : ℕ) (cube : List Lit) : Type 0 where
   pub over : is_over b.system.preds pred cube ≡ true
-  pub narrow : is_wide cube ≡ false
+  pub thin : is_wide cube ≡ false
 
 -- each tuple in the first cube is in the second
 abbrev pub IsWithin : List Lit → List Lit → Type 0

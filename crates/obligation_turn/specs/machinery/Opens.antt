@@ -9,7 +9,7 @@ use Rattle.book_rules.specs.Areas.{is_wide, point_cube, projected_cube}
 use Rattle.book_rules.specs.OpenRules.{has_fact_in}
 use Rattle.book_rules.specs.State.{Fact}
 
--- these literals, which are narrow and hold no recorded fact; or the tuple's, where they are wide or hold one
+-- these literals, which are thin and hold no recorded fact; or the tuple's, where they are wide or hold one
 abbrev pub IsChosen : List Fact → Atom → List ℤ → List Lit → List Lit → Type 0
 IsChosen facts atom point lits made =
     ((made ≡ lits) × (is_wide lits ≡ false) × (has_fact_in facts atom.pred lits ≡ false)) ⊎ ((made ≡ point_cube (tuple_at point atom.args)) × ((has_fact_in facts atom.pred lits || is_wide lits) ≡ true))

@@ -17,5 +17,5 @@ abbrev pub AreKnown : List Node → Environment → BTreeMap ℕ Value → List 
 AreKnown nodes env known ids = (q : ℕ) → has_number q ids ≡ true → known_worth known q ≡ value_of nodes q env
 
 -- the value of a node, unless it is wide
-abbrev pub narrow_worth : (ℕ → Worth) → Node → Environment → Option Value
-narrow_worth part node env = if is_wide part node env then None else Some (node_worth part node env)
+abbrev pub fitting_worth : (ℕ → Worth) → Node → Environment → Option Value
+fitting_worth part node env = if is_wide part node env then None else Some (node_worth part node env)

@@ -9,8 +9,8 @@ use Rattle.book_loop.proofs.running.advance.Goals as goal
 pub lift_after-requires-clause-can_run : goal.lift_after-requires-clause-can_run
 lift_after-requires-clause-can_run c = subst CanRun (sym c.in_ok-serve.ensures.further.system) c.requires.can_run
 
-pub lift_after-requires-clause-narrow : goal.lift_after-requires-clause-narrow
-lift_after-requires-clause-narrow c = c.in_ok-serve.ensures.further.narrow c.requires.narrow
+pub lift_after-requires-clause-thin : goal.lift_after-requires-clause-thin
+lift_after-requires-clause-thin c = c.in_ok-serve.ensures.further.thin c.requires.thin
 
 pub lift_after-requires-clause-work : goal.lift_after-requires-clause-work
 lift_after-requires-clause-work c = subst (λ (sys : Clauses). IsWorkspaceFor sys c.next_step.new.work) (sym c.in_ok-serve.ensures.further.system) c.in_ok-step.ensures.work

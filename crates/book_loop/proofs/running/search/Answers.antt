@@ -11,8 +11,8 @@ turns-init c = record { further = further-none c.args.nodes c.args.book.now; wor
 pub advance-requires-clause-can_run : goal.advance-requires-clause-can_run
 advance-requires-clause-can_run c = subst CanRun (sym c.turns.invariant.further.system) c.requires.can_run
 
-pub advance-requires-clause-narrow : goal.advance-requires-clause-narrow
-advance-requires-clause-narrow c = c.turns.invariant.further.narrow c.requires.narrow
+pub advance-requires-clause-thin : goal.advance-requires-clause-thin
+advance-requires-clause-thin c = c.turns.invariant.further.thin c.requires.thin
 
 pub advance-requires-clause-work : goal.advance-requires-clause-work
 advance-requires-clause-work c = subst (λ (sys : Clauses). IsWorkspaceFor sys c.turns.work) (sym c.turns.invariant.further.system) c.turns.invariant.work

@@ -21,7 +21,7 @@ cross : (c : goal.After-as_mut_slice) → CanCross c.args.column c.args.other.no
 cross c = subst (CanCross c.args.column c.args.other.now) (sym (row-is c)) (c.requires.can c.loop-i.i c.index-rows-i.result c.loop-i-test.true)
 
 pub eliminate-requires-clause-row : goal.eliminate-requires-clause-row
-eliminate-requires-clause-row c = (cross c).small
+eliminate-requires-clause-row c = (cross c).short
 
 pub eliminate-requires-clause-same : goal.eliminate-requires-clause-same
 eliminate-requires-clause-same c = (cross c).same

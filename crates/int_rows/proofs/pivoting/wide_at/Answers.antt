@@ -15,7 +15,7 @@ returns-then-i-pivot-clause-none c = λ none.
     let column = c.args.column in
     ap (λ j. are_short (row_at (pivoted pivot column rows) j)) c.if-i-pivot.true
     ∙ ap are_short (pivoted-own pivot column rows c.requires.can.within)
-    ∙ facing-small column (row_at rows pivot) c.requires.can.small
+    ∙ facing-small column (row_at rows pivot) c.requires.can.short
 
 row-is : (c : goal.After-as_slice-2) → c.as_slice.result.now ≡ row_at (map (λ r. r.items) c.args.rows.now) c.args.i
 row-is c = c.as_slice.ensures.value ∙ ap (λ r. r.items) c.index-rows-i.is ∙ sym (get_or-map (λ r. r.items) c.args.rows.now c.args.i c.index-rows-i.result [] c.requires.within)
@@ -33,10 +33,10 @@ cross c =
     subst (λ (r : List ℤ). CanCross c.args.column r c.as_slice.result.now) (sym (other-is c)) (subst (λ (r : List ℤ). CanCross c.args.column (row_at rows c.args.pivot) r) (sym (row-is c)) can)
 
 pub wide_elimination-requires-clause-row : goal.wide_elimination-requires-clause-row
-wide_elimination-requires-clause-row c = (cross c).small
+wide_elimination-requires-clause-row c = (cross c).short
 
 pub wide_elimination-requires-clause-other : goal.wide_elimination-requires-clause-other
-wide_elimination-requires-clause-other c = ap are_short (other-is c) ∙ c.requires.can.small
+wide_elimination-requires-clause-other c = ap are_short (other-is c) ∙ c.requires.can.short
 
 pub wide_elimination-requires-clause-same : goal.wide_elimination-requires-clause-same
 wide_elimination-requires-clause-same c = (cross c).same

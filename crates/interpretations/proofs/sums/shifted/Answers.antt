@@ -26,7 +26,7 @@ returns-clause-added c =
     let items = c.in_ok-items.items.items in
     let last = c.in_ok-last.last in
     let other : c.constant-constant.result ≡ pos 0 → ⊥ = search rules in
-    let fits : FitsSigned w128 c.constant-constant.result = omega (arith, ints, c.constant-constant.ensures.is, c.constant-constant.ensures.small) in
+    let fits : FitsSigned w128 c.constant-constant.result = omega (arith, ints, c.constant-constant.ensures.is, c.constant-constant.ensures.long) in
     let number = simp to_z-of_z at c.in_ok-last.ensures.added in
     shifted-added c.args.sorts.now c.args.lin.now c.terms.ensures.legal c.args.terms.now.nodes c.products.new.terms.nodes c.number.new.terms.nodes c.sum-2.new.terms.nodes items c.push.new.items.items
     last c.in_ok-id-2.id c.requires.short (λ is. other (c.constant-constant.ensures.is ∙ is)) c.in_ok-push.ensures

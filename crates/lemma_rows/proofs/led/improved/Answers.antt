@@ -6,9 +6,9 @@ use Rattle.lemma_rows.proofs.led.improved.Goals as goal
 pub better-requires-clause-learnt : goal.better-requires-clause-learnt
 better-requires-clause-learnt c =
     let given = subst (IsGiven (standing_of c.args.book.now)) c.in-LemmaStep.is c.requires.given in
-    record { unbroken = given.unbroken; made = given.made; places = given.places; narrow = given.narrow }
+    record { unbroken = given.unbroken; made = given.made; places = given.places; thin = given.thin }
 
 pub returns-in_ok-learnt-in-LemmaStep : goal.returns-in_ok-learnt-in-LemmaStep
 returns-in_ok-learnt-in-LemmaStep c =
     let learnt = c.in_ok-learnt-in-LemmaStep.ensures in
-    record { unbroken = learnt.unbroken; made = learnt.made; places = learnt.places; narrow = learnt.narrow }
+    record { unbroken = learnt.unbroken; made = learnt.made; places = learnt.places; thin = learnt.thin }

@@ -13,10 +13,10 @@ product_of_digits a b a1 a0 b1 b0 low carry lowest mid first mid' mid2 second mi
 pub returns : goal.returns
 returns c =
     let fits : c.from-5.result * 2 ^ 64 < 2 ^ 128 = omega arith in
-    let middle : c.small_product-2.result + c.from.result ≡ c.split-a_high.result.0 * c.split-b_high.result.1 + c.split-carry.result.0 = cc in
-    let next : c.small_product-3.result + c.from-2.result ≡ c.split-a_high.result.1 * c.split-b_high.result.0 + c.split-first.result.1 = cc in
+    let middle : c.word_product-2.result + c.from.result ≡ c.split-a_high.result.0 * c.split-b_high.result.1 + c.split-carry.result.0 = cc in
+    let next : c.word_product-3.result + c.from-2.result ≡ c.split-a_high.result.1 * c.split-b_high.result.0 + c.split-first.result.1 = cc in
     rw mod-eq_of_lt (rw (c.from-3.ensures, c.from-4.ensures, c.from-5.ensures, c.from-6.ensures) (
-    product_of_digits c.args.a c.args.b c.split-a_high.result.0 c.split-a_high.result.1 c.split-b_high.result.0 c.split-b_high.result.1 c.small_product.result c.split-carry.result.0 c.split-carry.result.1
-    (c.small_product-2.result + c.from.result) c.split-first.result.0 c.split-first.result.1 (c.small_product-3.result + c.from-2.result) c.split-second.result.0 c.split-second.result.1 c.small_product-4.result
-    c.split-a_high.ensures c.split-b_high.ensures c.small_product.ensures.value c.split-carry.ensures middle c.split-first.ensures next c.split-second.ensures c.small_product-4.ensures.value
+    product_of_digits c.args.a c.args.b c.split-a_high.result.0 c.split-a_high.result.1 c.split-b_high.result.0 c.split-b_high.result.1 c.word_product.result c.split-carry.result.0 c.split-carry.result.1
+    (c.word_product-2.result + c.from.result) c.split-first.result.0 c.split-first.result.1 (c.word_product-3.result + c.from-2.result) c.split-second.result.0 c.split-second.result.1 c.word_product-4.result
+    c.split-a_high.ensures c.split-b_high.ensures c.word_product.ensures.value c.split-carry.ensures middle c.split-first.ensures next c.split-second.ensures c.word_product-4.ensures.value
     ))

@@ -3,7 +3,7 @@ use Rattle.std.specs.Prelude.{fold}
 use Rattle.lin_atoms.specs.Linear.{is_short}
 use Rattle.term_tree.specs.Constants.{constants_among}
 use Rattle.term_tree.specs.Operators.{product_of}
-use Rattle.linear_sums.specs.Narrow.{has_zero}
+use Rattle.linear_sums.specs.Short.{has_zero}
 use Rattle.linear_sums.proofs.product.product.Given as goal
 
 -- what the factors to come give from here is what all give, and none of them is 0

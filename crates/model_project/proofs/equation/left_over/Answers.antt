@@ -22,7 +22,7 @@ returns-in-Some-clause-made c =
     let none = simp to_z-of_z at c.in-Some.ensures.none in
     let short : is_short l.constant ≡ true = true_not_false (is_short l.constant) (λ h. none.1 (ap is_short c.constant.ensures.is ∙ h)) in
     let made = simp to_z-of_z at c.of_division.ensures in
-    left_from v l a c.in-Some.constant c.in_ok-rest.rest.items c.of_division.result c.coefficient-a.ensures.is c.requires other c.coefficient-a.ensures.small (c.in_ok-rest.ensures ∙ ap (filter (λ t. not (t.0 == v))) c.terms.ensures.is) has (legal_small l c.constant.ensures.legal) (narrow ∙ c.constant.ensures.is) short made
+    left_from v l a c.in-Some.constant c.in_ok-rest.rest.items c.of_division.result c.coefficient-a.ensures.is c.requires other c.coefficient-a.ensures.short (c.in_ok-rest.ensures ∙ ap (filter (λ t. not (t.0 == v))) c.terms.ensures.is) has (legal_small l c.constant.ensures.legal) (narrow ∙ c.constant.ensures.is) short made
 
 pub of_division-requires-clause-ordered : goal.of_division-requires-clause-ordered
 of_division-requires-clause-ordered c =

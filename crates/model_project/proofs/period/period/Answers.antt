@@ -24,7 +24,7 @@ loop-left-preserved c =
     record {
       told = same ∙ exact ∙ sym whole;
       within = omega (arith, c.loop-left.invariant.within);
-      small = rw same c.in-Some.ensures.small;
+      small = rw same c.in-Some.ensures.short;
       above = omega (arith, same, c.exact.ensures, le, c.loop-left.invariant.above);
     }
 

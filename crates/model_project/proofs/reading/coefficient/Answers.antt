@@ -17,8 +17,8 @@ returns-then-v-variable-clause-is c =
     let told : coefficient_in c.args.variable (drop i terms) ≡ coefficient_in c.args.variable c.args.lin.now.terms = rw c.terms-v-items.ensures.is c.loop-v.invariant in
     simp to_z-of_z (sym (found-at terms i (0, pos 0) c.args.variable c.loop-v-test.true here c.if-v-variable.true) ∙ told)
 
-pub returns-then-v-variable-clause-small : goal.returns-then-v-variable-clause-small
-returns-then-v-variable-clause-small c =
+pub returns-then-v-variable-clause-short : goal.returns-then-v-variable-clause-short
+returns-then-v-variable-clause-short c =
     let i = c.loop-v.v-index in
     let terms : List (ℕ × ℤ) = c.terms-v-items.result.now in
     let a_fits : FitsSigned w64 (get_or terms i (0, pos 0)).1 = search rules in

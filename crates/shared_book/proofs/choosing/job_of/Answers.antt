@@ -2,7 +2,7 @@ use Rattle.std.proofs.Common.{◌≡◌, None, ap, refl, subst, sym, ◌∙◌}
 use Rattle.book_rules.specs.Legal.{end}
 use Rattle.chc_core.specs.Contents.{Contents}
 use Rattle.chc_core.specs.Views.{standing_of, state_of}
-use Rattle.obligation_turn.specs.Turns.{IsNarrow}
+use Rattle.obligation_turn.specs.Turns.{IsThin}
 use Rattle.shared_book.specs.Jobs.{AreHeld, Asked, IsFree}
 use Rattle.shared_book.specs.Locks.{claimed_by, with_claims}
 use Rattle.shared_book.proofs.choosing.job_of.Goals as goal
@@ -14,7 +14,7 @@ new-requires g c =
       system = ap (λ (b : Contents). b.system) snap ∙ c.requires.system;
       few = c.requires.few;
       goes_on = subst (λ (b : Contents). end (state_of b) ≡ None) (sym snap) c.requires.goes_on;
-      narrow = subst (λ (b : Contents). IsNarrow (standing_of b)) (sym snap) c.requires.narrow;
+      thin = subst (λ (b : Contents). IsThin (standing_of b)) (sym snap) c.requires.thin;
       leaf = c.in-Some.ensures.chosen.0.leaf;
     }
 

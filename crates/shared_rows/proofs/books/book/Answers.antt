@@ -4,7 +4,7 @@ use Rattle.book_rules.specs.State.{opening}
 use Rattle.clause_form.specs.declared.clause.Clause.{Clause}
 use Rattle.chc_core.specs.Views.{state_of}
 use Rattle.clause_queries.specs.Answers.{AreFew}
-use Rattle.shared_book.proofs.RunLemmas.{narrow-opening}
+use Rattle.shared_book.proofs.RunLemmas.{thin-opening}
 use Rattle.shared_rows.proofs.BookLemmas.{few_atoms}
 use Rattle.shared_rows.proofs.books.book.Goals as goal
 
@@ -14,7 +14,7 @@ returns-clause-few g c =
     let few : list_all (λ (x : Clause). nat_le (length x.atoms) 1) (c.system-system.result).clauses ≡ true = search rules in
     subst AreFew (sym same) (few_atoms c.system-system.result few)
 
-pub returns-clause-narrow : goal.returns-clause-narrow
-returns-clause-narrow g c =
+pub returns-clause-thin : goal.returns-clause-thin
+returns-clause-thin g c =
     let is : state_of c.expect.result ≡ opening c.args.units = search rules in
-    narrow-opening c.expect.result c.args.units is
+    thin-opening c.expect.result c.args.units is

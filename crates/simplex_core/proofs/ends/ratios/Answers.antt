@@ -48,7 +48,7 @@ loop-value-preserved c =
     }
 
 pub lowest-ratio-requires : goal.lowest-ratio-requires
-lowest-ratio-requires c = ap is_wide c.value-item.is ∙ position-none is_wide c.args.values.now c.loop-value.value-index c.value-item.result c.requires.narrow (omega arith)
+lowest-ratio-requires c = ap is_wide c.value-item.is ∙ position-none is_wide c.args.values.now c.loop-value.value-index c.value-item.result c.requires.fitting (omega arith)
 
 pub returns : goal.returns
 returns c =

@@ -14,10 +14,10 @@ loop-column-preserved c =
     let m = moment c.args.t.now c.args.standings.now in
     let fits : FitsSigned w128 c.stood_at.result = search rules in
     let pushed = simp to_z-of_z at c.in_ok-push.ensures.items in
-    let one : is_long c.stood_at.result ≡ true = lt-ltb _ _ c.stood_at.ensures.small in
+    let one : is_long c.stood_at.result ≡ true = lt-ltb _ _ c.stood_at.ensures.long in
     record {
       is = pushed ∙ made-more (stood_at m) c.loop-column.column c.loop-column.made.items c.stood_at.result c.loop-column.invariant.is c.stood_at.ensures.is;
-      small = ap (list_all is_long) pushed ∙ list_all-append is_long c.loop-column.made.items (c.stood_at.result ∷ []) ∙ and_from _ _ c.loop-column.invariant.small (and_from _ _ one refl);
+      long = ap (list_all is_long) pushed ∙ list_all-append is_long c.loop-column.made.items (c.stood_at.result ∷ []) ∙ and_from _ _ c.loop-column.invariant.long (and_from _ _ one refl);
     }
 
 pub returns-clause-is : goal.returns-clause-is
@@ -27,5 +27,5 @@ returns-clause-is c =
     let last : c.loop-column.column ≡ length c.args.standings.now = omega arith in
     c.loop-column.invariant.is ∙ ap (λ n. map (stood_at m) (range_with_len 0 n)) (last ∙ c.requires)
 
-pub returns-clause-small : goal.returns-clause-small
-returns-clause-small c = c.loop-column.invariant.small
+pub returns-clause-long : goal.returns-clause-long
+returns-clause-long c = c.loop-column.invariant.long

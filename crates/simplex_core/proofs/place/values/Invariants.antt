@@ -8,5 +8,5 @@ use Rattle.simplex_core.proofs.place.values.Given as goal
 abbrev pub invariant-loop-column : goal.invariant-loop-column
 invariant-loop-column l = record {
   is : l.made.items ≡ map (stood_at (moment l.t l.standings)) (range_with_len 0 l.column);
-  small : list_all is_long l.made.items ≡ true;
+  long : list_all is_long l.made.items ≡ true;
 }

@@ -4,10 +4,10 @@ use Rattle.simplex_core.proofs.GoodLemmas.{leaves-row}
 use Rattle.simplex_core.proofs.TurnLemmas.{turn-conflicts, turn-vertex}
 use Rattle.simplex_core.proofs.stepping.step.Goals as goal
 
-pub ratios-requires-clause-narrow : goal.ratios-requires-clause-narrow
+pub ratios-requires-clause-fitting : goal.ratios-requires-clause-fitting
 unfolding wide
-ratios-requires-clause-narrow c =
-    ap (position is_wide) c.requires.kept ∙ (turn-vertex (moment c.args.t.now c.args.standings.now) (sym c.turn.ensures ∙ c.in-Vertex.is)).narrow
+ratios-requires-clause-fitting c =
+    ap (position is_wide) c.requires.kept ∙ (turn-vertex (moment c.args.t.now c.args.standings.now) (sym c.turn.ensures ∙ c.in-Vertex.is)).fitting
 
 pub multipliers-requires : goal.multipliers-requires
 multipliers-requires c =

@@ -15,8 +15,8 @@ returns-in_err-known-clause-wide c = λ term h.
     let items : c.as_slice.result.now ≡ c.in_ok-ids.ids.items = c.as_slice.ensures.value in
     (c.in_ok-ids.ensures.inside term.0 (ap (has_number term.0) (sym items) ∙ found.0), found.1)
 
-pub returns-clause-narrow : goal.returns-clause-narrow
-returns-clause-narrow c = λ part s wide.
+pub returns-clause-fitting : goal.returns-clause-fitting
+returns-clause-fitting c = λ part s wide.
     let met : has_number part c.in_ok-ids.ids.items ≡ true = all_met c.args.terms.now.nodes c.args.id.0 c.in_ok-ids.ids.items part c.in_ok-ids.ensures.closed c.in_ok-ids.ensures.top s in
     let items : c.as_slice.result.now ≡ c.in_ok-ids.ids.items = c.as_slice.ensures.value in
-    c.in_ok-known.ensures.narrow part (ap (has_number part) items ∙ met) wide
+    c.in_ok-known.ensures.fitting part (ap (has_number part) items ∙ met) wide

@@ -2,10 +2,10 @@ use Rattle.std.proofs.Common.{◌≡◌, ◌+◌, ◌-◌, ◌<◌, ℕ, length,
 use Rattle.std.specs.Prelude.{Some, None}
 use Rattle.term_tree.specs.declared.node.TermId.{TermId}
 use Rattle.term_tree.specs.Value.{environment_of}
-use Rattle.term_tree.specs.machinery.Known.{AreKnown, known_worth, narrow_worth}
+use Rattle.term_tree.specs.machinery.Known.{AreKnown, known_worth, fitting_worth}
 use Rattle.term_tree.specs.machinery.Walk.{has_number}
 use Rattle.term_tree.specs.Width.{IsWideTerm}
-use Rattle.term_tree.proofs.EvaluationLemmas.{known_more, narrow_more, wide_here, has_at}
+use Rattle.term_tree.proofs.EvaluationLemmas.{known_more, fitting_more, wide_here, has_at}
 use Rattle.term_tree.proofs.evaluation.values.Goals as goal
 
 pub loop-at-preserved : goal.loop-at-preserved
@@ -14,15 +14,15 @@ loop-at-preserved c =
     let there : c.loop-at.at - 1 < length c.args.ids.now = omega (arith, c.loop-at-test.true, c.loop-at.invariant.within) in
     let before : AreKnown c.args.terms.now.nodes (environment_of c.args.env.now) c.loop-at.known (drop (c.loop-at.at - 1 + 1) c.args.ids.now) =
     subst (λ (k : ℕ). AreKnown c.args.terms.now.nodes (environment_of c.args.env.now) c.loop-at.known (drop k c.args.ids.now)) (sym step) c.loop-at.invariant.known in
-    let narrow : (q : ℕ) → has_number q (drop (c.loop-at.at - 1 + 1) c.args.ids.now) ≡ true → IsWideTerm c.args.terms.now.nodes q (environment_of c.args.env.now) → ⊥ =
-    λ q h. c.loop-at.invariant.narrow q (ap (λ (k : ℕ). has_number q (drop k c.args.ids.now)) (sym step) ∙ h) in
-    let found : Some c.in-Some.value ≡ narrow_worth (λ q e. known_worth c.loop-at.known q) c.node.result.now (environment_of c.args.env.now) = sym c.in-Some.is ∙ c.in_ok-value.ensures in
+    let fitting : (q : ℕ) → has_number q (drop (c.loop-at.at - 1 + 1) c.args.ids.now) ≡ true → IsWideTerm c.args.terms.now.nodes q (environment_of c.args.env.now) → ⊥ =
+    λ q h. c.loop-at.invariant.fitting q (ap (λ (k : ℕ). has_number q (drop k c.args.ids.now)) (sym step) ∙ h) in
+    let found : Some c.in-Some.value ≡ fitting_worth (λ q e. known_worth c.loop-at.known q) c.node.result.now (environment_of c.args.env.now) = sym c.in-Some.is ∙ c.in_ok-value.ensures in
     record {
       within = omega (arith, c.loop-at.invariant.within);
       known = known_more c.args.terms.now.nodes (environment_of c.args.env.now) c.loop-at.known c.args.ids.now (c.loop-at.at - 1) (get_or c.args.ids.now (c.loop-at.at - 1) 0)
           c.node.result.now c.node.ensures.below c.node.ensures.is c.requires.closed there refl before c.in-Some.value c.put.new.known found (c.in_ok-put.ensures.at) (c.in_ok-put.ensures.others);
-      narrow = narrow_more c.args.terms.now.nodes (environment_of c.args.env.now) c.loop-at.known c.args.ids.now (c.loop-at.at - 1) (get_or c.args.ids.now (c.loop-at.at - 1) 0)
-          c.node.result.now c.node.ensures.below c.node.ensures.is c.requires.closed there refl before c.in-Some.value found narrow;
+      fitting = fitting_more c.args.terms.now.nodes (environment_of c.args.env.now) c.loop-at.known c.args.ids.now (c.loop-at.at - 1) (get_or c.args.ids.now (c.loop-at.at - 1) 0)
+          c.node.result.now c.node.ensures.below c.node.ensures.is c.requires.closed there refl before c.in-Some.value found fitting;
     }
 
 pub node-requires : goal.node-requires
@@ -36,7 +36,7 @@ returns-in_default-clause-wide c = λ term h.
     let there : c.loop-at.at - 1 < length c.args.ids.now = omega (arith, c.loop-at-test.true, c.loop-at.invariant.within) in
     let before : AreKnown c.args.terms.now.nodes (environment_of c.args.env.now) c.loop-at.known (drop (c.loop-at.at - 1 + 1) c.args.ids.now) =
     subst (λ (k : ℕ). AreKnown c.args.terms.now.nodes (environment_of c.args.env.now) c.loop-at.known (drop k c.args.ids.now)) (sym step) c.loop-at.invariant.known in
-    let none : None ≡ narrow_worth (λ q e. known_worth c.loop-at.known q) c.node.result.now (environment_of c.args.env.now) = sym c.in_default.is ∙ c.in_ok-value.ensures in
+    let none : None ≡ fitting_worth (λ q e. known_worth c.loop-at.known q) c.node.result.now (environment_of c.args.env.now) = sym c.in_default.is ∙ c.in_ok-value.ensures in
     let id : TermId = record { 0 = get_or c.args.ids.now (c.loop-at.at - 1) 0 } in
     let same : id ≡ term = cc h in
     let number : get_or c.args.ids.now (c.loop-at.at - 1) 0 ≡ term.0 = ap (λ (t : TermId). t.0) same in

@@ -9,7 +9,7 @@ abbrev pub invariant-loop-at : goal.invariant-loop-at
 invariant-loop-at l = record {
   within : l.at ≤ length l.ids;
   known : AreKnown l.terms.nodes (environment_of l.env) l.known (drop l.at l.ids);
-  narrow : (q : ℕ) → has_number q (drop l.at l.ids) ≡ true → IsWideTerm l.terms.nodes q (environment_of l.env) → ⊥;
+  fitting : (q : ℕ) → has_number q (drop l.at l.ids) ≡ true → IsWideTerm l.terms.nodes q (environment_of l.env) → ⊥;
 }
 
 abbrev pub decreases-loop-at : goal.decreases-loop-at

@@ -9,7 +9,7 @@ use Rattle.turn_rows.proofs.firsts.first_step.Goals as goal
 pub turn-requires-clause-goes_on : goal.turn-requires-clause-goes_on
 turn-requires-clause-goes_on g c =
     let lent = c.lend-lent.ensures in
-    subst GoesOn (sym lent.is) (goes_on c.args.book.now c.requires.can_run lent.standing lent.ordered c.facts-facts.ensures.recorded c.goes_on.ensures c.requires.narrow)
+    subst GoesOn (sym lent.is) (goes_on c.args.book.now c.requires.can_run lent.standing lent.ordered c.facts-facts.ensures.recorded c.goes_on.ensures c.requires.thin)
 
 pub turn-requires-clause-leaf : goal.turn-requires-clause-leaf
 turn-requires-clause-leaf g c = subst (λ (b : Standing). IsOpenLeaf b 0) (sym c.lend-lent.ensures.is) (open_leaf (standing_of c.args.book.now) 0 c.root_may_be_asked.ensures)

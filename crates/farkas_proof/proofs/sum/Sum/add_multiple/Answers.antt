@@ -18,7 +18,7 @@ pub returns-clause-value : goal.returns-clause-value
 unfolding made
 returns-clause-value c =
     let k_fits : FitsSigned w64 c.args.k = c.ranges.k in
-    let small : nat_abs c.constant.result < 2 ^ 64 = rw c.constant.ensures.is c.constant.ensures.small in
+    let small : nat_abs c.constant.result < 2 ^ 64 = rw c.constant.ensures.is c.constant.ensures.long in
     let a_fits : FitsSigned w128 c.constant.result = omega (arith, ints, small) in
     let terms = simp to_z-of_z at c.in_ok-products.ensures.value in
     let constant = simp to_z-of_z at c.add_negated.ensures.value in

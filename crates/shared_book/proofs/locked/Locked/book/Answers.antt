@@ -6,7 +6,7 @@ use Rattle.book_rules.specs.State.{opening}
 use Rattle.book_rules.specs.Walks.{AllOf}
 use Rattle.chc_core.specs.Contents.{Contents}
 use Rattle.chc_core.specs.Views.{standing_of, state_of, steps_of}
-use Rattle.obligation_turn.specs.Turns.{IsNarrow}
+use Rattle.obligation_turn.specs.Turns.{IsThin}
 use Rattle.shared_book.specs.Locks.{Behind}
 use Rattle.shared_book.specs.Runs.{IsEntry}
 use Rattle.shared_book.proofs.RunLemmas.{named-good, named-legal, named-replay}
@@ -36,8 +36,8 @@ returns-clause-good g c = subst (λ (b : Contents). AreGood (instances _) (state
 pub returns-clause-entries : goal.returns-clause-entries
 returns-clause-entries g c = subst (λ (b : Contents). AllOf (IsEntry _ _) b.journal) (ap (λ (l : Behind). l.book) c.self.view_is ∙ sym (returns-clause-is g c)) c.self.invariant.0.entries
 
-pub returns-clause-narrow : goal.returns-clause-narrow
-returns-clause-narrow g c = subst (λ (b : Contents). IsNarrow (standing_of b)) (ap (λ (l : Behind). l.book) c.self.view_is ∙ sym (returns-clause-is g c)) c.self.invariant.0.narrow
+pub returns-clause-thin : goal.returns-clause-thin
+returns-clause-thin g c = subst (λ (b : Contents). IsThin (standing_of b)) (ap (λ (l : Behind). l.book) c.self.view_is ∙ sym (returns-clause-is g c)) c.self.invariant.0.thin
 
 pub returns-clause-counted : goal.returns-clause-counted
 returns-clause-counted g c = ap (λ (l : Behind). l.total) (sym c.self.view_is) ∙ c.self.invariant.1 ∙ ap (λ (b : Contents). length b.journal) (ap (λ (l : Behind). l.book) c.self.view_is ∙ sym (returns-clause-is g c))

@@ -34,7 +34,7 @@ invariant_of-self-2 g c =
     let share = c.args.share.now in
     let more = longer c.self.inside.book c.commit_released.new.book _ done.journal in
     let run = run-step _ _ _ _ share.worker c.self.inside.book c.commit_released.new.book c.args.step c.self.invariant.0 done.state done.system done.given done.journal
-    (record { first = share.first; last = share.last; counts = c.requires.counts }) c.requires.narrow in
+    (record { first = share.first; last = share.last; counts = c.requires.counts }) c.requires.thin in
     (run, c.add.ensures.total ∙ ap (λ (n : ℕ). n + 1) (c.audit.ensures.total ∙ c.self.invariant.1) ∙ sym more)
 
 pub returns-clause-number : goal.returns-clause-number

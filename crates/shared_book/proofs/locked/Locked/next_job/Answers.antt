@@ -25,8 +25,8 @@ job_of-requires-clause-few g c = c.self.invariant.0.few
 pub job_of-requires-clause-goes_on : goal.job_of-requires-clause-goes_on
 job_of-requires-clause-goes_on g c = c.in_ok-may_ask.ensures.ok.0
 
-pub job_of-requires-clause-narrow : goal.job_of-requires-clause-narrow
-job_of-requires-clause-narrow g c = c.self.invariant.0.narrow
+pub job_of-requires-clause-thin : goal.job_of-requires-clause-thin
+job_of-requires-clause-thin g c = c.self.invariant.0.thin
 
 pub invariant_of-self : goal.invariant_of-self
 invariant_of-self g c =

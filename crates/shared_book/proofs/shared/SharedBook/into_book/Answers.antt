@@ -9,5 +9,5 @@ returns-clause-given g c = c.into_book.ensures.run.given
 pub returns-clause-entries : goal.returns-clause-entries
 returns-clause-entries g c = c.into_book.ensures.run.entries
 
-pub returns-clause-narrow : goal.returns-clause-narrow
-returns-clause-narrow g c = c.into_book.ensures.run.narrow
+pub returns-clause-thin : goal.returns-clause-thin
+returns-clause-thin g c = c.into_book.ensures.run.thin

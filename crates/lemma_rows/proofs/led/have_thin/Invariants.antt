@@ -1,7 +1,7 @@
 use Rattle.std.proofs.Common.{◌≡◌, ◌<◌, ℕ, false}
 use Rattle.obligation_tree.specs.Nodes.{node_at, obligation_in}
 use Rattle.book_rules.specs.Areas.{is_wide}
-use Rattle.lemma_rows.proofs.led.have_narrow.Given as goal
+use Rattle.lemma_rows.proofs.led.have_thin.Given as goal
 
 -- those so far
 abbrev pub invariant-loop-id : goal.invariant-loop-id

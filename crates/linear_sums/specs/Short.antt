@@ -1,10 +1,10 @@
--- Numbers that are given where they are narrow.
+-- Numbers that are given where they are short.
 use Rattle.std.specs.Prelude.{ℕ, List, [], ◌∷◌, ℤ, ◌*ℤ◌, nat_abs, ◌==◌, Option, Some, None, Bool, true, false, ◌&&◌, if◌then◌else◌}
 use Rattle.std.specs.List.{list_any}
 use Rattle.lin_atoms.specs.Linear.{Linear, is_short}
 
-abbrev pub narrow_number : ℤ → Option ℤ
-narrow_number n = if is_short n then Some n else None
+abbrev pub short_or_none : ℤ → Option ℤ
+short_or_none n = if is_short n then Some n else None
 
 abbrev pub times : ℤ → Option ℤ → ℤ
 times n None = n
