@@ -34,7 +34,8 @@ pub fn one_derivation()
 /// The printed text of a derivation spells that very derivation, and nothing else.
 pub fn printed_derivations_are_read_back()
     ensures spelled { (preds : List Pred) (lines : List Line) (text : List ℕ) → AreNames preds → IsAnswerText preds (Unsat lines) text → Spells preds text (Unsat lines) }
-    ensures alone { (preds : List Pred) (lines : List Line) (text : List ℕ) (answer : Answer) → AreNames preds → IsAnswerText preds (Unsat lines) text → Spells preds text answer → answer ≡ Unsat lines }
+    ensures alone { (preds : List Pred) (lines : List Line) (text : List ℕ) (answer : Answer) → AreNames preds → IsAnswerText preds (Unsat lines) text
+        → Spells preds text answer → answer ≡ Unsat lines }
 {}
 
 /// The printed text of a model is accepted, and whatever it spells is the same model.

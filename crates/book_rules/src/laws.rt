@@ -37,7 +37,8 @@ pub fn lemmas_are_good()
 /// the level or less.
 pub fn facts_are_derivable()
     ensures facts { (sys : Clauses) (s : State) (steps : List Step) → IsSound (instances sys) s → AreLegal sys s steps → AreDerivable (instances sys) (replay sys s steps).facts }
-    ensures no_false { (sys : Clauses) (s : State) (steps : List Step) → IsSound (instances sys) s → AreLegal sys s steps → (h : ℕ) → h ≤ (replay sys s steps).level → IsDerivable (instances sys) h None → ⊥ }
+    ensures no_false { (sys : Clauses) (s : State) (steps : List Step) → IsSound (instances sys) s → AreLegal sys s steps → (h : ℕ) → h ≤ (replay sys s steps).level
+        → IsDerivable (instances sys) h None → ⊥ }
 {}
 
 /// What makes lemmas good is kept by each legal step, and the opening of a first book has it.

@@ -17,11 +17,15 @@ ghost use Rattle.book_rules.specs.Walks.{AllOf};
 /// What is closed so has the entry's number, what was closed keeps what it had, and what stays live
 /// stands as it stood.
 pub fn all_that_hangs_under_it_falls()
-    ensures falls { (cause : Obligation → Bool) (s : State) (number : ℕ) (o now : Obligation) → IsOrdered s → slice_get s.obligations number ≡ Some o → slice_get (close cause s) number ≡ Some now → is_live o ≡ true → (is_live now ≡ false) ↔ FallsBy cause s.obligations number }
+    ensures falls { (cause : Obligation → Bool) (s : State) (number : ℕ) (o now : Obligation) → IsOrdered s → slice_get s.obligations number ≡ Some o
+        → slice_get (close cause s) number ≡ Some now → is_live o ≡ true → (is_live now ≡ false) ↔ FallsBy cause s.obligations number }
     ensures long { (cause : Obligation → Bool) (s : State) → length (close cause s) ≡ length s.obligations }
-    ensures now { (cause : Obligation → Bool) (s : State) (number : ℕ) (o now : Obligation) → slice_get s.obligations number ≡ Some o → slice_get (close cause s) number ≡ Some now → is_live o ≡ true → is_live now ≡ false → now ≡ closed_at (s.entries + 1) o }
-    ensures before { (cause : Obligation → Bool) (s : State) (number : ℕ) (o now : Obligation) → slice_get s.obligations number ≡ Some o → slice_get (close cause s) number ≡ Some now → is_live o ≡ false → now ≡ o }
-    ensures live { (cause : Obligation → Bool) (s : State) (number : ℕ) (o now : Obligation) → slice_get s.obligations number ≡ Some o → slice_get (close cause s) number ≡ Some now → is_live now ≡ true → now ≡ o }
+    ensures now { (cause : Obligation → Bool) (s : State) (number : ℕ) (o now : Obligation) → slice_get s.obligations number ≡ Some o
+        → slice_get (close cause s) number ≡ Some now → is_live o ≡ true → is_live now ≡ false → now ≡ closed_at (s.entries + 1) o }
+    ensures before { (cause : Obligation → Bool) (s : State) (number : ℕ) (o now : Obligation) → slice_get s.obligations number ≡ Some o
+        → slice_get (close cause s) number ≡ Some now → is_live o ≡ false → now ≡ o }
+    ensures live { (cause : Obligation → Bool) (s : State) (number : ℕ) (o now : Obligation) → slice_get s.obligations number ≡ Some o
+        → slice_get (close cause s) number ≡ Some now → is_live now ≡ true → now ≡ o }
 {}
 
 /// A later book opens with the facts of one before, over a system that has the predicates and

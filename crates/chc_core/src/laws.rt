@@ -14,7 +14,8 @@ ghost use Rattle.step_rules.specs.declared.step.Step.{Step};
 
 /// What the facts on which a fact rests are: a derivation that ends in it.
 pub fn steps_are_a_derivation()
-    ensures { (sys : Clauses) (facts : List KeptFact) (n : ℕ) (steps : List ℕ) → AreRecorded sys [] (facts_of facts) → n < length facts → AreSteps facts n steps → IsDerivation sys (facts_of facts) n steps }
+    ensures { (sys : Clauses) (facts : List KeptFact) (n : ℕ) (steps : List ℕ) → AreRecorded sys [] (facts_of facts) → n < length facts
+        → AreSteps facts n steps → IsDerivation sys (facts_of facts) n steps }
 {}
 
 /// The height that the rules give a fact is that which the facts tell.

@@ -32,7 +32,8 @@ pub(crate) fn next_number(parts: &Parts) -> u64
 /// The obligation that an Open asks.
 fn asked(parts: &Parts, step: &OpenPart) -> Result<Obligation, Memory>
     requires { CanTake parts.now (OpenStep step.now) }
-    ensures { IfOk result (λ o. (parent : PlainObligation) (atom : PlainAtom) → parent_of (state_of parts.now) (open_of step.now) ≡ Some parent → atom_of parts.now.system (open_of step.now) ≡ Some atom → fresh_of o ≡ child_of (open_of step.now) parent atom) }
+    ensures { IfOk result (λ o. (parent : PlainObligation) (atom : PlainAtom) → parent_of (state_of parts.now) (open_of step.now) ≡ Some parent
+        → atom_of parts.now.system (open_of step.now) ≡ Some atom → fresh_of o ≡ child_of (open_of step.now) parent atom) }
 {
     let level = parts.tree.obligation(step.parent).level - 1;
     let clause = parts.system.get().clause(step.seen.clause() as usize);

@@ -46,7 +46,18 @@ impl Parts {
     /// The root at level 1, and nothing besides.
     pub(crate) fn new(alloc: Global, system: System, given: u32) -> Result<Parts, Memory>
         requires { length system.preds < 2 ^ 32 }
-        ensures is { IfOk result (λ parts. parts ≡ record { system = system; given = given; level = 0; spent = 0; frames = record { preds = length system.preds; lemmas = [] }; facts = []; tree = record { nodes = fresh (root 1) ∷ []; claims = replicate most_workers None }; journal = [] }) }
+        ensures is { IfOk result (λ parts. parts ≡ record {
+          system = system;
+          given = given;
+          level = 0;
+          spent = 0;
+          frames = record
+              { preds = length system.preds; lemmas = [] };
+          facts = [];
+          tree = record
+              { nodes = fresh (root 1) ∷ []; claims = replicate most_workers None };
+          journal = [];
+        }) }
         ensures legal { is_system system ≡ true }
     {
         let preds = system.preds().len() as u32;

@@ -19,7 +19,9 @@ ghost use Rattle.chc_tokens.specs.declared.used.Used.{Used};
 /// A query is true at exactly the points of the guard at which each used lemma accepts its atom's
 /// tuple and the head's tuple doesn't meet the goal.
 pub fn a_query_asks_for_an_instance()
-    ensures { (point : List ℤ) (clause : Clause) (goal : Goal) (used : List Used) → has_goal clause goal ≡ true → has_used clause.atoms used ≡ true → truth point (query clause goal used) ≡ ((truth point clause.guard && not (token_meets goal (token_head_at point clause))) && list_all (is_passed point clause) used) }
+    ensures { (point : List ℤ) (clause : Clause) (goal : Goal) (used : List Used) → has_goal clause goal ≡ true → has_used clause.atoms used ≡ true
+        → truth point (query clause goal used) ≡ ((truth point clause.guard && not (token_meets goal (token_head_at point clause)))
+        && list_all (is_passed point clause) used) }
 {}
 
 /// What a refuted query shows: wherever the guard holds and each used lemma accepts its atom's
@@ -33,5 +35,6 @@ pub fn a_refuted_query_shows_its_goal()
 /// A query is the conjunction of its base and its used lemmas, so what a solver is given in two parts
 /// is the query.
 pub fn a_query_joins_its_base_and_lemmas()
-    ensures { (sys : Clauses) (n : ℕ) (goal : Goal) (used : List Used) (base : Form) (forms : List Form) → base_at sys n goal ≡ Some base → forms_at sys n used ≡ Some forms → query_at sys n goal used ≡ Some (And (base ∷ forms)) }
+    ensures { (sys : Clauses) (n : ℕ) (goal : Goal) (used : List Used) (base : Form) (forms : List Form) → base_at sys n goal ≡ Some base
+        → forms_at sys n used ≡ Some forms → query_at sys n goal used ≡ Some (And (base ∷ forms)) }
 {}

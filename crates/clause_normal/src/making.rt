@@ -59,7 +59,8 @@ pub fn judged(
     requires there { top.0 < length terms.now.nodes }
     requires known { AreFound (constant_in tables.now.constants) (naming_by names.now) terms.now.nodes known.old }
     ensures narrow { OnOk result (first_wide_by (constant_in tables.now.constants) (naming_by names.now) terms.now.nodes top.0 ≡ None) }
-    ensures wide { (offset : ℕ) → IsErrOf result (NormalStop.TooWide offset) → HasFirst (first_wide_by (constant_in tables.now.constants) (naming_by names.now) terms.now.nodes top.0) terms.now.offsets offset }
+    ensures wide { (offset : ℕ) → IsErrOf result (NormalStop.TooWide offset)
+        → HasFirst (first_wide_by (constant_in tables.now.constants) (naming_by names.now) terms.now.nodes top.0) terms.now.offsets offset }
     ensures count { (offset : ℕ) → IsErrOf result (NormalStop.Count offset) → ⊥ }
     ensures known { OnOk result (AreFound (constant_in tables.now.constants) (naming_by names.now) terms.now.nodes known.new) }
 {

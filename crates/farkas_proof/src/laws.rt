@@ -69,7 +69,9 @@ pub fn many_rows_are_given_up()
 /// A form of at most one literal, whose numbers have room once it is made ready, and of no
 /// disjunction is never given up by a row.
 pub fn one_literal_has_no_wide_row()
-    ensures { (form : Form) → length (literals form) ≤ 1 → disjunctions form ≡ [] → list_all (λ lit. ready_fits (ready (form_end form) lit)) (literals form) ≡ true → (lits : List Lit) (basis : List ℕ) (wide : ℤ) → IsGivenUp form (Row lits basis wide) → ⊥ }
+    ensures { (form : Form) → length (literals form) ≤ 1 → disjunctions form ≡ [] → list_all
+        (λ lit. ready_fits (ready (form_end form) lit)) (literals form) ≡ true → (lits : List Lit) (basis : List ℕ) (wide : ℤ)
+        → IsGivenUp form (Row lits basis wide) → ⊥ }
 {}
 
 /// A form without literals and disjunctions is never given up.

@@ -80,7 +80,9 @@ pub(crate) fn round(
     divisor: i64,
     at: u32,
 ) -> Result<Lit, CheckStop>
-    ensures { Derives (are_multipliers lits.now multipliers.now && (int_le (pos 1) divisor && is_divided_by divisor (combined lits.now multipliers.now))) (Le (rounded divisor (combined lits.now multipliers.now))) at result }
+    ensures { Derives (are_multipliers lits.now multipliers.now
+        && (int_le (pos 1) divisor && is_divided_by divisor (combined lits.now multipliers.now)))
+        (Le (rounded divisor (combined lits.now multipliers.now))) at result }
 {
     match narrow_round(alloc, narrow, lits, multipliers, divisor)? {
         Some(lin) => Ok(Lit::Le(lin)),
@@ -118,7 +120,9 @@ fn wide_round(
     divisor: i64,
     at: u32,
 ) -> Result<Lit, CheckStop>
-    ensures { Derives (are_multipliers lits.now multipliers.now && (int_le (pos 1) divisor && is_divided_by divisor (combined lits.now multipliers.now))) (Le (rounded divisor (combined lits.now multipliers.now))) at result }
+    ensures { Derives (are_multipliers lits.now multipliers.now
+        && (int_le (pos 1) divisor && is_divided_by divisor (combined lits.now multipliers.now)))
+        (Le (rounded divisor (combined lits.now multipliers.now))) at result }
 {
     if !combine(sum, lits, multipliers)? {
         return Err(CheckStop::NoProof { node: at });

@@ -27,7 +27,9 @@ pub(crate) struct Sum {
 /// Where the variable's term stands, or else the place before which a term of it belongs.
 fn place(terms: &[(u32, Accumulator)], variable: u32) -> Result<usize, usize>
     requires { are_ordered 0 (seen terms.now) ≡ true }
-    ensures met { IfOk result (λ at. (at < length terms.now) × ((slice_index_or (seen terms.now) at (0, pos 0)).0 ≡ variable) × ((a : ℤ) → with_term variable a (seen terms.now) ≡ take at (seen terms.now) ++ term_on variable (a +ℤ (slice_index_or (seen terms.now) at (0, pos 0)).1) (drop (at + 1) (seen terms.now)))) }
+    ensures met { IfOk result (λ at. (at < length terms.now) × ((slice_index_or (seen terms.now) at (0, pos 0)).0 ≡ variable)
+        × ((a : ℤ) → with_term variable a (seen terms.now)
+        ≡ take at (seen terms.now) ++ term_on variable (a +ℤ (slice_index_or (seen terms.now) at (0, pos 0)).1) (drop (at + 1) (seen terms.now)))) }
     ensures free { IfErr result (λ at. (at ≤ length terms.now) × ((a : ℤ) → with_term variable a (seen terms.now) ≡ take at (seen terms.now) ++ term_on variable a (drop at (seen terms.now)))) }
 {
     let (mut low, mut high) = (0, terms.len());

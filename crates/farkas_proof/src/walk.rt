@@ -123,7 +123,8 @@ fn put<'a>(waiting: &mut Vec<Work<'a>>, work: Work<'a>) -> Result<(), Memory>
 /// Literals beyond the first `depth` are forgotten before what waits already. A literal may wait to be
 /// forgotten with those below it.
 fn forget<'a>(waiting: &mut Vec<Work<'a>>, depth: usize) -> Result<(), Memory>
-    ensures after { OnOk result ((end : ℕ) (lits more : List Lit) (cases : List (List Form)) (next : ℕ) → length lits ≡ depth → left_to end waiting.new.items (lits ++ more) cases next ≡ left_to end waiting.old.items lits cases next) }
+    ensures after { OnOk result ((end : ℕ) (lits more : List Lit) (cases : List (List Form)) (next : ℕ) → length lits ≡ depth
+        → left_to end waiting.new.items (lits ++ more) cases next ≡ left_to end waiting.old.items lits cases next) }
     ensures weight { OnOk result (weights waiting.new.items ≤ weights waiting.old.items + 1) }
 {
     match waiting.last() {
@@ -164,7 +165,8 @@ fn push_parts<'a>(
     which: u32,
 ) -> Result<(), Memory>
     requires { length parts.now ≡ length subs.now }
-    ensures after { OnOk result ((end : ℕ) (lits : List Lit) (cases : List (List Form)) (next : ℕ) → left_to end work.new.items lits cases next ≡ followed_by (each_part (map (judged_at lit_fits end) subs.now) parts.now which lits cases next) (left_to end work.old.items lits cases)) }
+    ensures after { OnOk result ((end : ℕ) (lits : List Lit) (cases : List (List Form)) (next : ℕ) → left_to end work.new.items lits cases next
+        ≡ followed_by (each_part (map (judged_at lit_fits end) subs.now) parts.now which lits cases next) (left_to end work.old.items lits cases)) }
     ensures weight { OnOk result (weights work.new.items ≡ weights work.old.items + sizes (map size subs.now)) }
 {
     let mut left = subs.len();
@@ -228,7 +230,8 @@ impl<'a> Walk<'a> {
 
     /// A tree, with more literals.
     fn judge_with(&mut self, tree: &'a Refutation, derived: Vec<Lit>) -> Result<(), CheckStop>
-        ensures leads { Leads (followed_by (judged_at lit_fits self.old.end tree.now (self.old.lits ++ derived.items) (opened self.old.cases.items) self.old.at) (after self.old)) (found self.new) result }
+        ensures leads { Leads (followed_by (judged_at lit_fits self.old.end tree.now (self.old.lits ++ derived.items) (opened self.old.cases.items) self.old.at)
+            (after self.old)) (found self.new) result }
         ensures less { OnOk result (weight self.new < weight self.old + size tree.now) }
     {
         forget(&mut self.work, self.lits.len())?;
@@ -253,7 +256,8 @@ impl<'a> Walk<'a> {
         part: &'a Form,
         which: u32,
     ) -> Result<(), CheckStop>
-        ensures leads { Leads (followed_by (judged_at lit_fits self.old.end tree.now (self.old.lits ++ literals part.now) (replaced (opened self.old.cases.items) which part.now) self.old.at) (after self.old)) (found self.new) result }
+        ensures leads { Leads (followed_by (judged_at lit_fits self.old.end tree.now (self.old.lits ++ literals part.now)
+            (replaced (opened self.old.cases.items) which part.now) self.old.at) (after self.old)) (found self.new) result }
         ensures less { OnOk result (weight self.new < weight self.old + (size tree.now + 1)) }
     {
         let cases = replaced(self.alloc, self.cases.as_slice(), which, part)?;
@@ -303,7 +307,8 @@ impl<'a> Walk<'a> {
         &mut self,
         multipliers: &[(u32, i64)],
     ) -> Result<Option<&'a Refutation>, CheckStop>
-        ensures on { GoesOn (followed_by (checked (are_multipliers self.old.lits multipliers.now && is_above_zero (combined self.old.lits multipliers.now)) true self.old.at (Sound (self.old.at + 1))) (after self.old)) self.new result }
+        ensures on { GoesOn (followed_by (checked (are_multipliers self.old.lits multipliers.now
+            && is_above_zero (combined self.old.lits multipliers.now)) true self.old.at (Sound (self.old.at + 1))) (after self.old)) self.new result }
         ensures less { IfOk result (λ next. weight self.new + size_of next ≡ weight self.old + 1) }
     {
         match leaf(
@@ -327,7 +332,11 @@ impl<'a> Walk<'a> {
         divisor: i64,
         sub: &'a Refutation,
     ) -> Result<Option<&'a Refutation>, CheckStop>
-        ensures on { GoesOn (followed_by (checked (are_multipliers self.old.lits multipliers.now && (int_le (pos 1) divisor && is_divided_by divisor (combined self.old.lits multipliers.now))) (lit_fits (Le (rounded divisor (combined self.old.lits multipliers.now)))) self.old.at (judged_at lit_fits self.old.end sub.now (self.old.lits ++ Le (rounded divisor (combined self.old.lits multipliers.now)) ∷ []) (opened self.old.cases.items) (self.old.at + 1))) (after self.old)) self.new result }
+        ensures on { GoesOn (followed_by (checked (are_multipliers self.old.lits multipliers.now
+            && (int_le (pos 1) divisor && is_divided_by divisor (combined self.old.lits multipliers.now)))
+            (lit_fits (Le (rounded divisor (combined self.old.lits multipliers.now)))) self.old.at
+            (judged_at lit_fits self.old.end sub.now (self.old.lits ++ Le (rounded divisor (combined self.old.lits multipliers.now)) ∷ [])
+            (opened self.old.cases.items) (self.old.at + 1))) (after self.old)) self.new result }
         ensures less { IfOk result (λ next. weight self.new + size_of next ≤ weight self.old + (size sub.now + 1)) }
     {
         match round(
@@ -353,7 +362,11 @@ impl<'a> Walk<'a> {
         low_sub: &'a Refutation,
         high_sub: &'a Refutation,
     ) -> Result<Option<&'a Refutation>, CheckStop>
-        ensures on { GoesOn (followed_by (checked true (lit_fits (Le lin.now) && lit_fits (Le (one_minus lin.now))) self.old.at (followed_by (judged_at lit_fits self.old.end low_sub.now (self.old.lits ++ Le lin.now ∷ []) (opened self.old.cases.items) (self.old.at + 1)) (judged_at lit_fits self.old.end high_sub.now (self.old.lits ++ Le (one_minus lin.now) ∷ []) (opened self.old.cases.items)))) (after self.old)) self.new result }
+        ensures on { GoesOn (followed_by (checked true (lit_fits (Le lin.now)
+            && lit_fits (Le (one_minus lin.now))) self.old.at (followed_by
+            (judged_at lit_fits self.old.end low_sub.now (self.old.lits ++ Le lin.now ∷ []) (opened self.old.cases.items) (self.old.at + 1))
+            (judged_at lit_fits self.old.end high_sub.now (self.old.lits ++ Le (one_minus lin.now) ∷ []) (opened self.old.cases.items))))
+            (after self.old)) self.new result }
         ensures less { IfOk result (λ next. weight self.new + size_of next ≤ weight self.old + (size low_sub.now + size high_sub.now + 1)) }
     {
         match above(self.alloc, lin, self.at) {
@@ -372,7 +385,9 @@ impl<'a> Walk<'a> {
         which: u32,
         subs: &'a [Refutation],
     ) -> Result<Option<&'a Refutation>, CheckStop>
-        ensures on { GoesOn (followed_by (checked (has_parts (opened self.old.cases.items) which (length subs.now)) true self.old.at (each_part (map (judged_at lit_fits self.old.end) subs.now) (slice_index_or (opened self.old.cases.items) which []) which self.old.lits (opened self.old.cases.items) (self.old.at + 1))) (after self.old)) self.new result }
+        ensures on { GoesOn (followed_by (checked (has_parts (opened self.old.cases.items) which (length subs.now)) true self.old.at
+            (each_part (map (judged_at lit_fits self.old.end) subs.now) (slice_index_or (opened self.old.cases.items) which []) which self.old.lits
+            (opened self.old.cases.items) (self.old.at + 1))) (after self.old)) self.new result }
         ensures less { IfOk result (λ next. weight self.new + size_of next ≡ weight self.old + (sizes (map size subs.now) + 1)) }
     {
         match parts_of(self.cases.as_slice(), which, subs.len()) {
@@ -390,7 +405,10 @@ impl<'a> Walk<'a> {
         lit: u32,
         sub: &'a Refutation,
     ) -> Result<Option<&'a Refutation>, CheckStop>
-        ensures on { GoesOn (followed_by (checked (has_quotient self.old.lits lit (new_variable self.old.end self.old.lits)) (list_all lit_fits (quotient_at self.old.lits lit (new_variable self.old.end self.old.lits))) self.old.at (judged_at lit_fits self.old.end sub.now (self.old.lits ++ quotient_at self.old.lits lit (new_variable self.old.end self.old.lits)) (opened self.old.cases.items) (self.old.at + 1))) (after self.old)) self.new result }
+        ensures on { GoesOn (followed_by (checked (has_quotient self.old.lits lit (new_variable self.old.end self.old.lits))
+            (list_all lit_fits (quotient_at self.old.lits lit (new_variable self.old.end self.old.lits))) self.old.at
+            (judged_at lit_fits self.old.end sub.now (self.old.lits ++ quotient_at self.old.lits lit (new_variable self.old.end self.old.lits))
+            (opened self.old.cases.items) (self.old.at + 1))) (after self.old)) self.new result }
         ensures less { IfOk result (λ next. weight self.new + size_of next ≤ weight self.old + (size sub.now + 1)) }
     {
         match named(self.alloc, &mut self.lits, lit, self.end, self.at) {
@@ -405,7 +423,8 @@ impl<'a> Walk<'a> {
 
     /// A tree waits, which stands on one more literal, before all that waits already.
     fn wait(&mut self, tree: &'a Refutation, lit: Lit) -> Result<(), Memory>
-        ensures after { OnOk result ((next : ℕ) → after self.new next ≡ followed_by (judged_at lit_fits self.old.end tree.now (self.old.lits ++ lit ∷ []) (opened self.old.cases.items) next) (after self.old)) }
+        ensures after { OnOk result ((next : ℕ) → after self.new next
+            ≡ followed_by (judged_at lit_fits self.old.end tree.now (self.old.lits ++ lit ∷ []) (opened self.old.cases.items) next) (after self.old)) }
         ensures weight { OnOk result (weight self.new ≡ weight self.old + size tree.now) }
         ensures end { self.new.end ≡ self.old.end }
         ensures lits { self.new.lits ≡ self.old.lits }
@@ -418,7 +437,9 @@ impl<'a> Walk<'a> {
 
     /// One node is done, and the tree comes next, which stands on one more literal.
     fn go_on(&mut self, tree: &'a Refutation, lit: Lit) -> Result<Option<&'a Refutation>, Memory>
-        ensures found { IfOk result (λ next. found_next self.new next ≡ followed_by (judged_at lit_fits self.old.end tree.now (self.old.lits ++ lit ∷ []) (opened self.old.cases.items) (self.old.at + 1)) (after self.old)) }
+        ensures found { IfOk result (λ next. found_next self.new next
+            ≡ followed_by (judged_at lit_fits self.old.end tree.now (self.old.lits ++ lit ∷ []) (opened self.old.cases.items) (self.old.at + 1))
+            (after self.old)) }
         ensures weight { IfOk result (λ next. weight self.new + size_of next ≤ weight self.old + (size tree.now + 1)) }
     {
         self.at = next(self.at)?;
@@ -433,7 +454,9 @@ impl<'a> Walk<'a> {
         tree: &'a Refutation,
         derived: Vec<Lit>,
     ) -> Result<Option<&'a Refutation>, Memory>
-        ensures found { IfOk result (λ next. found_next self.new next ≡ followed_by (judged_at lit_fits self.old.end tree.now (self.old.lits ++ derived.items) (opened self.old.cases.items) (self.old.at + 1)) (after self.old)) }
+        ensures found { IfOk result (λ next. found_next self.new next
+            ≡ followed_by (judged_at lit_fits self.old.end tree.now (self.old.lits ++ derived.items) (opened self.old.cases.items) (self.old.at + 1))
+            (after self.old)) }
         ensures weight { IfOk result (λ next. weight self.new + size_of next ≤ weight self.old + (size tree.now + 1)) }
     {
         self.at = next(self.at)?;

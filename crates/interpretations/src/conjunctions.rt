@@ -121,7 +121,8 @@ fn lemma_terms(
     kept: &[&Lemma],
 ) -> Result<Vec<TermId>, DefinitionStop>
     requires { list_all (cube_is_below (length sorts.now)) (cubes_of kept.now) ≡ true }
-    ensures added { IfOk result (λ parts. AreAdded (λ nodes ids. Each (IsLemmaOf nodes sorts.now) (cubes_of kept.now) ids) (sum_by lemma_size (cubes_of kept.now)) terms.old.nodes terms.new.nodes parts.items) }
+    ensures added { IfOk result (λ parts. AreAdded (λ nodes ids. Each (IsLemmaOf nodes sorts.now) (cubes_of kept.now) ids)
+        (sum_by lemma_size (cubes_of kept.now)) terms.old.nodes terms.new.nodes parts.items) }
     ensures full { IsErrOf result DefinitionStop.Full → 2 ^ 32 < length terms.old.nodes + sum_by lemma_size (cubes_of kept.now) }
 {
     let mut parts = Vec::new(alloc);

@@ -18,7 +18,8 @@ ghost use Rattle.interpretations.specs.Definitions.{AreDefinitionsOf, IsDefiniti
 /// The definitions are those of the declared predicates, and can be printed.
 pub fn definitions_are_printed()
     ensures defined { (lemmas : List Framed) (k : ℕ) (preds : List Pred) (definitions : List Definition) → AreDefinitionsOf lemmas k 0 preds definitions → DefinesEach 0 preds definitions }
-    ensures printed { (lemmas : List Framed) (k : ℕ) (preds : List Pred) (definitions : List Definition) → AreDefinitionsOf lemmas k 0 preds definitions → AllByRecursion (IsMadeOfLemmas preds) definitions }
+    ensures printed { (lemmas : List Framed) (k : ℕ) (preds : List Pred) (definitions : List Definition) → AreDefinitionsOf lemmas k 0 preds definitions
+        → AllByRecursion (IsMadeOfLemmas preds) definitions }
 {}
 
 /// The defining terms are formulas over the parameters, in numbers below 2^63.

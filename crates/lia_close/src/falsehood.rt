@@ -97,7 +97,8 @@ pub fn close_falsehood(
 ) -> Result<Refutation, Memory>
     requires is_false { is_no_falsehood lit.now ≡ false }
     requires short { has_short_constant lit.now ≡ true }
-    ensures { IfOk result (λ tree. (end : ℕ) (place : Place) → length place.known ≡ known → slice_get place.known number ≡ Some lit.now → new_variable end place.known < 2 ^ 32 → IsSoundAt end place tree) }
+    ensures { IfOk result (λ tree. (end : ℕ) (place : Place) → length place.known ≡ known → slice_get place.known number ≡ Some lit.now
+        → new_variable end place.known < 2 ^ 32 → IsSoundAt end place tree) }
 {
     is_legal(lit);
     match lit {

@@ -197,7 +197,8 @@ fn take_slack(
     column: usize,
 ) -> Result<usize, Memory>
     requires { ready_has_row one.now ≡ true → 2 * column + 1 < length multipliers.now }
-    ensures taken { OnOk result (taken.new.items ≡ taken.old.items ++ (if ready_has_row one.now then taken_by literal Lower (of_lower multipliers.now column) ++ taken_by literal Upper (of_upper multipliers.now column) else [])) }
+    ensures taken { OnOk result (taken.new.items ≡ taken.old.items ++ (if ready_has_row one.now then taken_by literal Lower (of_lower multipliers.now column) ++
+        taken_by literal Upper (of_upper multipliers.now column) else [])) }
     ensures next { IfOk result (λ next. next ≡ (if ready_has_row one.now then column + 1 else column)) }
 {
     if !has_row(one) {

@@ -21,13 +21,15 @@ pub fn conflicts_have_no_solution()
 /// Where multipliers of the bounds of a node's tableau contradict, there is no integer point at which
 /// all its literals are true.
 pub fn conflicts_have_no_point()
-    ensures { (q : ℕ) (lits : List Lit) (ms point : List ℤ) → list_all is_legal lits ≡ true → list_all (lit_is_below q) lits ≡ true → length point ≡ q → IsConflict (node_table q lits) ms → list_all (lit_truth point) lits ≡ true → ⊥ }
+    ensures { (q : ℕ) (lits : List Lit) (ms point : List ℤ) → list_all is_legal lits ≡ true → list_all (lit_is_below q) lits ≡ true → length point ≡ q
+        → IsConflict (node_table q lits) ms → list_all (lit_truth point) lits ≡ true → ⊥ }
 {}
 
 /// A fraction that a node tells splits it: the node is an inner one, whose sides are those of a
 /// branch.
 pub fn fractions_split()
-    ensures { (q : ℕ) (node : Node) (x : ℕ) (c : ℤ) → HasSolution q node.lits → HasVertexBetween (system q node.lits) x c → IsInner q node (with_bound node (at_most x c) ∷ with_bound node (at_least x (c +ℤ pos 1)) ∷ []) }
+    ensures { (q : ℕ) (node : Node) (x : ℕ) (c : ℤ) → HasSolution q node.lits → HasVertexBetween (system q node.lits) x c
+        → IsInner q node (with_bound node (at_most x c) ∷ with_bound node (at_least x (c +ℤ pos 1)) ∷ []) }
 {}
 
 /// Each point is on one side of a branch, and a node's literals are known with either side's bound.

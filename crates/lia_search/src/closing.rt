@@ -19,7 +19,9 @@ pub(crate) fn by_literal(alloc: Global, waiting: &Open, at: usize) -> Result<Ref
     requires each { length waiting.now.numbers ≡ length waiting.now.lits }
     requires is_false { is_no_falsehood (slice_index_or waiting.now.lits at no_lit) ≡ false }
     requires short { has_short_constant (slice_index_or waiting.now.lits at no_lit) ≡ true }
-    ensures { IfOk result (λ tree. (end : ℕ) (place : Place) → length place.known ≡ waiting.now.known → slice_get place.known (slice_index_or waiting.now.numbers at 0) ≡ Some (slice_index_or waiting.now.lits at no_lit) → new_variable end place.known < 2 ^ 32 → IsSoundAt end place tree) }
+    ensures { IfOk result (λ tree. (end : ℕ) (place : Place) → length place.known ≡ waiting.now.known
+        → slice_get place.known (slice_index_or waiting.now.numbers at 0) ≡ Some (slice_index_or waiting.now.lits at no_lit)
+        → new_variable end place.known < 2 ^ 32 → IsSoundAt end place tree) }
 {
     let number = waiting.numbers.as_slice()[at];
     let tree = close_falsehood(alloc, &waiting.lits.as_slice()[at], number, waiting.known)?;

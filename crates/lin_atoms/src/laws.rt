@@ -22,7 +22,8 @@ pub fn value_is_linear()
 pub fn value_follows_names()
     ensures any { (p q : List ℤ) (f : ℕ → ℕ) (a : Linear) → ((v : ℕ) → variable_at q v ≡ variable_at p (f v)) → value_at p (renamed f a) ≡ value_at q a }
     ensures list { (p : List ℤ) (names : List ℕ) (a : Linear) → IsTrue (lin_is_below (length names) a) → value_at p (renamed (name_in names) a) ≡ value_at (map (variable_at p) names) a }
-    ensures one { (p q : List ℤ) (x y : ℕ) (a : Linear) → variable_at q x ≡ variable_at p y → ((v : ℕ) → (v ≡ x → ⊥) → variable_at q v ≡ variable_at p v) → value_at p (renamed (put_for y x) a) ≡ value_at q a }
+    ensures one { (p q : List ℤ) (x y : ℕ) (a : Linear) → variable_at q x ≡ variable_at p y → ((v : ℕ) → (v ≡ x → ⊥) → variable_at q v ≡ variable_at p v)
+        → value_at p (renamed (put_for y x) a) ≡ value_at q a }
 {}
 
 /// At every point a literal is false exactly where a literal of its denial is true.

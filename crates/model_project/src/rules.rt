@@ -59,7 +59,8 @@ fn shifted(alloc: Global, variable: usize, bound: Bound<'_>, period: u64) -> Res
     requires short { period < 2 ^ 63 }
     ensures made { IfOk result (λ made. made ≡ plus bound.entry.lin.now (pos (bound.entry.gap % (nat_abs (coefficient variable bound.entry.lin.now) * period)))) }
     ensures narrow { OnOk result (nat_abs (coefficient variable bound.entry.lin.now) * period < 2 ^ 63) }
-    ensures wide { IsErrOf result WideStop.Wide → (nat_abs (coefficient variable bound.entry.lin.now) * period < 2 ^ 63) → fits (plus bound.entry.lin.now (pos (bound.entry.gap % (nat_abs (coefficient variable bound.entry.lin.now) * period)))) ≡ false }
+    ensures wide { IsErrOf result WideStop.Wide → (nat_abs (coefficient variable bound.entry.lin.now) * period < 2 ^ 63)
+        → fits (plus bound.entry.lin.now (pos (bound.entry.gap % (nat_abs (coefficient variable bound.entry.lin.now) * period)))) ≡ false }
 {
     let size = bounds::size(bound.lin, variable);
     match short(bounds::product(size, period)) {

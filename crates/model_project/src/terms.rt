@@ -56,7 +56,8 @@ fn first(
     requires theirs { are_ordered 0 theirs.now ≡ true }
     requires i { i < length ours.now }
     requires j { j < length theirs.now }
-    ensures sum { collected (drop i (scaled_terms k ours.now) ++ drop j (scaled_terms m theirs.now)) ≡ term_on result.0 result.1 (collected (drop result.2 (scaled_terms k ours.now) ++ drop result.3 (scaled_terms m theirs.now))) }
+    ensures sum { collected (drop i (scaled_terms k ours.now) ++ drop j (scaled_terms m theirs.now))
+        ≡ term_on result.0 result.1 (collected (drop result.2 (scaled_terms k ours.now) ++ drop result.3 (scaled_terms m theirs.now))) }
     ensures less { i + j < result.2 + result.3 }
     ensures i { result.2 ≤ length ours.now }
     ensures j { result.3 ≤ length theirs.now }

@@ -11,22 +11,29 @@ ghost use Rattle.obligation_tree.specs.declared.node.Node.{Node};
 
 /// A live obligation is closed exactly where the test tells of it, or of one that it hangs under.
 pub fn what_is_told_of_falls_with_all_that_hangs_under_it()
-    ensures { (test : ℕ → Obligation → Bool) (entry : ℕ) (nodes : List Node) (number : ℕ) → IsTree nodes → is_live_at nodes number ≡ true → (is_live_at (closing test entry [] nodes) number ≡ false) ↔ ((above : ℕ) × HangsUnder nodes above number × (test above (node_at nodes above).obligation ≡ true)) }
+    ensures { (test : ℕ → Obligation → Bool) (entry : ℕ) (nodes : List Node) (number : ℕ) → IsTree nodes → is_live_at nodes number ≡ true
+        → (is_live_at (closing test entry [] nodes) number ≡ false)
+        ↔ ((above : ℕ) × HangsUnder nodes above number × (test above (node_at nodes above).obligation ≡ true)) }
 {}
 
 /// What is closed now has the entry's number, what was closed keeps what it had, and the rest stays
 /// as it was: closing changes nothing else.
 pub fn closing_only_closes()
     ensures long { (test : ℕ → Obligation → Bool) (entry : ℕ) (nodes : List Node) → length (closing test entry [] nodes) ≡ length nodes }
-    ensures now { (test : ℕ → Obligation → Bool) (entry : ℕ) (nodes : List Node) (number : ℕ) → is_live_at nodes number ≡ true → is_live_at (closing test entry [] nodes) number ≡ false → node_at (closing test entry [] nodes) number ≡ closed_with entry (node_at nodes number) }
-    ensures before { (test : ℕ → Obligation → Bool) (entry : ℕ) (nodes : List Node) (number : ℕ) → is_live_at nodes number ≡ false → node_at (closing test entry [] nodes) number ≡ node_at nodes number }
-    ensures live { (test : ℕ → Obligation → Bool) (entry : ℕ) (nodes : List Node) (number : ℕ) → is_live_at (closing test entry [] nodes) number ≡ true → node_at (closing test entry [] nodes) number ≡ node_at nodes number }
+    ensures now { (test : ℕ → Obligation → Bool) (entry : ℕ) (nodes : List Node) (number : ℕ) → is_live_at nodes number ≡ true
+        → is_live_at (closing test entry [] nodes) number ≡ false → node_at (closing test entry [] nodes) number
+        ≡ closed_with entry (node_at nodes number) }
+    ensures before { (test : ℕ → Obligation → Bool) (entry : ℕ) (nodes : List Node) (number : ℕ) → is_live_at nodes number ≡ false
+        → node_at (closing test entry [] nodes) number ≡ node_at nodes number }
+    ensures live { (test : ℕ → Obligation → Bool) (entry : ℕ) (nodes : List Node) (number : ℕ) → is_live_at (closing test entry [] nodes) number ≡ true
+        → node_at (closing test entry [] nodes) number ≡ node_at nodes number }
 {}
 
 /// The test doesn't tell of what stays live: so a lemma excludes the point of no live obligation of
 /// its predicate and of at most its level, and no live obligation holds a fact.
 pub fn what_stays_live_is_not_told_of()
-    ensures { (test : ℕ → Obligation → Bool) (entry : ℕ) (nodes : List Node) (number : ℕ) → IsTree nodes → is_live_at (closing test entry [] nodes) number ≡ true → test number (node_at nodes number).obligation ≡ false }
+    ensures { (test : ℕ → Obligation → Bool) (entry : ℕ) (nodes : List Node) (number : ℕ) → IsTree nodes → is_live_at (closing test entry [] nodes) number
+        ≡ true → test number (node_at nodes number).obligation ≡ false }
 {}
 
 /// After a raise the root alone is live, if it was, and asks for false at the new level.

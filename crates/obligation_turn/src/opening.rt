@@ -60,7 +60,9 @@ fn area_at(lent: &Lent, job: u32, seen: &Seen) -> Result<Vec<Lit>, Memory>
     requires goes_on { GoesOn lent.now }
     requires leaf { IsOpenLeaf lent.now job }
     requires hit { IsJobHit lent.now job seen.now }
-    ensures area { IfOk result (λ lits. (clause : PlainClause) → slice_get lent.now.system.clauses (seen_clause seen.now) ≡ Some clause → IsAreaOf clause (job_of lent.now job).cube (lemmas_of lent.now.frames.lemmas) ((job_of lent.now job).level - 1) (seen_point seen.now) lits.items) }
+    ensures area { IfOk result (λ lits. (clause : PlainClause) → slice_get lent.now.system.clauses (seen_clause seen.now) ≡ Some clause
+        → IsAreaOf clause (job_of lent.now job).cube (lemmas_of lent.now.frames.lemmas) ((job_of lent.now job).level - 1) (seen_point seen.now)
+        lits.items) }
     ensures below { IfOk result (λ lits. list_all (lit_is_below (length (seen_point seen.now))) lits.items ≡ true) }
 {
     frames_are_kept(lent.frames);

@@ -181,7 +181,8 @@ impl State {
     fn assert_found(&mut self, start: u32, found: Found) -> Result<Option<Fault>, Memory>
         requires commands { self.old.commands + 1 < 2 ^ 32 }
         requires within { found.id.0 < length self.old.terms.nodes }
-        ensures { (before : List Command) (s : Spelled) → IsState before self.old → IsTermAt self.old.terms [] s.term found.id.0 → s.part ≡ found.part → IfOk result (λ fault. Took before (assertion start s) fault self.new) }
+        ensures { (before : List Command) (s : Spelled) → IsState before self.old → IsTermAt self.old.terms [] s.term found.id.0 → s.part ≡ found.part
+            → IfOk result (λ fault. Took before (assertion start s) fault self.new) }
     {
         if let Some(fault) = bool_fault(found.part) {
             return Ok(Some(fault));

@@ -167,7 +167,8 @@ fn may_be_point(parts: &Lent, pred: u32, lits: &[Lit]) -> bool
 /// Whether the step's cube has these literals, or is the atom's tuple where it may stand for them.
 fn is_cube_of(parts: &Lent, step: &OpenPart, atom: &Atom, lits: &[Lit]) -> Result<bool, Memory>
     requires { length atom.now.args ≤ most_arguments }
-    ensures { IfOk result (λ b. b ≡ (same_cube step.now.cube lits.now || (same_cube step.now.cube (point_cube (tuple_of (open_of step.now) atom.now)) && (has_fact_in (facts_of parts.now.facts) atom.now.pred lits.now || is_wide lits.now)))) }
+    ensures { IfOk result (λ b. b ≡ (same_cube step.now.cube lits.now || (same_cube step.now.cube (point_cube (tuple_of (open_of step.now) atom.now))
+        && (has_fact_in (facts_of parts.now.facts) atom.now.pred lits.now || is_wide lits.now)))) }
 {
     if is_same_cube(step, lits) {
         return Ok(true);
@@ -279,7 +280,8 @@ fn is_held(
     parent: &Obligation,
     clause: &Clause,
 ) -> Result<bool, Memory>
-    ensures { IfOk result (λ b. b ≡ (holds (fresh_of parent.now) (head_at (seen_point step.now.seen) clause.now) && has (slice_get clause.now.atoms step.now.atom) (λ atom. cube_holds (tuple_of (open_of step.now) atom) step.now.cube))) }
+    ensures { IfOk result (λ b. b ≡ (holds (fresh_of parent.now) (head_at (seen_point step.now.seen) clause.now)
+        && has (slice_get clause.now.atoms step.now.atom) (λ atom. cube_holds (tuple_of (open_of step.now) atom) step.now.cube))) }
 {
     let head = head_at(alloc, step.seen.point(), clause)?;
     if !holds(parent, &head) {

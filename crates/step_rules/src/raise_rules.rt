@@ -134,7 +134,8 @@ fn outside(parts: &Lent, id: u32, why: &Why) -> Result<Option<By>, Memory>
 /// The same, where the NoLift has that place.
 fn outside_at(parts: &Lent, id: u32, kept: &[NoLift], place: usize) -> Result<Option<By>, Memory>
     requires { id < length parts.now.frames.lemmas }
-    ensures { IfOk result (λ by. by ≡ told_below parts.now.level (framed_at parts.now.frames.lemmas id) (pair_told (seen_outside parts.now.system (state_of parts.now)) (id, framed_at parts.now.frames.lemmas id) (slice_get kept.now place))) }
+    ensures { IfOk result (λ by. by ≡ told_below parts.now.level (framed_at parts.now.frames.lemmas id)
+        (pair_told (seen_outside parts.now.system (state_of parts.now)) (id, framed_at parts.now.frames.lemmas id) (slice_get kept.now place))) }
 {
     if parts.frames.level_of(id) >= parts.level {
         return Ok(None);
@@ -182,7 +183,8 @@ fn misuses(parts: &Lent, id: u32, why: &Why) -> Option<By>
 /// The same, where the NoLift has that place.
 fn misuses_at(parts: &Lent, id: u32, kept: &[NoLift], place: usize) -> Option<By>
     requires { id < length parts.now.frames.lemmas }
-    ensures { result ≡ told_below parts.now.level (framed_at parts.now.frames.lemmas id) (pair_told (evidence_outside parts.now.system (state_of parts.now)) (id, framed_at parts.now.frames.lemmas id) (slice_get kept.now place)) }
+    ensures { result ≡ told_below parts.now.level (framed_at parts.now.frames.lemmas id)
+        (pair_told (evidence_outside parts.now.system (state_of parts.now)) (id, framed_at parts.now.frames.lemmas id) (slice_get kept.now place)) }
 {
     if parts.frames.level_of(id) >= parts.level {
         return None;

@@ -273,7 +273,8 @@ fn read_quantifier<'a>(
     terms: &mut Terms,
 ) -> Result<Found, TermStop>
     requires ready { IsReady context.old terms.old next (weights rest.now) }
-    ensures told { Tells context.old.lets (unless (quantifier_fault context.old.scope.quantifies start) (quantifier_list context.old.text context.old.scope next start is_universal rest.now)) terms.new result }
+    ensures told { Tells context.old.lets (unless (quantifier_fault context.old.scope.quantifies start)
+        (quantifier_list context.old.text context.old.scope next start is_universal rest.now)) terms.new result }
     ensures keeps { Keeps terms.old terms.new }
     ensures kept { OnOk result (context.new ≡ context.old) }
     ensures next { IfOk result (λ found. found.next ≤ next + weights rest.now) }

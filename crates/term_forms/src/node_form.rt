@@ -73,9 +73,13 @@ fn operation(
     names: &Names,
     forms: &[Lin],
 ) -> Result<Lin, WideStop>
-    ensures made { IfOk result (λ form. form ≡ operation_form op (auxiliary_form ((naming_in names.now.own.items names.now.auxiliary).auxiliary own.0)) (map (λ arg. constant_in constants.now arg.0) args.now) forms.now) }
-    ensures narrow { OnOk result (is_narrow (operation_form op (auxiliary_form ((naming_in names.now.own.items names.now.auxiliary).auxiliary own.0)) (map (λ arg. constant_in constants.now arg.0) args.now) forms.now) ≡ true) }
-    ensures wide { IsErrOf result WideStop.Wide → is_narrow (operation_form op (auxiliary_form ((naming_in names.now.own.items names.now.auxiliary).auxiliary own.0)) (map (λ arg. constant_in constants.now arg.0) args.now) forms.now) ≡ false }
+    ensures made { IfOk result (λ form. form ≡ operation_form op (auxiliary_form ((naming_in names.now.own.items names.now.auxiliary).auxiliary own.0)) (map
+        (λ arg. constant_in constants.now arg.0) args.now) forms.now) }
+    ensures narrow { OnOk result (is_narrow (operation_form op (auxiliary_form ((naming_in names.now.own.items names.now.auxiliary).auxiliary own.0)) (map
+        (λ arg. constant_in constants.now arg.0) args.now) forms.now) ≡ true) }
+    ensures wide { IsErrOf result WideStop.Wide → is_narrow (operation_form op (auxiliary_form
+        ((naming_in names.now.own.items names.now.auxiliary).auxiliary own.0)) (map (λ arg. constant_in constants.now arg.0) args.now) forms.now)
+        ≡ false }
 {
     let unit = auxiliary_form(alloc, auxiliary_of(names, own))?;
     let known = constants_of(alloc, constants, args)?;

@@ -78,7 +78,9 @@ fn choice_of(
     requires room { HasRoom (constant_in constants.now) (naming_by names.now) terms.now.nodes id.0 }
     requires fresh { IsFresh terms.now.nodes (naming_by names.now) v id.0 }
     requires known { AreFound (constant_in constants.now) (naming_by names.now) terms.now.nodes known.old }
-    ensures is { IfOk result (λ form. form ≡ choice_place (variable_form v) (bit_of (naming_by names.now) terms.now.nodes c.0) (form_by (constant_in constants.now) (naming_by names.now) terms.now.nodes s.0) (form_by (constant_in constants.now) (naming_by names.now) terms.now.nodes r.0)) }
+    ensures is { IfOk result (λ form. form ≡ choice_place (variable_form v) (bit_of (naming_by names.now) terms.now.nodes c.0)
+        (form_by (constant_in constants.now) (naming_by names.now) terms.now.nodes s.0)
+        (form_by (constant_in constants.now) (naming_by names.now) terms.now.nodes r.0)) }
     ensures known { OnOk result (AreFound (constant_in constants.now) (naming_by names.now) terms.now.nodes known.new) }
 {
     let bit = bit_of(alloc, terms, names, c)?;
@@ -103,7 +105,9 @@ fn of_choice(
     requires room { HasRoom (constant_in constants.now) (naming_by names.now) terms.now.nodes id.0 }
     requires fresh { IsFresh terms.now.nodes (naming_by names.now) v id.0 }
     requires known { AreFound (constant_in constants.now) (naming_by names.now) terms.now.nodes known.old }
-    ensures is { IfOk result (λ form. form ≡ integer_place (bit_of (naming_by names.now) terms.now.nodes) (form_by (constant_in constants.now) (naming_by names.now) terms.now.nodes) (value_by (constant_in constants.now)) (variable_form v) id.0 (Some (Op Ite args.now))) }
+    ensures is { IfOk result (λ form. form ≡ integer_place (bit_of (naming_by names.now) terms.now.nodes)
+        (form_by (constant_in constants.now) (naming_by names.now) terms.now.nodes) (value_by (constant_in constants.now)) (variable_form v) id.0
+        (Some (Op Ite args.now))) }
     ensures known { OnOk result (AreFound (constant_in constants.now) (naming_by names.now) terms.now.nodes known.new) }
 {
     terms.is_arena();
@@ -151,7 +155,9 @@ fn of_abs(
     requires room { HasRoom (constant_in constants.now) (naming_by names.now) terms.now.nodes id.0 }
     requires fresh { IsFresh terms.now.nodes (naming_by names.now) v id.0 }
     requires known { AreFound (constant_in constants.now) (naming_by names.now) terms.now.nodes known.old }
-    ensures is { IfOk result (λ form. form ≡ integer_place (bit_of (naming_by names.now) terms.now.nodes) (form_by (constant_in constants.now) (naming_by names.now) terms.now.nodes) (value_by (constant_in constants.now)) (variable_form v) id.0 (Some (Op Abs args.now))) }
+    ensures is { IfOk result (λ form. form ≡ integer_place (bit_of (naming_by names.now) terms.now.nodes)
+        (form_by (constant_in constants.now) (naming_by names.now) terms.now.nodes) (value_by (constant_in constants.now)) (variable_form v) id.0
+        (Some (Op Abs args.now))) }
     ensures known { OnOk result (AreFound (constant_in constants.now) (naming_by names.now) terms.now.nodes known.new) }
 {
     match args {
@@ -177,7 +183,8 @@ fn quotient_of(
     requires room { HasRoom (constant_in constants.now) (naming_by names.now) terms.now.nodes id.0 }
     requires fresh { IsFresh terms.now.nodes (naming_by names.now) v id.0 }
     requires known { AreFound (constant_in constants.now) (naming_by names.now) terms.now.nodes known.old }
-    ensures is { IfOk result (λ form. form ≡ quotient_place (variable_form v) (form_by (constant_in constants.now) (naming_by names.now) terms.now.nodes a.0) (value_by (constant_in constants.now) n.0)) }
+    ensures is { IfOk result (λ form. form ≡ quotient_place (variable_form v) (form_by (constant_in constants.now) (naming_by names.now) terms.now.nodes a.0)
+        (value_by (constant_in constants.now) n.0)) }
     ensures known { OnOk result (AreFound (constant_in constants.now) (naming_by names.now) terms.now.nodes known.new) }
 {
     let lin = part_form(alloc, terms, constants, names, known, v, id, a)?;
@@ -200,7 +207,9 @@ fn of_quotient(
     requires room { HasRoom (constant_in constants.now) (naming_by names.now) terms.now.nodes id.0 }
     requires fresh { IsFresh terms.now.nodes (naming_by names.now) v id.0 }
     requires known { AreFound (constant_in constants.now) (naming_by names.now) terms.now.nodes known.old }
-    ensures is { IfOk result (λ form. form ≡ integer_place (bit_of (naming_by names.now) terms.now.nodes) (form_by (constant_in constants.now) (naming_by names.now) terms.now.nodes) (value_by (constant_in constants.now)) (variable_form v) id.0 (Some (Op Quotient args.now))) }
+    ensures is { IfOk result (λ form. form ≡ integer_place (bit_of (naming_by names.now) terms.now.nodes)
+        (form_by (constant_in constants.now) (naming_by names.now) terms.now.nodes) (value_by (constant_in constants.now)) (variable_form v) id.0
+        (Some (Op Quotient args.now))) }
     ensures known { OnOk result (AreFound (constant_in constants.now) (naming_by names.now) terms.now.nodes known.new) }
 {
     terms.is_arena();
@@ -228,7 +237,8 @@ fn remainder_of(
     requires room { HasRoom (constant_in constants.now) (naming_by names.now) terms.now.nodes id.0 }
     requires fresh { IsFresh terms.now.nodes (naming_by names.now) v id.0 }
     requires known { AreFound (constant_in constants.now) (naming_by names.now) terms.now.nodes known.old }
-    ensures is { IfOk result (λ form. form ≡ remainder_place (variable_form v) (form_by (constant_in constants.now) (naming_by names.now) terms.now.nodes a.0) (value_by (constant_in constants.now) n.0)) }
+    ensures is { IfOk result (λ form. form ≡ remainder_place (variable_form v) (form_by (constant_in constants.now) (naming_by names.now) terms.now.nodes a.0)
+        (value_by (constant_in constants.now) n.0)) }
     ensures known { OnOk result (AreFound (constant_in constants.now) (naming_by names.now) terms.now.nodes known.new) }
 {
     let lin = part_form(alloc, terms, constants, names, known, v, id, a)?;
@@ -251,7 +261,9 @@ fn of_remainder(
     requires room { HasRoom (constant_in constants.now) (naming_by names.now) terms.now.nodes id.0 }
     requires fresh { IsFresh terms.now.nodes (naming_by names.now) v id.0 }
     requires known { AreFound (constant_in constants.now) (naming_by names.now) terms.now.nodes known.old }
-    ensures is { IfOk result (λ form. form ≡ integer_place (bit_of (naming_by names.now) terms.now.nodes) (form_by (constant_in constants.now) (naming_by names.now) terms.now.nodes) (value_by (constant_in constants.now)) (variable_form v) id.0 (Some (Op Remainder args.now))) }
+    ensures is { IfOk result (λ form. form ≡ integer_place (bit_of (naming_by names.now) terms.now.nodes)
+        (form_by (constant_in constants.now) (naming_by names.now) terms.now.nodes) (value_by (constant_in constants.now)) (variable_form v) id.0
+        (Some (Op Remainder args.now))) }
     ensures known { OnOk result (AreFound (constant_in constants.now) (naming_by names.now) terms.now.nodes known.new) }
 {
     terms.is_arena();
@@ -300,7 +312,9 @@ fn operation_place(
     requires room { HasRoom (constant_in constants.now) (naming_by names.now) terms.now.nodes id.0 }
     requires fresh { IsFresh terms.now.nodes (naming_by names.now) v id.0 }
     requires known { AreFound (constant_in constants.now) (naming_by names.now) terms.now.nodes known.old }
-    ensures is { IfOk result (λ form. form ≡ integer_place (bit_of (naming_by names.now) terms.now.nodes) (form_by (constant_in constants.now) (naming_by names.now) terms.now.nodes) (value_by (constant_in constants.now)) (variable_form v) id.0 (Some (Op op args.now))) }
+    ensures is { IfOk result (λ form. form ≡ integer_place (bit_of (naming_by names.now) terms.now.nodes)
+        (form_by (constant_in constants.now) (naming_by names.now) terms.now.nodes) (value_by (constant_in constants.now)) (variable_form v) id.0
+        (Some (Op op args.now))) }
     ensures known { OnOk result (AreFound (constant_in constants.now) (naming_by names.now) terms.now.nodes known.new) }
 {
     match op {
@@ -326,7 +340,9 @@ fn integer_place(
     requires fresh { IsFresh terms.now.nodes (naming_by names.now) v id.0 }
     requires shaped { IsTrue (is_shaped (slice_get terms.now.nodes id.0)) }
     requires known { AreFound (constant_in constants.now) (naming_by names.now) terms.now.nodes known.old }
-    ensures is { IfOk result (λ form. form ≡ integer_place (bit_of (naming_by names.now) terms.now.nodes) (form_by (constant_in constants.now) (naming_by names.now) terms.now.nodes) (value_by (constant_in constants.now)) (variable_form v) id.0 (slice_get terms.now.nodes id.0)) }
+    ensures is { IfOk result (λ form. form ≡ integer_place (bit_of (naming_by names.now) terms.now.nodes)
+        (form_by (constant_in constants.now) (naming_by names.now) terms.now.nodes) (value_by (constant_in constants.now)) (variable_form v) id.0
+        (slice_get terms.now.nodes id.0)) }
     ensures known { OnOk result (AreFound (constant_in constants.now) (naming_by names.now) terms.now.nodes known.new) }
 {
     match terms.node(id) {

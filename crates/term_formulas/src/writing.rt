@@ -96,7 +96,9 @@ fn of_divisible(
     requires there { arg.0 < length terms.now.nodes }
     requires narrow { IsNarrowTerm (constant_in constants.now) (naming_by names.now) terms.now.nodes arg.0 }
     requires known { AreFound (constant_in constants.now) (naming_by names.now) terms.now.nodes known.old }
-    ensures is { IfOk result (λ form. form ≡ (if sign then Literal (Div (nat_abs by) (form_by (constant_in constants.now) (naming_by names.now) terms.now.nodes arg.0)) else Literal (NDiv (nat_abs by) (form_by (constant_in constants.now) (naming_by names.now) terms.now.nodes arg.0)))) }
+    ensures is { IfOk result (λ form. form ≡ (if sign then Literal (Div (nat_abs by)
+        (form_by (constant_in constants.now) (naming_by names.now) terms.now.nodes arg.0)) else Literal
+        (NDiv (nat_abs by) (form_by (constant_in constants.now) (naming_by names.now) terms.now.nodes arg.0)))) }
     ensures known { OnOk result (AreFound (constant_in constants.now) (naming_by names.now) terms.now.nodes known.new) }
 {
     let lin = narrow_form(alloc, terms, constants, names, known, arg)?;
@@ -142,7 +144,8 @@ fn of_node(
     requires node { slice_get terms.now.nodes id.0 ≡ Some node.now }
     requires room { HasRoom (constant_in constants.now) (naming_by names.now) terms.now.nodes id.0 }
     requires known { AreFound (constant_in constants.now) (naming_by names.now) terms.now.nodes known.old }
-    ensures is { IfOk result (λ form. form ≡ node_formula (reading_by (constant_in constants.now) (sort_in sorts.now) (naming_by names.now) terms.now.nodes) (naming_by names.now) (formula_by (constant_in constants.now) (sort_in sorts.now) (naming_by names.now) terms.now.nodes) node.now sign) }
+    ensures is { IfOk result (λ form. form ≡ node_formula (reading_by (constant_in constants.now) (sort_in sorts.now) (naming_by names.now) terms.now.nodes)
+        (naming_by names.now) (formula_by (constant_in constants.now) (sort_in sorts.now) (naming_by names.now) terms.now.nodes) node.now sign) }
     ensures known { OnOk result (AreFound (constant_in constants.now) (naming_by names.now) terms.now.nodes known.new) }
 {
     terms.is_arena();
@@ -193,7 +196,8 @@ fn operation(
     requires room { HaveRoom (constant_in constants.now) (naming_by names.now) terms.now.nodes id.0 args.now }
     requires sides { ComparesWithRoom (constant_in constants.now) (naming_by names.now) terms.now.nodes op args.now }
     requires known { AreFound (constant_in constants.now) (naming_by names.now) terms.now.nodes known.old }
-    ensures is { IfOk result (λ form. form ≡ operation (reading_by (constant_in constants.now) (sort_in sorts.now) (naming_by names.now) terms.now.nodes) (formula_by (constant_in constants.now) (sort_in sorts.now) (naming_by names.now) terms.now.nodes) op args.now sign) }
+    ensures is { IfOk result (λ form. form ≡ operation (reading_by (constant_in constants.now) (sort_in sorts.now) (naming_by names.now) terms.now.nodes)
+        (formula_by (constant_in constants.now) (sort_in sorts.now) (naming_by names.now) terms.now.nodes) op args.now sign) }
     ensures known { OnOk result (AreFound (constant_in constants.now) (naming_by names.now) terms.now.nodes known.new) }
 {
     match op {
@@ -230,7 +234,9 @@ fn comparison(
 ) -> Result<Form, Memory>
     requires sides { ComparesWithRoom (constant_in constants.now) (naming_by names.now) terms.now.nodes op args.now }
     requires known { AreFound (constant_in constants.now) (naming_by names.now) terms.now.nodes known.old }
-    ensures is { IfOk result (λ form. form ≡ comparison op (are_truths (sort_in sorts.now) args.now) sign (map (λ arg. bit_of (naming_by names.now) terms.now.nodes arg.0) args.now) (map (λ arg. form_by (constant_in constants.now) (naming_by names.now) terms.now.nodes arg.0) args.now)) }
+    ensures is { IfOk result (λ form. form ≡ comparison op (are_truths (sort_in sorts.now) args.now) sign (map
+        (λ arg. bit_of (naming_by names.now) terms.now.nodes arg.0) args.now) (map
+        (λ arg. form_by (constant_in constants.now) (naming_by names.now) terms.now.nodes arg.0) args.now)) }
     ensures known { OnOk result (AreFound (constant_in constants.now) (naming_by names.now) terms.now.nodes known.new) }
 {
     if are_truths(sorts, args) {
@@ -339,7 +345,8 @@ fn choice(
 ) -> Result<Form, Memory>
     requires room { HaveRoom (constant_in constants.now) (naming_by names.now) terms.now.nodes above.0 ids.now }
     requires known { AreFound (constant_in constants.now) (naming_by names.now) terms.now.nodes known.old }
-    ensures is { IfOk result (λ form. form ≡ choice (formula_by (constant_in constants.now) (sort_in sorts.now) (naming_by names.now) terms.now.nodes) (bit_of (naming_by names.now) terms.now.nodes) sign ids.now) }
+    ensures is { IfOk result (λ form. form ≡ choice (formula_by (constant_in constants.now) (sort_in sorts.now) (naming_by names.now) terms.now.nodes)
+        (bit_of (naming_by names.now) terms.now.nodes) sign ids.now) }
     ensures known { OnOk result (AreFound (constant_in constants.now) (naming_by names.now) terms.now.nodes known.new) }
 {
     match ids {
@@ -373,7 +380,8 @@ fn branches(
     requires less { r.0 < above.0 }
     requires other { HasRoom (constant_in constants.now) (naming_by names.now) terms.now.nodes r.0 }
     requires known { AreFound (constant_in constants.now) (naming_by names.now) terms.now.nodes known.old }
-    ensures is { IfOk result (λ form. form ≡ choice (formula_by (constant_in constants.now) (sort_in sorts.now) (naming_by names.now) terms.now.nodes) (bit_of (naming_by names.now) terms.now.nodes) sign (c ∷ s ∷ r ∷ [])) }
+    ensures is { IfOk result (λ form. form ≡ choice (formula_by (constant_in constants.now) (sort_in sorts.now) (naming_by names.now) terms.now.nodes)
+        (bit_of (naming_by names.now) terms.now.nodes) sign (c ∷ s ∷ r ∷ [])) }
     ensures known { OnOk result (AreFound (constant_in constants.now) (naming_by names.now) terms.now.nodes known.new) }
 {
     let bit = bit_of(alloc, terms, names, c)?;

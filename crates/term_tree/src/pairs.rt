@@ -27,7 +27,8 @@ pub(crate) fn put_partners(
     rights: &[TermId],
 ) -> Result<bool, Memory>
     ensures as_many { IfOk result (λ as_many. as_many ≡ (length lefts.now == length rights.now)) }
-    ensures put { IfOk result (λ as_many. as_many ≡ true → (test : ℕ × ℕ → Bool) → list_all test (keys pairs.new) ≡ (list_all test (keys pairs.old) && same_parts (λ i j. test (i, j)) lefts.now rights.now)) }
+    ensures put { IfOk result (λ as_many. as_many ≡ true → (test : ℕ × ℕ → Bool) → list_all test (keys pairs.new)
+        ≡ (list_all test (keys pairs.old) && same_parts (λ i j. test (i, j)) lefts.now rights.now)) }
 {
     if lefts.len() != rights.len() {
         return Ok(false);

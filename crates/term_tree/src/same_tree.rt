@@ -54,7 +54,8 @@ fn put_parts(
     right: &Node,
 ) -> Result<bool, Memory>
     ensures alike { IfOk result (λ alike. alike ≡ (is_alike left.now right.now && (length (parts_of left.now) == length (parts_of right.now)))) }
-    ensures put { IfOk result (λ alike. alike ≡ true → (test : ℕ × ℕ → Bool) → list_all test (keys pairs.new) ≡ (list_all test (keys pairs.old) && same_parts (λ i j. test (i, j)) (parts_of left.now) (parts_of right.now))) }
+    ensures put { IfOk result (λ alike. alike ≡ true → (test : ℕ × ℕ → Bool) → list_all test (keys pairs.new)
+        ≡ (list_all test (keys pairs.old) && same_parts (λ i j. test (i, j)) (parts_of left.now) (parts_of right.now))) }
 {
     if !is_alike(left, right) {
         return Ok(false);

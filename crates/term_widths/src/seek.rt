@@ -55,7 +55,8 @@ fn at_node(
         first_among (first_where (has_wide_sides (constant_in constants.now) (naming_in names.now.own.items names.now.auxiliary) terms.now.nodes) terms.now.nodes) (text_parts node) ≡ None }
     requires known { AreFound (constant_in constants.now) (naming_in names.now.own.items names.now.auxiliary) terms.now.nodes known.old }
     requires seen { AreClear (constant_in constants.now) (naming_in names.now.own.items names.now.auxiliary) terms.now.nodes seen.old }
-    ensures told { IfOk result (λ found. numbered found ≡ first_where (has_wide_sides (constant_in constants.now) (naming_in names.now.own.items names.now.auxiliary) terms.now.nodes) terms.now.nodes id.0) }
+    ensures told { IfOk result (λ found. numbered found ≡ first_where (has_wide_sides (constant_in constants.now)
+        (naming_in names.now.own.items names.now.auxiliary) terms.now.nodes) terms.now.nodes id.0) }
     ensures known { OnOk result (AreFound (constant_in constants.now) (naming_in names.now.own.items names.now.auxiliary) terms.now.nodes known.new) }
     ensures seen { OnOk result (AreClear (constant_in constants.now) (naming_in names.now.own.items names.now.auxiliary) terms.now.nodes seen.new) }
 {
@@ -84,7 +85,8 @@ pub(crate) fn seek(
     requires narrow { IsNarrowTerm (constant_in constants.now) (naming_in names.now.own.items names.now.auxiliary) terms.now.nodes id.0 }
     requires known { AreFound (constant_in constants.now) (naming_in names.now.own.items names.now.auxiliary) terms.now.nodes known.old }
     requires seen { AreClear (constant_in constants.now) (naming_in names.now.own.items names.now.auxiliary) terms.now.nodes seen.old }
-    ensures told { IfOk result (λ found. numbered found ≡ first_where (has_wide_sides (constant_in constants.now) (naming_in names.now.own.items names.now.auxiliary) terms.now.nodes) terms.now.nodes id.0) }
+    ensures told { IfOk result (λ found. numbered found ≡ first_where (has_wide_sides (constant_in constants.now)
+        (naming_in names.now.own.items names.now.auxiliary) terms.now.nodes) terms.now.nodes id.0) }
     ensures known { OnOk result (AreFound (constant_in constants.now) (naming_in names.now.own.items names.now.auxiliary) terms.now.nodes known.new) }
     ensures seen { OnOk result (AreClear (constant_in constants.now) (naming_in names.now.own.items names.now.auxiliary) terms.now.nodes seen.new) }
 {
@@ -123,7 +125,8 @@ fn seek_part(
     requires narrow { IsNarrowTerm (constant_in constants.now) (naming_in names.now.own.items names.now.auxiliary) terms.now.nodes id.0 }
     requires known { AreFound (constant_in constants.now) (naming_in names.now.own.items names.now.auxiliary) terms.now.nodes known.old }
     requires seen { AreClear (constant_in constants.now) (naming_in names.now.own.items names.now.auxiliary) terms.now.nodes seen.old }
-    ensures told { IfOk result (λ found. numbered found ≡ first_where (has_wide_sides (constant_in constants.now) (naming_in names.now.own.items names.now.auxiliary) terms.now.nodes) terms.now.nodes id.0) }
+    ensures told { IfOk result (λ found. numbered found ≡ first_where (has_wide_sides (constant_in constants.now)
+        (naming_in names.now.own.items names.now.auxiliary) terms.now.nodes) terms.now.nodes id.0) }
     ensures known { OnOk result (AreFound (constant_in constants.now) (naming_in names.now.own.items names.now.auxiliary) terms.now.nodes known.new) }
     ensures seen { OnOk result (AreClear (constant_in constants.now) (naming_in names.now.own.items names.now.auxiliary) terms.now.nodes seen.new) }
 {
@@ -151,7 +154,8 @@ fn seek_all(
     requires narrow { AreNarrowTerms (constant_in constants.now) (naming_in names.now.own.items names.now.auxiliary) terms.now.nodes ids.now }
     requires known { AreFound (constant_in constants.now) (naming_in names.now.own.items names.now.auxiliary) terms.now.nodes known.old }
     requires seen { AreClear (constant_in constants.now) (naming_in names.now.own.items names.now.auxiliary) terms.now.nodes seen.old }
-    ensures told { IfOk result (λ found. numbered found ≡ first_among (first_where (has_wide_sides (constant_in constants.now) (naming_in names.now.own.items names.now.auxiliary) terms.now.nodes) terms.now.nodes) ids.now) }
+    ensures told { IfOk result (λ found. numbered found ≡ first_among (first_where
+        (has_wide_sides (constant_in constants.now) (naming_in names.now.own.items names.now.auxiliary) terms.now.nodes) terms.now.nodes) ids.now) }
     ensures known { OnOk result (AreFound (constant_in constants.now) (naming_in names.now.own.items names.now.auxiliary) terms.now.nodes known.new) }
     ensures seen { OnOk result (AreClear (constant_in constants.now) (naming_in names.now.own.items names.now.auxiliary) terms.now.nodes seen.new) }
 {
