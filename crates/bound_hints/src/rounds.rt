@@ -17,7 +17,7 @@ const WORK_OF_A_UNIT: u32 = 16;
 const FIRST_WORK: u32 = 6_000;
 
 /// The least that another may take.
-const LEAST_WORK: u32 = 1_400;
+const LEAST_WORK: u32 = 4_000;
 
 /// The most.
 const MOST_WORK: u32 = 120_000;
@@ -40,6 +40,8 @@ pub struct Bounds {
     round: u32,
     /// How many units have to be spent before it.
     wait: u32,
+    /// How often it was dropped.
+    drops: u32,
 }
 
 /// The level of the book from which on the round comes.
@@ -55,8 +57,8 @@ fn level_of(round: u32) -> u32 {
 fn size_of(round: u32) -> Size {
     let (conditions, bounds) = match round {
         0 => (0, 150),
-        1 => (6, 250),
-        2 => (12, 500),
+        1 => (12, 250),
+        2 => (24, 500),
         _ => (24, 1_000),
     };
     Size {
@@ -103,6 +105,7 @@ impl Bounds {
             found: None,
             round: 0,
             wait: 0,
+            drops: 0,
         }
     }
 
@@ -132,9 +135,13 @@ impl Bounds {
                 self.found = Some(found);
                 self.round = self.round.saturating_add(1);
                 self.wait = units.saturating_mul(2);
+                self.drops = 0;
             }
             None => {
-                self.wait = units.saturating_mul(3).max(1);
+                let more = work_of(self.round, units) / WORK_OF_A_UNIT;
+                let times = self.drops.saturating_add(3);
+                self.wait = units.saturating_mul(times).max(more.saturating_mul(2));
+                self.drops = self.drops.saturating_add(1);
             }
         }
         Ok(())
