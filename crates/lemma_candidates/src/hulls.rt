@@ -11,7 +11,7 @@ use std::alloc::Global;
 const MOST_PLACES: usize = 64;
 
 /// How many for residues.
-const MOST_WITH_RESIDUES: usize = 10;
+pub(crate) const MOST_WITH_RESIDUES: usize = 10;
 
 /// Of how many arguments the residues of pairs are kept.
 const MOST_IN_PAIRS: u32 = 8;
@@ -346,6 +346,11 @@ impl Hull {
     /// Lets all divisibilities go.
     pub(crate) fn drop_divisibilities(&mut self, alloc: Global) {
         self.residues = Vec::new(alloc);
+    }
+
+    /// Has the residues of another one in place of its own.
+    pub(crate) fn take_residues(&mut self, other: Hull) {
+        self.residues = other.residues;
     }
 
     /// The equations.
