@@ -19,7 +19,7 @@ lift_in-requires-clause-work c = subst (λ (b : Standing). IsWorkspaceFor b.syst
 
 pub returns-in-Some-clause-taken : goal.returns-in-Some-clause-taken
 returns-in-Some-clause-taken c =
-    let found = subst (IsLiftFound c.lend-lent.result c.args.nodes c.args.id) c.in-Some.is c.in_ok-part.ensures.found in
+    let found = subst (IsLiftFound c.lend-lent.result c.few-most.result c.args.id) c.in-Some.is c.in_ok-part.ensures.found in
     subst (λ (b : Standing). IsTaken b c.args.nodes (LiftStep c.in-Some.part)) c.lend-lent.ensures.is (taken-lift c.lend-lent.result c.args.id c.args.nodes c.in-Some.part found)
 
 pub returns-in-Some-clause-work : goal.returns-in-Some-clause-work
