@@ -1,5 +1,11 @@
--- A book may go to another thread, part by part: what it shares with its snapshots may be shared between threads.
-use denote.Param.Send.{IsSend, IsSync, sendable}
+-- A book may go to another thread, part by part: what it shares with its snapshots may be shared between threads. So it may be
+-- shared behind its lock.
+use denote.RattleType.{RattleType}
+use denote.Param.Send.{IsSend, IsSync, plain_send, recorded_send, recorded_sync, sendable, struct_send, struct_sync, view_send}
+use denote.Struct.Declared.{shape}
+use denote.Struct.Tuple.{TupleAt, field_at, type_at}
+use mathlib.Core.List.{List, [], ◌∷◌}
+use mir.Syntax.{Sym}
 use Rattle.std.proofs.Crossing
 use Rattle.chc_tokens.proofs.goal.Goal.TheSendSync as goal
 use Rattle.chc_tokens.proofs.seeing.Seen.TheSendSync as seen
@@ -26,6 +32,9 @@ use Rattle.sqlite_items.proofs.items.Items.TheSendSync as items
 use Rattle.std.proofs.alloc.Global.TheSendSync as global
 use Rattle.std.proofs.boxed.Box.TheSendSync as box
 use Rattle.std.proofs.sync.Arc.TheSendSync as arc
+use Rattle.std.proofs.sync.Condvar.TheSendSync as condvar
+use Rattle.std.proofs.sync.Mutex.TheSendSync as mutex
+use Rattle.std.proofs.sync.ledger.Book.TheSendSync as ledger_book
 use Rattle.std.proofs.vec.Vec.TheSendSync as vec
 use Rattle.step_rules.proofs.fact_part.FactPart.TheSendSync as fact_part
 use Rattle.step_rules.proofs.open_part.OpenPart.TheSendSync as open_part
@@ -35,6 +44,11 @@ use Rattle.cube_forms.specs.contracts.table.Table.{the_row as table_row}
 use Rattle.chc_core.specs.contracts.book.Book.{the_row as book_row}
 use Rattle.chc_core.specs.contracts.entry.Entry.{the_row as entry_row}
 use Rattle.chc_core.specs.contracts.parts.Parts.{the_row as parts_row}
+use Rattle.shared_book.specs.contracts.locked.Locked as Locked
+use Rattle.shared_book.specs.contracts.locked.Locked.TheInside as inside
+use Rattle.shared_book.specs.contracts.shared.SharedBook as SharedBook
+use Rattle.shared_book.specs.declared.run.Run as Run
+use Rattle.std.specs.declared.sync.ledger.Ledger as Ledger
 
 entry-send : IsSend entry_row
 entry-send =
@@ -203,3 +217,21 @@ parts-send = search (frames.the_send, facts.the_send, tree.the_send, held-send, 
 
 pub book-send : IsSend book_row
 book-send = search (parts-send, frames.the_send, facts.the_send, tree.the_send, held-send, journal-send, Crossing.crosses, sendable) depth 60 fits 20000
+
+module _ (T : RattleType) (g : Run.Ghosts T.Denot) (g' : Ledger.Ghosts T.Denot) where
+  -- what lies behind the lock may go to another thread
+  locked-send : IsSend (Locked.the_row T g g')
+  locked-send =
+      view_send (inside.the_row T g g') _ _ _ _ (recorded_send (inside.the_field T g g').row _ _ (inside.the_type T g g').to_one
+      (struct_send (shape (inside.the_type T g g')) (book-send, (plain_send _ _ _ _ _, (ledger_book.the_send T g', tt)))))
+
+  pub shared-sync : IsSync (SharedBook.the_row T g g')
+  unfolding locked-send
+  shared-sync =
+      recorded_sync (SharedBook.the_field T g g').row _ _ (SharedBook.the_type T g g').to_one
+      (struct_sync (shape (SharedBook.the_type T g g')) (mutex.the_sync (Locked.the_row T g g') locked-send, (condvar.the_field_sync, tt)))
+
+-- what holds six parts may be shared as they may
+pub held-sync : (ν : Sym) (A B C D E F : RattleType) → IsSync A → IsSync B → IsSync C → IsSync D → IsSync E → IsSync F → IsSync (TupleAt ν (A ∷ B ∷ C ∷ D ∷ E ∷ F ∷ []))
+held-sync ν A B C D E F a b c d e f =
+    let Ts : List RattleType = A ∷ B ∷ C ∷ D ∷ E ∷ F ∷ [] in recorded_sync (field_at ν Ts).row _ _ (type_at ν Ts).to_one (struct_sync (shape (type_at ν Ts)) (a, (b, (c, (d, (e, (f, tt)))))))

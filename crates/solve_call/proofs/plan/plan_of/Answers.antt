@@ -14,7 +14,7 @@ pub returns-in-Ok-Answered-clause-plan : goal.returns-in-Ok-Answered-clause-plan
 returns-in-Ok-Answered-clause-plan g c =
     let arm = c.in-Ok-Answered in
     let both = subst (λ (bytes : List ℕ). IsAnswered c.args.limits bytes arm.book arm.text.items × AreCounts c.args.limits arm.book arm.counts.items) c.as_slice.ensures.value
-        (rw arm.field-0-is at arm.ensures) in
+    (rw arm.field-0-is at arm.ensures) in
     (both.0, refl, both.1)
 
 pub returns-in-Ok-Unfinished-clause-plan : goal.returns-in-Ok-Unfinished-clause-plan
