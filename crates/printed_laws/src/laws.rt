@@ -1,14 +1,23 @@
-//! The law of printed answers, as the contract of a function that does nothing.
+//! The laws of printed answers and of printed verdicts, each as the contract of a function that does nothing.
 
-ghost use Rattle.std.specs.Prelude.{ℕ, List, ◌++◌, Some};
+ghost use Rattle.std.specs.Prelude.{◌≡◌, ℕ, List, ◌++◌, drop, Some};
 ghost use Rattle.std.specs.declared.option.Option.{Option};
 ghost use Rattle.chc_core.specs.Contents.{Contents};
 ghost use Rattle.solve_words.specs.declared.limits.Limits.{Limits};
 ghost use Rattle.solve_call.specs.Headline.{Answers};
 ghost use Rattle.printed_laws.specs.Printed.{IsPrinted};
+ghost use Rattle.answer_text.specs.Read.{Spells};
+ghost use Rattle.answer_text.specs.declared.answer.Line.{Line};
+ghost use Rattle.answer_text.specs.declared.answer.Answer.TheVariants.{Unsat};
+ghost use Rattle.chc_checker.specs.Verdicts.{HaveRoom, IsValid, IsWrong};
+ghost use Rattle.chc_checker.specs.declared.verdict.Place.TheVariants.{Step};
+ghost use Rattle.chc_checker.specs.declared.verdict.Verdict.{Verdict};
+ghost use Rattle.chc_checker.specs.declared.verdict.Verdict.TheVariants.{Valid, Wrong};
+ghost use Rattle.answer_check.specs.Inputs.{JudgesInput};
 
 use answer_laws::{printed_models_are_solutions, unsat_answers_are_read_back};
 use answer_text::no_answer_is_bad;
+use chc_checker::verdicts_on_derivations_are_exact;
 
 /// Where the top call ends a call of `solve` with status 0, and a text stands in the sink behind what it held, that text
 /// is a whole answer to the script which the bytes read spell, and holds: whoever reads it as an answer
@@ -22,4 +31,20 @@ pub fn printed_answers_hold()
     printed_models_are_solutions();
     unsat_answers_are_read_back();
     no_answer_is_bad();
+}
+
+/// Where the top call tells a verdict on the answer of a call of `check`, and that answer spells the
+/// lines of a derivation in which every number has room, the verdict is exact: `valid` where the lines
+/// derive false by the script's assertions, and `wrong` at the one line at which they are wrong. It
+/// runs nothing.
+pub fn derivations_are_judged_exactly()
+    ensures valid { (nodes : ℕ) (input text : List ℕ) (verdict : Verdict) (lines : List Line) → (judged : JudgesInput nodes input verdict text)
+        → Spells judged.checked.script.preds (drop judged.answer input) (Unsat lines) → HaveRoom judged.checked.script lines
+        → IsValid judged.checked.script (Unsat lines) → verdict ≡ Valid }
+    ensures wrong { (nodes number : ℕ) (input text : List ℕ) (verdict : Verdict) (lines : List Line) → (judged : JudgesInput nodes input verdict text)
+        → Spells judged.checked.script.preds (drop judged.answer input) (Unsat lines) → HaveRoom judged.checked.script lines
+        → IsWrong judged.checked.script (Unsat lines) (Step number) → verdict ≡ Wrong (Step number) }
+{
+    no_answer_is_bad();
+    verdicts_on_derivations_are_exact();
 }
