@@ -19,6 +19,6 @@ fn words(rt: &HostRuntime) -> io::Result<Args> {
 fn main(rt: HostRuntime) -> ExitCode {
     let mut source = StdSource::new(rt.stdin());
     let mut sink = StdSink::new(rt.stdout());
-    let report = chc_main(rt.alloc(), words(&rt), &mut source, &mut sink);
+    let report = chc_main(&rt, rt.alloc(), words(&rt), &mut source, &mut sink);
     ExitCode::from(report.status)
 }

@@ -11,7 +11,7 @@ ghost use Rattle.answer_text.specs.Lines.{usage_text, memory_text};
 ghost use Rattle.solve_words.specs.Words.{IsCall, IsCheckCall};
 ghost use Rattle.solve_words.specs.declared.limits.Limits.{Limits};
 ghost use Rattle.solve_call.specs.Clauses.{HasNoSystem, IsUnrefused};
-ghost use Rattle.solve_call.specs.Headline.{Answers, EndsOnce, IsBookFor, ReadsInput, Refuses, WritesPart, wanting_text};
+ghost use Rattle.solve_call.specs.Headline.{Answers, AreCounts, EndsOnce, IsBookFor, ReadsInput, Refuses, WritesPart, wanting_text};
 ghost use Rattle.answer_check.specs.Inputs.{HasNoSystemOfCheck, HasRefusedScript};
 ghost use Rattle.check_call.specs.Calls.{Checks, IsUnrefusedCheck, RefusesCheck, TellsVerdict, WritesPartOfCheck};
 ghost use Rattle.chc_cli.specs.Commands.{ByCommand, HoldsPart, HoldsPartOfUsage, HoldsPartOfWant, IsNoCommand, OfCheck, OfSolve};
@@ -22,11 +22,15 @@ use outside_io::{Sink, Source};
 use std::alloc::Global;
 use std::env::Args;
 use std::io::{self, ErrorKind};
+use std::sync::Wait;
+use std::thread::Threads;
+use worker_pool::FreeGate;
 
-/// What `main` does: it hands all the words after the program's name to `chc_run`, and ends with the
-/// report's status. Words that can't be read as text are no command; where they can't be had for want
+/// What `main` does: it hands all the words after the program's name to `chc_run`, with a gate that
+/// holds no worker, and ends with the report's status. Words that can't be read as text are no command; where they can't be had for want
 /// of memory, that is the answer.
-pub fn chc_main<S: Source, K: Sink>(
+pub fn chc_main<W: Threads + Wait + Sync, S: Source, K: Sink>(
+    rt: &W,
     alloc: Global,
     args: io::Result<Args>,
     source: &mut S,
@@ -57,6 +61,8 @@ pub fn chc_main<S: Source, K: Sink>(
     ensures refuses_all { IfSome result.refusal (ReadsInput (S.left source.old) result.read.items) }
     ensures refusal { IsSome result.refusal ↔ (result.status ≡ 1) }
     ensures book { IfOk args (λ args. IfSome result.book (λ b. OfSolve (map string_bytes (drop 1 (into_iter_items args))) (λ limits. IsBookFor limits result.read.items b))) }
+    ensures counts { IfOk args (λ args. IfSome result.book (λ b. OfSolve (map string_bytes (drop 1 (into_iter_items args))) (λ limits. AreCounts limits b result.counts.items))) }
+    ensures uncounted { result.book ≡ None → result.counts.items ≡ [] }
     ensures check_book { IfOk args (λ args. (nodes : ℕ) → IsCheckCall (map string_bytes (drop 1 (into_iter_items args))) nodes → result.book ≡ None) }
     ensures answers_scripts { IfOk args (λ args. (limits : Limits) → IsCall (map string_bytes (drop 1 (into_iter_items args))) limits
         → IfSome (S.left source.old) (λ bytes. IsUnrefused bytes → result.status ≢ 1)) }
@@ -101,7 +107,7 @@ pub fn chc_main<S: Source, K: Sink>(
 {
     match args {
         Ok(args) => match words_after_name(alloc, args) {
-            Ok(words) => chc_run(alloc, words.as_slice(), source, sink),
+            Ok(words) => chc_run(rt, alloc, words.as_slice(), source, sink, &FreeGate),
             Err(_) => no_memory(alloc, sink),
         },
         Err(error) if error.kind() == ErrorKind::OutOfMemory => no_memory(alloc, sink),

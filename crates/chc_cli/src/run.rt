@@ -9,7 +9,7 @@ ghost use Rattle.answer_text.specs.Lines.{memory_text, usage_text};
 ghost use Rattle.solve_words.specs.Words.{IsCall, IsCheckCall};
 ghost use Rattle.solve_words.specs.declared.limits.Limits.{Limits};
 ghost use Rattle.solve_call.specs.Clauses.{HasNoSystem, IsUnrefused};
-ghost use Rattle.solve_call.specs.Headline.{Answers, EndsOnce, IsBookFor, ReadsInput, Refuses, WritesPart, wanting_text};
+ghost use Rattle.solve_call.specs.Headline.{Answers, AreCounts, EndsOnce, IsBookFor, ReadsInput, Refuses, WritesPart, wanting_text};
 ghost use Rattle.answer_check.specs.Inputs.{HasNoSystemOfCheck, HasRefusedScript};
 ghost use Rattle.check_call.specs.Calls.{Checks, IsUnrefusedCheck, RefusesCheck, TellsVerdict, WritesPartOfCheck};
 ghost use Rattle.chc_cli.specs.Commands.{ByCommand, HoldsPart, HoldsPartOfUsage, HoldsPartOfWant, IsNoCommand, OfCheck, OfSolve};
@@ -22,7 +22,10 @@ use outside_io::{Sink, Source, write_all};
 use solve_call::solve_call;
 use solve_words::calls_exclude_each_other;
 use std::alloc::Global;
+use std::sync::Wait;
+use std::thread::Threads;
 use term_tree::Refusal;
+use worker_pool::Gate;
 
 /// How a call ended.
 ///
@@ -43,21 +46,26 @@ pub struct Report {
     pub read: Vec<u8>,
     /// The refusal, exactly under status 1.
     pub refusal: Option<Refusal>,
-    /// The book of the clauses of a script that is to be solved, wherever one was opened: under status 0
-    /// at its end.
+    /// The book of the clauses of a script that is to be solved, as the workers left it, wherever one was
+    /// opened: under status 0 at its end.
     pub book: Option<Book>,
+    /// How many of the book's entries each worker wrote, in their order. None where there is no book.
+    pub counts: Vec<u64>,
 }
 
 /// The program: it carries out the words after the program's name over what the source gives, and
-/// writes one text into the sink. A call of `solve` solves a script; a call of `check` checks the answer
-/// that stands behind a script.
+/// writes one text into the sink. A call of `solve` solves a script by as many workers as the words say,
+/// of which each passes the gate before each of its turns; a call of `check` checks the answer that
+/// stands behind a script.
 ///
 /// Where a source or sink does not tell its bytes, the clauses on these say nothing.
-pub fn chc_run<S: Source, K: Sink>(
+pub fn chc_run<W: Threads + Wait + Sync, S: Source, K: Sink, G: Gate>(
+    rt: &W,
     alloc: Global,
     words: &[String],
     source: &mut S,
     sink: &mut K,
+    gate: &G,
 ) -> Report
     ensures statuses { result.status ≤ 7 }
 
@@ -101,6 +109,10 @@ pub fn chc_run<S: Source, K: Sink>(
     ensures book { IfSome result.book (λ b. OfSolve (map string_bytes words.now) (λ limits. IsBookFor limits result.read.items b)) }
     ensures unopened { IsSome result.refusal → result.book ≡ None }
 
+    // One count for each worker, and they sum to the length of its journal.
+    ensures counts { IfSome result.book (λ b. OfSolve (map string_bytes words.now) (λ limits. AreCounts limits b result.counts.items)) }
+    ensures uncounted { result.book ≡ None → result.counts.items ≡ [] }
+
     // 2: words that are no command are answered so, unless memory is wanted to read them, and nothing is read for them.
     ensures usage { result.status ≡ 2 → Appends usage_text (K.held sink.old) (K.held sink.new) }
     ensures solves { (limits : Limits) → IsCall (map string_bytes words.now) limits → result.status ≢ 2 }
@@ -141,12 +153,13 @@ pub fn chc_run<S: Source, K: Sink>(
     calls_exclude_each_other();
     match command_of(alloc, words) {
         Command::Solve(limits) => {
-            let solved = solve_call(alloc, limits, source, sink);
+            let solved = solve_call(rt, alloc, limits, source, sink, gate);
             Report {
                 status: solved.status,
                 read: solved.read,
                 refusal: solved.refusal,
                 book: solved.book,
+                counts: solved.counts,
             }
         }
         Command::Check(nodes) => {
@@ -156,6 +169,7 @@ pub fn chc_run<S: Source, K: Sink>(
                 read: checked.read,
                 refusal: checked.refusal,
                 book: None,
+                counts: Vec::new(alloc),
             }
         }
         Command::Usage => no_command(alloc, sink),
@@ -174,6 +188,7 @@ pub(crate) fn no_command<K: Sink>(alloc: Global, sink: &mut K) -> Report
     ensures writes_part { result.status ≡ 4 → HoldsPart usage_text (K.held sink.old) (K.held sink.new) }
     ensures refusal { result.refusal ≡ None }
     ensures book { result.book ≡ None }
+    ensures counts { result.counts.items ≡ [] }
 {
     let status = match write_all(sink, usage_line()) {
         Ok(()) => 2,
@@ -184,6 +199,7 @@ pub(crate) fn no_command<K: Sink>(alloc: Global, sink: &mut K) -> Report
         read: Vec::new(alloc),
         refusal: None,
         book: None,
+        counts: Vec::new(alloc),
     }
 }
 
@@ -198,6 +214,7 @@ pub(crate) fn no_memory<K: Sink>(alloc: Global, sink: &mut K) -> Report
     ensures writes_part { result.status ≡ 4 → HoldsPart memory_text (K.held sink.old) (K.held sink.new) }
     ensures refusal { result.refusal ≡ None }
     ensures book { result.book ≡ None }
+    ensures counts { result.counts.items ≡ [] }
 {
     let status = match write_all(sink, memory_line()) {
         Ok(()) => 5,
@@ -208,5 +225,6 @@ pub(crate) fn no_memory<K: Sink>(alloc: Global, sink: &mut K) -> Report
         read: Vec::new(alloc),
         refusal: None,
         book: None,
+        counts: Vec::new(alloc),
     }
 }

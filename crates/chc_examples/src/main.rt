@@ -6,6 +6,7 @@ use chc_cli::chc_run;
 use outside_io::{StdSink, StdSource};
 use std::alloc::Global;
 use std::{fs, io};
+use worker_pool::FreeGate;
 
 /// Each script with the options that its run is given.
 const SCRIPTS: [(&str, &str); 13] = [
@@ -42,7 +43,14 @@ fn solve(rt: &HostRuntime, script: &str, options: &str) -> io::Result<()> {
     let words = called(rt.alloc(), options)?;
     let mut source = StdSource::new(fs::open(rt, script)?);
     let mut sink = StdSink::new(rt.stdout());
-    let report = chc_run(rt.alloc(), words.as_slice(), &mut source, &mut sink);
+    let report = chc_run(
+        rt,
+        rt.alloc(),
+        words.as_slice(),
+        &mut source,
+        &mut sink,
+        &FreeGate,
+    );
     println!(rt; "status {}", report.status)
 }
 

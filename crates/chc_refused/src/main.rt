@@ -9,6 +9,6 @@ use std::process::ExitCode;
 fn main(rt: HostRuntime) -> ExitCode {
     let mut source = StdSource::new(rt.stdin());
     let mut sink = StdSink::new(rt.stdout());
-    let report = chc_main(rt.alloc(), env::args(&rt), &mut source, &mut sink);
+    let report = chc_main(&rt, rt.alloc(), env::args(&rt), &mut source, &mut sink);
     ExitCode::from(report.status)
 }

@@ -30,3 +30,5 @@ mod searches;
 mod trees;
 #[cfg(test)]
 mod usage;
+#[cfg(test)]
+mod workers;

@@ -6,20 +6,19 @@ use outside_io::{MemSink, MemSource};
 use std::alloc::Global;
 use std::env::Args;
 use std::io::{self, ErrorKind};
-use std::process::Abort;
 
 /// Runs the program over a script without predicates, where the system gives these words.
-fn run_main(rt: &impl Abort, alloc: Global, args: io::Result<Args>) -> Ran {
+fn run_main(rt: &HostRuntime, alloc: Global, args: io::Result<Args>) -> Ran {
     let script = Vec::from_slice(alloc, b"(set-logic HORN)(check-sat)").expect(rt, "memory");
     let mut source = MemSource::new(script, 7, Vec::new(alloc));
     let mut sink = MemSink::new(alloc, 4096, 5, Vec::new(alloc)).expect(rt, "memory");
-    let report = chc_main(alloc, args, &mut source, &mut sink);
+    let report = chc_main(rt, alloc, args, &mut source, &mut sink);
     let held = held_by(rt, alloc, &sink);
     Ran { report, held }
 }
 
 /// Runs the program, and asserts its status and how its output begins.
-fn check_main(rt: &impl Abort, alloc: Global, args: io::Result<Args>, status: u8, start: &str) {
+fn check_main(rt: &HostRuntime, alloc: Global, args: io::Result<Args>, status: u8, start: &str) {
     let run = run_main(rt, alloc, args);
     assert!(rt; run.report.status == status, "status {status}");
     assert!(rt;
@@ -32,7 +31,7 @@ fn check_main(rt: &impl Abort, alloc: Global, args: io::Result<Args>, status: u8
     );
 }
 
-fn check_words(rt: &impl Abort, alloc: Global, words: &[&str], status: u8, start: &str) {
+fn check_words(rt: &HostRuntime, alloc: Global, words: &[&str], status: u8, start: &str) {
     let words = owned(rt, alloc, words);
     check_main(rt, alloc, Ok(words.into_iter()), status, start);
 }

@@ -3,7 +3,6 @@
 use crate::cases::four;
 use crate::runs::{check_ran, run};
 use std::alloc::Global;
-use std::process::Abort;
 
 /// What a case shows, the words behind `solve`, the script, and its output.
 pub const CASES: [&str; 17] = [
@@ -27,7 +26,7 @@ pub const CASES: [&str; 17] = [
 ];
 
 /// The words of a case: `solve`, and those behind it.
-fn words_of<'a>(rt: &impl Abort, alloc: Global, options: &'a str) -> Vec<&'a str> {
+fn words_of<'a>(rt: &HostRuntime, alloc: Global, options: &'a str) -> Vec<&'a str> {
     let mut words = Vec::new(alloc);
     words.push("solve").expect(rt, "memory");
     for word in options.split(' ') {
@@ -38,7 +37,7 @@ fn words_of<'a>(rt: &impl Abort, alloc: Global, options: &'a str) -> Vec<&'a str
     words
 }
 
-fn check_case(rt: &impl Abort, alloc: Global, case: &str) {
+fn check_case(rt: &HostRuntime, alloc: Global, case: &str) {
     if let Some((shows, options, script, output)) = four(case) {
         let words = words_of(rt, alloc, options);
         let ran = run(rt, alloc, words.as_slice(), script.as_bytes());

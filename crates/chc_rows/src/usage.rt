@@ -1,12 +1,11 @@
 use crate::runs::{check_ran, run};
 use std::alloc::Global;
-use std::process::Abort;
 
 const USAGE: &str =
     "usage: chc solve [--workers N] [--units N] [--nodes N] | check [--nodes N] | gen --depth N --seed N\n";
 
 /// Runs the words, and asserts that they are no command.
-fn check_usage(rt: &impl Abort, alloc: Global, shows: &str, words: &[&str]) {
+fn check_usage(rt: &HostRuntime, alloc: Global, shows: &str, words: &[&str]) {
     let run = run(rt, alloc, words, b"(set-logic HORN)(check-sat)");
     check_ran(rt, shows, &run, 2, USAGE.as_bytes());
     assert!(rt;
@@ -22,8 +21,8 @@ fn other_words_are_answered_with_the_usage_line(rt: HostRuntime) {
     check_usage(
         &rt,
         rt.alloc(),
-        "solve --workers 2",
-        &["solve", "--workers", "2"],
+        "solve --workers 65",
+        &["solve", "--workers", "65"],
     );
     check_usage(
         &rt,

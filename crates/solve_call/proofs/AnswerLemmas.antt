@@ -35,8 +35,8 @@ not_stopped checked sys h = by checked.stop (all_clauses checked.script 0 checke
 
 -- so it is a script, and its book is one of that script
 module _ (limits : Limits) (bytes : List ℕ) (checked : Checked) (short : length bytes ≤ 2 ^ 24) (text : IsCheckedText bytes checked) where
-  book_for : (b : Contents) → IsSearchedBook limits checked b → IsBookFor limits bytes b
-  book_for b found =
+  book_for : (b : Contents) (counts : List ℕ) → IsSearchedBook limits checked b counts → IsBookFor limits bytes b
+  book_for b counts found =
       let none = not_stopped checked b.system found.of.system in
       record {
         commands = text.3.commands;
@@ -55,12 +55,12 @@ module _ (limits : Limits) (bytes : List ℕ) (checked : Checked) (short : lengt
           system = sym (ap (λ (o : Option Refusal). system_reading (record { script = checked.script; stop = o })) none) ∙ found.of.system;
         };
         given = found.given;
-        own = found.own;
+        entries = found.entries;
         level = found.level;
       }
 
   pub told : IsArena checked.script.terms.nodes → (answer : Answer) → IsToldOf limits checked answer → IsAnswerTo limits bytes answer
   unfolding book_for
   told arena (Refused refusal line) h = (illegal checked short arena text h.0, h.1)
-  told arena (Answered book printed) h = record { book = book_for book h.0; ended_by = h.1; ended = h.2; answer = h.3 }
-  told arena (Unfinished book) h = book_for book h
+  told arena (Answered book counts printed) h = (record { book = book_for book counts.items h.0; ended_by = h.1; ended = h.2; answer = h.3 }, h.0.counted)
+  told arena (Unfinished book counts) h = (book_for book counts.items h, h.counted)

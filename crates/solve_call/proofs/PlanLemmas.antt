@@ -25,8 +25,8 @@ input_of (Some bytes) read refusal same h = subst (λ (b : List ℕ). IsInputRef
 
 -- the bytes that were read are all that the source had, where it tells them
 pub of_source : (limits : Limits) (left : Option (List ℕ)) (read : List ℕ) (plan : Plan) → IfSome left (λ bytes. read ≡ bytes) → IsPlan limits (Some read) plan → IsPlan limits left plan
-of_source limits None read (Answered bytes book text) same h = (h.0, tt)
-of_source limits None read (Unfinished bytes book) same h = (h.0, tt)
+of_source limits None read (Answered bytes book counts text) same h = (h.0, tt, h.2)
+of_source limits None read (Unfinished bytes book counts) same h = (h.0, tt, h.2)
 of_source limits None read (Refused bytes refusal line) same h = (h.0, tt, h.2)
 of_source limits None read (Overlong refusal line) same h = (h.0, tt, h.2)
 of_source limits None read ReadFault same h = tt

@@ -1,5 +1,5 @@
 -- What a call of `solve` promises.
-use Rattle.std.specs.Prelude.{◌≡◌, ℕ, ◌<◌, List, ◌++◌, length, take, IfSome, codes, ◌≢◌, Some, None}
+use Rattle.std.specs.Prelude.{◌≡◌, ℕ, ◌<◌, List, ◌++◌, length, sum, take, IfSome, codes, ◌≢◌, Some, None}
 use Rattle.std.specs.declared.option.Option.{Option}
 use Rattle.base.specs.Limits.{most_bytes}
 use Rattle.outside_io.specs.Bytes.{Appends}
@@ -16,15 +16,16 @@ use Rattle.book_rules.specs.Legal.{end}
 use Rattle.book_rules.specs.Walks.{AllOf}
 use Rattle.chc_core.specs.Contents.{Contents}
 use Rattle.chc_core.specs.Views.{state_of}
-use Rattle.book_loop.specs.Runs.{IsOwn}
+use Rattle.shared_book.specs.Runs.{IsEntry}
 use Rattle.book_answers.specs.Answers.{HasNoLowFalse, HasText, IsBookOf}
 use Rattle.answer_text.specs.declared.answer.UnknownCause.TheVariants.{NoMemory}
 use Rattle.answer_text.specs.Lines.{error_text, level_text, memory_text}
 use Rattle.solve_words.specs.declared.limits.Limits.{Limits}
 use Rattle.solve_call.specs.Clauses.{IsInputRefused}
 
--- a book over the clauses of the script that the bytes spell, which was given these units, in whose journal evidence that counts
--- inner nodes counts limits.nodes of them, and no derivation of false is as low as its closed level
+-- a book over the clauses of the script that the bytes spell, which was given these units, in whose journal each entry is of one of
+-- the workers and evidence that counts inner nodes counts limits.nodes of them, and no derivation of false is as low as its closed
+-- level
 pub record IsBookFor (limits : Limits) (bytes : List ℕ) (b : Contents) : Type 0 where
   pub commands : List Command
   pub script : Script
@@ -32,8 +33,13 @@ pub record IsBookFor (limits : Limits) (bytes : List ℕ) (b : Contents) : Type 
   pub spelled : IsScriptOf commands script
   pub of : IsBookOf (record { script = script; stop = None }) b
   pub given : b.given ≡ limits.units
-  pub own : AllOf (IsOwn limits.nodes) b.journal
+  pub entries : AllOf (IsEntry limits.workers limits.nodes) b.journal
   pub level : HasNoLowFalse script b.level
+
+-- how many of its entries each worker wrote
+pub record AreCounts (limits : Limits) (b : Contents) (counts : List ℕ) : Type 0 where
+  pub each : length counts ≡ limits.workers
+  pub all : sum counts ≡ length b.journal
 
 -- such a book that has ended, and its answer: a derivation at an unsat end, definitions at a sat end, else the closed level and
 -- the cause

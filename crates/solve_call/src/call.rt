@@ -4,9 +4,9 @@ ghost use Rattle.outside_io.specs.Counts.{counted};
 ghost use Rattle.outside_io.specs.declared.turn.Turn.TheVariants.{Fault};
 ghost use Rattle.term_tree.specs.declared.refusal.Refusal.{Refusal};
 ghost use Rattle.sort_check.specs.Scripts.{IsRefused};
-ghost use Rattle.chc_core.specs.Openings.{most_units};
+ghost use Rattle.solve_words.specs.Properties.{IsInRange};
 ghost use Rattle.solve_call.specs.Clauses.{HasNoSystem, IsUnrefused};
-ghost use Rattle.solve_call.specs.Headline.{Answers, EndsOnce, IsBookFor, ReadsInput, Refuses, WritesPart, wanting_text};
+ghost use Rattle.solve_call.specs.Headline.{Answers, AreCounts, EndsOnce, IsBookFor, ReadsInput, Refuses, WritesPart, wanting_text};
 
 use crate::lines::unfinished_lines;
 use crate::plan::{Plan, plan_for};
@@ -16,7 +16,10 @@ use outside_io::{Sink, Source, write_all};
 use solve_words::Limits;
 use sort_check::no_script_is_refused;
 use std::alloc::Global;
+use std::sync::Wait;
+use std::thread::Threads;
 use term_tree::Refusal;
+use worker_pool::Gate;
 
 /// How a call of `solve` ended.
 ///
@@ -34,21 +37,26 @@ pub struct Solved {
     pub read: Vec<u8>,
     /// The refusal, exactly under status 1.
     pub refusal: Option<Refusal>,
-    /// The book of the script's clauses, wherever one was opened: under status 0 at its end.
+    /// The book of the script's clauses, as the workers left it, wherever one was opened: under status 0
+    /// at its end.
     pub book: Option<Book>,
+    /// How many of the book's entries each worker wrote, in their order. None where there is no book.
+    pub counts: Vec<u64>,
 }
 
-/// Solves the script that the source gives, within the limits, and writes one text into the sink.
+/// Solves the script that the source gives, by as many workers as the limits say and within them, and
+/// writes one text into the sink. Each worker passes the gate before each of its turns.
 ///
 /// Where a source or sink does not tell its bytes, the clauses on these say nothing.
-pub fn solve_call<S: Source, K: Sink>(
+pub fn solve_call<W: Threads + Wait + Sync, S: Source, K: Sink, G: Gate>(
+    rt: &W,
     alloc: Global,
     limits: Limits,
     source: &mut S,
     sink: &mut K,
+    gate: &G,
 ) -> Solved
-    requires units { limits.units ≤ most_units }
-    requires some { 0 < limits.nodes }
+    requires { IsInRange limits }
     ensures statuses { result.status ≤ 5 }
     ensures no_usage { result.status ≢ 2 }
 
@@ -67,9 +75,12 @@ pub fn solve_call<S: Source, K: Sink>(
     ensures refuses_others { IfSome (S.left source.old) (λ bytes. (refusal : Refusal) → IsRefused bytes refusal → result.status ≢ 0) }
     ensures refuses_shapes { IfSome (S.left source.old) (λ bytes. HasNoSystem bytes → result.status ≢ 0) }
 
-    // Whatever the status: the book is one of the script that the bytes read spell, within the limits, and no derivation of false is as low as its closed level.
+    // Whatever the status: the book is one of the script that the bytes read spell, within the limits, and no derivation of false is as low as its closed level. The workers' counts sum to the
+    // length of its journal.
     ensures book { IfSome result.book (λ b. IsBookFor limits result.read.items b) }
+    ensures counts { IfSome result.book (λ b. AreCounts limits b result.counts.items) }
     ensures unopened { IsSome result.refusal → result.book ≡ None }
+    ensures uncounted { result.book ≡ None → result.counts.items ≡ [] }
 
     // 3: exactly where the source has failed, and then nothing is written.
     ensures source_faults { result.status ≢ 3 → S.faults source.new ≡ S.faults source.old }
@@ -95,8 +106,13 @@ pub fn solve_call<S: Source, K: Sink>(
 {
     // A law, which runs nothing: what is answered isn't refused by the rules of commands.
     no_script_is_refused();
-    match plan_for(alloc, source, limits) {
-        Plan::Answered { read, book, text } => {
+    match plan_for(rt, alloc, source, limits, gate) {
+        Plan::Answered {
+            read,
+            book,
+            counts,
+            text,
+        } => {
             let status = match write_all(sink, text.as_slice()) {
                 Ok(()) => 0,
                 Err(_) => 4,
@@ -106,9 +122,10 @@ pub fn solve_call<S: Source, K: Sink>(
                 read,
                 refusal: None,
                 book: Some(book),
+                counts,
             }
         }
-        Plan::Unfinished { read, book } => {
+        Plan::Unfinished { read, book, counts } => {
             let mut front = [0; 72];
             let length = unfinished_lines(book.level(), &mut front);
             let status = match write_all(sink, &front[..length]) {
@@ -120,6 +137,7 @@ pub fn solve_call<S: Source, K: Sink>(
                 read,
                 refusal: None,
                 book: Some(book),
+                counts,
             }
         }
         Plan::Refused {
@@ -132,12 +150,14 @@ pub fn solve_call<S: Source, K: Sink>(
                 read,
                 refusal: Some(refusal),
                 book: None,
+                counts: Vec::new(alloc),
             },
             Err(_) => Solved {
                 status: 4,
                 read,
                 refusal: None,
                 book: None,
+                counts: Vec::new(alloc),
             },
         },
         Plan::Overlong { refusal, line } => {
@@ -148,12 +168,14 @@ pub fn solve_call<S: Source, K: Sink>(
                     read,
                     refusal: Some(refusal),
                     book: None,
+                    counts: Vec::new(alloc),
                 },
                 Err(_) => Solved {
                     status: 4,
                     read,
                     refusal: None,
                     book: None,
+                    counts: Vec::new(alloc),
                 },
             }
         }
@@ -162,6 +184,7 @@ pub fn solve_call<S: Source, K: Sink>(
             read: Vec::new(alloc),
             refusal: None,
             book: None,
+            counts: Vec::new(alloc),
         },
         Plan::OutOfMemory { read } => {
             let status = match write_all(sink, memory_line()) {
@@ -173,6 +196,7 @@ pub fn solve_call<S: Source, K: Sink>(
                 read,
                 refusal: None,
                 book: None,
+                counts: Vec::new(alloc),
             }
         }
     }

@@ -2,7 +2,7 @@ ghost use Rattle.std.specs.Prelude.{◌≡◌, ◌≢◌, [], ◌≤◌, ◌<◌
 ghost use Rattle.base.specs.Limits.{most_bytes};
 ghost use Rattle.outside_io.specs.Counts.{counted};
 ghost use Rattle.outside_io.specs.declared.turn.Turn.TheVariants.{Fault};
-ghost use Rattle.chc_core.specs.Openings.{most_units};
+ghost use Rattle.solve_words.specs.Properties.{IsInRange};
 ghost use Rattle.solve_words.specs.declared.limits.Limits.{Limits};
 ghost use Rattle.solve_call.specs.Headline.{EndsOnce};
 ghost use Rattle.solve_call.specs.machinery.Plans.{IsPlan, IsEnded, IsUnended, is_fault, read_of};
@@ -14,7 +14,10 @@ use chc_core::Book;
 use outside_io::{ReadStop, Source, read_all};
 use solve_words::Limits;
 use std::alloc::Global;
+use std::sync::Wait;
+use std::thread::Threads;
 use term_tree::{Kind, Refusal};
+use worker_pool::Gate;
 
 /// What a call of `solve` is to write, whole, before anything is written.
 #[derive(Drop)]
@@ -22,11 +25,13 @@ pub(crate) enum Plan {
     Answered {
         read: Vec<u8>,
         book: Book,
+        counts: Vec<u64>,
         text: Vec<u8>,
     },
     Unfinished {
         read: Vec<u8>,
         book: Book,
+        counts: Vec<u64>,
     },
     Refused {
         read: Vec<u8>,
@@ -44,9 +49,14 @@ pub(crate) enum Plan {
 }
 
 /// Reads the source to its end, and finds what is to be written.
-pub(crate) fn plan_for<S: Source>(alloc: Global, source: &mut S, limits: Limits) -> Plan
-    requires units { limits.units ≤ most_units }
-    requires some { 0 < limits.nodes }
+pub(crate) fn plan_for<W: Threads + Wait + Sync, S: Source, G: Gate>(
+    rt: &W,
+    alloc: Global,
+    source: &mut S,
+    limits: Limits,
+    gate: &G,
+) -> Plan
+    requires { IsInRange limits }
     ensures plan { IsPlan limits (S.left source.old) result }
     ensures faults { S.faults source.new ≡ (if is_fault result then counted (S.faults source.old) else S.faults source.old) }
     ensures last { is_fault result ≡ true → S.last source.new ≡ Fault }
@@ -59,7 +69,7 @@ pub(crate) fn plan_for<S: Source>(alloc: Global, source: &mut S, limits: Limits)
     ensures unended { S.ends source.new ≢ counted (S.ends source.old) → IsUnended result }
 {
     match read_all(alloc, source, MOST_BYTES) {
-        Ok(read) => plan_of(alloc, read, limits),
+        Ok(read) => plan_of(rt, alloc, read, limits, gate),
         Err(ReadStop::TooLong) => plan_of_too_long(alloc),
         Err(ReadStop::ReadFault) => Plan::ReadFault,
         Err(ReadStop::Memory) => Plan::OutOfMemory {
@@ -69,23 +79,33 @@ pub(crate) fn plan_for<S: Source>(alloc: Global, source: &mut S, limits: Limits)
 }
 
 /// What is to be written for the bytes of an input that isn't too long.
-fn plan_of(alloc: Global, read: Vec<u8>, limits: Limits) -> Plan
+fn plan_of<W: Threads + Wait + Sync, G: Gate>(
+    rt: &W,
+    alloc: Global,
+    read: Vec<u8>,
+    limits: Limits,
+    gate: &G,
+) -> Plan
     requires short { vec_len read ≤ most_bytes }
-    requires units { limits.units ≤ most_units }
-    requires some { 0 < limits.nodes }
+    requires range { IsInRange limits }
     ensures plan { IsPlan limits (Some read.items) result }
     ensures fault { is_fault result ≡ false }
     ensures read { read_of result ≡ read.items }
     ensures ended { IsEnded result }
 {
-    match answer_to(alloc, read.as_slice(), limits) {
+    match answer_to(rt, alloc, read.as_slice(), limits, gate) {
         Ok(Answer::Refused { refusal, line }) => Plan::Refused {
             read,
             refusal,
             line,
         },
-        Ok(Answer::Answered { book, text }) => Plan::Answered { read, book, text },
-        Ok(Answer::Unfinished { book }) => Plan::Unfinished { read, book },
+        Ok(Answer::Answered { book, counts, text }) => Plan::Answered {
+            read,
+            book,
+            counts,
+            text,
+        },
+        Ok(Answer::Unfinished { book, counts }) => Plan::Unfinished { read, book, counts },
         Err(_) => Plan::OutOfMemory { read },
     }
 }

@@ -6,11 +6,11 @@ use Rattle.clap.specs.Walk.{Row, first_of}
 use Rattle.solve_words.specs.Parsed.{Names}
 use Rattle.solve_words.specs.declared.limits.Limits.{Limits}
 
--- what a call may give; how many units a book may be given is said apart, by chc_core, for who reads of books alone
+-- what a call may give; how many units a book may be given, and how many workers may hold claims on it, is said apart, by chc_core
+-- and obligation_tree, for who reads of books alone
 
--- one worker searches
 abbrev pub most_call_workers : ℕ
-most_call_workers = 1
+most_call_workers = 64
 
 abbrev pub most_call_units : ℕ
 most_call_units = 1000000

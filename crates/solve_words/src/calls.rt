@@ -14,8 +14,8 @@ use base::Memory;
 use clap::ArgMatches;
 use std::alloc::Global;
 
-/// How many workers there may be: one searches.
-const MOST_WORKERS: u32 = 1;
+/// How many workers there may be.
+const MOST_WORKERS: u32 = 64;
 
 /// And how many there are where no number is given.
 const DEFAULT_WORKERS: u32 = 1;

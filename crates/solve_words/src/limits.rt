@@ -3,7 +3,7 @@
 /// What a call of `solve` may spend.
 #[derive(Clone, Copy, Debug, PartialEq, Eq)]
 pub struct Limits {
-    /// Workers: one searches.
+    /// Workers, 1 to 64, who share one book.
     pub workers: u32,
     /// Units, at most 1,000,000: each entry of a book's journal is one, but where an obligation is
     /// stalled.

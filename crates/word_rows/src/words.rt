@@ -36,6 +36,7 @@ fn options_stand_in_any_order_and_in_both_spellings(rt: HostRuntime) -> Result<(
     assert!(rt; said(alloc, "solve --nodes=7 --units 5")? == solve(1, 5, 7));
     assert!(rt; said(alloc, "solve --units=5 --workers 1 --nodes 10000")? == solve(1, 5, 10_000));
     assert!(rt; said(alloc, "solve --workers=1 --units=0")? == solve(1, 0, 2_000));
+    assert!(rt; said(alloc, "solve --workers 64")? == solve(64, 50_000, 2_000));
     assert!(rt; said(alloc, "solve --units 1000000 --")? == solve(1, 1_000_000, 2_000));
     assert!(rt; said(alloc, "check")? == check(2_000));
     assert!(rt; said(alloc, "check --nodes=1")? == check(1));
@@ -51,7 +52,7 @@ fn other_words_are_no_call(rt: HostRuntime) -> Result<(), Fail> {
         "solve --units 5 --units 5|solve --units 007|solve --help|solve -h|help|--help|--version\
         |check --nodes 0|gen --depth 13 --seed 1|gen --depth 1|gen --seed 1|gen|Solve|solv|solve more\
         |solve --units|solve --units=|solve --unit 5|solve --units -5|solve --units +5|solve --units 1000001\
-        |solve --workers 0|solve --workers 2|solve --nodes 10001|solve --nodes=5 --nodes 5|solve -- 5\
+        |solve --workers 0|solve --workers 65|solve --nodes 10001|solve --nodes=5 --nodes 5|solve -- 5\
         |solve --units -- 5|solve --units=5=5|check --units 5|gen --depth 1 --seed 2147483648|-- solve|--units 5 solve\
         |solve solve|solve --depth 1|solve --units 5x|solve --=5|solve -|gen --depth=1 --seed= ";
     for text in texts.split('|') {

@@ -5,14 +5,14 @@ use Rattle.base.specs.Limits.{most_bytes}
 use Rattle.solve_call.specs.Clauses.{IsInputRefused}
 use Rattle.solve_call.specs.declared.plan.Plan.{Plan}
 use Rattle.solve_call.specs.declared.plan.Plan.TheVariants.{Answered, Unfinished, Refused, Overlong, ReadFault, OutOfMemory}
-use Rattle.solve_call.specs.Headline.{IsAnswered, IsBookFor}
+use Rattle.solve_call.specs.Headline.{AreCounts, IsAnswered, IsBookFor}
 use Rattle.term_tree.specs.declared.refusal.Kind.TheVariants.{TooLong}
 use Rattle.answer_text.specs.Lines.{error_text}
 use Rattle.solve_words.specs.declared.limits.Limits.{Limits}
 
 abbrev pub IsPlan : Limits → Option (List ℕ) → Plan → Type 0
-IsPlan limits left (Answered read book text) = IsAnswered limits read.items book text.items × IfSome left (λ bytes. read.items ≡ bytes)
-IsPlan limits left (Unfinished read book) = IsBookFor limits read.items book × IfSome left (λ bytes. read.items ≡ bytes)
+IsPlan limits left (Answered read book counts text) = IsAnswered limits read.items book text.items × IfSome left (λ bytes. read.items ≡ bytes) × AreCounts limits book counts.items
+IsPlan limits left (Unfinished read book counts) = IsBookFor limits read.items book × IfSome left (λ bytes. read.items ≡ bytes) × AreCounts limits book counts.items
 IsPlan limits left (Refused read refusal line) = IsInputRefused read.items refusal × IfSome left (λ bytes. read.items ≡ bytes) × (line.items ≡ error_text refusal)
 IsPlan limits left (Overlong refusal line) =
     (refusal ≡ record { kind = TooLong; offset = most_bytes; command = 0 }) × IfSome left (λ bytes. IsInputRefused bytes refusal) × (line.items ≡ error_text refusal)
@@ -21,8 +21,8 @@ IsPlan limits left (OutOfMemory read) = Unit {0}
 
 -- the bytes that the report keeps
 abbrev pub read_of : Plan → List ℕ
-read_of (Answered read book text) = read.items
-read_of (Unfinished read book) = read.items
+read_of (Answered read book counts text) = read.items
+read_of (Unfinished read book counts) = read.items
 read_of (Refused read refusal line) = read.items
 read_of (Overlong refusal line) = []
 read_of ReadFault = []

@@ -62,6 +62,9 @@ returns-in-Ok-words_after_name-clause-check_book g c =
 pub returns-in-Ok-words_after_name-clause-book : goal.returns-in-Ok-words_after_name-clause-book
 returns-in-Ok-words_after_name-clause-book g c = rw c.in-Ok.is (rw (sym c.in-Ok-words_after_name.ensures, sym c.as_slice.ensures.value) c.chc_run.ensures.book)
 
+pub returns-in-Ok-words_after_name-clause-counts : goal.returns-in-Ok-words_after_name-clause-counts
+returns-in-Ok-words_after_name-clause-counts g c = rw c.in-Ok.is (rw (sym c.in-Ok-words_after_name.ensures, sym c.as_slice.ensures.value) c.chc_run.ensures.counts)
+
 pub returns-in-Ok-words_after_name-clause-unread : goal.returns-in-Ok-words_after_name-clause-unread
 returns-in-Ok-words_after_name-clause-unread g c =
     rw c.in-Ok.is (λ none. c.chc_run.ensures.unread (rw (c.as_slice.ensures.value, c.in-Ok-words_after_name.ensures) none))

@@ -21,6 +21,9 @@ returns-in-Solve-clause-refused g c =
 pub returns-in-Solve-clause-book : goal.returns-in-Solve-clause-book
 returns-in-Solve-clause-book g c = book_of_solve (map string_bytes c.args.words.now) c.solve_call-solved.result.book _ c.in-Solve.limits c.in-Solve.ensures.0 c.solve_call-solved.ensures.book
 
+pub returns-in-Solve-clause-counts : goal.returns-in-Solve-clause-counts
+returns-in-Solve-clause-counts g c = book_of_solve (map string_bytes c.args.words.now) c.solve_call-solved.result.book _ c.in-Solve.limits c.in-Solve.ensures.0 c.solve_call-solved.ensures.counts
+
 pub returns-in-Solve-clause-usage : goal.returns-in-Solve-clause-usage
 returns-in-Solve-clause-usage g c = λ two. absurd (c.solve_call-solved.ensures.no_usage two)
 
@@ -143,6 +146,9 @@ returns-in-Usage-clause-refuses_all g c = no_refusal c.no_command.result.refusal
 pub returns-in-Usage-clause-book : goal.returns-in-Usage-clause-book
 returns-in-Usage-clause-book g c = no_book c.no_command.result.book _ c.no_command.ensures.book
 
+pub returns-in-Usage-clause-counts : goal.returns-in-Usage-clause-counts
+returns-in-Usage-clause-counts g c = no_book c.no_command.result.book _ c.no_command.ensures.book
+
 pub returns-in-Usage-clause-solves : goal.returns-in-Usage-clause-solves
 returns-in-Usage-clause-solves g c = λ limits call. absurd (c.in-Usage.ensures.solve limits call)
 
@@ -195,6 +201,9 @@ returns-in-Wanting-clause-refuses_all g c = no_refusal c.no_memory.result.refusa
 
 pub returns-in-Wanting-clause-book : goal.returns-in-Wanting-clause-book
 returns-in-Wanting-clause-book g c = no_book c.no_memory.result.book _ c.no_memory.ensures.book
+
+pub returns-in-Wanting-clause-counts : goal.returns-in-Wanting-clause-counts
+returns-in-Wanting-clause-counts g c = no_book c.no_memory.result.book _ c.no_memory.ensures.book
 
 pub returns-in-Wanting-clause-solves : goal.returns-in-Wanting-clause-solves
 returns-in-Wanting-clause-solves g c = λ limits call status. wanting c.no_memory.result.status 2 c.no_memory.ensures.statuses status (λ e. omega (arith, e)) (λ e. omega (arith, e))

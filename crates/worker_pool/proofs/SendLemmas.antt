@@ -1,0 +1,205 @@
+-- A book may go to another thread, part by part: what it shares with its snapshots may be shared between threads.
+use denote.Param.Send.{IsSend, IsSync, sendable}
+use Rattle.std.proofs.Crossing
+use Rattle.chc_tokens.proofs.goal.Goal.TheSendSync as goal
+use Rattle.chc_tokens.proofs.seeing.Seen.TheSendSync as seen
+use Rattle.chc_tokens.proofs.used.Used.TheSendSync as used
+use Rattle.core.proofs.option.Option.TheSendSync as option
+use Rattle.core.proofs.rt.Memory.TheSendSync as memory
+use Rattle.cube_forms.proofs.block.Block.TheSendSync as block
+use Rattle.cube_forms.proofs.cube.Cube.TheSendSync as cube
+use Rattle.cube_forms.proofs.held.Held.TheSendSync as held
+use Rattle.cube_forms.proofs.lemma.Lemma.TheSendSync as lemma
+use Rattle.cube_forms.proofs.table.Table.TheSendSync as table
+use Rattle.derivations.proofs.facts.Facts.TheSendSync as facts
+use Rattle.farkas_proof.proofs.evidence.Evidence.TheSendSync as evidence
+use Rattle.farkas_proof.proofs.tree.Refutation.TheLaws.TheKnot as refutation
+use Rattle.lemma_frames.proofs.frames.Frames.TheSendSync as frames
+use Rattle.lin_atoms.proofs.divisor.Divisor.TheSendSync as divisor
+use Rattle.lin_atoms.proofs.form.Form.TheLaws.TheKnot as form
+use Rattle.lin_atoms.proofs.lin.Lin.TheSendSync as lin
+use Rattle.lin_atoms.proofs.lit.Lit.TheSendSync as lit
+use Rattle.model_project.proofs.projected.Projected.TheSendSync as projected
+use Rattle.obligation_tree.proofs.tree.Tree.TheSendSync as tree
+use Rattle.sqlite_items.proofs.boxed.Boxed.TheSendSync as boxed
+use Rattle.sqlite_items.proofs.items.Items.TheSendSync as items
+use Rattle.std.proofs.alloc.Global.TheSendSync as global
+use Rattle.std.proofs.boxed.Box.TheSendSync as box
+use Rattle.std.proofs.sync.Arc.TheSendSync as arc
+use Rattle.std.proofs.vec.Vec.TheSendSync as vec
+use Rattle.step_rules.proofs.fact_part.FactPart.TheSendSync as fact_part
+use Rattle.step_rules.proofs.open_part.OpenPart.TheSendSync as open_part
+use Rattle.clause_form.specs.contracts.system.System.{the_row as system_row}
+use Rattle.cube_forms.specs.contracts.held.Held.{the_row as held_row}
+use Rattle.cube_forms.specs.contracts.table.Table.{the_row as table_row}
+use Rattle.chc_core.specs.contracts.book.Book.{the_row as book_row}
+use Rattle.chc_core.specs.contracts.entry.Entry.{the_row as entry_row}
+use Rattle.chc_core.specs.contracts.parts.Parts.{the_row as parts_row}
+
+entry-send : IsSend entry_row
+entry-send =
+    search (
+      goal.the_field_send,
+      goal.the_send,
+      goal.the_field_sync,
+      goal.the_sync,
+      seen.the_field_send,
+      seen.the_send,
+      seen.the_field_sync,
+      seen.the_sync,
+      used.the_field_send,
+      used.the_send,
+      used.the_field_sync,
+      used.the_sync,
+      option.the_field_send,
+      option.the_send,
+      option.the_field_sync,
+      option.the_sync,
+      memory.the_field_send,
+      memory.the_send,
+      memory.the_field_sync,
+      memory.the_sync,
+      block.the_send,
+      block.the_sync,
+      cube.the_send,
+      cube.the_sync,
+      held.the_send,
+      held.the_sync,
+      lemma.the_send,
+      lemma.the_sync,
+      table.the_send,
+      table.the_sync,
+      evidence.the_field_send,
+      evidence.the_send,
+      evidence.the_field_sync,
+      evidence.the_sync,
+      divisor.the_send,
+      divisor.the_sync,
+      lin.the_send,
+      lin.the_sync,
+      lit.the_field_send,
+      lit.the_send,
+      lit.the_field_sync,
+      lit.the_sync,
+      projected.the_send,
+      projected.the_sync,
+      boxed.the_send,
+      boxed.the_sync,
+      items.the_send,
+      items.the_sync,
+      arc.the_send,
+      arc.the_sync,
+      box.the_send,
+      box.the_sync,
+      vec.the_send,
+      vec.the_sync,
+      global.the_field_send,
+      global.the_send,
+      global.the_field_sync,
+      global.the_sync,
+      fact_part.the_field_send,
+      fact_part.the_send,
+      fact_part.the_field_sync,
+      fact_part.the_sync,
+      open_part.the_field_send,
+      open_part.the_send,
+      open_part.the_field_sync,
+      open_part.the_sync,
+      refutation.crosses,
+      form.crosses,
+      Crossing.crosses,
+      sendable,
+    ) depth 60 fits 20000
+
+entry-sync : IsSync entry_row
+entry-sync =
+    search (
+      goal.the_field_send,
+      goal.the_send,
+      goal.the_field_sync,
+      goal.the_sync,
+      seen.the_field_send,
+      seen.the_send,
+      seen.the_field_sync,
+      seen.the_sync,
+      used.the_field_send,
+      used.the_send,
+      used.the_field_sync,
+      used.the_sync,
+      option.the_field_send,
+      option.the_send,
+      option.the_field_sync,
+      option.the_sync,
+      memory.the_field_send,
+      memory.the_send,
+      memory.the_field_sync,
+      memory.the_sync,
+      block.the_send,
+      block.the_sync,
+      cube.the_send,
+      cube.the_sync,
+      held.the_send,
+      held.the_sync,
+      lemma.the_send,
+      lemma.the_sync,
+      table.the_send,
+      table.the_sync,
+      evidence.the_field_send,
+      evidence.the_send,
+      evidence.the_field_sync,
+      evidence.the_sync,
+      divisor.the_send,
+      divisor.the_sync,
+      lin.the_send,
+      lin.the_sync,
+      lit.the_field_send,
+      lit.the_send,
+      lit.the_field_sync,
+      lit.the_sync,
+      projected.the_send,
+      projected.the_sync,
+      boxed.the_send,
+      boxed.the_sync,
+      items.the_send,
+      items.the_sync,
+      arc.the_send,
+      arc.the_sync,
+      box.the_send,
+      box.the_sync,
+      vec.the_send,
+      vec.the_sync,
+      global.the_field_send,
+      global.the_send,
+      global.the_field_sync,
+      global.the_sync,
+      fact_part.the_field_send,
+      fact_part.the_send,
+      fact_part.the_field_sync,
+      fact_part.the_sync,
+      open_part.the_field_send,
+      open_part.the_send,
+      open_part.the_field_sync,
+      open_part.the_sync,
+      refutation.crosses,
+      form.crosses,
+      Crossing.crosses,
+      sendable,
+    ) depth 60 fits 20000
+
+journal-send : IsSend (table_row entry_row)
+journal-send = table.the_send entry_row entry-send entry-sync
+
+system-send : IsSend system_row
+system-send = search (Crossing.crosses, form.crosses, sendable) depth 60 fits 20000
+
+system-sync : IsSync system_row
+system-sync = search (Crossing.crosses, form.crosses, sendable) depth 60 fits 20000
+
+held-send : IsSend (held_row system_row)
+held-send = held.the_send system_row system-send system-sync
+
+parts-send : IsSend parts_row
+parts-send = search (frames.the_send, facts.the_send, tree.the_send, held-send, journal-send, Crossing.crosses, sendable) depth 60 fits 20000
+
+pub book-send : IsSend book_row
+book-send = search (parts-send, frames.the_send, facts.the_send, tree.the_send, held-send, journal-send, Crossing.crosses, sendable) depth 60 fits 20000

@@ -1,0 +1,100 @@
+//! The work of one turn on what a snapshot lends.
+
+ghost use Rattle.std.specs.Prelude.{◌<◌, IfOk, OnOk};
+ghost use Rattle.clause_form.specs.System.{Clauses};
+ghost use Rattle.obligation_turn.specs.Turns.{GoesOn, IsOpenLeaf};
+ghost use Rattle.obligation_turn.specs.Workspaces.{IsWorkspaceFor};
+ghost use Rattle.book_loop.specs.machinery.Steps.{IsTaken};
+
+use crate::lifting::{Pass, next_lift, pass_of};
+use base::Memory;
+use book_loop::improved;
+use lemma_candidates::{Hints, hints_of};
+use obligation_turn::{Workspace, turn_in};
+use std::alloc::Global;
+use step_rules::{Lent, Step};
+
+/// What a worker keeps from turn to turn, for itself.
+#[derive(Drop)]
+pub(crate) struct Mind {
+    hints: Option<Hints>,
+    pass: Option<Pass>,
+    work: Workspace,
+    /// How many further body atoms of an instance it asks at the most.
+    pub(crate) siblings: u32,
+}
+
+impl Mind {
+    /// Nothing yet.
+    pub(crate) fn new(alloc: Global, siblings: u32) -> Mind
+        ensures { (sys : Clauses) → IsWorkspaceFor sys result.work }
+    {
+        Mind {
+            hints: None,
+            pass: None,
+            work: Workspace::new(alloc),
+            siblings,
+        }
+    }
+}
+
+/// The hints of earlier turns, as this level and these units renew them. They are first asked for in the
+/// first turn.
+fn hints_now(lent: &Lent, kept: &mut Option<Hints>) -> Result<Hints, Memory> {
+    let mut hints = match kept.take() {
+        Some(hints) => hints,
+        None => hints_of(lent.alloc, lent.system)?,
+    };
+    hints.renew(lent.alloc, lent.system, lent.level, lent.spent)?;
+    Ok(hints)
+}
+
+/// The step that serves the obligation. A lemma is first made more general and raised.
+fn serve(lent: &Lent, job: u32, nodes: u32, mind: &mut Mind) -> Result<Step, Memory>
+    requires goes_on { GoesOn lent.now }
+    requires leaf { IsOpenLeaf lent.now job }
+    requires some { 0 < nodes }
+    requires work { IsWorkspaceFor lent.now.system mind.old.work }
+    ensures taken { IfOk result (IsTaken lent.now nodes) }
+    ensures work { OnOk result (IsWorkspaceFor lent.now.system mind.new.work) }
+{
+    let hints = hints_now(lent, &mut mind.hints)?;
+    let step = turn_in(lent, job, nodes, &mut mind.work)?;
+    let served = improved(lent, step, &hints, nodes)?;
+    mind.hints = Some(hints);
+    Ok(served)
+}
+
+/// The step of the next turn: a Lift, as long as the worker has lemmas to lift, and else one that serves
+/// the obligation.
+pub(crate) fn next_step(lent: &Lent, job: u32, nodes: u32, mind: &mut Mind) -> Result<Step, Memory>
+    requires goes_on { GoesOn lent.now }
+    requires leaf { IsOpenLeaf lent.now job }
+    requires some { 0 < nodes }
+    requires work { IsWorkspaceFor lent.now.system mind.old.work }
+    ensures taken { IfOk result (IsTaken lent.now nodes) }
+    ensures work { OnOk result (IsWorkspaceFor lent.now.system mind.new.work) }
+{
+    match next_lift(lent, &mut mind.pass, nodes, &mut mind.work)? {
+        Some(step) => Ok(step),
+        None => serve(lent, job, nodes, mind),
+    }
+}
+
+/// The lemmas that the worker lifts once the book has taken the step: it goes on with those that it is
+/// at, or begins with those that come after the step.
+pub(crate) fn pass_after(lent: &Lent, step: &Step, mind: &Mind) -> Option<Pass> {
+    match mind.pass {
+        Some(pass) => Some(pass),
+        None => pass_of(lent, step),
+    }
+}
+
+/// The worker lifts these lemmas next, if the book has taken the step.
+pub(crate) fn go_on(mind: &mut Mind, taken: bool, pass: Option<Pass>)
+    ensures { (sys : Clauses) → IsWorkspaceFor sys mind.old.work → IsWorkspaceFor sys mind.new.work }
+{
+    if taken {
+        mind.pass = pass;
+    }
+}
