@@ -42,7 +42,8 @@ pub fn chc_main<W: Threads + Wait + Sync, S: Source, K: Sink>(
     // The words are all of them: no other list of words is taken for theirs.
     ensures solves { IfOk args (λ args. (limits : Limits) → IsCall (map string_bytes (drop 1 (into_iter_items args))) limits → result.status ≢ 2) }
     ensures checks { IfOk args (λ args. (nodes : ℕ) → IsCheckCall (map string_bytes (drop 1 (into_iter_items args))) nodes → result.status ≢ 2) }
-    ensures generates { IfOk args (λ args. (depth seed : ℕ) → IsGenCall (map string_bytes (drop 1 (into_iter_items args))) depth seed → result.status ≢ 4 → result.status ≢ 5 → result.status ≡ 0) }
+    ensures generates { IfOk args (λ args. (depth seed : ℕ) → IsGenCall (map string_bytes (drop 1 (into_iter_items args))) depth seed
+        → result.status ≢ 4 → result.status ≢ 5 → result.status ≡ 0) }
     ensures gen_unread { IfOk args (λ args. (depth seed : ℕ) → IsGenCall (map string_bytes (drop 1 (into_iter_items args))) depth seed → S.turns source.new ≡ S.turns source.old) }
     ensures other_words { IfOk args (λ args. IsNoCommand (map string_bytes (drop 1 (into_iter_items args))) → result.status ≢ 4 → result.status ≢ 5 → result.status ≡ 2) }
     ensures no_text { IfErr args (λ e. error_kind e ≢ ErrorKind.OutOfMemory → result.status ≢ 4 → result.status ≡ 2) }
@@ -58,7 +59,8 @@ pub fn chc_main<W: Threads + Wait + Sync, S: Source, K: Sink>(
         (λ nodes. Checks nodes (S.left source.old) result.read.items 6 (K.held sink.old) (K.held sink.new))) }
     ensures not_shown { IfOk args (λ args. result.status ≡ 7 → OfCheck (map string_bytes (drop 1 (into_iter_items args)))
         (λ nodes. Checks nodes (S.left source.old) result.read.items 7 (K.held sink.old) (K.held sink.new))) }
-    ensures answers_all { IfOk args (λ args. IsNoGenCall (map string_bytes (drop 1 (into_iter_items args))) → result.status ≡ 0 → IfSome (S.left source.old) (λ bytes. result.read.items ≡ bytes)) }
+    ensures answers_all { IfOk args (λ args. IsNoGenCall (map string_bytes (drop 1 (into_iter_items args)))
+        → result.status ≡ 0 → IfSome (S.left source.old) (λ bytes. result.read.items ≡ bytes)) }
     ensures refused { IfOk args (λ args. IfSome result.refusal (λ refusal. ByReader (map string_bytes (drop 1 (into_iter_items args)))
         (λ limits. Refuses (S.left source.old) (S.ends source.old) (S.ends source.new) result.read.items refusal (K.held sink.old) (K.held sink.new))
         (λ nodes. RefusesCheck (S.left source.old) (S.ends source.old) (S.ends source.new) result.read.items refusal (K.held sink.old) (K.held sink.new)))) }
