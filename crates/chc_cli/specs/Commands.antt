@@ -2,7 +2,7 @@
 use Rattle.std.specs.Prelude.{◌≡◌, ◌<◌, ℕ, List, [], take, length, ◌⊎◌}
 use Rattle.std.specs.declared.option.Option.{Option}
 use Rattle.outside_io.specs.Bytes.{Appends}
-use Rattle.solve_words.specs.Words.{IsCall, IsCheckCall, IsNoCall, IsNoCheckCall}
+use Rattle.solve_words.specs.Words.{IsCall, IsCheckCall, IsGenCall, IsNoCall, IsNoCheckCall, IsNoGenCall}
 use Rattle.solve_words.specs.declared.limits.Limits.{Limits}
 use Rattle.answer_text.specs.Lines.{memory_text, usage_text}
 
@@ -10,6 +10,7 @@ use Rattle.answer_text.specs.Lines.{memory_text, usage_text}
 pub record IsNoCommand (words : List (List ℕ)) : Type 0 where
   pub solve : IsNoCall words
   pub check : IsNoCheckCall words
+  pub gen : IsNoGenCall words
 
 -- the words are a call of `solve`, and this holds of its limits
 abbrev pub OfSolve : List (List ℕ) → (Limits → Type 0) → Type 0
@@ -19,9 +20,21 @@ OfSolve words told = (limits : Limits) × IsCall words limits × told limits
 abbrev pub OfCheck : List (List ℕ) → (ℕ → Type 0) → Type 0
 OfCheck words told = (nodes : ℕ) × IsCheckCall words nodes × told nodes
 
--- one of both
-abbrev pub ByCommand : List (List ℕ) → (Limits → Type 0) → (ℕ → Type 0) → Type 0
-ByCommand words solves checks = OfSolve words solves ⊎ OfCheck words checks
+-- the words are a call of `gen`, and this holds of its depth and seed
+abbrev pub OfGen : List (List ℕ) → (ℕ → ℕ → Type 0) → Type 0
+OfGen words told = (depth : ℕ) × (seed : ℕ) × IsGenCall words depth seed × told depth seed
+
+-- one of the two that read a script
+abbrev pub ByReader : List (List ℕ) → (Limits → Type 0) → (ℕ → Type 0) → Type 0
+ByReader words solves checks = OfSolve words solves ⊎ OfCheck words checks
+
+-- one of the two that open a book
+abbrev pub BySearch : List (List ℕ) → (Limits → Type 0) → (ℕ → ℕ → Type 0) → Type 0
+BySearch words solves gens = OfSolve words solves ⊎ OfGen words gens
+
+-- one of all three
+abbrev pub ByCommand : List (List ℕ) → (Limits → Type 0) → (ℕ → Type 0) → (ℕ → ℕ → Type 0) → Type 0
+ByCommand words solves checks gens = OfSolve words solves ⊎ OfCheck words checks ⊎ OfGen words gens
 
 -- a prefix of that text is held, and not all of it
 pub record HoldsPart (text : List ℕ) (old new : Option (List ℕ)) : Type 0 where

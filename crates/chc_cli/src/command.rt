@@ -1,11 +1,11 @@
 //! The command that the words call.
 
-ghost use Rattle.std.specs.Prelude.{map};
+ghost use Rattle.std.specs.Prelude.{Some, map};
 ghost use Rattle.std.specs.String.{string_bytes};
-ghost use Rattle.solve_words.specs.Words.{IsNoCheckCall};
+ghost use Rattle.solve_words.specs.Properties.{AreWordsOf, IsWithin};
 ghost use Rattle.chc_cli.specs.machinery.Reading.{IsCommandOf};
 
-use solve_words::{Limits, check_nodes_of, limits_of};
+use solve_words::{Limits, Words, words_of};
 use std::alloc::Global;
 
 /// What the words call.
@@ -13,6 +13,7 @@ pub enum Command {
     Solve(Limits),
     /// A form is given up at this number of inner nodes.
     Check(u32),
+    Gen { depth: u32, seed: u32 },
     /// They are no command.
     Usage,
     /// Memory was wanted before they were read.
@@ -23,21 +24,23 @@ pub enum Command {
 pub fn command_of(alloc: Global, words: &[String]) -> Command
     ensures { IsCommandOf (map string_bytes words.now) result }
 {
-    match check_nodes_of(alloc, words) {
-        Ok(Some(nodes)) => Command::Check(nodes),
-        Ok(None) => no_check(alloc, words),
+    match words_of(alloc, words) {
+        Ok(Some(said)) => called(words, said),
+        Ok(None) => Command::Usage,
         Err(_) => Command::Wanting,
     }
 }
 
-/// The command of words that are no call of `check`.
-fn no_check(alloc: Global, words: &[String]) -> Command
-    requires { IsNoCheckCall (map string_bytes words.now) }
+/// The command that is said by the words.
+fn called(words: &[String], said: Words) -> Command
+    requires read { AreWordsOf (map string_bytes words.now) (Some said) }
+    requires within { IsWithin said }
     ensures { IsCommandOf (map string_bytes words.now) result }
 {
-    match limits_of(alloc, words) {
-        Ok(Some(limits)) => Command::Solve(limits),
-        Ok(None) => Command::Usage,
-        Err(_) => Command::Wanting,
+    let _words = words;
+    match said {
+        Words::Solve(limits) => Command::Solve(limits),
+        Words::Check { nodes } => Command::Check(nodes),
+        Words::Gen { depth, seed } => Command::Gen { depth, seed },
     }
 }

@@ -1,4 +1,4 @@
-ghost use Rattle.std.specs.Prelude.{◌≡◌, ◌≢◌, ◌≤◌, ◌↔◌, ◌⊎◌, ℕ, [], drop, map, IfOk, IfErr, IfSome, IsSome, None};
+ghost use Rattle.std.specs.Prelude.{◌≡◌, ◌≢◌, ◌≤◌, ◌↔◌, ◌⊎◌, ◌∷◌, ℕ, [], length, drop, map, IfOk, IfErr, IfSome, IsSome, None};
 ghost use Rattle.std.specs.String.{string_bytes};
 ghost use Rattle.std.specs.IoError.{error_kind};
 ghost use Rattle.std.specs.Vec.Iter.{into_iter_items};
@@ -8,13 +8,14 @@ ghost use Rattle.outside_io.specs.declared.turn.Turn.TheVariants.{Fault};
 ghost use Rattle.term_tree.specs.declared.refusal.Refusal.{Refusal};
 ghost use Rattle.sort_check.specs.Scripts.{IsRefused};
 ghost use Rattle.answer_text.specs.Lines.{usage_text, memory_text};
-ghost use Rattle.solve_words.specs.Words.{IsCall, IsCheckCall};
+ghost use Rattle.solve_words.specs.Words.{IsCall, IsCheckCall, IsGenCall, IsNoGenCall};
 ghost use Rattle.solve_words.specs.declared.limits.Limits.{Limits};
 ghost use Rattle.solve_call.specs.Clauses.{HasNoSystem, IsUnrefused};
 ghost use Rattle.solve_call.specs.Headline.{Answers, AreCounts, EndsOnce, IsBookFor, ReadsInput, Refuses, WritesPart, wanting_text};
 ghost use Rattle.answer_check.specs.Inputs.{HasNoSystemOfCheck, HasRefusedScript};
 ghost use Rattle.check_call.specs.Calls.{Checks, IsUnrefusedCheck, RefusesCheck, TellsVerdict, WritesPartOfCheck};
-ghost use Rattle.chc_cli.specs.Commands.{ByCommand, HoldsPart, HoldsPartOfUsage, HoldsPartOfWant, IsNoCommand, OfCheck, OfSolve};
+ghost use Rattle.gen_call.specs.Summaries.{IsGeneratedBook, Summarises, WritesPartOfSummary};
+ghost use Rattle.chc_cli.specs.Commands.{ByCommand, ByReader, BySearch, HoldsPart, HoldsPartOfUsage, HoldsPartOfWant, IsNoCommand, OfCheck};
 
 use crate::run::{Report, chc_run, no_command, no_memory};
 use crate::words::words_after_name;
@@ -27,8 +28,8 @@ use std::thread::Threads;
 use worker_pool::FreeGate;
 
 /// What `main` does: it hands all the words after the program's name to `chc_run`, with a gate that
-/// holds no worker, and ends with the report's status. Words that can't be read as text are no command; where they can't be had for want
-/// of memory, that is the answer.
+/// holds no worker, and ends with the report's status. Words that can't be read as text are no command;
+/// where they can't be had for want of memory, that is the answer.
 pub fn chc_main<W: Threads + Wait + Sync, S: Source, K: Sink>(
     rt: &W,
     alloc: Global,
@@ -41,6 +42,9 @@ pub fn chc_main<W: Threads + Wait + Sync, S: Source, K: Sink>(
     // The words are all of them: no other list of words is taken for theirs.
     ensures solves { IfOk args (λ args. (limits : Limits) → IsCall (map string_bytes (drop 1 (into_iter_items args))) limits → result.status ≢ 2) }
     ensures checks { IfOk args (λ args. (nodes : ℕ) → IsCheckCall (map string_bytes (drop 1 (into_iter_items args))) nodes → result.status ≢ 2) }
+    ensures generates { IfOk args (λ args. (depth seed : ℕ) → IsGenCall (map string_bytes (drop 1 (into_iter_items args))) depth seed
+        → result.status ≢ 4 → result.status ≢ 5 → result.status ≡ 0) }
+    ensures gen_unread { IfOk args (λ args. (depth seed : ℕ) → IsGenCall (map string_bytes (drop 1 (into_iter_items args))) depth seed → S.turns source.new ≡ S.turns source.old) }
     ensures other_words { IfOk args (λ args. IsNoCommand (map string_bytes (drop 1 (into_iter_items args))) → result.status ≢ 4 → result.status ≢ 5 → result.status ≡ 2) }
     ensures no_text { IfErr args (λ e. error_kind e ≢ ErrorKind.OutOfMemory → result.status ≢ 4 → result.status ≡ 2) }
     ensures no_room { IfErr args (λ e. error_kind e ≡ ErrorKind.OutOfMemory → result.status ≢ 4 → result.status ≡ 5) }
@@ -49,19 +53,23 @@ pub fn chc_main<W: Threads + Wait + Sync, S: Source, K: Sink>(
     // What `chc_run` says of each status, and whatever the status.
     ensures answered { IfOk args (λ args. result.status ≡ 0 → ByCommand (map string_bytes (drop 1 (into_iter_items args)))
         (λ limits. Answers limits result.read.items result.book (K.held sink.old) (K.held sink.new))
-        (λ nodes. Checks nodes (S.left source.old) result.read.items 0 (K.held sink.old) (K.held sink.new))) }
+        (λ nodes. Checks nodes (S.left source.old) result.read.items 0 (K.held sink.old) (K.held sink.new))
+        (λ depth seed. Summarises depth seed result.book (K.held sink.old) (K.held sink.new))) }
     ensures wrong { IfOk args (λ args. result.status ≡ 6 → OfCheck (map string_bytes (drop 1 (into_iter_items args)))
         (λ nodes. Checks nodes (S.left source.old) result.read.items 6 (K.held sink.old) (K.held sink.new))) }
     ensures not_shown { IfOk args (λ args. result.status ≡ 7 → OfCheck (map string_bytes (drop 1 (into_iter_items args)))
         (λ nodes. Checks nodes (S.left source.old) result.read.items 7 (K.held sink.old) (K.held sink.new))) }
-    ensures answers_all { result.status ≡ 0 → IfSome (S.left source.old) (λ bytes. result.read.items ≡ bytes) }
-    ensures refused { IfOk args (λ args. IfSome result.refusal (λ refusal. ByCommand (map string_bytes (drop 1 (into_iter_items args)))
+    ensures answers_all { IfOk args (λ args. IsNoGenCall (map string_bytes (drop 1 (into_iter_items args)))
+        → result.status ≡ 0 → IfSome (S.left source.old) (λ bytes. result.read.items ≡ bytes)) }
+    ensures refused { IfOk args (λ args. IfSome result.refusal (λ refusal. ByReader (map string_bytes (drop 1 (into_iter_items args)))
         (λ limits. Refuses (S.left source.old) (S.ends source.old) (S.ends source.new) result.read.items refusal (K.held sink.old) (K.held sink.new))
         (λ nodes. RefusesCheck (S.left source.old) (S.ends source.old) (S.ends source.new) result.read.items refusal (K.held sink.old) (K.held sink.new)))) }
     ensures refuses_all { IfSome result.refusal (ReadsInput (S.left source.old) result.read.items) }
     ensures refusal { IsSome result.refusal ↔ (result.status ≡ 1) }
-    ensures book { IfOk args (λ args. IfSome result.book (λ b. OfSolve (map string_bytes (drop 1 (into_iter_items args))) (λ limits. IsBookFor limits result.read.items b))) }
-    ensures counts { IfOk args (λ args. IfSome result.book (λ b. OfSolve (map string_bytes (drop 1 (into_iter_items args))) (λ limits. AreCounts limits b result.counts.items))) }
+    ensures book { IfOk args (λ args. IfSome result.book (λ b. BySearch (map string_bytes (drop 1 (into_iter_items args)))
+        (λ limits. IsBookFor limits result.read.items b) (λ depth seed. IsGeneratedBook depth seed b))) }
+    ensures counts { IfOk args (λ args. IfSome result.book (λ b. BySearch (map string_bytes (drop 1 (into_iter_items args)))
+        (λ limits. AreCounts limits b result.counts.items) (λ depth seed. result.counts.items ≡ length b.journal ∷ []))) }
     ensures uncounted { result.book ≡ None → result.counts.items ≡ [] }
     ensures check_book { IfOk args (λ args. (nodes : ℕ) → IsCheckCall (map string_bytes (drop 1 (into_iter_items args))) nodes → result.book ≡ None) }
     ensures answers_scripts { IfOk args (λ args. (limits : Limits) → IsCall (map string_bytes (drop 1 (into_iter_items args))) limits
@@ -97,6 +105,7 @@ pub fn chc_main<W: Threads + Wait + Sync, S: Source, K: Sink>(
     ensures writes_part { IfOk args (λ args. result.status ≡ 4 → (ByCommand (map string_bytes (drop 1 (into_iter_items args)))
         (λ limits. WritesPart limits (S.left source.old) (S.ends source.old) (S.ends source.new) result.read.items result.book (K.held sink.old) (K.held sink.new))
         (λ nodes. WritesPartOfCheck nodes (S.left source.old) (S.ends source.old) (S.ends source.new) result.read.items (K.held sink.old) (K.held sink.new))
+        (λ depth seed. WritesPartOfSummary depth seed result.book (K.held sink.old) (K.held sink.new))
         ⊎ HoldsPartOfUsage (map string_bytes (drop 1 (into_iter_items args))) result.read.items (K.held sink.old) (K.held sink.new)
         ⊎ HoldsPartOfWant result.read.items (K.held sink.old) (K.held sink.new))
         ⊎ HoldsPart memory_text (K.held sink.old) (K.held sink.new)) }

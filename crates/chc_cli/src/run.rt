@@ -1,4 +1,4 @@
-ghost use Rattle.std.specs.Prelude.{◌≡◌, ◌≢◌, ◌≤◌, ◌↔◌, ◌⊎◌, [], map, ℕ, None, IfSome, IsSome};
+ghost use Rattle.std.specs.Prelude.{◌≡◌, ◌≢◌, ◌≤◌, ◌↔◌, ◌⊎◌, ◌∷◌, [], length, map, ℕ, None, IfSome, IsSome};
 ghost use Rattle.std.specs.String.{string_bytes};
 ghost use Rattle.outside_io.specs.Bytes.{Appends};
 ghost use Rattle.outside_io.specs.Counts.{counted};
@@ -6,18 +6,20 @@ ghost use Rattle.outside_io.specs.declared.turn.Turn.TheVariants.{Fault};
 ghost use Rattle.term_tree.specs.declared.refusal.Refusal.{Refusal};
 ghost use Rattle.sort_check.specs.Scripts.{IsRefused};
 ghost use Rattle.answer_text.specs.Lines.{memory_text, usage_text};
-ghost use Rattle.solve_words.specs.Words.{IsCall, IsCheckCall};
+ghost use Rattle.solve_words.specs.Words.{IsCall, IsCheckCall, IsGenCall, IsNoGenCall};
 ghost use Rattle.solve_words.specs.declared.limits.Limits.{Limits};
 ghost use Rattle.solve_call.specs.Clauses.{HasNoSystem, IsUnrefused};
 ghost use Rattle.solve_call.specs.Headline.{Answers, AreCounts, EndsOnce, IsBookFor, ReadsInput, Refuses, WritesPart, wanting_text};
 ghost use Rattle.answer_check.specs.Inputs.{HasNoSystemOfCheck, HasRefusedScript};
 ghost use Rattle.check_call.specs.Calls.{Checks, IsUnrefusedCheck, RefusesCheck, TellsVerdict, WritesPartOfCheck};
-ghost use Rattle.chc_cli.specs.Commands.{ByCommand, HoldsPart, HoldsPartOfUsage, HoldsPartOfWant, IsNoCommand, OfCheck, OfSolve};
+ghost use Rattle.gen_call.specs.Summaries.{IsGeneratedBook, Summarises, WritesPartOfSummary};
+ghost use Rattle.chc_cli.specs.Commands.{ByCommand, ByReader, BySearch, HoldsPart, HoldsPartOfUsage, HoldsPartOfWant, IsNoCommand, OfCheck};
 
 use crate::command::{Command, command_of};
 use answer_text::{memory_line, usage_line};
 use chc_core::Book;
 use check_call::check_call;
+use gen_call::gen_call;
 use outside_io::{Sink, Source, write_all};
 use solve_call::solve_call;
 use solve_words::calls_exclude_each_other;
@@ -31,7 +33,7 @@ use worker_pool::Gate;
 ///
 /// | status | name |
 /// |---|---|
-/// | 0 | answered: a script is solved, or an answer is valid |
+/// | 0 | answered: a script is solved, an answer is valid, or a summary is written |
 /// | 1 | script refused |
 /// | 2 | usage: the words are no command |
 /// | 3 | the source has failed |
@@ -42,12 +44,13 @@ use worker_pool::Gate;
 #[derive(Drop)]
 pub struct Report {
     pub status: u8,
-    /// The bytes that were read, all of them. None where the end wasn't met, or the words are no command.
+    /// The bytes that were read, all of them. None where the end wasn't met, or the words are a call of
+    /// `gen` or no command.
     pub read: Vec<u8>,
     /// The refusal, exactly under status 1.
     pub refusal: Option<Refusal>,
     /// The book of the clauses of a script that is to be solved, as the workers left it, wherever one was
-    /// opened: under status 0 at its end.
+    /// opened: under status 0 at its end. `gen` has one worker.
     pub book: Option<Book>,
     /// How many of the book's entries each worker wrote, in their order. None where there is no book.
     pub counts: Vec<u64>,
@@ -56,7 +59,7 @@ pub struct Report {
 /// The program: it carries out the words after the program's name over what the source gives, and
 /// writes one text into the sink. A call of `solve` solves a script by as many workers as the words say,
 /// of which each passes the gate before each of its turns; a call of `check` checks the answer that
-/// stands behind a script.
+/// stands behind a script; and a call of `gen` solves the script that a depth and a seed give.
 ///
 /// Where a source or sink does not tell its bytes, the clauses on these say nothing.
 pub fn chc_run<W: Threads + Wait + Sync, S: Source, K: Sink, G: Gate>(
@@ -71,10 +74,12 @@ pub fn chc_run<W: Threads + Wait + Sync, S: Source, K: Sink, G: Gate>(
 
     // 0, for `solve`: the book over the clauses of the script that the bytes read spell has ended, and the sink holds the answer of its end: a derivation of false by the script's assertions,
     // definitions under which each of them is true, or the closed level and the cause. For `check`: the sink holds the verdict on the bytes read, and it is that the answer is valid.
+    // For `gen`: the book over the clauses of the generated script has ended, and the sink holds its summary.
     ensures answered { result.status ≡ 0 → ByCommand (map string_bytes words.now)
         (λ limits. Answers limits result.read.items result.book (K.held sink.old) (K.held sink.new))
-        (λ nodes. Checks nodes (S.left source.old) result.read.items 0 (K.held sink.old) (K.held sink.new)) }
-    ensures answers_all { result.status ≡ 0 → IfSome (S.left source.old) (λ bytes. result.read.items ≡ bytes) }
+        (λ nodes. Checks nodes (S.left source.old) result.read.items 0 (K.held sink.old) (K.held sink.new))
+        (λ depth seed. Summarises depth seed result.book (K.held sink.old) (K.held sink.new)) }
+    ensures answers_all { IsNoGenCall (map string_bytes words.now) → result.status ≡ 0 → IfSome (S.left source.old) (λ bytes. result.read.items ≡ bytes) }
 
     // 6 and 7, for `check` alone: the sink holds such a verdict, that the answer is wrong, or that it isn't shown.
     ensures wrong { result.status ≡ 6 → OfCheck (map string_bytes words.now)
@@ -83,7 +88,7 @@ pub fn chc_run<W: Threads + Wait + Sync, S: Source, K: Sink, G: Gate>(
         (λ nodes. Checks nodes (S.left source.old) result.read.items 7 (K.held sink.old) (K.held sink.new)) }
 
     // 1: it holds the line of the one refusal of the bytes, for `check` of those that stand before the marker.
-    ensures refused { IfSome result.refusal (λ refusal. ByCommand (map string_bytes words.now)
+    ensures refused { IfSome result.refusal (λ refusal. ByReader (map string_bytes words.now)
         (λ limits. Refuses (S.left source.old) (S.ends source.old) (S.ends source.new) result.read.items refusal (K.held sink.old) (K.held sink.new))
         (λ nodes. RefusesCheck (S.left source.old) (S.ends source.old) (S.ends source.new) result.read.items refusal (K.held sink.old) (K.held sink.new))) }
     ensures refuses_all { IfSome result.refusal (ReadsInput (S.left source.old) result.read.items) }
@@ -105,13 +110,18 @@ pub fn chc_run<W: Threads + Wait + Sync, S: Source, K: Sink, G: Gate>(
     ensures checks_no_shapes { (nodes : ℕ) → IsCheckCall (map string_bytes words.now) nodes
         → IfSome (S.left source.old) (λ bytes. HasNoSystemOfCheck bytes → TellsVerdict result.status → ⊥) }
 
-    // Whatever the status: the book is one of the script that the bytes read spell, within the limits of the words, and no derivation of false is as low as its closed level.
-    ensures book { IfSome result.book (λ b. OfSolve (map string_bytes words.now) (λ limits. IsBookFor limits result.read.items b)) }
+    // Whatever the status: the book is one of the script that the bytes read spell, or for `gen` of the generated one, within the limits, and no derivation of false is as low as its closed level.
+    ensures book { IfSome result.book (λ b. BySearch (map string_bytes words.now) (λ limits. IsBookFor limits result.read.items b) (λ depth seed. IsGeneratedBook depth seed b)) }
     ensures unopened { IsSome result.refusal → result.book ≡ None }
 
     // One count for each worker, and they sum to the length of its journal.
-    ensures counts { IfSome result.book (λ b. OfSolve (map string_bytes words.now) (λ limits. AreCounts limits b result.counts.items)) }
+    ensures counts { IfSome result.book (λ b. BySearch (map string_bytes words.now)
+        (λ limits. AreCounts limits b result.counts.items) (λ depth seed. result.counts.items ≡ length b.journal ∷ [])) }
     ensures uncounted { result.book ≡ None → result.counts.items ≡ [] }
+
+    // `gen` asks nothing of the source, and ends with status 0, 4 or 5.
+    ensures generates { (depth seed : ℕ) → IsGenCall (map string_bytes words.now) depth seed → result.status ≢ 4 → result.status ≢ 5 → result.status ≡ 0 }
+    ensures gen_unread { (depth seed : ℕ) → IsGenCall (map string_bytes words.now) depth seed → S.turns source.new ≡ S.turns source.old }
 
     // 2: words that are no command are answered so, unless memory is wanted to read them, and nothing is read for them.
     ensures usage { result.status ≡ 2 → Appends usage_text (K.held sink.old) (K.held sink.new) }
@@ -138,6 +148,7 @@ pub fn chc_run<W: Threads + Wait + Sync, S: Source, K: Sink, G: Gate>(
     ensures writes_part { result.status ≡ 4 → ByCommand (map string_bytes words.now)
         (λ limits. WritesPart limits (S.left source.old) (S.ends source.old) (S.ends source.new) result.read.items result.book (K.held sink.old) (K.held sink.new))
         (λ nodes. WritesPartOfCheck nodes (S.left source.old) (S.ends source.old) (S.ends source.new) result.read.items (K.held sink.old) (K.held sink.new))
+        (λ depth seed. WritesPartOfSummary depth seed result.book (K.held sink.old) (K.held sink.new))
         ⊎ HoldsPartOfUsage (map string_bytes words.now) result.read.items (K.held sink.old) (K.held sink.new)
         ⊎ HoldsPartOfWant result.read.items (K.held sink.old) (K.held sink.new) }
 
@@ -149,7 +160,7 @@ pub fn chc_run<W: Threads + Wait + Sync, S: Source, K: Sink, G: Gate>(
     ensures reads_all { S.ends source.new ≢ S.ends source.old → IfSome (S.left source.old) (λ bytes. result.read.items ≡ bytes) }
     ensures reads_none { S.ends source.new ≢ counted (S.ends source.old) → result.read.items ≡ [] }
 {
-    // A law, which runs nothing: words never call both commands.
+    // A law, which runs nothing: words never call two commands.
     calls_exclude_each_other();
     match command_of(alloc, words) {
         Command::Solve(limits) => {
@@ -170,6 +181,16 @@ pub fn chc_run<W: Threads + Wait + Sync, S: Source, K: Sink, G: Gate>(
                 refusal: checked.refusal,
                 book: None,
                 counts: Vec::new(alloc),
+            }
+        }
+        Command::Gen { depth, seed } => {
+            let summed = gen_call(alloc, depth, seed, sink);
+            Report {
+                status: summed.status,
+                read: Vec::new(alloc),
+                refusal: None,
+                book: summed.book,
+                counts: summed.counts,
             }
         }
         Command::Usage => no_command(alloc, sink),

@@ -11,6 +11,8 @@ mod clauses;
 #[cfg(test)]
 mod faults;
 #[cfg(test)]
+mod gens;
+#[cfg(test)]
 mod heights;
 #[cfg(test)]
 mod limits;

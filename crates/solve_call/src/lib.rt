@@ -7,3 +7,4 @@ mod lines;
 mod plan;
 
 pub use call::{Solved, solve_call};
+pub use lines::unfinished_lines;

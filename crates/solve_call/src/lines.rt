@@ -21,7 +21,7 @@ pub(crate) fn refusal_line(alloc: Global, refusal: &Refusal) -> Result<Vec<u8>, 
 
 /// Writes `unknown` and the closed level to the front of `into`, where memory is wanted, and answers
 /// their length. It takes no memory.
-pub(crate) fn unfinished_lines(level: u32, into: &mut [u8; 72]) -> usize
+pub fn unfinished_lines(level: u32, into: &mut [u8; 72]) -> usize
     ensures within { result ≤ 72 }
     ensures text { take result into.new ≡ codes "unknown\n" ++ level_text level NoMemory }
 {

@@ -7,6 +7,18 @@ pub returns-in-Ok-words_after_name-clause-solves : goal.returns-in-Ok-words_afte
 returns-in-Ok-words_after_name-clause-solves g c =
     rw c.in-Ok.is (λ limits call. c.chc_run.ensures.solves limits (rw (c.as_slice.ensures.value, c.in-Ok-words_after_name.ensures) call))
 
+pub returns-in-Ok-words_after_name-clause-generates : goal.returns-in-Ok-words_after_name-clause-generates
+returns-in-Ok-words_after_name-clause-generates g c =
+    rw c.in-Ok.is (λ depth seed call. c.chc_run.ensures.generates depth seed (rw (c.as_slice.ensures.value, c.in-Ok-words_after_name.ensures) call))
+
+pub returns-in-Ok-words_after_name-clause-gen_unread : goal.returns-in-Ok-words_after_name-clause-gen_unread
+returns-in-Ok-words_after_name-clause-gen_unread g c =
+    rw c.in-Ok.is (λ depth seed call. c.chc_run.ensures.gen_unread depth seed (rw (c.as_slice.ensures.value, c.in-Ok-words_after_name.ensures) call))
+
+pub returns-in-Ok-words_after_name-clause-answers_all : goal.returns-in-Ok-words_after_name-clause-answers_all
+returns-in-Ok-words_after_name-clause-answers_all g c =
+    rw c.in-Ok.is (λ none. c.chc_run.ensures.answers_all (rw (c.as_slice.ensures.value, c.in-Ok-words_after_name.ensures) none))
+
 pub returns-in-Ok-words_after_name-clause-other_words : goal.returns-in-Ok-words_after_name-clause-other_words
 returns-in-Ok-words_after_name-clause-other_words g c =
     rw c.in-Ok.is (λ none four five. c.chc_run.ensures.other_words (rw (c.as_slice.ensures.value, c.in-Ok-words_after_name.ensures) none) four five)

@@ -1,6 +1,6 @@
-use Rattle.std.proofs.Common.{map, arith, inl, inr}
+use Rattle.std.proofs.Common.{map, arith, inl, inr, refl}
 use Rattle.std.specs.String.{string_bytes}
-use Rattle.chc_cli.proofs.CommandLemmas.{book_of_solve, no_book, no_refusal, only, refused_check, refused_solve, wanting}
+use Rattle.chc_cli.proofs.CommandLemmas.{book_of_gen, book_of_solve, made, no_book, no_refusal, only, refused_check, refused_solve, wanting}
 use Rattle.chc_cli.proofs.run.chc_run.Goals as goal
 
 -- a call of `solve`
@@ -19,10 +19,10 @@ returns-in-Solve-clause-refused g c =
     refused_solve (map string_bytes c.args.words.now) c.solve_call-solved.result.refusal _ _ c.in-Solve.limits c.in-Solve.ensures.0 c.solve_call-solved.ensures.refused
 
 pub returns-in-Solve-clause-book : goal.returns-in-Solve-clause-book
-returns-in-Solve-clause-book g c = book_of_solve (map string_bytes c.args.words.now) c.solve_call-solved.result.book _ c.in-Solve.limits c.in-Solve.ensures.0 c.solve_call-solved.ensures.book
+returns-in-Solve-clause-book g c = book_of_solve (map string_bytes c.args.words.now) c.solve_call-solved.result.book _ _ c.in-Solve.limits c.in-Solve.ensures.0 c.solve_call-solved.ensures.book
 
 pub returns-in-Solve-clause-counts : goal.returns-in-Solve-clause-counts
-returns-in-Solve-clause-counts g c = book_of_solve (map string_bytes c.args.words.now) c.solve_call-solved.result.book _ c.in-Solve.limits c.in-Solve.ensures.0 c.solve_call-solved.ensures.counts
+returns-in-Solve-clause-counts g c = book_of_solve (map string_bytes c.args.words.now) c.solve_call-solved.result.book _ _ c.in-Solve.limits c.in-Solve.ensures.0 c.solve_call-solved.ensures.counts
 
 pub returns-in-Solve-clause-usage : goal.returns-in-Solve-clause-usage
 returns-in-Solve-clause-usage g c = λ two. absurd (c.solve_call-solved.ensures.no_usage two)
@@ -63,13 +63,22 @@ pub returns-in-Solve-clause-checks_no_shapes : goal.returns-in-Solve-clause-chec
 returns-in-Solve-clause-checks_no_shapes g c =
     λ nodes call. absurd (c.calls_exclude_each_other.ensures.apart (map string_bytes c.args.words.now) c.in-Solve.limits nodes c.in-Solve.ensures.0 call)
 
+pub returns-in-Solve-clause-answers_all : goal.returns-in-Solve-clause-answers_all
+returns-in-Solve-clause-answers_all g c = λ none zero. c.solve_call-solved.ensures.answers_all zero
+
+pub returns-in-Solve-clause-generates : goal.returns-in-Solve-clause-generates
+returns-in-Solve-clause-generates g c = λ depth seed call. absurd (c.calls_exclude_each_other.ensures.apart_gen (map string_bytes c.args.words.now) c.in-Solve.limits depth seed c.in-Solve.ensures.0 call)
+
+pub returns-in-Solve-clause-gen_unread : goal.returns-in-Solve-clause-gen_unread
+returns-in-Solve-clause-gen_unread g c = λ depth seed call. absurd (c.calls_exclude_each_other.ensures.apart_gen (map string_bytes c.args.words.now) c.in-Solve.limits depth seed c.in-Solve.ensures.0 call)
+
 -- a call of `check`
 
 pub returns-in-Check-clause-answered : goal.returns-in-Check-clause-answered
-returns-in-Check-clause-answered g c = λ zero. inr (c.in-Check.nodes, c.in-Check.ensures.0, c.check_call-checked.ensures.valid zero)
+returns-in-Check-clause-answered g c = λ zero. inr (inl (c.in-Check.nodes, c.in-Check.ensures.0, c.check_call-checked.ensures.valid zero))
 
 pub returns-in-Check-clause-answers_all : goal.returns-in-Check-clause-answers_all
-returns-in-Check-clause-answers_all g c = λ zero. (c.check_call-checked.ensures.valid zero).whole
+returns-in-Check-clause-answers_all g c = λ none zero. (c.check_call-checked.ensures.valid zero).whole
 
 pub returns-in-Check-clause-wrong : goal.returns-in-Check-clause-wrong
 returns-in-Check-clause-wrong g c = λ six. (c.in-Check.nodes, c.in-Check.ensures.0, c.check_call-checked.ensures.wrong six)
@@ -112,7 +121,7 @@ pub returns-in-Check-clause-other_read : goal.returns-in-Check-clause-other_read
 returns-in-Check-clause-other_read g c = λ two. absurd (c.check_call-checked.ensures.no_usage two)
 
 pub returns-in-Check-clause-writes_part : goal.returns-in-Check-clause-writes_part
-returns-in-Check-clause-writes_part g c = λ four. inl (inr (c.in-Check.nodes, c.in-Check.ensures.0, c.check_call-checked.ensures.writes_part four))
+returns-in-Check-clause-writes_part g c = λ four. inl (inr (inl (c.in-Check.nodes, c.in-Check.ensures.0, c.check_call-checked.ensures.writes_part four)))
 
 pub returns-in-Check-clause-checks_scripts : goal.returns-in-Check-clause-checks_scripts
 returns-in-Check-clause-checks_scripts g c = λ nodes call. c.check_call-checked.ensures.judges_scripts
@@ -123,13 +132,99 @@ returns-in-Check-clause-checks_no_others g c = λ nodes call. c.check_call-check
 pub returns-in-Check-clause-checks_no_shapes : goal.returns-in-Check-clause-checks_no_shapes
 returns-in-Check-clause-checks_no_shapes g c = λ nodes call. c.check_call-checked.ensures.refuses_shapes
 
+pub returns-in-Check-clause-generates : goal.returns-in-Check-clause-generates
+returns-in-Check-clause-generates g c = λ depth seed call. absurd (c.calls_exclude_each_other.ensures.check_apart (map string_bytes c.args.words.now) c.in-Check.nodes depth seed c.in-Check.ensures.0 call)
+
+pub returns-in-Check-clause-gen_unread : goal.returns-in-Check-clause-gen_unread
+returns-in-Check-clause-gen_unread g c = λ depth seed call. absurd (c.calls_exclude_each_other.ensures.check_apart (map string_bytes c.args.words.now) c.in-Check.nodes depth seed c.in-Check.ensures.0 call)
+
+-- a call of `gen`
+
+pub returns-in-Gen-clause-answered : goal.returns-in-Gen-clause-answered
+returns-in-Gen-clause-answered g c = λ zero. inr (inr (c.in-Gen.depth, c.in-Gen.seed, c.in-Gen.ensures.0, c.gen_call-summed.ensures.answered zero))
+
+pub returns-in-Gen-clause-answers_all : goal.returns-in-Gen-clause-answers_all
+returns-in-Gen-clause-answers_all g c = λ none. absurd (none c.in-Gen.depth c.in-Gen.seed c.in-Gen.ensures.0)
+
+pub returns-in-Gen-clause-wrong : goal.returns-in-Gen-clause-wrong
+returns-in-Gen-clause-wrong g c = λ is. absurd (made c.gen_call-summed.result.status 6 c.gen_call-summed.ensures.few is (λ e. omega (arith, e)) (λ e. omega (arith, e)) (λ e. omega (arith, e)))
+
+pub returns-in-Gen-clause-not_shown : goal.returns-in-Gen-clause-not_shown
+returns-in-Gen-clause-not_shown g c = λ is. absurd (made c.gen_call-summed.result.status 7 c.gen_call-summed.ensures.few is (λ e. omega (arith, e)) (λ e. omega (arith, e)) (λ e. omega (arith, e)))
+
+pub returns-in-Gen-clause-refusal : goal.returns-in-Gen-clause-refusal
+returns-in-Gen-clause-refusal g c = (λ some. absurd some, λ is. absurd (made c.gen_call-summed.result.status 1 c.gen_call-summed.ensures.few is (λ e. omega (arith, e)) (λ e. omega (arith, e)) (λ e. omega (arith, e))))
+
+pub returns-in-Gen-clause-answers_scripts : goal.returns-in-Gen-clause-answers_scripts
+returns-in-Gen-clause-answers_scripts g c = λ limits call. absurd (c.calls_exclude_each_other.ensures.apart_gen (map string_bytes c.args.words.now) limits c.in-Gen.depth c.in-Gen.seed call c.in-Gen.ensures.0)
+
+pub returns-in-Gen-clause-refuses_others : goal.returns-in-Gen-clause-refuses_others
+returns-in-Gen-clause-refuses_others g c = λ limits call. absurd (c.calls_exclude_each_other.ensures.apart_gen (map string_bytes c.args.words.now) limits c.in-Gen.depth c.in-Gen.seed call c.in-Gen.ensures.0)
+
+pub returns-in-Gen-clause-refuses_shapes : goal.returns-in-Gen-clause-refuses_shapes
+returns-in-Gen-clause-refuses_shapes g c = λ limits call. absurd (c.calls_exclude_each_other.ensures.apart_gen (map string_bytes c.args.words.now) limits c.in-Gen.depth c.in-Gen.seed call c.in-Gen.ensures.0)
+
+pub returns-in-Gen-clause-solves : goal.returns-in-Gen-clause-solves
+returns-in-Gen-clause-solves g c = λ limits call. absurd (c.calls_exclude_each_other.ensures.apart_gen (map string_bytes c.args.words.now) limits c.in-Gen.depth c.in-Gen.seed call c.in-Gen.ensures.0)
+
+pub returns-in-Gen-clause-checks_scripts : goal.returns-in-Gen-clause-checks_scripts
+returns-in-Gen-clause-checks_scripts g c = λ nodes call. absurd (c.calls_exclude_each_other.ensures.check_apart (map string_bytes c.args.words.now) nodes c.in-Gen.depth c.in-Gen.seed call c.in-Gen.ensures.0)
+
+pub returns-in-Gen-clause-checks_no_others : goal.returns-in-Gen-clause-checks_no_others
+returns-in-Gen-clause-checks_no_others g c = λ nodes call. absurd (c.calls_exclude_each_other.ensures.check_apart (map string_bytes c.args.words.now) nodes c.in-Gen.depth c.in-Gen.seed call c.in-Gen.ensures.0)
+
+pub returns-in-Gen-clause-checks_no_shapes : goal.returns-in-Gen-clause-checks_no_shapes
+returns-in-Gen-clause-checks_no_shapes g c = λ nodes call. absurd (c.calls_exclude_each_other.ensures.check_apart (map string_bytes c.args.words.now) nodes c.in-Gen.depth c.in-Gen.seed call c.in-Gen.ensures.0)
+
+pub returns-in-Gen-clause-checks : goal.returns-in-Gen-clause-checks
+returns-in-Gen-clause-checks g c = λ nodes call. absurd (c.calls_exclude_each_other.ensures.check_apart (map string_bytes c.args.words.now) nodes c.in-Gen.depth c.in-Gen.seed call c.in-Gen.ensures.0)
+
+pub returns-in-Gen-clause-check_book : goal.returns-in-Gen-clause-check_book
+returns-in-Gen-clause-check_book g c = λ nodes call. absurd (c.calls_exclude_each_other.ensures.check_apart (map string_bytes c.args.words.now) nodes c.in-Gen.depth c.in-Gen.seed call c.in-Gen.ensures.0)
+
+pub returns-in-Gen-clause-book : goal.returns-in-Gen-clause-book
+returns-in-Gen-clause-book g c = book_of_gen (map string_bytes c.args.words.now) c.gen_call-summed.result.book _ _ c.in-Gen.depth c.in-Gen.seed c.in-Gen.ensures.0 c.gen_call-summed.ensures.book
+
+pub returns-in-Gen-clause-counts : goal.returns-in-Gen-clause-counts
+returns-in-Gen-clause-counts g c = book_of_gen (map string_bytes c.args.words.now) c.gen_call-summed.result.book _ _ c.in-Gen.depth c.in-Gen.seed c.in-Gen.ensures.0 c.gen_call-summed.ensures.counts
+
+pub returns-in-Gen-clause-usage : goal.returns-in-Gen-clause-usage
+returns-in-Gen-clause-usage g c = λ is. absurd (made c.gen_call-summed.result.status 2 c.gen_call-summed.ensures.few is (λ e. omega (arith, e)) (λ e. omega (arith, e)) (λ e. omega (arith, e)))
+
+pub returns-in-Gen-clause-generates : goal.returns-in-Gen-clause-generates
+returns-in-Gen-clause-generates g c = λ depth seed call. c.gen_call-summed.ensures.few
+
+pub returns-in-Gen-clause-other_words : goal.returns-in-Gen-clause-other_words
+returns-in-Gen-clause-other_words g c = λ none. absurd (none.gen c.in-Gen.depth c.in-Gen.seed c.in-Gen.ensures.0)
+
+pub returns-in-Gen-clause-unread : goal.returns-in-Gen-clause-unread
+returns-in-Gen-clause-unread g c = λ none. absurd (none.gen c.in-Gen.depth c.in-Gen.seed c.in-Gen.ensures.0)
+
+pub returns-in-Gen-clause-other_book : goal.returns-in-Gen-clause-other_book
+returns-in-Gen-clause-other_book g c = λ none. absurd (none.gen c.in-Gen.depth c.in-Gen.seed c.in-Gen.ensures.0)
+
+pub returns-in-Gen-clause-read_fault : goal.returns-in-Gen-clause-read_fault
+returns-in-Gen-clause-read_fault g c = λ is. absurd (made c.gen_call-summed.result.status 3 c.gen_call-summed.ensures.few is (λ e. omega (arith, e)) (λ e. omega (arith, e)) (λ e. omega (arith, e)))
+
+pub returns-in-Gen-clause-stops_reading : goal.returns-in-Gen-clause-stops_reading
+returns-in-Gen-clause-stops_reading g c = λ is. absurd (made c.gen_call-summed.result.status 3 c.gen_call-summed.ensures.few is (λ e. omega (arith, e)) (λ e. omega (arith, e)) (λ e. omega (arith, e)))
+
+pub returns-in-Gen-clause-unwritten : goal.returns-in-Gen-clause-unwritten
+returns-in-Gen-clause-unwritten g c = λ is. absurd (made c.gen_call-summed.result.status 3 c.gen_call-summed.ensures.few is (λ e. omega (arith, e)) (λ e. omega (arith, e)) (λ e. omega (arith, e)))
+
+pub returns-in-Gen-clause-holds_nothing : goal.returns-in-Gen-clause-holds_nothing
+returns-in-Gen-clause-holds_nothing g c = λ is. absurd (made c.gen_call-summed.result.status 3 c.gen_call-summed.ensures.few is (λ e. omega (arith, e)) (λ e. omega (arith, e)) (λ e. omega (arith, e)))
+
+pub returns-in-Gen-clause-writes_part : goal.returns-in-Gen-clause-writes_part
+returns-in-Gen-clause-writes_part g c = λ four. inl (inr (inr (c.in-Gen.depth, c.in-Gen.seed, c.in-Gen.ensures.0, c.gen_call-summed.ensures.writes_part four)))
+
 -- no command
 
 pub returns-in-Usage-clause-answered : goal.returns-in-Usage-clause-answered
 returns-in-Usage-clause-answered g c = λ status. absurd (only c.no_command.result.status 0 c.no_command.ensures.statuses status (λ e. omega (arith, e)) (λ e. omega (arith, e)))
 
 pub returns-in-Usage-clause-answers_all : goal.returns-in-Usage-clause-answers_all
-returns-in-Usage-clause-answers_all g c = λ status. absurd (only c.no_command.result.status 0 c.no_command.ensures.statuses status (λ e. omega (arith, e)) (λ e. omega (arith, e)))
+returns-in-Usage-clause-answers_all g c = λ none status. absurd (only c.no_command.result.status 0 c.no_command.ensures.statuses status (λ e. omega (arith, e)) (λ e. omega (arith, e)))
 
 pub returns-in-Usage-clause-wrong : goal.returns-in-Usage-clause-wrong
 returns-in-Usage-clause-wrong g c = λ status. absurd (only c.no_command.result.status 6 c.no_command.ensures.statuses status (λ e. omega (arith, e)) (λ e. omega (arith, e)))
@@ -179,13 +274,16 @@ returns-in-Usage-clause-checks_no_shapes g c = λ nodes call. absurd (c.in-Usage
 pub returns-in-Usage-clause-writes_part : goal.returns-in-Usage-clause-writes_part
 returns-in-Usage-clause-writes_part g c = λ four. inr (inl (record { none = c.in-Usage.ensures; unread = c.no_command.ensures.read; part = c.no_command.ensures.writes_part four }))
 
+pub returns-in-Usage-clause-generates : goal.returns-in-Usage-clause-generates
+returns-in-Usage-clause-generates g c = λ depth seed call. absurd (c.in-Usage.ensures.gen depth seed call)
+
 -- memory was wanted before the words were read
 
 pub returns-in-Wanting-clause-answered : goal.returns-in-Wanting-clause-answered
 returns-in-Wanting-clause-answered g c = λ status. absurd (wanting c.no_memory.result.status 0 c.no_memory.ensures.statuses status (λ e. omega (arith, e)) (λ e. omega (arith, e)))
 
 pub returns-in-Wanting-clause-answers_all : goal.returns-in-Wanting-clause-answers_all
-returns-in-Wanting-clause-answers_all g c = λ status. absurd (wanting c.no_memory.result.status 0 c.no_memory.ensures.statuses status (λ e. omega (arith, e)) (λ e. omega (arith, e)))
+returns-in-Wanting-clause-answers_all g c = λ none status. absurd (wanting c.no_memory.result.status 0 c.no_memory.ensures.statuses status (λ e. omega (arith, e)) (λ e. omega (arith, e)))
 
 pub returns-in-Wanting-clause-wrong : goal.returns-in-Wanting-clause-wrong
 returns-in-Wanting-clause-wrong g c = λ status. absurd (wanting c.no_memory.result.status 6 c.no_memory.ensures.statuses status (λ e. omega (arith, e)) (λ e. omega (arith, e)))
@@ -216,3 +314,6 @@ returns-in-Wanting-clause-other_words g c = λ none four five. absurd (five (c.n
 
 pub returns-in-Wanting-clause-writes_part : goal.returns-in-Wanting-clause-writes_part
 returns-in-Wanting-clause-writes_part g c = λ four. inr (inr (record { unread = c.no_memory.ensures.read; part = c.no_memory.ensures.writes_part four }))
+
+pub returns-in-Wanting-clause-generates : goal.returns-in-Wanting-clause-generates
+returns-in-Wanting-clause-generates g c = λ depth seed call four five. absurd (five (c.no_memory.ensures.statuses four))

@@ -1,0 +1,19 @@
+-- The text of the script whose one derivation of false is a full binary tree.
+use Rattle.std.specs.Prelude.{ℕ, ◌+◌, ◌*◌, ◌^◌, List, ◌++◌, codes, decimal}
+use Rattle.clause_gen.specs.Generated.{start_of}
+
+abbrev pub leaves_text : ℕ → ℕ → List ℕ
+leaves_text low high =
+    codes "(assert (forall ((d Int) (i Int)) (=> (and (= d 0) (<= " ++ decimal low ++ codes " i) (< i " ++ decimal high ++ codes ")) (node d i))))\n"
+
+abbrev pub parents_text : List ℕ
+parents_text = codes "(assert (forall ((d Int) (i Int)) (=> (and (node d (* 2 i)) (node d (+ (* 2 i) 1))) (node (+ d 1) i))))\n"
+
+abbrev pub root_text : ℕ → ℕ → List ℕ
+root_text depth start = codes "(assert (not (node " ++ decimal depth ++ codes " " ++ decimal start ++ codes ")))\n"
+
+abbrev pub generated_text : ℕ → ℕ → List ℕ
+generated_text depth seed =
+    codes "(set-logic HORN)\n(declare-fun node (Int Int) Bool)\n"
+    ++ leaves_text (start_of seed * 2 ^ depth) ((start_of seed + 1) * 2 ^ depth) ++ parents_text ++ root_text depth (start_of seed)
+    ++ codes "(check-sat)\n"
