@@ -130,8 +130,8 @@ fn learnt(lent: &Lent, part: LemmaPart, hints: &Hints, nodes: u32) -> Result<Lem
     Ok(raised)
 }
 
-/// How many inner nodes a guess is worth.
-pub(crate) fn few(nodes: u32) -> u32
+/// How many inner nodes a guess is worth, or a lift after a step.
+pub fn few(nodes: u32) -> u32
     requires { 0 < nodes }
     ensures { 0 < result }
 {

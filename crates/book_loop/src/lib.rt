@@ -12,5 +12,5 @@ mod running;
 mod taking;
 
 pub use laws::systems_of_scripts_can_be_run;
-pub use learning::improved;
+pub use learning::{few, improved};
 pub use running::{begin, search};

@@ -8,6 +8,7 @@ ghost use Rattle.obligation_turn.specs.Workspaces.{IsWorkspaceFor};
 ghost use Rattle.book_loop.specs.machinery.Steps.{IsTaken};
 
 use base::Memory;
+use book_loop::few;
 use lemma_general::lift_in;
 use obligation_turn::Workspace;
 use step_rules::{Lent, Step};
@@ -63,7 +64,8 @@ fn lift_of(
     if !is_below(lent, id, least) {
         return Ok(None);
     }
-    match lift_in(lent, id, nodes, work)? {
+    let most = few(nodes);
+    match lift_in(lent, id, most, work)? {
         Some(part) => Ok(Some(Step::LiftStep(part))),
         None => Ok(None),
     }
