@@ -129,11 +129,11 @@ assert_is : (P : Term → Type 0) (text : List ℕ) (tree : Tree) → Within (Fi
 assert_is P text tree (items, start, end, at, (word, parts, row, leaf, (term, none, only, r, last))) = (start, r.found.term, r.holds, by)
   where
     by : (before : List Command) → list_any is_check_sat before ≡ false → nat_lt (length (asserted before)) 65536 ≡ true → declared before ≡ generated_preds → command text before tree ≡ Ok (Assert start r.found.term)
-    by before open few preds =
+    by before unasked few preds =
         let one : parts ≡ term ∷ [] = only ∙ ap (λ (l : List Tree). term ∷ l) last in
         command_is (codes "assert") text before tree items start end word parts at row leaf
         ∙ ap (assert_term text before start) one
-        ∙ ap (λ t. unless (or_else (order_fault start (not t)) (count_fault start (nat_lt (length (asserted before)) 65536))) (spelled text (scope_of (declared before) [] true) 0 term >>= assertion start)) open
+        ∙ ap (λ t. unless (or_else (order_fault start (not t)) (count_fault start (nat_lt (length (asserted before)) 65536))) (spelled text (scope_of (declared before) [] true) 0 term >>= assertion start)) unasked
         ∙ ap (λ t. unless (count_fault start t) (spelled text (scope_of (declared before) [] true) 0 term >>= assertion start)) few
         ∙ ap (λ (p : List Pred). spelled text (scope_of p [] true) 0 term >>= assertion start) preds
         ∙ ap (λ (o : Result Spelled Fault). o >>= assertion start) r.is

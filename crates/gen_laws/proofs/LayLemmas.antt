@@ -70,13 +70,21 @@ module _ (low high depth start : ℕ) (text : List ℕ) (w : IsWritten low high 
 
   first : IsTermAt arena [] w.leaves 14
   first =
-      subst (λ (u : Term). IsTermAt arena [] u 14) (sym w.leaves_fit.2) (record { 0 = 13 }, (refl, refl), placed arena (leaves_shape low high) w.leaves_fit.1 w.leaves_fit.3 13
-      (ids (9 ∷ 12 ∷ []), (refl, refl), ((ids (2 ∷ 5 ∷ 8 ∷ []), (refl, refl), ((ids (0 ∷ 1 ∷ []), (refl, refl), ((refl, refl), ((refl, refl), tt))), ((ids (3 ∷ 4 ∷ []), (refl, refl), ((refl, refl), ((refl, refl), tt))), ((ids (6 ∷ 7 ∷ []), (refl, refl), ((refl, refl), ((refl, refl), tt))), tt)))), ((ids (10 ∷ 11 ∷ []), (refl, refl), ((refl, refl), ((refl, refl), tt))), tt))))
+      subst (λ (u : Term). IsTermAt arena [] u 14) (sym w.leaves_fit.2) (
+        record { 0 = 13 },
+        (refl, refl),
+        placed arena (leaves_shape low high) w.leaves_fit.1 w.leaves_fit.3 13
+            (ids (9 ∷ 12 ∷ []), (refl, refl), ((ids (2 ∷ 5 ∷ 8 ∷ []), (refl, refl), ((ids (0 ∷ 1 ∷ []), (refl, refl), ((refl, refl), ((refl, refl), tt))), ((ids (3 ∷ 4 ∷ []), (refl, refl), ((refl, refl), ((refl, refl), tt))), ((ids (6 ∷ 7 ∷ []), (refl, refl), ((refl, refl), ((refl, refl), tt))), tt)))), ((ids (10 ∷ 11 ∷ []), (refl, refl), ((refl, refl), ((refl, refl), tt))), tt))),
+      )
 
   second : IsTermAt arena [] w.parents 34
   second =
-      subst (λ (u : Term). IsTermAt arena [] u 34) (sym w.parents_fit.2) (record { 0 = 33 }, (refl, refl), placed arena parents_shape w.parents_fit.1 w.parents_fit.3 33
-      (ids (27 ∷ 32 ∷ []), (refl, refl), ((ids (19 ∷ 26 ∷ []), (refl, refl), ((ids (15 ∷ 18 ∷ []), (refl, refl), ((refl, refl), ((ids (16 ∷ 17 ∷ []), (refl, refl), ((refl, refl), ((refl, refl), tt))), tt))), ((ids (20 ∷ 25 ∷ []), (refl, refl), ((refl, refl), ((ids (23 ∷ 24 ∷ []), (refl, refl), ((ids (21 ∷ 22 ∷ []), (refl, refl), ((refl, refl), ((refl, refl), tt))), ((refl, refl), tt))), tt))), tt))), ((ids (30 ∷ 31 ∷ []), (refl, refl), ((ids (28 ∷ 29 ∷ []), (refl, refl), ((refl, refl), ((refl, refl), tt))), ((refl, refl), tt))), tt))))
+      subst (λ (u : Term). IsTermAt arena [] u 34) (sym w.parents_fit.2) (
+        record { 0 = 33 },
+        (refl, refl),
+        placed arena parents_shape w.parents_fit.1 w.parents_fit.3 33
+            (ids (27 ∷ 32 ∷ []), (refl, refl), ((ids (19 ∷ 26 ∷ []), (refl, refl), ((ids (15 ∷ 18 ∷ []), (refl, refl), ((refl, refl), ((ids (16 ∷ 17 ∷ []), (refl, refl), ((refl, refl), ((refl, refl), tt))), tt))), ((ids (20 ∷ 25 ∷ []), (refl, refl), ((refl, refl), ((ids (23 ∷ 24 ∷ []), (refl, refl), ((ids (21 ∷ 22 ∷ []), (refl, refl), ((refl, refl), ((refl, refl), tt))), ((refl, refl), tt))), tt))), tt))), ((ids (30 ∷ 31 ∷ []), (refl, refl), ((ids (28 ∷ 29 ∷ []), (refl, refl), ((refl, refl), ((refl, refl), tt))), ((refl, refl), tt))), tt))),
+      )
 
   third : IsTermAt arena [] w.root 38
   third = placed arena (root_shape depth start) w.root w.root_fits 38 (ids (37 ∷ []), (refl, refl), ((ids (35 ∷ 36 ∷ []), (refl, refl), ((refl, refl), ((refl, refl), tt))), tt))
@@ -101,9 +109,21 @@ spells depth seed most =
       spelled = record {
         preds = refl;
         asserts = (
-          _, _, refl, refl, refl, first (low_of depth seed) (high_of depth seed) depth (start_of seed) (generated_text depth seed) w,
-          (_, _, refl, refl, refl, second (low_of depth seed) (high_of depth seed) depth (start_of seed) (generated_text depth seed) w,
-          (_, _, refl, refl, refl, third (low_of depth seed) (high_of depth seed) depth (start_of seed) (generated_text depth seed) w, refl)),
+          _,
+          _,
+          refl,
+          refl,
+          refl,
+          first (low_of depth seed) (high_of depth seed) depth (start_of seed) (generated_text depth seed) w,
+          (
+            _,
+            _,
+            refl,
+            refl,
+            refl,
+            second (low_of depth seed) (high_of depth seed) depth (start_of seed) (generated_text depth seed) w,
+            (_, _, refl, refl, refl, third (low_of depth seed) (high_of depth seed) depth (start_of seed) (generated_text depth seed) w, refl),
+          ),
         );
       };
       same = record { preds = refl; nodes = refl; asserts = refl; commands = refl };
