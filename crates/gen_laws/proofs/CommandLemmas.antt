@@ -159,11 +159,11 @@ abbrev pub Checks : List ℕ → Tree → Type 0
 Checks text tree = (before : List Command) → list_any Rattle.sort_check.specs.Commands.is_set_logic before ≡ true → list_any is_check_sat before ≡ false → command text before tree ≡ Ok CheckSat
 
 check_is : (text : List ℕ) (tree : Tree) → Within (Only (IsLeaf Symbol (codes "check-sat"))) text tree → Checks text tree
-check_is text tree (items, start, end, at, (word, parts, row, leaf, none)) = λ before logic open.
+check_is text tree (items, start, end, at, (word, parts, row, leaf, none)) = λ before logic unasked.
     command_is (codes "check-sat") text before tree items start end word parts at row leaf
     ∙ ap (check_sat before start) none
     ∙ ap (λ t. unless (order_fault start (t && not (list_any is_check_sat before))) (Ok CheckSat)) logic
-    ∙ ap (λ t. unless (order_fault start (not t)) (Ok CheckSat)) open
+    ∙ ap (λ t. unless (order_fault start (not t)) (Ok CheckSat)) unasked
 
 pub shows_check : Shows Checks 0 check_text
 shows_check =
