@@ -165,8 +165,11 @@ closed_onto s rest = ap (λ (l : List ℕ). codes "(assert " ++ l) (append_assoc
 
 -- The text that is generated.
 
-flat : (a b c e rest : List ℕ) → (a ++ (b ++ (c ++ e))) ++ rest ≡ a ++ (b ++ (c ++ (e ++ rest)))
-flat a b c e rest = append_assoc a (b ++ (c ++ e)) rest ∙ ap (λ (l : List ℕ). a ++ l) (append_assoc b (c ++ e) rest ∙ ap (λ (l : List ℕ). b ++ l) (append_assoc c e rest))
+flat : (a b c e rest : List ℕ) → (((a ++ b) ++ c) ++ e) ++ rest ≡ a ++ (b ++ (c ++ (e ++ rest)))
+flat a b c e rest = append_assoc ((a ++ b) ++ c) e rest ∙ append_assoc (a ++ b) c (e ++ rest) ∙ append_assoc a b (c ++ (e ++ rest))
+
+three : (a b c e : List ℕ) → ((a ++ b) ++ c) ++ e ≡ a ++ (b ++ (c ++ e))
+three a b c e = append_assoc (a ++ b) c e ∙ append_assoc a b (c ++ e)
 
 leaves_line : (low high : ℕ) (rest : List ℕ) → assert_text (universal_text (leaves_shape low high)) ++ (codes "\n" ++ rest) ≡ leaves_text low high ++ rest
 leaves_line low high rest =
@@ -198,7 +201,8 @@ text_is depth seed =
     let end : List ℕ = codes "(check-sat)\n" in
     let root : List ℕ = assert_text (text_of (root_shape depth (start_of seed))) ++ (codes "\n" ++ end) in
     ap front (leaves_line (low_of depth seed) (high_of depth seed) (assert_text (universal_text parents_shape) ++ (codes "\n" ++ root))
-    ∙ ap (λ (l : List ℕ). leaves_text (low_of depth seed) (high_of depth seed) ++ l) (parents_line root ∙ ap (λ (l : List ℕ). parents_text ++ l) (root_line depth (start_of seed) end)))
+    ∙ ap (λ (l : List ℕ). leaves_text (low_of depth seed) (high_of depth seed) ++ l) (parents_line root ∙ ap (λ (l : List ℕ). parents_text ++ l) (root_line depth (start_of seed) end))
+    ∙ sym (three (leaves_text (low_of depth seed) (high_of depth seed)) parents_text (root_text depth (start_of seed)) end))
 
 -- Its length.
 
@@ -211,8 +215,8 @@ product_small depth n most h =
     let m : n * 2 ^ depth ≤ 1000 * 2 ^ 12 = mul-le-mul h width in
     omega (arith, m)
 
-five : (a b c e f : List ℕ) → length (a ++ (b ++ (c ++ (e ++ f)))) ≡ length a + (length b + (length c + (length e + length f)))
-five a b c e f = omega (arith, length-append a (b ++ (c ++ (e ++ f))), length-append b (c ++ (e ++ f)), length-append c (e ++ f), length-append e f)
+five : (a b c e f : List ℕ) → length ((((a ++ b) ++ c) ++ e) ++ f) ≡ length a + (length b + (length c + (length e + length f)))
+five a b c e f = omega (arith, length-append (((a ++ b) ++ c) ++ e) f, length-append ((a ++ b) ++ c) e, length-append (a ++ b) c, length-append a b)
 
 pub text_short : (depth seed : ℕ) → depth ≤ 12 → length (generated_text depth seed) ≤ 2 ^ 24
 text_short depth seed most =
@@ -222,23 +226,17 @@ text_short depth seed most =
     let high = high_of depth seed in
     let low_small : low ≤ 4096000 = product_small depth root most (omega (arith, small)) in
     let high_small : high ≤ 4096000 = product_small depth (root + 1) most (omega (arith, small)) in
-    let whole = five (codes "(set-logic HORN)\n(declare-fun node (Int Int) Bool)\n") (leaves_text low high) parents_text (root_text depth root) (codes "(check-sat)\n") in
-    let leaves = five (codes "(assert (forall ((d Int) (i Int)) (=> (and (= d 0) (<= ") (decimal low) (codes " i) (< i ") (decimal high) (codes ")) (node d i))))\n") in
-    let query = five (codes "(assert (not (node ") (decimal depth) (codes " ") (decimal root) (codes ")))\n") in
-    let a : length (codes "(set-logic HORN)\n(declare-fun node (Int Int) Bool)\n") ≡ 51 = refl in
-    let p : length parents_text ≡ 104 = refl in
-    let z : length (codes "(check-sat)\n") ≡ 12 = refl in
-    let b1 : length (codes "(assert (forall ((d Int) (i Int)) (=> (and (= d 0) (<= ") ≡ 55 = refl in
-    let b2 : length (codes " i) (< i ") ≡ 9 = refl in
-    let b3 : length (codes ")) (node d i))))\n") ≡ 17 = refl in
-    let e1 : length (codes "(assert (not (node ") ≡ 19 = refl in
-    let e2 : length (codes " ") ≡ 1 = refl in
-    let e3 : length (codes ")))\n") ≡ 4 = refl in
+    let whole : length (generated_text depth seed) ≡ 51 + (length (leaves_text low high) + (104 + (length (root_text depth root) + 12))) =
+    five (codes "(set-logic HORN)\n(declare-fun node (Int Int) Bool)\n") (leaves_text low high) parents_text (root_text depth root) (codes "(check-sat)\n") in
+    let leaves : length (leaves_text low high) ≡ 55 + (length (decimal low) + (9 + (length (decimal high) + 17))) =
+    five (codes "(assert (forall ((d Int) (i Int)) (=> (and (= d 0) (<= ") (decimal low) (codes " i) (< i ") (decimal high) (codes ")) (node d i))))\n") in
+    let query : length (root_text depth root) ≡ 19 + (length (decimal depth) + (1 + (length (decimal root) + 4))) =
+    five (codes "(assert (not (node ") (decimal depth) (codes " ") (decimal root) (codes ")))\n") in
     let dl : length (decimal low) ≤ low + 1 = length-decimal-le_succ low (omega (arith, low_small)) in
     let dh : length (decimal high) ≤ high + 1 = length-decimal-le_succ high (omega (arith, high_small)) in
     let dd : length (decimal depth) ≤ depth + 1 = length-decimal-le_succ depth (omega (arith, most)) in
     let ds : length (decimal root) ≤ root + 1 = length-decimal-le_succ root (omega (arith, small)) in
-    omega (arith, whole, leaves, query, a, p, z, b1, b2, b3, e1, e2, e3, dl, dh, dd, ds, low_small, high_small, most, small)
+    omega (arith, whole, leaves, query, dl, dh, dd, ds, low_small, high_small, most, small)
 
 -- The commands.
 

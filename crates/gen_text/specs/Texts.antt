@@ -12,8 +12,9 @@ parents_text = codes "(assert (forall ((d Int) (i Int)) (=> (and (node d (* 2 i)
 abbrev pub root_text : ℕ → ℕ → List ℕ
 root_text depth start = codes "(assert (not (node " ++ decimal depth ++ codes " " ++ decimal start ++ codes ")))\n"
 
+abbrev pub script_text : ℕ → ℕ → ℕ → ℕ → List ℕ
+script_text low high depth start =
+    codes "(set-logic HORN)\n(declare-fun node (Int Int) Bool)\n" ++ leaves_text low high ++ parents_text ++ root_text depth start ++ codes "(check-sat)\n"
+
 abbrev pub generated_text : ℕ → ℕ → List ℕ
-generated_text depth seed =
-    codes "(set-logic HORN)\n(declare-fun node (Int Int) Bool)\n"
-    ++ leaves_text (start_of seed * 2 ^ depth) ((start_of seed + 1) * 2 ^ depth) ++ parents_text ++ root_text depth (start_of seed)
-    ++ codes "(check-sat)\n"
+generated_text depth seed = script_text (start_of seed * 2 ^ depth) ((start_of seed + 1) * 2 ^ depth) depth (start_of seed)

@@ -1,6 +1,6 @@
 ghost use Rattle.std.specs.Prelude.{◌≡◌, ◌<◌, ◌≤◌, ◌^◌, ◌*◌, ◌+◌, ◌++◌, IfOk, OnOk, codes, decimal};
 ghost use Rattle.clause_gen.specs.Generated.{start_of};
-ghost use Rattle.gen_text.specs.Texts.{generated_text, leaves_text, parents_text, root_text};
+ghost use Rattle.gen_text.specs.Texts.{generated_text, leaves_text, parents_text, root_text, script_text};
 
 use base::Memory;
 use itoa::Buffer;
@@ -66,6 +66,19 @@ fn push_root(out: &mut Vec<u8>, depth: u64, start: u64) -> Result<(), Memory>
     Ok(())
 }
 
+/// All commands, where the leaves are the numbers from `low` to `high`, and the root has that depth and
+/// number.
+fn push_script(out: &mut Vec<u8>, low: u64, high: u64, depth: u64, start: u64) -> Result<(), Memory>
+    ensures { OnOk result (out.new.items ≡ out.old.items ++ script_text low high depth start) }
+{
+    out.extend_from_slice(b"(set-logic HORN)\n(declare-fun node (Int Int) Bool)\n")?;
+    push_leaves(out, low, high)?;
+    push_parents(out)?;
+    push_root(out, depth, start)?;
+    out.extend_from_slice(b"(check-sat)\n")?;
+    Ok(())
+}
+
 /// The text of the generated script of that depth and seed.
 pub fn text_of(alloc: Global, depth: u32, seed: u32) -> Result<Vec<u8>, Memory>
     requires depth { depth ≤ 12 }
@@ -74,11 +87,9 @@ pub fn text_of(alloc: Global, depth: u32, seed: u32) -> Result<Vec<u8>, Memory>
 {
     let start = start_of(seed);
     let width = power_of_two(depth);
+    let low = start * width;
+    let high = (start + 1) * width;
     let mut text = Vec::new(alloc);
-    text.extend_from_slice(b"(set-logic HORN)\n(declare-fun node (Int Int) Bool)\n")?;
-    push_leaves(&mut text, start * width, (start + 1) * width)?;
-    push_parents(&mut text)?;
-    push_root(&mut text, u64::from(depth), start)?;
-    text.extend_from_slice(b"(check-sat)\n")?;
+    push_script(&mut text, low, high, u64::from(depth), start)?;
     Ok(text)
 }
