@@ -10,8 +10,8 @@ use Rattle.std.proofs.Crossing
 use Rattle.chc_tokens.proofs.goal.Goal.TheSendSync as goal
 use Rattle.chc_tokens.proofs.seeing.Seen.TheSendSync as seen
 use Rattle.chc_tokens.proofs.used.Used.TheSendSync as used
-use Rattle.core.proofs.option.Option.TheSendSync as option
-use Rattle.core.proofs.rt.Memory.TheSendSync as memory
+use Rattle.std.proofs.option.Option.TheSendSync as option
+use Rattle.std.proofs.rt.Memory.TheSendSync as memory
 use Rattle.cube_forms.proofs.block.Block.TheSendSync as block
 use Rattle.cube_forms.proofs.cube.Cube.TheSendSync as cube
 use Rattle.cube_forms.proofs.held.Held.TheSendSync as held
