@@ -153,7 +153,7 @@ pub returns-in-Gen-clause-not_shown : goal.returns-in-Gen-clause-not_shown
 returns-in-Gen-clause-not_shown g c = λ is. absurd (made c.gen_call-summed.result.status 7 c.gen_call-summed.ensures.few is (λ e. omega (arith, e)) (λ e. omega (arith, e)) (λ e. omega (arith, e)))
 
 pub returns-in-Gen-clause-refusal : goal.returns-in-Gen-clause-refusal
-returns-in-Gen-clause-refusal g c = (λ some. absurd some, λ is. absurd (made c.gen_call-summed.result.status 1 c.gen_call-summed.ensures.few is (λ e. omega (arith, e)) (λ e. omega (arith, e)) (λ e. omega (arith, e))))
+returns-in-Gen-clause-refusal g c = (λ some. absurd (cc), λ is. absurd (made c.gen_call-summed.result.status 1 c.gen_call-summed.ensures.few is (λ e. omega (arith, e)) (λ e. omega (arith, e)) (λ e. omega (arith, e))))
 
 pub returns-in-Gen-clause-answers_scripts : goal.returns-in-Gen-clause-answers_scripts
 returns-in-Gen-clause-answers_scripts g c = λ limits call. absurd (c.calls_exclude_each_other.ensures.apart_gen (map string_bytes c.args.words.now) limits c.in-Gen.depth c.in-Gen.seed call c.in-Gen.ensures.0)
