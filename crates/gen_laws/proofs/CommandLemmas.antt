@@ -129,11 +129,11 @@ assert_is : (P : Term → Type 0) (text : List ℕ) (tree : Tree) → Within (Fi
 assert_is P text tree (items, start, end, at, (word, parts, row, leaf, (term, none, only, r, last))) = (start, r.found.term, r.holds, by)
   where
     by : (before : List Command) → list_any is_check_sat before ≡ false → nat_lt (length (asserted before)) 65536 ≡ true → declared before ≡ generated_preds → command text before tree ≡ Ok (Assert start r.found.term)
-    by before open few preds =
+    by before unasked few preds =
         let one : parts ≡ term ∷ [] = only ∙ ap (λ (l : List Tree). term ∷ l) last in
         command_is (codes "assert") text before tree items start end word parts at row leaf
         ∙ ap (assert_term text before start) one
-        ∙ ap (λ t. unless (or_else (order_fault start (not t)) (count_fault start (nat_lt (length (asserted before)) 65536))) (spelled text (scope_of (declared before) [] true) 0 term >>= assertion start)) open
+        ∙ ap (λ t. unless (or_else (order_fault start (not t)) (count_fault start (nat_lt (length (asserted before)) 65536))) (spelled text (scope_of (declared before) [] true) 0 term >>= assertion start)) unasked
         ∙ ap (λ t. unless (count_fault start t) (spelled text (scope_of (declared before) [] true) 0 term >>= assertion start)) few
         ∙ ap (λ (p : List Pred). spelled text (scope_of p [] true) 0 term >>= assertion start) preds
         ∙ ap (λ (o : Result Spelled Fault). o >>= assertion start) r.is
@@ -159,11 +159,11 @@ abbrev pub Checks : List ℕ → Tree → Type 0
 Checks text tree = (before : List Command) → list_any Rattle.sort_check.specs.Commands.is_set_logic before ≡ true → list_any is_check_sat before ≡ false → command text before tree ≡ Ok CheckSat
 
 check_is : (text : List ℕ) (tree : Tree) → Within (Only (IsLeaf Symbol (codes "check-sat"))) text tree → Checks text tree
-check_is text tree (items, start, end, at, (word, parts, row, leaf, none)) = λ before logic open.
+check_is text tree (items, start, end, at, (word, parts, row, leaf, none)) = λ before logic unasked.
     command_is (codes "check-sat") text before tree items start end word parts at row leaf
     ∙ ap (check_sat before start) none
     ∙ ap (λ t. unless (order_fault start (t && not (list_any is_check_sat before))) (Ok CheckSat)) logic
-    ∙ ap (λ t. unless (order_fault start (not t)) (Ok CheckSat)) open
+    ∙ ap (λ t. unless (order_fault start (not t)) (Ok CheckSat)) unasked
 
 pub shows_check : Shows Checks 0 check_text
 shows_check =
