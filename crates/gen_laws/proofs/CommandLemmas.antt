@@ -24,7 +24,7 @@ use Rattle.answer_text.proofs.SpellLemmas.{Only, row_last, row_spaced, shows_sym
 use Rattle.gen_laws.proofs.BinderLemmas.{Asserted}
 
 -- a command by the bytes of its word
-worded_by : List ℕ → List ℕ → List Command → ℕ → List Tree → Result Command Fault
+abbrev worded_by : List ℕ → List ℕ → List Command → ℕ → List Tree → Result Command Fault
 worded_by word text before start parts =
     cond (bytes_eq word (codes "assert")) (assert_term text before start parts)
     (cond (bytes_eq word (codes "declare-fun")) (declare_function text before start parts)

@@ -91,7 +91,7 @@ abbrev mutual
   AllFit (one_more s ss) ts = (u : Term) × (us : Terms) × (ts ≡ more u us) × Fits s u × AllFit ss us
 
 -- one list of terms behind another
-after : Terms → Terms → Terms
+abbrev after : Terms → Terms → Terms
 after none us = us
 after (more t ts) us = more t (after ts us)
 

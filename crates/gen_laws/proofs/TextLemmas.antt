@@ -189,10 +189,10 @@ root_line depth start rest =
     closed_onto (root_shape depth start) (codes "\n" ++ rest)
     ∙ sym (ap (λ (l : List ℕ). codes "(assert (not (node " ++ l) (flat (decimal depth) (codes " ") (decimal start) (codes ")))\n") rest))
 
-abbrev low_of : ℕ → ℕ → ℕ
+abbrev pub low_of : ℕ → ℕ → ℕ
 low_of depth seed = start_of seed * 2 ^ depth
 
-abbrev high_of : ℕ → ℕ → ℕ
+abbrev pub high_of : ℕ → ℕ → ℕ
 high_of depth seed = (start_of seed + 1) * 2 ^ depth
 
 pub text_is : (depth seed : ℕ) → lines_text (low_of depth seed) (high_of depth seed) depth (start_of seed) ≡ generated_text depth seed
