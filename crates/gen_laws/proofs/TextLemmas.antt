@@ -118,11 +118,24 @@ lines_text low high depth start =
 
 shows_lines : (low high depth start : ℕ) → low < 2 ^ 63 → high < 2 ^ 63 → depth < 2 ^ 63 → start < 2 ^ 63 → ShowsRow (Lines low high depth start) 0 (lines_text low high depth start)
 shows_lines low high depth start l h e s =
-    line _ _ logic_text _ shows_logic
-    (line _ _ declare_text _ shows_declare
-    (line _ _ (assert_text (universal_text (leaves_shape low high))) _ (shows_assert _ _ (shows_universal 1 (leaves_shape low high) (omega arith) refl (fine_leaves low high l h)))
-    (line _ _ (assert_text (universal_text parents_shape)) _ (shows_assert _ _ (shows_universal 1 parents_shape (omega arith) refl fine_parents))
-    (line _ _ (assert_text (text_of (root_shape depth start))) _ (shows_assert _ _ (shows_closed 1 (root_shape depth start) refl (fine_root depth start e s)))
+    let end : List ℕ = check_text ++ (codes "\n" ++ []) in
+    let root : List ℕ = assert_text (text_of (root_shape depth start)) ++ (codes "\n" ++ end) in
+    let parents : List ℕ = assert_text (universal_text parents_shape) ++ (codes "\n" ++ root) in
+    let leaves : List ℕ = assert_text (universal_text (leaves_shape low high)) ++ (codes "\n" ++ parents) in
+    let declares : List ℕ = declare_text ++ (codes "\n" ++ leaves) in
+    let Last : List ℕ → List Tree → Type 0 = FirstAnd Checks Nothing in
+    let Root : List ℕ → List Tree → Type 0 = FirstAnd (Asserts (Fits (root_shape depth start))) Last in
+    let Parents : List ℕ → List Tree → Type 0 = FirstAnd (Asserts (ForAll parents_shape)) Root in
+    let Leaves : List ℕ → List Tree → Type 0 = FirstAnd (Asserts (ForAll (leaves_shape low high))) Parents in
+    let Declares : List ℕ → List Tree → Type 0 = FirstAnd (λ text tree. command text (SetLogic ∷ []) tree ≡ Ok (Declare node_pred)) Leaves in
+    line (λ text tree. command text [] tree ≡ Ok SetLogic) Declares logic_text declares shows_logic
+    (line (λ text tree. command text (SetLogic ∷ []) tree ≡ Ok (Declare node_pred)) Leaves declare_text leaves shows_declare
+    (line (Asserts (ForAll (leaves_shape low high))) Parents (assert_text (universal_text (leaves_shape low high))) parents
+    (shows_assert (ForAll (leaves_shape low high)) (universal_text (leaves_shape low high)) (shows_universal 1 (leaves_shape low high) (omega arith) refl (fine_leaves low high l h)))
+    (line (Asserts (ForAll parents_shape)) Root (assert_text (universal_text parents_shape)) root
+    (shows_assert (ForAll parents_shape) (universal_text parents_shape) (shows_universal 1 parents_shape (omega arith) refl fine_parents))
+    (line (Asserts (Fits (root_shape depth start))) Last (assert_text (text_of (root_shape depth start))) end
+    (shows_assert (Fits (root_shape depth start)) (text_of (root_shape depth start)) (shows_closed 1 (root_shape depth start) refl (fine_root depth start e s)))
     (line Checks Nothing check_text [] shows_check (row_none Nothing 0 (λ text. refl)))))))
 
 -- The text of a shape in front of a rest, without brackets between.
