@@ -6,4 +6,4 @@ solve-requires-clause-allowed g c =
     let range = c.requires.range in
     let one = range.one in
     let some = range.some in
-    record { some = omega (arith, one); most = range.workers; units = range.units; nodes = omega (arith, some) }
+    λ κs lives. record { some = omega (arith, one); most = range.workers; units = range.units; nodes = omega (arith, some) }
