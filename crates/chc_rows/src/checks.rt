@@ -4,6 +4,9 @@ use crate::cases::four;
 use crate::runs::{Ends, check_ran, run, run_over};
 use crate::searches::CASES;
 use std::alloc::Global;
+use std::process::Abort;
+use std::sync::Wait;
+use std::thread::Threads;
 
 /// A number that counts up to 10.
 const BOUNDED: &str =
@@ -18,7 +21,14 @@ const WIDE: &str =
     "(set-logic HORN)\n(assert (forall ((x Int) (y Int)) (=> (and (= (+ (* 4611686018427387905 x) y) 3) (= (+ x (* 4611686018427387905 y)) 5)) false)))\n(check-sat)\n";
 
 /// Checks the script with what stands behind it, and asserts the status and the output.
-fn check_told(rt: &HostRuntime, alloc: Global, script: &str, behind: &str, status: u8, told: &str) {
+fn check_told<W: Threads + Wait + Abort + Sync>(
+    rt: &W,
+    alloc: Global,
+    script: &str,
+    behind: &str,
+    status: u8,
+    told: &str,
+) {
     let input = format!(in alloc; "{script}{behind}").expect(rt, "memory");
     let run = run(rt, alloc, &["check"], input.as_bytes());
     check_ran(rt, behind, &run, status, told.as_bytes());
@@ -59,7 +69,7 @@ fn what_the_solver_gives_up_is_not_shown(rt: HostRuntime) {
 }
 
 /// The derivation of false by the counter, whose fourth step names that premise.
-fn derivation(rt: &HostRuntime, alloc: Global, premise: u8) -> String {
+fn derivation(rt: &impl Abort, alloc: Global, premise: u8) -> String {
     format!(in alloc;
         ";;answer\nunsat\n(derivation\n(step 1 1 () () (p 0))\n(step 2 2 (0) (1) (p 1))\n(step 3 2 (1) (2) (p 2))\n(step 4 2 (2) ({premise}) (p 3))\n(step 5 3 () (4) false)\n)\n"
     ).expect(rt, "memory")
@@ -75,7 +85,12 @@ fn a_derivation_is_valid_or_wrong_at_a_step(rt: HostRuntime) {
 }
 
 /// Checks what is printed for the script, unless it is unknown.
-fn check_printed(rt: &HostRuntime, alloc: Global, script: &str, printed: &str) {
+fn check_printed<W: Threads + Wait + Abort + Sync>(
+    rt: &W,
+    alloc: Global,
+    script: &str,
+    printed: &str,
+) {
     if printed.starts_with("unknown") {
         return;
     }

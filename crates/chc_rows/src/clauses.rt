@@ -3,6 +3,9 @@
 
 use crate::readings::{check_run, check_table};
 use std::alloc::Global;
+use std::process::Abort;
+use std::sync::Wait;
+use std::thread::Threads;
 
 /// Assertions that are no Horn clauses, or whose linear forms are too wide. Each case is what it shows, how its text begins, the rest of the text, and the refusal.
 const REFUSED: &str = "\
@@ -62,17 +65,17 @@ fn clauses_with_heads_are_answered(rt: HostRuntime) {
 /// A script that declares a predicate p over an integer, up to here.
 const BEGINS: &str = "(set-logic HORN)(declare-fun p (Int) Bool)";
 
-fn add(rt: &HostRuntime, text: &mut String, part: &str) {
+fn add(rt: &impl Abort, text: &mut String, part: &str) {
     text.push_str(part).expect(rt, "memory");
 }
 
-fn add_variable(rt: &HostRuntime, alloc: Global, text: &mut String, number: usize) {
+fn add_variable(rt: &impl Abort, alloc: Global, text: &mut String, number: usize) {
     let part = format!(in alloc; "(x{number} Int)").expect(rt, "memory");
     add(rt, text, part.as_str());
 }
 
 /// A script with one assertion: the body under a quantifier over the given number of variables.
-fn quantified(rt: &HostRuntime, alloc: Global, variables: usize, body: &str) -> String {
+fn quantified(rt: &impl Abort, alloc: Global, variables: usize, body: &str) -> String {
     let mut text = String::from_str(alloc, BEGINS).expect(rt, "memory");
     add(rt, &mut text, "(assert (forall (");
     for number in 0..variables {
@@ -85,7 +88,7 @@ fn quantified(rt: &HostRuntime, alloc: Global, variables: usize, body: &str) -> 
 }
 
 /// A script with one implication, whose premise has `count` copies of this part.
-fn implied(rt: &HostRuntime, alloc: Global, count: usize, part: &str) -> String {
+fn implied(rt: &impl Abort, alloc: Global, count: usize, part: &str) -> String {
     let mut text = String::from_str(alloc, BEGINS).expect(rt, "memory");
     add(rt, &mut text, "(assert (forall ((x Int)) (=> (and true");
     for _ in 0..count {
@@ -96,7 +99,13 @@ fn implied(rt: &HostRuntime, alloc: Global, count: usize, part: &str) -> String 
 }
 
 /// Asserts that a text is answered, or refused for its number of variables or atoms.
-fn check_count(rt: &HostRuntime, alloc: Global, shows: &str, text: String, answered: bool) {
+fn check_count<W: Threads + Wait + Abort + Sync>(
+    rt: &W,
+    alloc: Global,
+    shows: &str,
+    text: String,
+    answered: bool,
+) {
     if answered {
         let told = "(define-fun p ((x0 Int)) Bool true)\n";
         check_run(rt, alloc, shows, text.as_str(), 0, told);

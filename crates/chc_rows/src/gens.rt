@@ -2,9 +2,18 @@
 
 use crate::runs::{Ends, check_ran, run, run_over};
 use std::alloc::Global;
+use std::process::Abort;
+use std::sync::Wait;
+use std::thread::Threads;
 
 /// Runs `gen` with this depth and seed, and asserts its summary.
-fn check_summed(rt: &HostRuntime, alloc: Global, depth: &str, seed: &str, told: &str) {
+fn check_summed<W: Threads + Wait + Abort + Sync>(
+    rt: &W,
+    alloc: Global,
+    depth: &str,
+    seed: &str,
+    told: &str,
+) {
     let words = &["gen", "--depth", depth, "--seed", seed];
     let ran = run(rt, alloc, words, b"(set-logic HORN)(check-sat)");
     check_ran(rt, depth, &ran, 0, told.as_bytes());

@@ -2,13 +2,14 @@
 
 use crate::runs::{Ends, run_over};
 use std::alloc::Global;
+use std::process::Abort;
 
-fn add(rt: &HostRuntime, text: &mut String, part: &str) {
+fn add(rt: &impl Abort, text: &mut String, part: &str) {
     text.push_str(part).expect(rt, "memory");
 }
 
 /// Adds that d and p of each of these numbers give the predicate.
-fn add_rule(rt: &HostRuntime, alloc: Global, text: &mut String, head: &str, from: u32, to: u32) {
+fn add_rule(rt: &impl Abort, alloc: Global, text: &mut String, head: &str, from: u32, to: u32) {
     add(rt, text, "(assert (=> (and d");
     for number in from..to {
         let part = format!(in alloc; " (p {number})").expect(rt, "memory");
@@ -24,7 +25,7 @@ const BEGINS: &str =
 
 /// e gives d; p of 0 gives p of 1, and so on; d and p of 0 to 49 give a, of 50 to 99 b, and of 100 to
 /// 147 c; and these three give false.
-fn script(rt: &HostRuntime, alloc: Global) -> String {
+fn script(rt: &impl Abort, alloc: Global) -> String {
     let mut text = String::from_str(alloc, BEGINS).expect(rt, "memory");
     add_rule(rt, alloc, &mut text, "a", 0, 50);
     add_rule(rt, alloc, &mut text, "b", 50, 100);

@@ -2,9 +2,19 @@
 
 use crate::runs::{Ends, run_over};
 use std::alloc::Global;
+use std::process::Abort;
+use std::sync::Wait;
+use std::thread::Threads;
 
 /// Runs a text, and asserts its status, and how its output begins.
-fn check_start(rt: &HostRuntime, alloc: Global, shows: &str, text: &[u8], status: u8, start: &str) {
+fn check_start<W: Threads + Wait + Abort + Sync>(
+    rt: &W,
+    alloc: Global,
+    shows: &str,
+    text: &[u8],
+    status: u8,
+    start: &str,
+) {
     let ends = Ends {
         source_step: 65_536,
         source_fails: None,
@@ -20,22 +30,28 @@ fn check_start(rt: &HostRuntime, alloc: Global, shows: &str, text: &[u8], status
 }
 
 /// Runs a text, and asserts that its script is answered.
-fn check_sat(rt: &HostRuntime, alloc: Global, shows: &str, text: String) {
+fn check_sat<W: Threads + Wait + Abort + Sync>(rt: &W, alloc: Global, shows: &str, text: String) {
     check_start(rt, alloc, shows, text.as_bytes(), 0, "sat\n");
 }
 
 /// Runs a text, and asserts that it is refused so.
-fn check_refusal(rt: &HostRuntime, alloc: Global, shows: &str, text: &[u8], told: &str) {
+fn check_refusal<W: Threads + Wait + Abort + Sync>(
+    rt: &W,
+    alloc: Global,
+    shows: &str,
+    text: &[u8],
+    told: &str,
+) {
     let line = format!(in alloc; "(error \"{told}\")\n").expect(rt, "memory");
     check_start(rt, alloc, shows, text, 1, line.as_str());
 }
 
-fn add(rt: &HostRuntime, text: &mut String, part: &str) {
+fn add(rt: &impl Abort, text: &mut String, part: &str) {
     text.push_str(part).expect(rt, "memory");
 }
 
 /// A text with `count` copies of one part behind it.
-fn repeated(rt: &HostRuntime, alloc: Global, front: &str, part: &str, count: usize) -> String {
+fn repeated(rt: &impl Abort, alloc: Global, front: &str, part: &str, count: usize) -> String {
     let mut text = String::from_str(alloc, front).expect(rt, "memory");
     for _ in 0..count {
         add(rt, &mut text, part);
@@ -45,7 +61,7 @@ fn repeated(rt: &HostRuntime, alloc: Global, front: &str, part: &str, count: usi
 
 /// A script that declares a name with `integers` integers, and more, as arguments, and with that result.
 fn declaration(
-    rt: &HostRuntime,
+    rt: &impl Abort,
     alloc: Global,
     name: &str,
     integers: usize,
@@ -93,13 +109,13 @@ fn only_256_sorts_of_a_declaration_are_looked_at(rt: HostRuntime) {
 }
 
 /// The text with this behind it and the question.
-fn whole(rt: &HostRuntime, alloc: Global, text: &str, more: &str) -> String {
+fn whole(rt: &impl Abort, alloc: Global, text: &str, more: &str) -> String {
     format!(in alloc; "{text}{more}(check-sat)").expect(rt, "memory")
 }
 
 /// Asserts which refusal is told `behind` bytes behind the text's end, where `more` follows.
-fn check_behind(
-    rt: &HostRuntime,
+fn check_behind<W: Threads + Wait + Abort + Sync>(
+    rt: &W,
     alloc: Global,
     shows: &str,
     text: &str,
@@ -116,12 +132,12 @@ fn check_behind(
 }
 
 /// The declaration of a constant of that number.
-fn constant(rt: &HostRuntime, alloc: Global, number: usize) -> String {
+fn constant(rt: &impl Abort, alloc: Global, number: usize) -> String {
     format!(in alloc; "(declare-const p{number} Bool)").expect(rt, "memory")
 }
 
 /// A script with `count` predicates, up to its question.
-fn constants(rt: &HostRuntime, alloc: Global, count: usize) -> String {
+fn constants(rt: &impl Abort, alloc: Global, count: usize) -> String {
     let mut text = String::from_str(alloc, "(set-logic HORN)").expect(rt, "memory");
     for number in 0..count {
         let line = constant(rt, alloc, number);
@@ -200,7 +216,7 @@ fn a_term_may_fill_five_megabytes(rt: HostRuntime) {
 }
 
 /// A script of the given length in bytes, filled up with spaces behind its exit.
-fn filled(rt: &HostRuntime, alloc: Global, bytes: usize) -> Vec<u8> {
+fn filled(rt: &impl Abort, alloc: Global, bytes: usize) -> Vec<u8> {
     let front = b"(set-logic HORN)(check-sat)(exit)";
     let mut text = Vec::from_slice(alloc, front).expect(rt, "memory");
     text.resize(bytes, b' ').expect(rt, "memory");

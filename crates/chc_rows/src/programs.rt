@@ -6,9 +6,16 @@ use outside_io::{MemSink, MemSource};
 use std::alloc::Global;
 use std::env::Args;
 use std::io::{self, ErrorKind};
+use std::process::Abort;
+use std::sync::Wait;
+use std::thread::Threads;
 
 /// Runs the program over a script without predicates, where the system gives these words.
-fn run_main(rt: &HostRuntime, alloc: Global, args: io::Result<Args>) -> Ran {
+fn run_main<W: Threads + Wait + Abort + Sync>(
+    rt: &W,
+    alloc: Global,
+    args: io::Result<Args>,
+) -> Ran {
     let script = Vec::from_slice(alloc, b"(set-logic HORN)(check-sat)").expect(rt, "memory");
     let mut source = MemSource::new(script, 7, Vec::new(alloc));
     let mut sink = MemSink::new(alloc, 4096, 5, Vec::new(alloc)).expect(rt, "memory");
@@ -18,7 +25,13 @@ fn run_main(rt: &HostRuntime, alloc: Global, args: io::Result<Args>) -> Ran {
 }
 
 /// Runs the program, and asserts its status and how its output begins.
-fn check_main(rt: &HostRuntime, alloc: Global, args: io::Result<Args>, status: u8, start: &str) {
+fn check_main<W: Threads + Wait + Abort + Sync>(
+    rt: &W,
+    alloc: Global,
+    args: io::Result<Args>,
+    status: u8,
+    start: &str,
+) {
     let run = run_main(rt, alloc, args);
     assert!(rt; run.report.status == status, "status {status}");
     assert!(rt;
@@ -31,7 +44,13 @@ fn check_main(rt: &HostRuntime, alloc: Global, args: io::Result<Args>, status: u
     );
 }
 
-fn check_words(rt: &HostRuntime, alloc: Global, words: &[&str], status: u8, start: &str) {
+fn check_words<W: Threads + Wait + Abort + Sync>(
+    rt: &W,
+    alloc: Global,
+    words: &[&str],
+    status: u8,
+    start: &str,
+) {
     let words = owned(rt, alloc, words);
     check_main(rt, alloc, Ok(words.into_iter()), status, start);
 }

@@ -4,6 +4,9 @@
 use crate::cases::four;
 use crate::runs::{check_ran, run};
 use std::alloc::Global;
+use std::process::Abort;
+use std::sync::Wait;
+use std::thread::Threads;
 
 /// Bytes and tokens. Each case is what it shows, how its text begins, the rest of the text, and the refusal.
 const BYTES: &str = "\
@@ -147,13 +150,13 @@ fn beginning(name: &str) -> &str {
 }
 
 /// A case's text.
-fn text_of(rt: &HostRuntime, alloc: Global, begins: &str, rest: &str) -> String {
+fn text_of(rt: &impl Abort, alloc: Global, begins: &str, rest: &str) -> String {
     let start = beginning(begins);
     format!(in alloc; "{start}{rest}").expect(rt, "memory")
 }
 
 /// The output of that status with what is told.
-fn output_of(rt: &HostRuntime, alloc: Global, status: u8, told: &str) -> String {
+fn output_of(rt: &impl Abort, alloc: Global, status: u8, told: &str) -> String {
     if status == 0 {
         format!(in alloc; "sat\n(\n{told})\n").expect(rt, "memory")
     } else {
@@ -162,14 +165,26 @@ fn output_of(rt: &HostRuntime, alloc: Global, status: u8, told: &str) -> String 
 }
 
 /// Runs a text, and asserts its status and what is told.
-pub fn check_run(rt: &HostRuntime, alloc: Global, shows: &str, text: &str, status: u8, told: &str) {
+pub fn check_run<W: Threads + Wait + Abort + Sync>(
+    rt: &W,
+    alloc: Global,
+    shows: &str,
+    text: &str,
+    status: u8,
+    told: &str,
+) {
     let run = run(rt, alloc, &["solve"], text.as_bytes());
     let expected = output_of(rt, alloc, status, told);
     check_ran(rt, shows, &run, status, expected.as_bytes());
 }
 
 /// Checks each case of a table by its status and what is told, and answers how many there are.
-pub fn check_table(rt: &HostRuntime, alloc: Global, table: &str, status: u8) -> usize {
+pub fn check_table<W: Threads + Wait + Abort + Sync>(
+    rt: &W,
+    alloc: Global,
+    table: &str,
+    status: u8,
+) -> usize {
     let mut tried: usize = 0;
     for case in table.split('¶') {
         if let Some((shows, begins, rest, told)) = four(case) {

@@ -1,6 +1,9 @@
 use crate::cases::three;
 use crate::runs::{check_ran, run};
 use std::alloc::Global;
+use std::process::Abort;
+use std::sync::Wait;
+use std::thread::Threads;
 
 /// Texts with a fault of their bytes, or without a question. Each case is what it shows, the text, and the refusal.
 const TEXT: &str = "\
@@ -84,7 +87,13 @@ const NAMES: &str = "\
     an existential assertion§(set-logic HORN)(declare-fun p (Int) Bool)(assert (exists ((x Int)) (p x)))(check-sat)§kind 16 NotHorn at byte 50 after 2 commands";
 
 /// Runs a text, and asserts that it is refused so.
-fn check_refusal(rt: &HostRuntime, alloc: Global, shows: &str, text: &[u8], expected: &str) {
+fn check_refusal<W: Threads + Wait + Abort + Sync>(
+    rt: &W,
+    alloc: Global,
+    shows: &str,
+    text: &[u8],
+    expected: &str,
+) {
     let run = run(rt, alloc, &["solve"], text);
     let line = format!(in alloc; "(error \"{expected}\")\n").expect(rt, "memory");
     check_ran(rt, shows, &run, 1, line.as_bytes());
@@ -93,7 +102,7 @@ fn check_refusal(rt: &HostRuntime, alloc: Global, shows: &str, text: &[u8], expe
 }
 
 /// Checks each case of a table, and answers how many there are.
-fn check_refusals(rt: &HostRuntime, alloc: Global, table: &str) -> usize {
+fn check_refusals<W: Threads + Wait + Abort + Sync>(rt: &W, alloc: Global, table: &str) -> usize {
     let mut tried: usize = 0;
     for case in table.split('¶') {
         if let Some((shows, text, expected)) = three(case) {
@@ -128,7 +137,7 @@ fn a_byte_that_is_no_token_is_refused_first_of_all(rt: HostRuntime) {
 
 /// A text with `count` copies of one part between two others.
 fn repeated(
-    rt: &HostRuntime,
+    rt: &impl Abort,
     alloc: Global,
     front: &str,
     part: &str,

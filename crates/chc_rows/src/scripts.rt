@@ -1,6 +1,9 @@
 use crate::cases::three;
 use crate::runs::{check_ran, run};
 use std::alloc::Global;
+use std::process::Abort;
+use std::sync::Wait;
+use std::thread::Threads;
 
 /// What a case shows, its script, and the definitions of its answer.
 const SAT: &str = "\
@@ -20,7 +23,13 @@ const SAT: &str = "\
     a head under quantifiers inside one another§(set-logic HORN)(declare-fun p (Int) Bool)(assert (forall ((x Int)) (forall ((x Int) (y Bool)) (=> y (p x)))))(check-sat)§(define-fun p ((x0 Int)) Bool true)\n";
 
 /// Runs a script, and asserts that it is answered with these definitions.
-fn check_sat(rt: &HostRuntime, alloc: Global, shows: &str, script: &str, definitions: &str) {
+fn check_sat<W: Threads + Wait + Abort + Sync>(
+    rt: &W,
+    alloc: Global,
+    shows: &str,
+    script: &str,
+    definitions: &str,
+) {
     let run = run(rt, alloc, &["solve"], script.as_bytes());
     let answer = format!(in alloc; "sat\n(\n{definitions})\n").expect(rt, "memory");
     check_ran(rt, shows, &run, 0, answer.as_bytes());

@@ -3,6 +3,9 @@
 use crate::cases::four;
 use crate::runs::{check_ran, run};
 use std::alloc::Global;
+use std::process::Abort;
+use std::sync::Wait;
+use std::thread::Threads;
 
 /// What a case shows, the words behind `solve`, the script, and its output.
 pub const CASES: [&str; 17] = [
@@ -26,7 +29,7 @@ pub const CASES: [&str; 17] = [
 ];
 
 /// The words of a case: `solve`, and those behind it.
-fn words_of<'a>(rt: &HostRuntime, alloc: Global, options: &'a str) -> Vec<&'a str> {
+fn words_of<'a>(rt: &impl Abort, alloc: Global, options: &'a str) -> Vec<&'a str> {
     let mut words = Vec::new(alloc);
     words.push("solve").expect(rt, "memory");
     for word in options.split(' ') {
@@ -37,7 +40,7 @@ fn words_of<'a>(rt: &HostRuntime, alloc: Global, options: &'a str) -> Vec<&'a st
     words
 }
 
-fn check_case(rt: &HostRuntime, alloc: Global, case: &str) {
+fn check_case<W: Threads + Wait + Abort + Sync>(rt: &W, alloc: Global, case: &str) {
     if let Some((shows, options, script, output)) = four(case) {
         let words = words_of(rt, alloc, options);
         let ran = run(rt, alloc, words.as_slice(), script.as_bytes());

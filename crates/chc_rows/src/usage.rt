@@ -1,11 +1,19 @@
 use crate::runs::{check_ran, run};
 use std::alloc::Global;
+use std::process::Abort;
+use std::sync::Wait;
+use std::thread::Threads;
 
 const USAGE: &str =
     "usage: chc solve [--workers N] [--units N] [--nodes N] | check [--nodes N] | gen --depth N --seed N\n";
 
 /// Runs the words, and asserts that they are no command.
-fn check_usage(rt: &HostRuntime, alloc: Global, shows: &str, words: &[&str]) {
+fn check_usage<W: Threads + Wait + Abort + Sync>(
+    rt: &W,
+    alloc: Global,
+    shows: &str,
+    words: &[&str],
+) {
     let run = run(rt, alloc, words, b"(set-logic HORN)(check-sat)");
     check_ran(rt, shows, &run, 2, USAGE.as_bytes());
     assert!(rt;

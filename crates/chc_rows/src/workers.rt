@@ -2,6 +2,9 @@
 
 use crate::runs::{Ran, check_ran, run};
 use std::alloc::Global;
+use std::process::Abort;
+use std::sync::Wait;
+use std::thread::Threads;
 
 /// p of 0, and of x + 1 with that of x, but not of 3: false has one derivation.
 const COUNTER: &[u8] =
@@ -15,7 +18,7 @@ const SATURATING: &[u8] =
     b"(set-logic HORN)(declare-fun |main@entry| () Bool)(declare-fun |main@loop| (Int Int) Bool)(declare-fun |main@exit| (Int Int) Bool)(assert |main@entry|)(assert (forall ((A Int) (B Int)) (=> (and |main@entry| (= A 0) (= B 0)) (|main@loop| A B))))(assert (forall ((A Int) (B Int) (C Int) (D Int)) (let ((a!1 (and (< A 100) (= C (+ A 1)))) (a!2 (= D (ite (> B 50) B (+ B 2))))) (=> (and (|main@loop| A B) a!1 a!2) (|main@loop| C D)))))(assert (forall ((A Int) (B Int)) (=> (and (|main@loop| A B) (not (< A 100))) (|main@exit| A B))))(assert (forall ((A Int) (B Int)) (=> (and (|main@exit| A B) (not (<= B 52))) false)))(check-sat)";
 
 /// Asserts that each worker has a count, and that they sum to the length of the book's journal.
-fn check_counts(rt: &HostRuntime, ran: &Ran, workers: usize) {
+fn check_counts(rt: &impl Abort, ran: &Ran, workers: usize) {
     let counts = ran.report.counts.as_slice();
     let mut sum: u64 = 0;
     for count in counts {
@@ -29,7 +32,12 @@ fn check_counts(rt: &HostRuntime, ran: &Ran, workers: usize) {
 }
 
 /// Runs the script with so many workers.
-fn run_with(rt: &HostRuntime, alloc: Global, workers: &str, script: &[u8]) -> Ran {
+fn run_with<W: Threads + Wait + Abort + Sync>(
+    rt: &W,
+    alloc: Global,
+    workers: &str,
+    script: &[u8],
+) -> Ran {
     run(rt, alloc, &["solve", "--workers", workers], script)
 }
 
