@@ -37,26 +37,22 @@ fn called(alloc: Global, options: &str) -> io::Result<Vec<String>> {
     Ok(words)
 }
 
-fn solve(rt: &HostRuntime, script: &str, options: &str) -> io::Result<()> {
-    let space = if options.is_empty() { "" } else { " " };
-    println!(rt; "$ ./chc solve{space}{options} < examples/{script}")?;
-    let words = called(rt.alloc(), options)?;
-    let mut source = StdSource::new(fs::open(rt, script)?);
-    let mut sink = StdSink::new(rt.stdout());
-    let report = chc_run(
-        rt,
-        rt.alloc(),
-        words.as_slice(),
-        &mut source,
-        &mut sink,
-        &FreeGate,
-    );
-    println!(rt; "status {}", report.status)
-}
-
 fn main(rt: HostRuntime) -> io::Result<()> {
     for (script, options) in SCRIPTS {
-        solve(&rt, script, options)?;
+        let space = if options.is_empty() { "" } else { " " };
+        println!(rt; "$ ./chc solve{space}{options} < examples/{script}")?;
+        let words = called(rt.alloc(), options)?;
+        let mut source = StdSource::new(fs::open(&rt, script)?);
+        let mut sink = StdSink::new(rt.stdout());
+        let report = chc_run(
+            &rt,
+            rt.alloc(),
+            words.as_slice(),
+            &mut source,
+            &mut sink,
+            &FreeGate,
+        );
+        println!(rt; "status {}", report.status)?;
     }
     Ok(())
 }
