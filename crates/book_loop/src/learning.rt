@@ -131,7 +131,7 @@ fn learnt(lent: &Lent, part: LemmaPart, hints: &Hints, nodes: u32) -> Result<Lem
 }
 
 /// How many inner nodes a guess is worth.
-fn few(nodes: u32) -> u32
+pub(crate) fn few(nodes: u32) -> u32
     requires { 0 < nodes }
     ensures { 0 < result }
 {

@@ -10,6 +10,7 @@ ghost use Rattle.obligation_turn.specs.Workspaces.{IsWorkspaceFor};
 ghost use Rattle.book_loop.specs.Runs.{CanRun};
 ghost use Rattle.book_loop.specs.machinery.Steps.{IsFurther, IsTaken};
 
+use crate::learning::few;
 use crate::taking::{has_ended, lend, take};
 use base::Memory;
 use chc_core::Book;
@@ -66,7 +67,7 @@ fn lift_of(book: &Book, id: u32, nodes: u32, work: &mut Workspace) -> Result<Opt
     ensures work { OnOk result (IsWorkspaceFor book.now.system work.new) }
 {
     let lent = lend(book);
-    match lift_in(&lent, id, nodes, work)? {
+    match lift_in(&lent, id, few(nodes), work)? {
         Some(part) => Ok(Some(Step::LiftStep(part))),
         None => Ok(None),
     }
@@ -88,10 +89,10 @@ fn lift_once(
     ensures further { IsFurther nodes book.old book.new }
     ensures work { OnOk result (IsWorkspaceFor book.old.system work.new) }
 {
-    if has_ended(book) {
+    if !is_below(book, id, least) {
         return Ok(false);
     }
-    if !is_below(book, id, least) {
+    if has_ended(book) {
         return Ok(false);
     }
     match lift_of(book, id, nodes, work)? {

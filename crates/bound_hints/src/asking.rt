@@ -3,7 +3,7 @@
 ghost use Rattle.std.specs.Prelude.{◌<◌};
 
 use crate::arms::Arm;
-use crate::bound::{Bound, Use, stands};
+use crate::bound::{Bound, Use, first_of, stands};
 use base::{Copied, Items, Memory};
 use clause_form::{Atom, Clause};
 use cube_forms::{Lemma, Tuple};
@@ -153,9 +153,13 @@ fn push_excluding(
     tuple: &[i64],
 ) -> Result<(), Memory> {
     let most = uses.len().saturating_add(AT_ONCE);
-    for (at, bound) in bounds.iter().enumerate() {
-        let is_new = bound.pred == pred && uses.len() < most && bound.excludes(tuple);
-        if is_new && stands(bounds, bound) && !is_used(uses.as_slice(), at, number) {
+    for at in first_of(bounds, pred)..bounds.len() {
+        let bound = &bounds[at];
+        if bound.pred != pred || uses.len() >= most {
+            return Ok(());
+        }
+        let is_new = bound.excludes(tuple) && !is_used(uses.as_slice(), at, number);
+        if is_new && stands(bounds, bound) {
             uses.push(Use {
                 bound: at,
                 atom: number,

@@ -184,6 +184,29 @@ impl Bound {
     }
 }
 
+/// Where the bounds of a predicate begin: they stand in the order of their predicates.
+pub(crate) fn first_of(bounds: &[Bound], pred: u32) -> usize {
+    let mut low: usize = 0;
+    let mut high = bounds.len();
+    for _ in 0..usize::BITS {
+        if low >= high {
+            return low;
+        }
+        let middle = low.saturating_add(high.saturating_sub(low) / 2);
+        match bounds.get(middle) {
+            Some(bound) => {
+                if bound.pred < pred {
+                    low = middle.saturating_add(1);
+                } else {
+                    high = middle;
+                }
+            }
+            None => high = middle,
+        }
+    }
+    low
+}
+
 /// Whether a bound without the condition says as much.
 fn is_needless(bounds: &[Bound], bound: &Bound) -> bool {
     let plain = match bound.plain {

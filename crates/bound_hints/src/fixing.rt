@@ -2,7 +2,7 @@
 
 use crate::arms::Arm;
 use crate::asking::{Answer, visit};
-use crate::bound::{Bound, Limit, Memo, Use, stands};
+use crate::bound::{Bound, Limit, Memo, Use, first_of, stands};
 use crate::conditions::thresholds;
 use crate::table::{About, Table};
 use base::Memory;
@@ -114,9 +114,16 @@ fn raise(
         *place = true;
     }
     let about = table.about.as_slice();
-    for (at, bound) in table.bounds.iter_mut().enumerate() {
-        if bound.pred == pred {
-            raise_one(alloc, about, bound, tuple, asked == Some(at))?;
+    let first = first_of(table.bounds.as_slice(), pred);
+    for at in first..table.bounds.len() {
+        match table.bounds.as_mut_slice().get_mut(at) {
+            Some(bound) => {
+                if bound.pred != pred {
+                    return Ok(());
+                }
+                raise_one(alloc, about, bound, tuple, asked == Some(at))?;
+            }
+            None => return Ok(()),
         }
     }
     Ok(())
@@ -326,7 +333,15 @@ fn settle_all(
     left: &mut u32,
 ) -> Result<bool, Memory> {
     let mut changed = false;
-    for at in 0..table.bounds.len() {
+    for at in first_of(table.bounds.as_slice(), head.pred)..table.bounds.len() {
+        match table.bounds.as_slice().get(at) {
+            Some(bound) => {
+                if bound.pred != head.pred {
+                    return Ok(changed);
+                }
+            }
+            None => return Ok(changed),
+        }
         if settle_one(alloc, table, clause, number, head, at, left)? {
             changed = true;
         }

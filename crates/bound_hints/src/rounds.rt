@@ -40,6 +40,8 @@ pub struct Bounds {
     round: u32,
     /// How many units have to be spent before it.
     wait: u32,
+    /// How often it was dropped.
+    drops: u32,
 }
 
 /// The level of the book from which on the round comes.
@@ -103,6 +105,7 @@ impl Bounds {
             found: None,
             round: 0,
             wait: 0,
+            drops: 0,
         }
     }
 
@@ -132,9 +135,13 @@ impl Bounds {
                 self.found = Some(found);
                 self.round = self.round.saturating_add(1);
                 self.wait = units.saturating_mul(2);
+                self.drops = 0;
             }
             None => {
-                self.wait = units.saturating_mul(3).max(1);
+                let more = work_of(self.round, units) / WORK_OF_A_UNIT;
+                let times = self.drops.saturating_add(3);
+                self.wait = units.saturating_mul(times).max(more.saturating_mul(2));
+                self.drops = self.drops.saturating_add(1);
             }
         }
         Ok(())

@@ -5,12 +5,16 @@ ghost use Rattle.obligation_turn.specs.Turns.{GoesOn};
 ghost use Rattle.lemma_general.specs.Tries.{IsTrying};
 
 use crate::hints::Hints;
+use crate::joining::join_each;
 use crate::proposing::try_each;
 use base::Memory;
 use bound_hints::Bounds;
 use cube_forms::Cube;
 use lemma_general::Tries;
 use step_rules::{LemmaPart, Lent};
+
+/// How many cubes are joined with others.
+const MOST_JOINED: usize = 4;
 
 /// Whether bounds are tried now: those that don't refute each query at every third unit alone, as they
 /// crowd out the lemmas of a system that has no solution.
@@ -28,8 +32,17 @@ fn cubes_for(lent: &Lent, part: &LemmaPart, hints: &Hints) -> Result<Vec<Cube>, 
     bounds.cubes(lent.alloc, part.pred, obligation.point.as_slice())
 }
 
-/// Puts a lemma of a cube in its place that one of the bounds excludes, if the frame below implies one;
-/// whether it does.
+/// The first few of them.
+fn first_few(cubes: &[Cube]) -> &[Cube] {
+    if cubes.len() > MOST_JOINED {
+        &cubes[..MOST_JOINED]
+    } else {
+        cubes
+    }
+}
+
+/// Puts a lemma of a cube in its place that one of the bounds excludes, or two together, if the frame below
+/// implies one; whether it does.
 pub fn try_bounds(lent: &Lent, tries: &mut Tries, hints: &Hints, nodes: u32) -> Result<bool, Memory>
     requires goes_on { GoesOn lent.now }
     requires some { 0 < nodes }
@@ -37,6 +50,13 @@ pub fn try_bounds(lent: &Lent, tries: &mut Tries, hints: &Hints, nodes: u32) -> 
     ensures { OnOk result (IsTrying lent.now tries.new) }
 {
     let cubes = cubes_for(lent, tries.part(), hints)?;
-    let taken = try_each(lent, tries, cubes.as_slice(), nodes)?;
-    Ok(taken)
+    if try_each(lent, tries, cubes.as_slice(), nodes)? {
+        return Ok(true);
+    }
+    let bounds = hints.bounds();
+    if !bounds.are_safe() {
+        return Ok(false);
+    }
+    let joined = join_each(lent, tries, bounds, first_few(cubes.as_slice()), nodes)?;
+    Ok(joined)
 }

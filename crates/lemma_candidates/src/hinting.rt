@@ -64,19 +64,39 @@ fn lose(
     Ok(())
 }
 
+/// What clauses are asked about.
+#[derive(Clone, Copy)]
+enum Stage {
+    /// Equations, by the equations of the body's tuples.
+    Equations,
+    /// Equations, by all that is known of the body's tuples.
+    Both,
+    /// Divisibilities, by all that is known.
+    Divisibilities,
+}
+
 /// Asks a clause once; whether anything changed.
 fn step(
     alloc: Global,
     known: &mut Vec<Known>,
     clause: &Clause,
     head: &Atom,
-    whole: bool,
+    stage: Stage,
     left: &mut u32,
 ) -> Result<bool, Memory> {
-    let found = if whole {
-        visit_divisibilities(alloc, known.as_slice(), clause, head, left)?
-    } else {
-        visit_equations(alloc, known.as_slice(), clause, head, left)?
+    let (found, whole) = match stage {
+        Stage::Equations => (
+            visit_equations(alloc, known.as_slice(), clause, head, false, left)?,
+            false,
+        ),
+        Stage::Both => (
+            visit_equations(alloc, known.as_slice(), clause, head, true, left)?,
+            false,
+        ),
+        Stage::Divisibilities => (
+            visit_divisibilities(alloc, known.as_slice(), clause, head, left)?,
+            true,
+        ),
     };
     match found {
         Verdict::Kept => Ok(false),
@@ -97,14 +117,14 @@ fn settle(
     known: &mut Vec<Known>,
     clause: &Clause,
     head: &Atom,
-    whole: bool,
+    stage: Stage,
     left: &mut u32,
 ) -> Result<bool, Memory> {
     if !are_reached(known.as_slice(), clause.atoms.as_slice()) {
         return Ok(false);
     }
     for at in 0..MOST_QUERIES {
-        if *left == 0 || !step(alloc, known, clause, head, whole, left)? {
+        if *left == 0 || !step(alloc, known, clause, head, stage, left)? {
             return Ok(at > 0);
         }
     }
@@ -116,13 +136,13 @@ fn round(
     alloc: Global,
     known: &mut Vec<Known>,
     sys: &System,
-    whole: bool,
+    stage: Stage,
     left: &mut u32,
 ) -> Result<bool, Memory> {
     let mut changed = false;
     for clause in sys.clauses() {
         if let Some(head) = &clause.head {
-            if settle(alloc, known, clause, head, whole, left)? {
+            if settle(alloc, known, clause, head, stage, left)? {
                 changed = true;
             }
         }
@@ -135,14 +155,14 @@ fn rounds(
     alloc: Global,
     known: &mut Vec<Known>,
     sys: &System,
-    whole: bool,
+    stage: Stage,
 ) -> Result<bool, Memory> {
     let mut left = MOST_QUERIES;
     for _ in 0..MOST_QUERIES {
         if left == 0 {
             return Ok(false);
         }
-        if !round(alloc, known, sys, whole, &mut left)? {
+        if !round(alloc, known, sys, stage, &mut left)? {
             return Ok(left > 0);
         }
     }
@@ -167,14 +187,49 @@ fn lose_divisibilities(alloc: Global, known: &mut Vec<Known>) {
     }
 }
 
-/// What the tuples of each predicate have in common, as far as it was found: first equations, then
-/// divisibilities; neither where a few thousand queries didn't settle it.
+/// The same with residues that are met among tuples that have them, where that comes to an end.
+fn residues(alloc: Global, sys: &System) -> Result<Option<Vec<Known>>, Memory> {
+    let mut known = unknown(alloc, sys)?;
+    if rounds(alloc, &mut known, sys, Stage::Both)?
+        && rounds(alloc, &mut known, sys, Stage::Divisibilities)?
+    {
+        Ok(Some(known))
+    } else {
+        Ok(None)
+    }
+}
+
+/// Puts the residues of one hull in the place of those of another.
+fn put_residues(known: &mut Known, other: Known) {
+    if let Known::Common(hull) = known {
+        if let Known::Common(other) = other {
+            hull.take_residues(other);
+        }
+    }
+}
+
+/// The same for each predicate.
+fn put_each(known: &mut Vec<Known>, others: Vec<Known>) {
+    for (at, other) in others.into_iter().enumerate() {
+        if let Some(one) = known.as_mut_slice().get_mut(at) {
+            put_residues(one, other);
+        }
+    }
+}
+
+/// What the tuples of each predicate have in common, as far as it was found: equations, and divisibilities
+/// beside them; neither where a few thousand queries didn't settle it. Where divisibilities can't be
+/// found beside the equations, they are looked for behind them, among the tuples that were met.
 pub(crate) fn hulls(alloc: Global, sys: &System) -> Result<Vec<Known>, Memory> {
     let mut known = unknown(alloc, sys)?;
-    if !rounds(alloc, &mut known, sys, false)? {
+    if !rounds(alloc, &mut known, sys, Stage::Equations)? {
         return unknown(alloc, sys);
     }
-    if !rounds(alloc, &mut known, sys, true)? {
+    if let Some(others) = residues(alloc, sys)? {
+        put_each(&mut known, others);
+        return Ok(known);
+    }
+    if !rounds(alloc, &mut known, sys, Stage::Divisibilities)? {
         lose_divisibilities(alloc, &mut known);
     }
     Ok(known)

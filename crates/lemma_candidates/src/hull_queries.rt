@@ -213,12 +213,13 @@ fn visit_all(
     clause: &Clause,
     head: &Atom,
     lits: &[Lit],
+    whole: bool,
     left: &mut u32,
 ) -> Result<Verdict, Memory> {
-    match ask_for(alloc, known, clause, lits, false, MOST_NODES, left)? {
+    match ask_for(alloc, known, clause, lits, whole, MOST_NODES, left)? {
         Answer::Point(point) => met(alloc, point.as_slice(), head),
         Answer::Refuted => Ok(Verdict::Kept),
-        Answer::GivenUp => visit_each(alloc, known, clause, head, lits, false, left),
+        Answer::GivenUp => visit_each(alloc, known, clause, head, lits, whole, left),
     }
 }
 
@@ -228,9 +229,10 @@ fn visit_first(
     known: &[Known],
     clause: &Clause,
     head: &Atom,
+    whole: bool,
     left: &mut u32,
 ) -> Result<Verdict, Memory> {
-    let parts = body_of(alloc, known, clause, false)?;
+    let parts = body_of(alloc, known, clause, whole)?;
     match ask_clause(alloc, clause, parts, FEW_NODES, left)? {
         Answer::Point(point) => met(alloc, point.as_slice(), head),
         Answer::Refuted => Ok(Verdict::Kept),
@@ -238,22 +240,24 @@ fn visit_first(
     }
 }
 
-/// Asks a clause for a tuple of its head that breaks an equation that is known of the predicate.
+/// Asks a clause for a tuple of its head that breaks an equation that is known of the predicate. Of the
+/// body's tuples the equations are known, and the divisibilities where these are asked for, too.
 pub(crate) fn visit_equations(
     alloc: Global,
     known: &[Known],
     clause: &Clause,
     head: &Atom,
+    whole: bool,
     left: &mut u32,
 ) -> Result<Verdict, Memory> {
     match known.get(head.pred as usize) {
-        Some(Known::Nothing) => visit_first(alloc, known, clause, head, left),
+        Some(Known::Nothing) => visit_first(alloc, known, clause, head, whole, left),
         Some(Known::Common(hull)) => {
             let lits = lits_at(alloc, hull.equations(alloc)?, head.args.as_slice())?;
             if lits.as_slice().len() == 0 {
                 return Ok(Verdict::Kept);
             }
-            visit_all(alloc, known, clause, head, lits.as_slice(), left)
+            visit_all(alloc, known, clause, head, lits.as_slice(), whole, left)
         }
         None => Ok(Verdict::Kept),
     }

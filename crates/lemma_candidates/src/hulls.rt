@@ -348,6 +348,11 @@ impl Hull {
         self.residues = Vec::new(alloc);
     }
 
+    /// Has the residues of another one in place of its own.
+    pub(crate) fn take_residues(&mut self, other: Hull) {
+        self.residues = other.residues;
+    }
+
     /// The equations.
     pub(crate) fn equations(&self, alloc: Global) -> Result<Vec<Lit>, Memory> {
         let mut lits = Vec::new(alloc);

@@ -8,6 +8,7 @@ mod hinting;
 mod hints;
 mod hull_queries;
 mod hulls;
+mod joining;
 mod moving;
 mod proposing;
 mod shrinking;

@@ -74,6 +74,16 @@ impl Tries {
         take(lent, &mut self.part, &mut self.met, cube, nodes)
     }
 
+    /// An instance that was met whose head lies in the cube: its clause and its point.
+    pub fn met_in(&self, cube: &Cube) -> Option<(u32, &[i64])> {
+        for one in self.met.as_slice() {
+            if cube.holds(one.tuple.as_slice()) {
+                return Some((one.seen.clause(), one.seen.point()));
+            }
+        }
+        None
+    }
+
     /// The lemma as it stands now.
     pub fn part(&self) -> &LemmaPart
         ensures { result.now ≡ part_of self.now }

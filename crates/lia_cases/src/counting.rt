@@ -2,10 +2,13 @@
 
 use lin_atoms::Form;
 
+/// How many literals of lemmas join at once at most.
+const MOST_OF_LEMMAS: usize = 16;
+
 /// How many literals the flattened formula has. More than 2^64 - 1 count as 2^64 - 1: a search takes as
 /// many as there are.
 #[cycle(literals)]
-pub(crate) fn literals(form: &Form) -> usize {
+fn literals(form: &Form) -> usize {
     match form {
         Form::True => 0,
         Form::False => 1,
@@ -22,4 +25,11 @@ fn all_literals(parts: &[Form]) -> usize {
         count = count.saturating_add(literals(part));
     }
     count
+}
+
+/// How many literals of a flattened formula and its lemmas join at once: the formula's, and the first ones
+/// that are lemmas.
+pub(crate) fn first_literals(form: &Form, lemmas: &[Form]) -> usize {
+    let own = literals(form);
+    own.saturating_add(all_literals(lemmas).min(MOST_OF_LEMMAS))
 }

@@ -6,7 +6,7 @@ ghost use Rattle.lin_atoms.specs.Truth.{is_below};
 ghost use Rattle.lin_atoms.specs.declared.form.Form.TheViews.{And};
 ghost use Rattle.lia_search.specs.Decides.{Decides, has_short_multiples};
 
-use crate::counting::literals;
+use crate::counting::first_literals;
 use base::{Copied, Items, Memory};
 use lia_search::{Decision, search};
 use lin_atoms::Form;
@@ -38,7 +38,7 @@ pub fn decide_owned(
     requires some { 0 < nodes }
     ensures { IfOk result (λ decision. Decides (And (form ∷ lemmas)) vars nodes decision) }
 {
-    let taken = literals(&form);
+    let taken = first_literals(&form, lemmas.as_slice());
     let whole = conjunction(alloc, form, lemmas)?;
     let decision = search(alloc, whole, taken, vars, nodes)?;
     Ok(decision)
@@ -58,8 +58,8 @@ fn copies(alloc: Global, lemmas: &[Form]) -> Result<Items<Form>, Memory>
 /// Decides whether an integer point makes the formula and all lemmas true: a point of `vars` integers,
 /// a refutation of the conjunction of the formula and of each lemma in order, or evidence that this
 /// conjunction was given up, with at most `nodes` inner nodes of a split tree. The formula's literals
-/// join at once; a lemma's literals join where a point breaks them, and a disjunction is split where a
-/// point breaks it. The variables are below `vars`, which is at most 2,048, `nodes` is at least 1, and
+/// and those of the first lemmas that are one literal join at once; other lemmas' literals join where a
+/// point breaks them, and a disjunction is split where a point breaks it. The variables are below `vars`, which is at most 2,048, `nodes` is at least 1, and
 /// the constant of each divisibility is below 2^63 in magnitude.
 pub fn decide(
     alloc: Global,
