@@ -33,12 +33,7 @@ fn has(lits: &[Lit], lit: &Lit) -> bool {
 }
 
 /// Adds the literals of the cube that are true at the tuple.
-fn push_true(
-    alloc: Global,
-    lits: &mut Vec<Lit>,
-    cube: &Cube,
-    tuple: &[i64],
-) -> Result<(), Memory> {
+fn push_true(alloc: Global, lits: &mut Vec<Lit>, cube: &Cube, tuple: &[i64]) -> Result<(), Memory> {
     for lit in cube.lits() {
         if lit.holds(tuple) && !has(lits.as_slice(), lit) {
             lits.push(lit.copy(alloc)?)?;

@@ -55,12 +55,12 @@ fn copies(alloc: Global, lemmas: &[Form]) -> Result<Items<Form>, Memory>
     Ok(copied)
 }
 
-/// Decides whether an integer point makes the formula and all lemmas true: a point of `vars` integers,
-/// a refutation of the conjunction of the formula and of each lemma in order, or evidence that this
-/// conjunction was given up, with at most `nodes` inner nodes of a split tree. The formula's literals
-/// and those of the first lemmas that are one literal join at once; other lemmas' literals join where a
-/// point breaks them, and a disjunction is split where a point breaks it. The variables are below `vars`, which is at most 2,048, `nodes` is at least 1, and
-/// the constant of each divisibility is below 2^63 in magnitude.
+/// Decides whether an integer point makes the formula and all lemmas true: a point of `vars` integers, a
+/// refutation of the conjunction of the formula and of each lemma in order, or evidence that this conjunction
+/// was given up, with at most `nodes` inner nodes of a split tree. The formula's literals and those of the
+/// first lemmas that are one literal join at once; other lemmas' literals join where a point breaks them, and
+/// a disjunction is split where a point breaks it. The variables are below `vars`, which is at most 2,048,
+/// `nodes` is at least 1, and the constant of each divisibility is below 2^63 in magnitude.
 pub fn decide(
     alloc: Global,
     form: &Form,

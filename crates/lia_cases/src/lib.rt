@@ -1,4 +1,4 @@
-//! The integer solver on a formula with lemmas, which are taken in only where a point breaks them.
+//! The integer solver on a formula with lemmas, most of which are taken in only where a point breaks them.
 #![tactic(auto)]
 
 mod asking;
