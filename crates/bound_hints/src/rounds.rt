@@ -17,7 +17,7 @@ const WORK_OF_A_UNIT: u32 = 16;
 const FIRST_WORK: u32 = 6_000;
 
 /// The least that another may take.
-const LEAST_WORK: u32 = 1_400;
+const LEAST_WORK: u32 = 4_000;
 
 /// The most.
 const MOST_WORK: u32 = 120_000;
@@ -57,8 +57,8 @@ fn level_of(round: u32) -> u32 {
 fn size_of(round: u32) -> Size {
     let (conditions, bounds) = match round {
         0 => (0, 150),
-        1 => (6, 250),
-        2 => (12, 500),
+        1 => (12, 250),
+        2 => (24, 500),
         _ => (24, 1_000),
     };
     Size {
