@@ -76,11 +76,21 @@ fn are_bounds(lits: &[Lit]) -> bool {
     true
 }
 
-/// The same of the kind that the lemma's cube has: of one literal about residues none, and by residues
+/// Whether all literals say something of residues.
+fn are_of_residues(lits: &[Lit]) -> bool {
+    for lit in lits {
+        if !is_of_residues(lit) {
+            return false;
+        }
+    }
+    true
+}
+
+/// The same of the kind that the lemma's cube has: of literals about residues alone none, and by residues
 /// only where the cube has more than bounds.
 fn shut_out_alike(lent: &Lent, part: &LemmaPart, hints: &Hints) -> Result<Vec<Cube>, Memory> {
     let lits = part.lemma.cube().lits();
-    if lits.len() == 1 && is_of_residues(&lits[0]) {
+    if lits.len() > 0 && are_of_residues(lits) {
         return Ok(Vec::new(lent.alloc));
     }
     shut_out(lent, part, hints, !are_bounds(lits))
@@ -120,8 +130,8 @@ pub fn propose_hulls(
     with_one_of(lent, part, cubes.as_slice(), nodes)
 }
 
-/// The same with fewer cubes, for a lemma as its turn gave it: a cube of one literal about residues stays,
-/// and residues are tried only in the place of a cube that has more than bounds.
+/// The same with fewer cubes, for a lemma as its turn gave it: a cube of literals about residues stays, and
+/// residues are tried only in the place of a cube that has more than bounds.
 pub fn propose_alike(
     lent: &Lent,
     part: LemmaPart,
