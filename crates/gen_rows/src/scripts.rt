@@ -11,14 +11,27 @@ use term_tree::{Script, TermId};
 /// Depths and seeds, among them the least and the greatest.
 const CASES: [(u32, u32); 5] = [(0, 0), (8, 7), (12, 2_147_483_647), (3, 1), (1, 1_000_000)];
 
+/// Both scripts have a node of that number, and it is the same.
+fn check_node(
+    rt: &impl Abort,
+    alloc: Global,
+    read: &Script,
+    made: &Script,
+    index: u32,
+) -> Result<(), Fail> {
+    assert!(rt; (index as usize) < read.terms.len(), "a node that is read");
+    assert!(rt; (index as usize) < made.terms.len(), "a node that is made");
+    let a = format!(in alloc; "{:?}", read.terms.node(TermId(index)))?;
+    let b = format!(in alloc; "{:?}", made.terms.node(TermId(index)))?;
+    assert!(rt; a == b);
+    Ok(())
+}
+
 /// The scripts have equal nodes at equal numbers, and assert and declare the same.
 fn are_alike(rt: &impl Abort, alloc: Global, read: &Script, made: &Script) -> Result<(), Fail> {
     assert_eq!(rt; read.terms.len(), made.terms.len());
     for index in 0..39u32 {
-        let id = TermId(index);
-        let a = format!(in alloc; "{:?}", read.terms.node(id))?;
-        let b = format!(in alloc; "{:?}", made.terms.node(id))?;
-        assert!(rt; a == b);
+        check_node(rt, alloc, read, made, index)?;
     }
     let a = format!(in alloc; "{:?}", read.preds)?;
     let b = format!(in alloc; "{:?}", made.preds)?;
@@ -36,6 +49,10 @@ fn are_alike(rt: &impl Abort, alloc: Global, read: &Script, made: &Script) -> Re
 }
 
 fn check_case(rt: &impl Abort, alloc: Global, depth: u32, seed: u32) -> Result<(), Fail> {
+    assert!(rt;
+        depth <= 12 && seed < 2_147_483_648,
+        "a case within the ranges"
+    );
     let text = text_of(alloc, depth, seed)?;
     let checked = check_text(alloc, text.as_slice())?;
     let made = script_of(alloc, depth, seed)?;

@@ -14,6 +14,11 @@ fn check_case(
     units: u32,
     text: &[u8],
 ) -> Result<(), Fail> {
+    assert!(rt;
+        depth <= 12 && seed < 2_147_483_648,
+        "a case within the ranges"
+    );
+    assert!(rt; units <= 1_000_000, "units within their range");
     match answer_for(alloc, depth, seed, units, 2_000)? {
         Generated::Answered { text: printed, .. } => assert!(rt; printed.as_slice() == text),
         Generated::Unfinished { .. } => assert!(rt; false),
