@@ -54,7 +54,9 @@ fn check_case(rt: &impl Abort, alloc: Global, depth: u32, seed: u32) -> Result<(
         "a case within the ranges"
     );
     let text = text_of(alloc, depth, seed)?;
-    let checked = check_text(alloc, text.as_slice())?;
+    let bytes = text.as_slice();
+    assert!(rt; bytes.len() <= 16_777_216, "a text within the limit");
+    let checked = check_text(alloc, bytes)?;
     let made = script_of(alloc, depth, seed)?;
     assert!(rt; checked.stop.is_none());
     are_alike(rt, alloc, &checked.script, &made)
