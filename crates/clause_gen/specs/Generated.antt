@@ -1,5 +1,5 @@
--- A script whose one derivation of false is a full binary tree of the depth, over leaves whose numbers a linear
--- congruential step picks.
+-- The script of a depth and a seed: consecutive numbers are nodes of depth 0, the first of them picked by a linear
+-- congruential step; a node stands over its two children; and the root is no node of that depth.
 use Rattle.std.specs.Prelude.{ℕ, ◌+◌, ◌*◌, ◌%◌, ◌^◌, List, [], ◌∷◌, ◌++◌, codes, map, replicate, ℤ, pos}
 use Rattle.term_tree.specs.declared.sort.Sort.TheVariants.{Int}
 use Rattle.term_tree.specs.declared.node.TermId.{TermId}

@@ -1,4 +1,5 @@
-//! The script that a depth and a number give: its one derivation of false is a full binary tree.
+//! The script that a depth and a number give: the numbers from one on are nodes of depth 0, a node stands
+//! over its two children, and one number isn't a node of the depth.
 #![tactic(auto)]
 
 mod arena;

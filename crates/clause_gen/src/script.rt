@@ -87,8 +87,7 @@ fn preds(alloc: Global) -> Result<Items<Pred>, Memory>
     Ok(preds)
 }
 
-/// The script of that depth and seed. False has one derivation, a full binary tree of the depth over
-/// consecutive leaves, and the query: 2 to the power of `depth + 1` steps of height `depth + 2`.
+/// The script of that depth and seed.
 pub fn script_of(alloc: Global, depth: u32, seed: u32) -> Result<Script, Memory>
     requires depth { depth ≤ 12 }
     requires seed { seed < 2 ^ 31 }

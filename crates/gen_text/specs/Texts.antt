@@ -1,4 +1,4 @@
--- The text of the script whose one derivation of false is a full binary tree.
+-- The text of a generated script.
 use Rattle.std.specs.Prelude.{ℕ, ◌+◌, ◌*◌, ◌^◌, List, ◌++◌, codes, decimal}
 use Rattle.clause_gen.specs.Generated.{start_of}
 
