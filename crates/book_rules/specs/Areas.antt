@@ -1,8 +1,9 @@
 -- Areas and cubes of obligations (Komuravelli, Gurfinkel and Chaki, section 4: an obligation is opened on a projection, so
 -- that each point of its cube extends to an instance whose head the parent holds). Numbers have no bound here: a form in
 -- which added coefficients reach 2 ^ 63 in magnitude equals none that is kept.
-use Rattle.std.specs.Prelude.{ℕ, ℤ, pos, negsuc, neg_ℤ, nat_abs, ◌+◌, ◌^◌, List, [], ◌∷◌, ◌++◌, map, Bool, true, false, ◌&&◌, ◌||◌, nat_le, nat_lt, ◌==◌, if◌then◌else◌}
+use Rattle.std.specs.Prelude.{ℕ, ℤ, pos, negsuc, neg_ℤ, nat_abs, ◌+◌, List, [], ◌∷◌, ◌++◌, map, Bool, true, false, ◌&&◌, ◌||◌, nat_le, nat_lt, ◌==◌, if◌then◌else◌}
 use Rattle.std.specs.List.{list_any, list_all}
+use Rattle.base.specs.Widths.{thin_limit}
 use Rattle.lin_atoms.specs.Algebra.{renamed}
 use Rattle.lin_atoms.specs.Denial.{linear_of}
 use Rattle.lin_atoms.specs.declared.lit.Lit.{Lit}
@@ -103,4 +104,4 @@ point_cube tuple = point_cube_from 0 tuple
 
 -- whether a coefficient is 2 ^ 54 or more in magnitude
 abbrev pub is_wide : List Lit → Bool
-is_wide cube = list_any (λ lit. list_any (λ t. nat_le (2 ^ 54) (nat_abs t.1)) (linear_of lit).terms) cube
+is_wide cube = list_any (λ lit. list_any (λ t. nat_le thin_limit (nat_abs t.1)) (linear_of lit).terms) cube

@@ -1,9 +1,9 @@
 -- Cubes and lemmas of property directed reachability (Hoder and Bjorner, "Generalized property directed reachability",
 -- section 2; Komuravelli, Gurfinkel and Chaki, "SMT-based model checking for recursive programs", section 4): a cube is a
 -- conjunction of literals over the places of a predicate's arguments, a lemma the disjunction that denies it.
-use Rattle.std.specs.Prelude.{ℕ, ◌^◌, ℤ, List, [], ◌∷◌, map, Bool, ◌&&◌}
+use Rattle.std.specs.Prelude.{ℕ, ℤ, List, [], ◌∷◌, map, Bool, ◌&&◌}
 use Rattle.std.specs.List.{list_all, flat_map}
-use Rattle.base.specs.Widths.{is_short}
+use Rattle.base.specs.Widths.{is_short, thin_limit}
 use Rattle.lin_atoms.specs.Linear.{are_short, is_linear, variable_at}
 use Rattle.lin_atoms.specs.Algebra.{are_within, name_in, renamed}
 use Rattle.lin_atoms.specs.Denial.{denial, linear_of, lit_fits}
@@ -49,7 +49,7 @@ has_room args cube = list_all lit_fits (cube_at args cube)
 
 -- whether each coefficient is at most 2 ^ 54 in magnitude, in a form that the code can have
 abbrev pub lit_is_thin : Lit → Bool
-lit_is_thin lit = is_linear (linear_of lit) && are_within (2 ^ 54) (linear_of lit).terms
+lit_is_thin lit = is_linear (linear_of lit) && are_within thin_limit (linear_of lit).terms
 
 abbrev pub cube_is_thin : List Lit → Bool
 cube_is_thin cube = list_all lit_is_thin cube

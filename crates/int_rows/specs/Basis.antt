@@ -2,6 +2,7 @@
 use Rattle.std.specs.Prelude.{◌≡◌, ℕ, ◌+◌, ◌^◌, ◌<◌, ◌≤◌, List, [], ◌∷◌, ℤ, pos, ◌*ℤ◌, ◌<ℤ◌, ◌≤ℤ◌, nat_abs, nat_le, nat_lt, Bool, true, not, ◌&&◌, ◌==◌, length, slice_index_or, Option, Some, None, ◌⊎◌}
 use Rattle.std.specs.Int.{int_div_euclid}
 use Rattle.std.specs.List.{Contains, filter, list_all, list_any, range_with_len}
+use Rattle.base.specs.Widths.{numerator_limit}
 use Rattle.lin_atoms.specs.Ratio.{IsNumerator}
 use Rattle.int_rows.specs.Rows.{Follows, SolvesAll, entry, is_primitive}
 
@@ -90,7 +91,7 @@ pub record MeetsBounds (system : System) (point : Point) : Type 0 where
 pub record IsWideNumerator (point : Point) (c : ℕ) : Type 0 where
   pub num : ℤ
   pub lowest : IsNumerator num (entry point.nums c) (pos point.den)
-  pub is_wide : 2 ^ 127 ≤ nat_abs num
+  pub is_wide : numerator_limit ≤ nat_abs num
 
 -- a coordinate of a variable at a vertex, which is a basic point that meets all bounds, whose floor has no room in the code
 pub record IsWideFloor (system : System) (point : Point) (c : ℕ) : Type 0 where

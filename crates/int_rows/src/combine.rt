@@ -3,6 +3,7 @@
 ghost use Rattle.std.specs.Prelude.{◌≡◌, ◌<◌, ◌≤◌, ◌^◌, ◌-ℤ◌, ◌*ℤ◌, ◌<ℤ◌, length, nat_abs, pos, true, IfSome, IsNone};
 ghost use Rattle.std.specs.Int.{int_div_euclid};
 ghost use Rattle.std.specs.List.{Contains};
+ghost use Rattle.base.specs.Widths.{numerator_limit};
 ghost use Rattle.int_rows.specs.Rows.{are_short, content};
 ghost use Rattle.int_rows.specs.Pivot.{combined, reduced};
 
@@ -25,7 +26,7 @@ fn combination(p: i64, x: i64, q: i64, y: i64) -> i128
     requires q { nat_abs q < 2 ^ 63 }
     requires y { nat_abs y < 2 ^ 63 }
     ensures value { result ≡ p *ℤ x -ℤ q *ℤ y }
-    ensures bound { nat_abs result < 2 ^ 127 }
+    ensures bound { nat_abs result < numerator_limit }
 {
     product(p, x) - product(q, y)
 }
@@ -37,7 +38,7 @@ fn sparse_combination(p: i64, x: i64, q: i64, y: i64) -> i128
     requires q { nat_abs q < 2 ^ 63 }
     requires y { nat_abs y < 2 ^ 63 }
     ensures value { result ≡ p *ℤ x -ℤ q *ℤ y }
-    ensures bound { nat_abs result < 2 ^ 127 }
+    ensures bound { nat_abs result < numerator_limit }
 {
     if y == 0 && p == 1 {
         i128::from(x)
@@ -86,7 +87,7 @@ pub(crate) fn combined_content(p: i64, row: &[i64], q: i64, other: &[i64]) -> u1
     requires other { are_short other.now ≡ true }
     requires same { length row.now ≡ length other.now }
     ensures is { result ≡ content (combined p q row.now other.now) }
-    ensures bound { result < 2 ^ 127 }
+    ensures bound { result < numerator_limit }
 {
     let mut divisor: u128 = 0;
     for (i, x) in row.iter().enumerate() {

@@ -2,6 +2,7 @@
 
 ghost use Rattle.std.specs.Prelude.{◌≡◌, ◌<◌, ◌≤◌, ◌^◌, ◌-ℤ◌, ◌*ℤ◌, ◌<ℤ◌, ◌==◌, length, nat_abs, pos, true, false, IfSome, IsNone};
 ghost use Rattle.std.specs.List.{Contains};
+ghost use Rattle.base.specs.Widths.{numerator_limit};
 ghost use Rattle.int_rows.specs.Rows.{are_short, content, entry};
 ghost use Rattle.int_rows.specs.Pivot.{crossed, eliminated, turned};
 
@@ -37,7 +38,7 @@ pub(crate) fn entry(row: &[i64], column: usize) -> i64
 
 /// A positive number that has room.
 fn signed(n: u128) -> i128
-    requires { n < 2 ^ 127 }
+    requires { n < numerator_limit }
     ensures { result ≡ pos n }
 {
     n as i128

@@ -2,6 +2,7 @@ ghost use Rattle.std.specs.Prelude.{◌≡◌, ◌+◌, ◌^◌, ◌<◌, ◌≤
 ghost use Rattle.std.specs.Int.{int_signum, int_rem_euclid, int_div_euclid, IsGcd, w128};
 ghost use Rattle.std.specs.Option.{SomeIff};
 ghost use Rattle.std.specs.Ordering.{int_cmp};
+ghost use Rattle.base.specs.Widths.{numerator_limit};
 ghost use Rattle.lin_atoms.specs.Multiples.{is_multiple};
 ghost use Rattle.lin_atoms.specs.Ratio.{IsLowest, IsNumerator};
 
@@ -154,8 +155,8 @@ impl Accumulator {
         requires { pos 0 <ℤ den }
         ensures same { IfSome result (λ q. q.num *ℤ den ≡ self.now.value *ℤ q.den) }
         ensures lowest { IfSome result (λ q. IsLowest q) }
-        ensures above { IfSome result (λ q. nat_abs q.num < 2 ^ 127) }
-        ensures wide { IsNone result → (num : ℤ) → IsNumerator num self.now.value den → 2 ^ 127 ≤ nat_abs num }
+        ensures above { IfSome result (λ q. nat_abs q.num < numerator_limit) }
+        ensures wide { IsNone result → (num : ℤ) → IsNumerator num self.now.value den → numerator_limit ≤ nat_abs num }
     {
         let divisor = self.common_divisor(den);
         match self.quotient(divisor).to_i128() {

@@ -1,4 +1,5 @@
-ghost use Rattle.std.specs.Prelude.{◌≡◌, ◌^◌, ◌<◌, ◌*ℤ◌, ◌<ℤ◌, ◌≤ℤ◌, ◌%◌, ℤ, pos, nat_abs, int_lt};
+ghost use Rattle.std.specs.Prelude.{◌≡◌, ◌<◌, ◌*ℤ◌, ◌<ℤ◌, ◌≤ℤ◌, ◌%◌, ℤ, pos, nat_abs, int_lt};
+ghost use Rattle.base.specs.Widths.{numerator_limit};
 ghost use Rattle.lin_atoms.specs.Ratio.{IsLowest};
 
 use crate::floor::floor_div;
@@ -14,7 +15,8 @@ pub struct Ratio {
 }
 
 impl Model for Ratio {
-    ghost use Rattle.std.specs.Prelude.{◌<◌, ◌^◌, nat_abs};
+    ghost use Rattle.std.specs.Prelude.{◌<◌, nat_abs};
+    ghost use Rattle.base.specs.Widths.{numerator_limit};
     ghost use Rattle.lin_atoms.specs.Ratio.{Fraction, IsLowest};
 
     ghost Value = { Fraction };
@@ -23,14 +25,14 @@ impl Model for Ratio {
 
     ghost inverse = { λ q. record { num = q.num; den = q.den } };
 
-    ghost invariant = { λ q. (nat_abs q.num < 2 ^ 127) × IsLowest (record { num = q.num; den = q.den }) };
+    ghost invariant = { λ q. (nat_abs q.num < numerator_limit) × IsLowest (record { num = q.num; den = q.den }) };
 }
 
 /// The quotient of two numbers, the first of them signed, by a common divisor.
 fn reduced(num: i128, den: i128, divisor: u128) -> (i128, i128)
-    requires above { nat_abs num < 2 ^ 127 }
+    requires above { nat_abs num < numerator_limit }
     requires positive { pos 0 <ℤ den }
-    requires divisor { (0 < divisor) × (divisor < 2 ^ 127) }
+    requires divisor { (0 < divisor) × (divisor < numerator_limit) }
     requires num { nat_abs num % divisor ≡ 0 }
     requires den { nat_abs den % divisor ≡ 0 }
     ensures num { result.0 *ℤ pos divisor ≡ num }
@@ -43,11 +45,11 @@ fn reduced(num: i128, den: i128, divisor: u128) -> (i128, i128)
 impl Ratio {
     /// The quotient in lowest terms.
     pub fn new(num: i128, den: i128) -> Ratio
-        requires above { nat_abs num < 2 ^ 127 }
+        requires above { nat_abs num < numerator_limit }
         requires positive { pos 0 <ℤ den }
         ensures same { result.num *ℤ den ≡ num *ℤ result.den }
         ensures lowest { IsLowest result }
-        ensures above { nat_abs result.num < 2 ^ 127 }
+        ensures above { nat_abs result.num < numerator_limit }
     {
         let divisor = gcd(num.unsigned_abs(), den.unsigned_abs());
         let (num, den) = reduced(num, den, divisor);
@@ -56,7 +58,7 @@ impl Ratio {
 
     /// The number with this numerator and denominator, which are in lowest terms.
     pub(crate) fn of_lowest(num: i128, den: i128) -> Ratio
-        requires above { nat_abs num < 2 ^ 127 }
+        requires above { nat_abs num < numerator_limit }
         requires lowest { IsLowest (record { num = num; den = den }) }
         ensures { result ≡ record { num = num; den = den } }
     {
@@ -66,7 +68,7 @@ impl Ratio {
     /// The numerator.
     pub fn num(&self) -> i128
         ensures value { result ≡ self.now.num }
-        ensures above { nat_abs result < 2 ^ 127 }
+        ensures above { nat_abs result < numerator_limit }
         ensures lowest { IsLowest self.now }
     {
         self.num

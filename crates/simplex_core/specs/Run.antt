@@ -1,9 +1,10 @@
 -- The run of the simplex with bounds under the rule of the least number (Bland, New Finite Pivoting Rules for the Simplex Method, 1977; with bounds on all columns: Dutertre and de Moura, A Fast Linear-Arithmetic Solver for DPLL(T), section 3).
-use Rattle.std.specs.Prelude.{ℕ, zero, suc, ◌*◌, ◌^◌, List, [], ◌∷◌, map, find, position, take, ℤ, pos, neg_ℤ, ◌*ℤ◌, int_lt, nat_abs, nat_le, Bool, true, false, not, ◌&&◌, ◌||◌, ◌==◌, slice_index_or, slice_set, Option, Some, None, is_some, option_map, if◌then◌else◌}
+use Rattle.std.specs.Prelude.{ℕ, zero, suc, ◌*◌, List, [], ◌∷◌, map, find, position, take, ℤ, pos, neg_ℤ, ◌*ℤ◌, int_lt, nat_abs, nat_le, Bool, true, false, not, ◌&&◌, ◌||◌, ◌==◌, slice_index_or, slice_set, Option, Some, None, is_some, option_map, if◌then◌else◌}
 use Rattle.std.specs.Int.{int_div_euclid}
 use Rattle.std.specs.List.{list_all, range_with_len}
 use Rattle.std.specs.Option.{option_map_or, unwrap_or}
 use Rattle.std.specs.Ordering.{int_eq}
+use Rattle.base.specs.Widths.{numerator_limit}
 use Rattle.lin_atoms.specs.Linear.{is_short}
 use Rattle.lin_atoms.specs.Ratio.{Fraction}
 use Rattle.int_rows.specs.Basis.{bound, is_in}
@@ -70,7 +71,7 @@ coordinates m = map (coordinate_at m) (columns m.table)
 
 -- whether the value has no room: in lowest terms its numerator is 2^127 or more in magnitude
 unfoldable pub is_wide : Fraction → Bool
-is_wide q = nat_le (2 ^ 127 * content (q.num ∷ q.den ∷ [])) (nat_abs q.num)
+is_wide q = nat_le (numerator_limit * content (q.num ∷ q.den ∷ [])) (nat_abs q.num)
 
 -- whether the value, rounded down, is 2^63 or more in magnitude
 abbrev pub has_wide_floor : Fraction → Bool

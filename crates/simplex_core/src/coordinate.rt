@@ -2,6 +2,7 @@ ghost use Rattle.std.specs.Prelude.{◌≡◌, ◌^◌, ◌<◌, ◌≤◌, ◌+
 ghost use Rattle.std.specs.Int.{IsGcd, int_div_euclid};
 ghost use Rattle.std.specs.List.{list_all};
 ghost use Rattle.std.specs.Ordering.{int_cmp};
+ghost use Rattle.base.specs.Widths.{numerator_limit};
 ghost use Rattle.lin_atoms.specs.Linear.{is_long, is_short};
 ghost use Rattle.lin_atoms.specs.Ratio.{Fraction, IsLowest, IsNumerator};
 ghost use Rattle.int_rows.specs.Rows.{entry};
@@ -137,8 +138,8 @@ impl Coordinate {
     pub fn ratio(&self) -> Option<Ratio>
         ensures same { IfSome result (λ q. q.num *ℤ self.now.den ≡ self.now.num *ℤ q.den) }
         ensures lowest { IfSome result (λ q. IsLowest q) }
-        ensures above { IfSome result (λ q. nat_abs q.num < 2 ^ 127) }
-        ensures wide { IsNone result → (num : ℤ) → IsNumerator num self.now.num self.now.den → 2 ^ 127 ≤ nat_abs num }
+        ensures above { IfSome result (λ q. nat_abs q.num < numerator_limit) }
+        ensures wide { IsNone result → (num : ℤ) → IsNumerator num self.now.num self.now.den → numerator_limit ≤ nat_abs num }
     {
         self.sum.ratio(self.den)
     }

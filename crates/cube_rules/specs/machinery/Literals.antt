@@ -1,6 +1,7 @@
 -- Literals with room, as the code compares them: one that has none is equal to no literal that is kept.
-use Rattle.std.specs.Prelude.{ℕ, ℤ, ◌^◌, nat_abs, List, [], filter, Bool, true, ◌&&◌, ◌||◌, ◌==◌, nat_le, if◌then◌else◌}
+use Rattle.std.specs.Prelude.{ℕ, ℤ, nat_abs, List, [], filter, Bool, true, ◌&&◌, ◌||◌, ◌==◌, nat_le, if◌then◌else◌}
 use Rattle.std.specs.List.{flat_map, list_all}
+use Rattle.base.specs.Widths.{thin_limit}
 use Rattle.lin_atoms.specs.Denial.{lit_fits}
 use Rattle.lin_atoms.specs.declared.lit.Lit.{Lit}
 use Rattle.lin_atoms.specs.declared.form.Form.{Form}
@@ -46,4 +47,4 @@ are_placed clause cube es k area =
 
 -- whether a coefficient is 2 ^ 54 or more in magnitude
 abbrev pub is_wide_term : ℕ × ℤ → Bool
-is_wide_term t = nat_le (2 ^ 54) (nat_abs t.1)
+is_wide_term t = nat_le thin_limit (nat_abs t.1)
