@@ -3,20 +3,24 @@
 ones wrong.
 
 Prints a row for each script: the answer, how many steps or definitions it has, and the seconds of processor
-time of `solve` and of `check`. Each printed answer must be valid.
+time of `solve` and of `check`. Each printed answer must be valid, and the check of definitions may take no
+longer than the search for them, times below 0.05 s counted as that.
 
 Then each answer is spoilt some times (`--spoilt`), one number moved by one or one premise made another, as a
 seeded generator chooses. What `check` says of it is held to this:
 
-- of a derivation, `wrong` at the very step that was spoilt, since those before it are as they were;
+- of a derivation, `wrong` at the very step that was spoilt, since those before it are as they were, where z3
+  doesn't find that it follows all the same (such a one is looked at by hand: premises have their order);
 - of definitions, `wrong` at an assertion that z3 finds false under them, at the values that are told, and
   none before it;
-- `valid`, where z3 finds the spoilt step or all assertions true;
-- `wrong` at a byte, where the spoilt text is no answer: a number that is none there, or is too large;
+- `valid`, where z3 finds the spoilt step and those that rest on it, or all assertions, true;
+- `wrong` at a byte of the spoilt line, where its text is no answer: a number that is none there, or is too
+  large;
 - `not shown`, which claims nothing and is counted.
 
-Without z3 what needs it is counted as not looked at. Fails at a printed answer that isn't valid, or at
-anything else said of a spoilt one."""
+Without z3 what needs it is counted as not looked at. Fails at a printed answer that isn't valid, at a check of
+definitions that takes longer than the search, at anything else said of a spoilt answer, or where the answers
+of fewer scripts are spoilt than `--least` says."""
 
 import argparse
 import os
@@ -30,6 +34,8 @@ import tempfile
 from measure import chc_program, run, run_on
 
 MARKER = b"\n;;answer\n"
+TIMED_OUT = (-9, -24)
+SHORTEST = 0.05
 NUMBER = re.compile(r"\(- \d+\)|(?<![^\s()])\d+(?![^\s()])")
 STEP = re.compile(r"\(step (\d+) (\d+) \((.*?)\) \(([\d ]*)\) (.*)\)")
 WRONG = re.compile(r"wrong\n; (?:step (\d+)|assertion (\d+) at \((.*)\)|byte (\d+))\n")
@@ -53,8 +59,12 @@ def trees(text):
 
 
 def shown(tree):
-    """A tree as text."""
-    return tree if isinstance(tree, str) else "(" + " ".join(map(shown, tree)) + ")"
+    """A tree as text. Divisibility is told by a remainder, since not every z3 has the former."""
+    if isinstance(tree, str):
+        return tree
+    if len(tree) == 2 and isinstance(tree[0], list) and tree[0][:2] == ["_", "divisible"]:
+        return f"(= (mod {shown(tree[1])} {tree[0][2]}) 0)"
+    return "(" + " ".join(map(shown, tree)) + ")"
 
 
 def items(text):
@@ -102,10 +112,14 @@ class Script:
         """Whether the assertion is false under the definitions at these values."""
         return self.is_sure(definitions, [instance(self.asserted[number - 1], values)])
 
-    def follows(self, line, heads):
-        """Whether the step's conclusion follows from those of its premises by its assertion at its values."""
-        _, assertion, values, premises, head = STEP.fullmatch(line).groups()
-        known = [heads[int(it) - 1] for it in premises.split()]
+    def follows(self, steps, number):
+        """Whether the conclusion of the step at this place follows from those of its premises by its assertion at
+        its values; None where its numbers are none of steps before it or of assertions, too."""
+        own, assertion, values, premises, head = STEP.fullmatch(steps[number - 1]).groups()
+        premises = [int(it) for it in premises.split()]
+        if int(own) != number or not 0 < int(assertion) <= len(self.asserted) or not all(0 < it < number for it in premises):
+            return None
+        known = [STEP.fullmatch(steps[it - 1])[5] for it in premises]
         return self.is_sure(self.declared, [*known, instance(self.asserted[int(assertion) - 1], items(values)), f"(not {head})"])
 
 
@@ -145,29 +159,45 @@ def spoil(lines, chance):
     return (at, [*lines[:at], new, *lines[at + 1 :]]) if new and new != line else None
 
 
-def judge_steps(script, at, lines, said):
-    """What is to be said of a derivation whose step in this line is spoilt: a word, and whether it is right."""
-    wrong = WRONG.fullmatch(said)
+def together(found):
+    """False where one is False, else None where one is None, else True."""
+    return False if False in found else None if None in found else True
+
+
+def judge_steps(script, number, lines, said):
+    """What is to be said of a derivation whose step of that number is spoilt: a word, and whether it is right."""
+    wrong, steps = WRONG.fullmatch(said), [it for it in lines if it.startswith("(step ")]
     if said == "valid\n":
-        heads = [STEP.fullmatch(it)[5] for it in lines if it.startswith("(step ")]
-        return "valid", script.follows(lines[at], heads)
+        others = [it + 1 for it, line in enumerate(steps) if str(number) in STEP.fullmatch(line)[4].split()]
+        return "valid", together([script.follows(steps, it) for it in [number, *others]])
     if wrong and wrong[1]:
-        return "step", int(wrong[1]) == at - 1
-    return ("byte", True) if wrong and wrong[4] else (said.strip(), said.startswith("not shown\n"))
+        return "step", int(wrong[1]) == number and (None if script.follows(steps, number) else True)
+    return said.strip(), said.startswith("not shown\n")
 
 
-def judge_definitions(script, lines, said):
-    """What is to be said of definitions of which one is spoilt: a word, and whether it is right."""
-    definitions, wrong = [it for it in lines if it.startswith("(define-fun ")], WRONG.fullmatch(said)
+def judge_definitions(script, definitions, said):
+    """What is to be said of these definitions: a word, and whether it is right."""
+    wrong = WRONG.fullmatch(said)
+    definitions = [shown(it) for it in trees(" ".join(definitions))]
     if said == "valid\n":
-        found = [script.is_true(definitions, it) for it in range(1, len(script.asserted) + 1)]
-        return "valid", False if False in found else None if None in found else True
+        return "valid", together([script.is_true(definitions, it) for it in range(1, len(script.asserted) + 1)])
     if wrong and wrong[2]:
         number = int(wrong[2])
         found = [script.is_true(definitions, it) for it in range(1, number)]
         found.append(script.is_false_at(definitions, number, items(wrong[3])))
-        return "instance", False if False in found else None if None in found else True
-    return ("byte", True) if wrong and wrong[4] else (said.strip(), said.startswith("not shown\n"))
+        return "instance", together(found)
+    return said.strip(), said.startswith("not shown\n")
+
+
+def judge(script, at, lines, said):
+    """What is to be said of an answer of which this line is spoilt: a word, and whether it is right."""
+    wrong = WRONG.fullmatch(said)
+    if wrong and wrong[4]:
+        begins = len(script.text.encode() + MARKER) + len("\n".join([*lines[:at], ""]).encode())
+        return "byte", begins <= int(wrong[4]) < begins + len(lines[at].encode())
+    if lines[0] == "unsat":
+        return judge_steps(script, at - 1, lines, said)
+    return judge_definitions(script, [it for it in lines if it.startswith("(define-fun ")], said)
 
 
 def checked(program, script, answer, seconds):
@@ -178,48 +208,69 @@ def checked(program, script, answer, seconds):
         return run_on([program, "check"], given, seconds)
 
 
-def try_spoilt(words, name, script, answer, counts):
-    """Spoils an answer some times, counts what is said of it, and prints what is not right."""
+class Tally:
+    """What was found over all scripts."""
+
+    def __init__(self):
+        self.counts, self.faults, self.spoilt, self.seconds = {}, 0, set(), {}
+
+    def add(self, word, is_right):
+        """Counts what was said of a spoilt answer."""
+        word = "not shown" if word.startswith("not shown") else word
+        key = word if is_right else f"{word}, not looked at" if is_right is None else "not right"
+        self.counts[key] = self.counts.get(key, 0) + 1
+
+    def add_times(self, kind, solving, checking):
+        ours = self.seconds.setdefault(kind, [0, 0, 0])
+        self.seconds[kind] = [ours[0] + 1, ours[1] + solving, ours[2] + checking]
+
+    def show(self):
+        for kind, (number, solving, checking) in sorted(self.seconds.items()):
+            ratio = f"{checking / solving:.3f}" if solving else "-"
+            print(f"{number} {kind}: solved in {solving:.2f} s, checked in {checking:.2f} s, {ratio} times")
+        found = ", ".join(f"{number} {what}" for what, number in sorted(self.counts.items())) or "none"
+        print(f"spoilt answers of {len(self.spoilt)} scripts: {found}")
+
+
+def try_spoilt(words, name, script, answer, tally):
+    """Spoils an answer some times, counts what is said of it, and prints what isn't right or wasn't looked at."""
     chance = random.Random(f"{words.seed} {name}")
     lines = answer.split("\n")
     if not any(it.startswith(("(step ", "(define-fun ")) for it in lines):
-        return 0
-    faults = 0
+        return
     for _ in range(words.spoilt):
         spoilt = spoil(lines, chance)
         if spoilt is None:
             continue
         at, new = spoilt
         ran = checked(words.program, script.text, "\n".join(new), words.seconds)
-        said = ran.output.decode()
-        if ran.status in (-9, -24):
-            said = "not shown\n"
-        word, is_right = judge_steps(script, at, new, said) if answer.startswith("unsat") else judge_definitions(script, new, said)
-        word = "not shown" if word.startswith("not shown") else word
-        key = word if is_right else f"{word}, not looked at" if is_right is None else "not right"
-        counts[key] = counts.get(key, 0) + 1
-        if is_right is False:
-            faults += 1
+        said = "not shown\n" if ran.status in TIMED_OUT else ran.output.decode()
+        word, is_right = judge(script, at, new, said)
+        tally.add(word, is_right)
+        tally.spoilt.add(name)
+        if is_right is False or (is_right is None and words.tell):
+            tally.faults += is_right is False
             print(f"{name}: {new[at]}\n    was {lines[at]}\n    and check says {said!r}")
-    return faults
 
 
-def try_script(words, path, solver, counts):
-    """Solves one script, has the answer checked, prints the row, and returns how much isn't right."""
+def try_script(words, path, solver, tally):
+    """Solves one script, has the answer checked and spoilt, and prints the row."""
     name = os.path.basename(path).removesuffix(".smt2")
     solved = run([words.program, "solve"], path, words.seconds)
     answer = solved.output.decode()
     kind = answer.split("\n", 1)[0]
     if solved.status != 0 or kind not in ("sat", "unsat"):
         print(f"{name:32} no answer to check")
-        return 0
+        return
     script = Script(path, solver)
     ran = checked(words.program, script.text, answer, words.seconds)
-    said = ran.output.decode().replace("\n", " ").strip()
-    said = "time" if ran.status in (-9, -24) else said
+    said = "time" if ran.status in TIMED_OUT else ran.output.decode().replace("\n", " ").strip()
     parts = answer.count("\n(step ") or answer.count("\n(define-fun ")
-    print(f"{name:32} {kind:>6} {parts:>7} {solved.seconds:8.2f} {ran.seconds:8.2f}  {said}", flush=True)
-    return int(said != "valid") + try_spoilt(words, name, script, answer, counts)
+    is_slow = kind == "sat" and ran.seconds > max(solved.seconds, SHORTEST)
+    print(f"{name:32} {kind:>6} {parts:>7} {solved.seconds:8.2f} {ran.seconds:8.2f}  {said}{', slow' * is_slow}", flush=True)
+    tally.faults += (said != "valid") + is_slow
+    tally.add_times(kind, solved.seconds, ran.seconds)
+    try_spoilt(words, name, script, answer, tally)
 
 
 def main():
@@ -229,15 +280,19 @@ def main():
     words.add_argument("--only", default="", help="scripts whose names have this")
     words.add_argument("--spoilt", type=int, default=5, help="times that each answer is spoilt")
     words.add_argument("--seed", type=int, default=1, help="of what is spoilt")
+    words.add_argument("--least", type=int, default=0, help="scripts whose answers must be spoilt")
+    words.add_argument("--tell", action="store_true", help="print the spoilt answers that weren't looked at, too")
     words = words.parse_args()
     words.program = chc_program()
-    solver, counts, faults = shutil.which("z3"), {}, 0
+    solver, tally = shutil.which("z3"), Tally()
     print(f"{'script':32} {'answer':>6} {'parts':>7} {'solve s':>8} {'check s':>8}  check")
     for name in sorted(it for it in os.listdir(words.folder) if it.endswith(".smt2") and words.only in it):
-        faults += try_script(words, os.path.join(words.folder, name), solver, counts)
-    print("spoilt answers:", ", ".join(f"{number} {what}" for what, number in sorted(counts.items())) or "none")
-    if faults:
-        sys.exit(f"{faults} not right")
+        try_script(words, os.path.join(words.folder, name), solver, tally)
+    tally.show()
+    if tally.faults:
+        sys.exit(f"{tally.faults} not right")
+    if len(tally.spoilt) < words.least:
+        sys.exit(f"the answers of {words.least} scripts were to be spoilt")
 
 
 if __name__ == "__main__":

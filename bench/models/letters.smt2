@@ -1,0 +1,10 @@
+; Names between bars, a predicate without arguments, and one that no assertion is about.
+(set-logic HORN)
+(declare-fun |the post is in| () Bool)
+(declare-fun |7 letters| (Int) Bool)
+(declare-fun parcel (Int Bool) Bool)
+(assert |the post is in|)
+(assert (=> |the post is in| (|7 letters| 7)))
+(assert (forall ((n Int)) (=> (and (|7 letters| n) (> n 0)) (|7 letters| (- n 1)))))
+(assert (not (|7 letters| 8)))
+(check-sat)
