@@ -4,6 +4,8 @@
 #include <dlfcn.h>
 #include <stdio.h>
 #include <stdlib.h>
+#include <sys/syscall.h>
+#include <unistd.h>
 
 static unsigned long count;
 static unsigned long refused;
@@ -29,6 +31,13 @@ __attribute__((destructor)) static void end(void) {
         fprintf(file, "%lu\n", total);
         fclose(file);
     }
+}
+
+/* The program may end by this, and then nothing is told to a library that it has loaded. */
+void _exit(int status) {
+    end();
+    for (;;)
+        syscall(SYS_exit_group, status);
 }
 
 void *malloc(size_t size) {
