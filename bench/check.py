@@ -10,7 +10,8 @@ Then each answer is spoilt some times (`--spoilt`), one number moved by one or o
 seeded generator chooses. What `check` says of it is held to this:
 
 - of a derivation, `wrong` at the very step that was spoilt, since those before it are as they were, where z3
-  doesn't find that it follows all the same (such a one is looked at by hand: premises have their order);
+  doesn't find that it follows all the same (such a one is looked at by hand: it may conclude what a premise
+  does, and premises have their order);
 - of definitions, `wrong` at an assertion that z3 finds false under them, at the values that are told, and
   none before it;
 - `valid`, where z3 finds the spoilt step and those that rest on it, or all assertions, true;
