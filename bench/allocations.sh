@@ -2,13 +2,15 @@
 # Refuses each allocation of a whole run of the program in turn, for each script given, or for the
 # examples, with a search that is short (5 units of work and 3 nodes of a query, or as UNITS and NODES
 # say). Each run must end as it does when none is refused, or with status 5 and what is written for want
-# of memory: the error line, or `unknown` with the level that was closed where there was a book. CHC names
-# a program to be run in place of the one that ./chc builds.
+# of memory: the error line, or `unknown` with the level that was closed where there was a book. WORDS are
+# other words, as `check`, for inputs of such a call, or `gen --depth 1 --seed 1`, which reads none. CHC
+# names a program to be run in place of the one that ./chc builds.
 set -e
 top=$(cd "$(dirname "$0")/.." && pwd)
 program=${CHC:-$top/crates/chc/out/chc}
 units=${UNITS:-5}
 nodes=${NODES:-3}
+words=${WORDS:-solve --units $units --nodes $nodes}
 [ -x "$program" ] || "$top/chc" solve </dev/null >/dev/null || [ -x "$program" ]
 work=$(mktemp -d)
 trap 'rm -rf "$work"' EXIT
@@ -19,7 +21,7 @@ cc -O2 -shared -fPIC -o "$work/refuse.so" "$top/bench/allocations.c" -ldl
 run() {
     status=0
     LD_PRELOAD=$work/refuse.so REFUSED=$2 COUNTED=$work/count \
-        "$program" solve --units "$units" --nodes "$nodes" <"$1" >"$work/$3" || status=$?
+        "$program" $words <"$1" >"$work/$3" || status=$?
 }
 
 # Whether that is what is written for want of memory.
