@@ -1,4 +1,5 @@
-//! Runs of a book by hand: each step is handed in, and its answer is known. It has nothing but tests.
+//! Cubes, tables, lemmas, facts and obligations, queries about clauses with the tokens that they give, and
+//! runs of a book by hand: each step is handed in, and its answer is known. It has nothing but tests.
 #![tactic(auto)]
 
 #[cfg(test)]
@@ -8,7 +9,19 @@ mod choices;
 #[cfg(test)]
 mod clauses;
 #[cfg(test)]
+mod cubes;
+#[cfg(test)]
+mod facts;
+#[cfg(test)]
+mod frames;
+#[cfg(test)]
+mod obligations;
+#[cfg(test)]
+mod queries;
+#[cfg(test)]
 mod rules;
+#[cfg(test)]
+mod tables;
 #[cfg(test)]
 mod tokens;
 #[cfg(test)]

@@ -6,10 +6,10 @@ ghost use Rattle.book_rules.specs.Instances.{body_at, head_at};
 ghost use Rattle.chc_tokens.specs.Kept.{seen_point};
 ghost use Rattle.base.specs.Limits.{most_arguments};
 ghost use Rattle.book_rules.specs.OpenRules.{atom_fits, clause_fits, clause_of, has_fact_in, is_cube, shut_out, rule_1, rule_2, rule_3, rule_4, rule_5, rule_6, rule_9, tuple_of, unknown, atom_of};
-ghost use Rattle.std.specs.List.{find, list_all};
+ghost use Rattle.std.specs.List.{find, list_all, list_any};
 ghost use Rattle.lin_atoms.specs.Denial.{lit_fits};
 ghost use Rattle.book_rules.specs.Walks.{first_number, first_told, has, on};
-ghost use Rattle.step_rules.specs.machinery.Walks.{is_unknown, lies_in, lies_in_at};
+ghost use Rattle.step_rules.specs.machinery.Walks.{fails_plainly_at, is_plain, is_unknown, lies_in, lies_in_at};
 ghost use Rattle.step_rules.specs.machinery.Told.{low_told, misfit_told, shut_told, unheld_told, unknown_told};
 ghost use Rattle.step_rules.specs.Taken.{open_of};
 ghost use Rattle.cube_rules.specs.Views.{framed_at, lemmas_of};
@@ -66,10 +66,38 @@ pub(crate) fn rule_2(parts: &Lent, step: &OpenPart) -> Option<By>
     told_of_level(step, parts.tree.obligation(step.parent))
 }
 
-/// Whether the literals hold the tuple.
+/// Whether the literal has no divisor.
+fn is_plain(lit: &Lit) -> bool
+    ensures { result ≡ is_plain lit.now }
+{
+    match lit {
+        Lit::Le(_) => true,
+        Lit::Eq(_) => true,
+        Lit::Div(_, _) => false,
+        Lit::NDiv(_, _) => false,
+    }
+}
+
+/// Whether a literal without a divisor fails at the tuple.
+fn fails_plainly(lits: &[Lit], tuple: &[i64]) -> bool
+    ensures { result ≡ list_any (fails_plainly_at tuple.now) lits.now }
+{
+    for lit in lits {
+        if is_plain(lit) && !lit.holds(tuple) {
+            return true;
+        }
+    }
+    false
+}
+
+/// Whether the literals hold the tuple. Those without a divisor are asked first, since a division is
+/// dear.
 fn all_hold(lits: &[Lit], tuple: &[i64]) -> bool
     ensures { result ≡ cube_holds tuple.now lits.now }
 {
+    if fails_plainly(lits, tuple) {
+        return false;
+    }
     for lit in lits {
         if !lit.holds(tuple) {
             return false;

@@ -1,7 +1,19 @@
-//! Texts and their trees, terms and their values, and the faults of terms, from outside the code. It
-//! has nothing but tests.
+//! Texts and their trees, terms and their values, the faults of terms, answers and their spelling, and
+//! assertions with their Horn clauses or first misfit. It has nothing but tests.
 #![tactic(auto)]
 
+#[cfg(test)]
+mod answer_printing;
+#[cfg(test)]
+mod answer_reading;
+#[cfg(test)]
+mod horn_clauses;
+#[cfg(test)]
+mod horn_forms;
+#[cfg(test)]
+mod horn_misfits;
+#[cfg(test)]
+mod horn_terms;
 #[cfg(test)]
 mod reading;
 #[cfg(test)]

@@ -1,6 +1,8 @@
 -- Tests of obligations and facts by their numbers, as the code tries them.
-use Rattle.std.specs.Prelude.{ℕ, ℤ, List, Bool, not, ◌&&◌, ◌==◌, nat_le, Some, slice_get}
+use Rattle.std.specs.Prelude.{ℕ, ℤ, List, Bool, true, false, not, ◌&&◌, ◌==◌, nat_le, Some, slice_get}
+use Rattle.lin_atoms.specs.Truth.{lit_truth}
 use Rattle.lin_atoms.specs.declared.lit.Lit.{Lit}
+use Rattle.lin_atoms.specs.declared.lit.Lit.TheVariants.{Le, Eq, Div, NDiv}
 use Rattle.cube_forms.specs.Cubes.{cube_holds}
 use Rattle.derivations.specs.declared.fact.Fact.{Fact as KeptFact}
 use Rattle.obligation_tree.specs.Nodes.{node_at}
@@ -28,6 +30,16 @@ twin_at nodes o tuple n = is_twin o tuple (obligation_of (node_at nodes n))
 
 abbrev pub child_at : List Node → ℕ → ℕ → Bool
 child_at nodes parent n = is_live_child parent (obligation_of (node_at nodes n))
+
+-- a literal without a divisor
+abbrev pub is_plain : Lit → Bool
+is_plain (Le lin) = true
+is_plain (Eq lin) = true
+is_plain (Div d lin) = false
+is_plain (NDiv d lin) = false
+
+abbrev pub fails_plainly_at : List ℤ → Lit → Bool
+fails_plainly_at tuple lit = is_plain lit && not (lit_truth tuple lit)
 
 -- a fact of the predicate in the cube
 abbrev pub lies_in : ℕ → List Lit → Fact → Bool

@@ -1,0 +1,2 @@
+mod SampleLemmas
+mod ReadLemmas
