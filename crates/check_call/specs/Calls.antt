@@ -4,8 +4,6 @@ use Rattle.std.specs.declared.option.Option.{Option}
 use Rattle.base.specs.Limits.{most_bytes}
 use Rattle.outside_io.specs.Bytes.{Appends}
 use Rattle.outside_io.specs.Counts.{counted}
-use Rattle.outside_io.specs.declared.turn.Turn.{Turn}
-use Rattle.outside_io.specs.declared.turn.Turn.TheVariants.{End}
 use Rattle.term_tree.specs.declared.refusal.Refusal.{Refusal}
 use Rattle.term_tree.specs.declared.refusal.Kind.TheVariants.{TooLong}
 use Rattle.sort_check.specs.Commands.{Command}
@@ -68,10 +66,6 @@ pub record RefusesCheck (left : Option (List ℕ)) (ends after : ℕ) (read : Li
 -- where the refusal isn't that the bytes are too many, all of them were read
 abbrev pub ReadsAll : Option (List ℕ) → List ℕ → Refusal → Type 0
 ReadsAll left read refusal = refusal.kind ≢ TooLong → IfSome left (λ bytes. read ≡ bytes)
-
--- the end of the source was met once at most, and then in its last turn
-abbrev pub EndsLast : ℕ → ℕ → Turn → Type 0
-EndsLast old new last = new ≢ old → (new ≡ counted old) × (last ≡ End)
 
 -- the text that the call was to write
 pub data IsMeant (nodes : ℕ) (left : Option (List ℕ)) (old new : ℕ) (read : List ℕ) (text : List ℕ) : Type 0 where

@@ -2,10 +2,11 @@ ghost use Rattle.std.specs.Prelude.{◌≡◌, ◌≢◌, ◌≤◌, ◌<◌, �
 ghost use Rattle.outside_io.specs.Bytes.{Appends};
 ghost use Rattle.outside_io.specs.Counts.{counted};
 ghost use Rattle.outside_io.specs.declared.turn.Turn.TheVariants.{Fault};
+ghost use Rattle.outside_io.specs.Turns.{EndsOnce};
 ghost use Rattle.term_tree.specs.declared.refusal.Refusal.{Refusal};
 ghost use Rattle.answer_text.specs.Lines.{memory_text};
 ghost use Rattle.answer_check.specs.Inputs.{HasNoSystemOfCheck, HasRefusedScript};
-ghost use Rattle.check_call.specs.Calls.{Checks, EndsLast, IsUnrefusedCheck, ReadsAll, RefusesCheck, TellsVerdict, WritesPartOfCheck};
+ghost use Rattle.check_call.specs.Calls.{Checks, IsUnrefusedCheck, ReadsAll, RefusesCheck, TellsVerdict, WritesPartOfCheck};
 
 use crate::plan::{Plan, plan_for};
 use answer_check::inputs_are_parted_once;
@@ -83,7 +84,7 @@ pub fn check_call<S: Source, K: Sink>(
     ensures memory { result.status ≡ 5 → Appends memory_text (K.held sink.old) (K.held sink.new) }
 
     // Whatever the status: nothing is asked of the source after its end, and the report keeps all that was read up to it, and nothing of an input whose end wasn't met.
-    ensures ends { EndsLast (S.ends source.old) (S.ends source.new) (S.last source.new) }
+    ensures ends { EndsOnce (S.ends source.old) (S.ends source.new) (S.last source.new) }
     ensures reads_all { S.ends source.new ≢ S.ends source.old → IfSome (S.left source.old) (λ bytes. result.read.items ≡ bytes) }
     ensures reads_none { S.ends source.new ≢ counted (S.ends source.old) → result.read.items ≡ [] }
 {

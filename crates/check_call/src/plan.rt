@@ -4,7 +4,7 @@ ghost use Rattle.std.specs.Prelude.{◌≡◌, ◌≢◌, [], ◌≤◌, ◌<◌
 ghost use Rattle.base.specs.Limits.{most_bytes};
 ghost use Rattle.outside_io.specs.Counts.{counted};
 ghost use Rattle.outside_io.specs.declared.turn.Turn.TheVariants.{Fault};
-ghost use Rattle.check_call.specs.Calls.{EndsLast};
+ghost use Rattle.outside_io.specs.Turns.{EndsOnce};
 ghost use Rattle.check_call.specs.machinery.Plans.{IsPlan, IsEnded, IsUnended, is_fault, read_of};
 
 use crate::found::{Found, found_of};
@@ -51,7 +51,7 @@ pub(crate) fn plan_for<S: Source>(alloc: Global, source: &mut S, nodes: u32) -> 
     ensures last { is_fault result ≡ true → S.last source.new ≡ Fault }
 
     // All that was read is kept where the end was met, and else nothing. What ends isn't too long, and what is too long doesn't end.
-    ensures ends { EndsLast (S.ends source.old) (S.ends source.new) (S.last source.new) }
+    ensures ends { EndsOnce (S.ends source.old) (S.ends source.new) (S.last source.new) }
     ensures whole { S.ends source.new ≢ S.ends source.old → IfSome (S.left source.old) (λ bytes. read_of result ≡ bytes) }
     ensures none { S.ends source.new ≢ counted (S.ends source.old) → read_of result ≡ [] }
     ensures ended { S.ends source.new ≢ S.ends source.old → IsEnded result }

@@ -1,5 +1,5 @@
 -- How a turn of a source or a sink went, and which turns fail.
-use Rattle.std.specs.Prelude.{ℕ, List, [], ◌∷◌, Bool, true, false, ◌==◌, ◌||◌, if◌then◌else◌, Some, None, Ok, Err}
+use Rattle.std.specs.Prelude.{◌≡◌, ◌≢◌, ℕ, List, [], ◌∷◌, Bool, true, false, ◌==◌, ◌||◌, if◌then◌else◌, Some, None, Ok, Err}
 use Rattle.std.specs.List.{list_any}
 use Rattle.std.specs.declared.option.Option.{Option}
 use Rattle.std.specs.declared.result.Result.{Result}
@@ -23,6 +23,10 @@ ends_after Before n = n
 ends_after Moved n = n
 ends_after End n = counted n
 ends_after Fault n = n
+
+-- the end of the source was met once at most, and then in its last turn
+abbrev pub EndsOnce : ℕ → ℕ → Turn → Type 0
+EndsOnce old new last = new ≢ old → (new ≡ counted old) × (last ≡ End)
 
 -- the turn of a `put`
 abbrev pub put_turn : {T E : Type 0} → Result T E → Turn

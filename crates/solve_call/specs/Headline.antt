@@ -4,8 +4,6 @@ use Rattle.std.specs.declared.option.Option.{Option}
 use Rattle.base.specs.Limits.{most_bytes}
 use Rattle.outside_io.specs.Bytes.{Appends}
 use Rattle.outside_io.specs.Counts.{counted}
-use Rattle.outside_io.specs.declared.turn.Turn.{Turn}
-use Rattle.outside_io.specs.declared.turn.Turn.TheVariants.{End}
 use Rattle.term_tree.specs.declared.script.Script.{Script}
 use Rattle.term_tree.specs.declared.refusal.Refusal.{Refusal}
 use Rattle.term_tree.specs.declared.refusal.Kind.TheVariants.{TooLong}
@@ -65,10 +63,6 @@ pub record RefusesInput (left : Option (List ℕ)) (old new : ℕ) (read : List 
 -- where the refusal isn't that the bytes are too many, all of them were read
 abbrev pub ReadsInput : Option (List ℕ) → List ℕ → Refusal → Type 0
 ReadsInput left read refusal = refusal.kind ≢ TooLong → IfSome left (λ bytes. read ≡ bytes)
-
--- the end of the source was met once at most, and then in its last turn
-abbrev pub EndsOnce : ℕ → ℕ → Turn → Type 0
-EndsOnce old new last = new ≢ old → (new ≡ counted old) × (last ≡ End)
 
 -- the text that the call was to write: its kinds are told apart by the status that it was to end with
 pub data IsMeant (limits : Limits) (left : Option (List ℕ)) (old new : ℕ) (read : List ℕ) (book : Option Contents) (text : List ℕ) : Type 0 where

@@ -2,9 +2,9 @@ ghost use Rattle.std.specs.Prelude.{◌≡◌, ◌≢◌, [], ◌≤◌, ◌<◌
 ghost use Rattle.base.specs.Limits.{most_bytes};
 ghost use Rattle.outside_io.specs.Counts.{counted};
 ghost use Rattle.outside_io.specs.declared.turn.Turn.TheVariants.{Fault};
+ghost use Rattle.outside_io.specs.Turns.{EndsOnce};
 ghost use Rattle.solve_words.specs.Properties.{IsInRange};
 ghost use Rattle.solve_words.specs.declared.limits.Limits.{Limits};
-ghost use Rattle.solve_call.specs.Headline.{EndsOnce};
 ghost use Rattle.solve_call.specs.machinery.Plans.{IsPlan, IsEnded, IsUnended, is_fault, read_of};
 
 use crate::answer::{Answer, answer_to};
