@@ -3,8 +3,9 @@
 ghost use Rattle.std.specs.Prelude.{◌<◌, length, IfOk};
 ghost use Rattle.book_loop.specs.machinery.Steps.{AreFor, HasTaken, IsFurther, IsOffered};
 
+use crate::means::means_of;
 use crate::older::equal;
-use crate::taking::offer;
+use crate::taking::{WORKER, offer};
 use base::{Copied, Memory};
 use chc_core::Book;
 use step_rules::{LemmaPart, LiftPart, Step};
@@ -70,7 +71,7 @@ pub(crate) fn lift_older(book: &mut Book, step: &Step, nodes: u32) -> Result<boo
     ensures taken { IfOk result (HasTaken book.old book.new) }
 {
     match step {
-        Step::LemmaStep(part) => carry_older(book, part, nodes),
+        Step::LemmaStep(part) if means_of(WORKER).lifts => carry_older(book, part, nodes),
         _ => Ok(false),
     }
 }

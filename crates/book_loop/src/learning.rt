@@ -6,6 +6,8 @@ ghost use Rattle.lemma_general.specs.Generals.{IsLearnt};
 ghost use Rattle.lemma_general.specs.Tries.{IsTrying};
 ghost use Rattle.book_loop.specs.machinery.Steps.{IsTaken};
 
+use crate::cubes::{with_core, with_turned};
+use crate::means::Means;
 use crate::older::excluding;
 use base::Memory;
 use lemma_candidates::{Hints, propose, propose_alike, propose_hulls, tidy, try_bounds, widen};
@@ -25,12 +27,15 @@ const GUESS_NODES: u32 = 200;
 
 /// Whether an old lemma that excludes the obligation's point holds at the part's level, too, and so
 /// stands in its place. One is tried: the newest of the highest level.
-fn again(lent: &Lent, tries: &mut Tries, nodes: u32) -> Result<bool, Memory>
+fn again(lent: &Lent, tries: &mut Tries, nodes: u32, means: Means) -> Result<bool, Memory>
     requires goes_on { GoesOn lent.now }
     requires some { 0 < nodes }
     requires trying { IsTrying lent.now tries.old }
     ensures { OnOk result (IsTrying lent.now tries.new) }
 {
+    if !means.again {
+        return Ok(false);
+    }
     let part = tries.part();
     let obligation = lent.tree.obligation(part.target);
     let point = obligation.point.as_slice();
@@ -42,91 +47,252 @@ fn again(lent: &Lent, tries: &mut Tries, nodes: u32) -> Result<bool, Memory>
 
 /// Whether a cube that is known holds at the part's level, and so stands in its place: that of an old
 /// lemma, or one that bounds exclude.
-fn ready(lent: &Lent, tries: &mut Tries, hints: &Hints, nodes: u32) -> Result<bool, Memory>
+fn ready(
+    lent: &Lent,
+    tries: &mut Tries,
+    hints: &Hints,
+    nodes: u32,
+    means: Means,
+) -> Result<bool, Memory>
     requires goes_on { GoesOn lent.now }
     requires some { 0 < nodes }
     requires trying { IsTrying lent.now tries.old }
     ensures { OnOk result (IsTrying lent.now tries.new) }
 {
-    if again(lent, tries, nodes)? {
+    if again(lent, tries, nodes, means)? {
         return Ok(true);
+    }
+    if !means.bounds {
+        return Ok(false);
     }
     let shown = try_bounds(lent, tries, hints, nodes)?;
     Ok(shown)
 }
 
-/// A more general lemma in its place: its literals are brought into their simplest form, what was guessed
-/// of the predicate is tried, literals that it needn't have are dropped, and sums of two bounds and wider
-/// bounds are tried.
-fn guessed(lent: &Lent, part: LemmaPart, hints: &Hints, nodes: u32) -> Result<LemmaPart, Memory>
+/// The lemma with what its proofs use of its cube, where cores come first.
+fn cored(lent: &Lent, part: LemmaPart, nodes: u32, means: Means) -> Result<LemmaPart, Memory>
     requires goes_on { GoesOn lent.now }
     requires some { 0 < nodes }
     requires learnt { IsLearnt lent.now part }
     ensures { IfOk result (IsLearnt lent.now) }
 {
-    let tidied = tidy(lent, part, nodes)?;
-    let hulled = propose_hulls(lent, tidied, hints, nodes)?;
+    if !means.cores_first {
+        return Ok(part);
+    }
+    let core = with_core(lent, part, nodes)?;
+    Ok(core)
+}
+
+/// The lemma with its literals in the order in which they are brought into their simplest form, which
+/// turns it round.
+fn ordered(lent: &Lent, part: LemmaPart, nodes: u32, means: Means) -> Result<LemmaPart, Memory>
+    requires goes_on { GoesOn lent.now }
+    requires some { 0 < nodes }
+    requires learnt { IsLearnt lent.now part }
+    ensures { IfOk result (IsLearnt lent.now) }
+{
+    if means.reversed {
+        return Ok(part);
+    }
+    let turned = with_turned(lent, part, nodes)?;
+    Ok(turned)
+}
+
+/// A lemma of a cube that the hulls shut out in its place.
+fn hulled(
+    lent: &Lent,
+    part: LemmaPart,
+    hints: &Hints,
+    nodes: u32,
+    means: Means,
+) -> Result<LemmaPart, Memory>
+    requires goes_on { GoesOn lent.now }
+    requires some { 0 < nodes }
+    requires learnt { IsLearnt lent.now part }
+    ensures { IfOk result (IsLearnt lent.now) }
+{
+    if !means.hulls {
+        return Ok(part);
+    }
+    let proposed = propose_hulls(lent, part, hints, nodes)?;
+    Ok(proposed)
+}
+
+/// The same with the fewer cubes that are tried at low levels.
+fn hulled_alike(
+    lent: &Lent,
+    part: LemmaPart,
+    hints: &Hints,
+    nodes: u32,
+    means: Means,
+) -> Result<LemmaPart, Memory>
+    requires goes_on { GoesOn lent.now }
+    requires some { 0 < nodes }
+    requires learnt { IsLearnt lent.now part }
+    ensures { IfOk result (IsLearnt lent.now) }
+{
+    if !means.hulls {
+        return Ok(part);
+    }
+    let proposed = propose_alike(lent, part, hints, nodes)?;
+    Ok(proposed)
+}
+
+/// A lemma of a sum of two bounds in its place.
+fn summed(lent: &Lent, part: LemmaPart, nodes: u32, means: Means) -> Result<LemmaPart, Memory>
+    requires goes_on { GoesOn lent.now }
+    requires some { 0 < nodes }
+    requires learnt { IsLearnt lent.now part }
+    ensures { IfOk result (IsLearnt lent.now) }
+{
+    if !means.sums {
+        return Ok(part);
+    }
+    let proposed = propose(lent, part, nodes)?;
+    Ok(proposed)
+}
+
+/// Whether the bounds of the next lemma are widened.
+fn is_widened(lent: &Lent, means: Means) -> bool {
+    if lent.frames.count() % 2 == 0 {
+        means.widens_even
+    } else {
+        means.widens_odd
+    }
+}
+
+/// The lemma with wider bounds.
+fn widened(lent: &Lent, part: LemmaPart, nodes: u32, means: Means) -> Result<LemmaPart, Memory>
+    requires goes_on { GoesOn lent.now }
+    requires some { 0 < nodes }
+    requires learnt { IsLearnt lent.now part }
+    ensures { IfOk result (IsLearnt lent.now) }
+{
+    if !is_widened(lent, means) {
+        return Ok(part);
+    }
+    let wider = widen(lent, part, nodes)?;
+    Ok(wider)
+}
+
+/// The lemma at the highest level to which the frames carry it.
+fn raised(lent: &Lent, part: LemmaPart, nodes: u32, means: Means) -> Result<LemmaPart, Memory>
+    requires goes_on { GoesOn lent.now }
+    requires some { 0 < nodes }
+    requires learnt { IsLearnt lent.now part }
+    ensures { IfOk result (IsLearnt lent.now) }
+{
+    if !means.raises {
+        return Ok(part);
+    }
+    let higher = raise(lent, part, nodes)?;
+    Ok(higher)
+}
+
+/// A more general lemma in its place: its literals are brought into their simplest form, what was guessed
+/// of the predicate is tried, literals that it needn't have are dropped, and sums of two bounds and wider
+/// bounds are tried.
+fn guessed(
+    lent: &Lent,
+    part: LemmaPart,
+    hints: &Hints,
+    nodes: u32,
+    means: Means,
+) -> Result<LemmaPart, Memory>
+    requires goes_on { GoesOn lent.now }
+    requires some { 0 < nodes }
+    requires learnt { IsLearnt lent.now part }
+    ensures { IfOk result (IsLearnt lent.now) }
+{
+    let ordered = ordered(lent, part, nodes, means)?;
+    let tidied = tidy(lent, ordered, nodes)?;
+    let hulled = hulled(lent, tidied, hints, nodes, means)?;
     let general = generalise(lent, hulled, nodes)?;
-    let proposed = propose(lent, general, nodes)?;
-    let widened = widen(lent, proposed, nodes)?;
+    let summed = summed(lent, general, nodes, means)?;
+    let widened = widened(lent, summed, nodes, means)?;
     Ok(widened)
 }
 
 /// A more general lemma in its place: of what was guessed of the predicate only what is of the cube's
 /// kind is tried, and literals that it needn't have are dropped.
-fn plain(lent: &Lent, part: LemmaPart, hints: &Hints, nodes: u32) -> Result<LemmaPart, Memory>
+fn plain(
+    lent: &Lent,
+    part: LemmaPart,
+    hints: &Hints,
+    nodes: u32,
+    means: Means,
+) -> Result<LemmaPart, Memory>
     requires goes_on { GoesOn lent.now }
     requires some { 0 < nodes }
     requires learnt { IsLearnt lent.now part }
     ensures { IfOk result (IsLearnt lent.now) }
 {
-    let hulled = propose_alike(lent, part, hints, nodes)?;
+    let hulled = hulled_alike(lent, part, hints, nodes, means)?;
     let general = generalise(lent, hulled, nodes)?;
     Ok(general)
 }
 
 /// A more general lemma in its place. At low levels of the book less is tried for short cubes.
-fn general(lent: &Lent, part: LemmaPart, hints: &Hints, nodes: u32) -> Result<LemmaPart, Memory>
+fn general(
+    lent: &Lent,
+    part: LemmaPart,
+    hints: &Hints,
+    nodes: u32,
+    means: Means,
+) -> Result<LemmaPart, Memory>
     requires goes_on { GoesOn lent.now }
     requires some { 0 < nodes }
     requires learnt { IsLearnt lent.now part }
     ensures { IfOk result (IsLearnt lent.now) }
 {
-    if lent.level < GUESS_LEVEL && part.lemma.cube().lits().len() < MANY_LITERALS {
-        let plain = plain(lent, part, hints, nodes)?;
+    let cored = cored(lent, part, nodes, means)?;
+    if lent.level < GUESS_LEVEL && cored.lemma.cube().lits().len() < MANY_LITERALS {
+        let plain = plain(lent, cored, hints, nodes, means)?;
         Ok(plain)
     } else {
-        let guessed = guessed(lent, part, hints, nodes)?;
+        let guessed = guessed(lent, cored, hints, nodes, means)?;
         Ok(guessed)
     }
 }
 
 /// An old lemma or a bound in the lemma's place, if one holds at its level, and else a more general one.
-fn served(lent: &Lent, part: LemmaPart, hints: &Hints, nodes: u32) -> Result<LemmaPart, Memory>
+fn served(
+    lent: &Lent,
+    part: LemmaPart,
+    hints: &Hints,
+    nodes: u32,
+    means: Means,
+) -> Result<LemmaPart, Memory>
     requires goes_on { GoesOn lent.now }
     requires some { 0 < nodes }
     requires learnt { IsLearnt lent.now part }
     ensures { IfOk result (IsLearnt lent.now) }
 {
     let mut tries = Tries::new(lent.alloc, part);
-    let shown = ready(lent, &mut tries, hints, nodes)?;
+    let shown = ready(lent, &mut tries, hints, nodes, means)?;
     let part = tries.into_part();
     if shown {
         return Ok(part);
     }
-    let general = general(lent, part, hints, nodes)?;
+    let general = general(lent, part, hints, nodes, means)?;
     Ok(general)
 }
 
 /// The lemma that is learnt in the end: an old one or a more general one, at the highest level.
-fn learnt(lent: &Lent, part: LemmaPart, hints: &Hints, nodes: u32) -> Result<LemmaPart, Memory>
+fn learnt(
+    lent: &Lent,
+    part: LemmaPart,
+    hints: &Hints,
+    nodes: u32,
+    means: Means,
+) -> Result<LemmaPart, Memory>
     requires goes_on { GoesOn lent.now }
     requires some { 0 < nodes }
     requires learnt { IsLearnt lent.now part }
     ensures { IfOk result (IsLearnt lent.now) }
 {
-    let served = served(lent, part, hints, nodes)?;
-    let raised = raise(lent, served, nodes)?;
+    let served = served(lent, part, hints, nodes, means)?;
+    let raised = raised(lent, served, nodes, means)?;
     Ok(raised)
 }
 
@@ -142,8 +308,15 @@ pub fn few(nodes: u32) -> u32
     }
 }
 
-/// The step with the lemma that is learnt in the end in place of its own; any other step as it is.
-pub fn improved(lent: &Lent, step: Step, hints: &Hints, nodes: u32) -> Result<Step, Memory>
+/// The step with the lemma that is learnt in the end, by these means, in place of its own; any other step
+/// as it is.
+pub fn improved(
+    lent: &Lent,
+    step: Step,
+    hints: &Hints,
+    nodes: u32,
+    means: Means,
+) -> Result<Step, Memory>
     requires goes_on { GoesOn lent.now }
     requires some { 0 < nodes }
     requires taken { IsTaken lent.now nodes step }
@@ -151,7 +324,7 @@ pub fn improved(lent: &Lent, step: Step, hints: &Hints, nodes: u32) -> Result<St
 {
     match step {
         Step::LemmaStep(part) => {
-            let made = learnt(lent, part, hints, few(nodes))?;
+            let made = learnt(lent, part, hints, few(nodes), means)?;
             Ok(Step::LemmaStep(made))
         }
         step => Ok(step),

@@ -4,13 +4,17 @@
 
 mod carrying;
 mod choosing;
+mod cores;
+mod cubes;
 mod laws;
 mod learning;
 mod lifting;
+mod means;
 mod older;
 mod running;
 mod taking;
 
 pub use laws::systems_of_scripts_can_be_run;
 pub use learning::{few, improved};
+pub use means::{Means, means_of};
 pub use running::{begin, search};

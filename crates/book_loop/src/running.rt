@@ -14,7 +14,8 @@ use crate::carrying::lift_older;
 use crate::choosing::next_job;
 use crate::learning::improved;
 use crate::lifting::{lift_after, pass_of};
-use crate::taking::{has_ended, lend, take};
+use crate::means::means_of;
+use crate::taking::{WORKER, has_ended, lend, take};
 use base::Memory;
 use chc_core::Book;
 use clause_form::System;
@@ -42,7 +43,7 @@ fn next_step(
     let lent = lend(book);
     hints.renew(lent.alloc, lent.system, lent.level, lent.spent)?;
     let step = turn_in(&lent, job, nodes, work)?;
-    let served = improved(&lent, step, hints, nodes)?;
+    let served = improved(&lent, step, hints, nodes, means_of(WORKER))?;
     Ok(served)
 }
 

@@ -13,7 +13,7 @@ use chc_core::{Book, Refused};
 use step_rules::{Lent, Step};
 
 /// The number of the only worker.
-const WORKER: u32 = 1;
+pub(crate) const WORKER: u32 = 1;
 
 /// Whether the book has an end.
 pub(crate) fn has_ended(book: &Book) -> bool

@@ -4,6 +4,8 @@
 #[cfg(test)]
 mod gates;
 #[cfg(test)]
+mod means;
+#[cfg(test)]
 mod runs;
 #[cfg(test)]
 mod systems;

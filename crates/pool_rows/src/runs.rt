@@ -27,7 +27,7 @@ pub(crate) fn solved<W: Threads + Wait + Abort + Sync, G: Gate>(
 }
 
 /// The height of false in the book, 0 where it isn't recorded.
-fn height_of_false(book: &Book) -> u32 {
+pub(crate) fn height_of_false(book: &Book) -> u32 {
     let facts = book.facts();
     match book.end() {
         Some(End::Unsat { fact }) => {

@@ -8,6 +8,7 @@ ghost use Rattle.book_loop.specs.machinery.Steps.{AreFor, IsOffered};
 
 use crate::siblings::{Opened, atoms_of, opened_by, sibling};
 use base::{Copied, Memory};
+use book_loop::Means;
 use chc_core::Refused;
 use shared_book::{Run, Share, SharedBook};
 use std::sync::Wait;
@@ -145,6 +146,22 @@ fn carry<R: Run>(
     Ok(taken)
 }
 
+/// Lifts an older lemma that has the part's cube, if there is one; whether it was lifted.
+fn carry_older<R: Run>(
+    rt: &impl Wait,
+    lent: &Lent,
+    shared: &SharedBook<R>,
+    share: &mut Share<R>,
+    part: &LemmaPart,
+) -> Result<bool, Memory>
+    requires { AreFor R.system part.now.proofs }
+{
+    match shared.older(rt, part) {
+        Some(older) => carry(rt, lent, shared, share, older, part),
+        None => Ok(false),
+    }
+}
+
 /// Offers the lemma. Where an older one has its cube, that one is lifted in its place.
 fn offer_lemma<R: Run>(
     rt: &impl Wait,
@@ -152,13 +169,12 @@ fn offer_lemma<R: Run>(
     shared: &SharedBook<R>,
     share: &mut Share<R>,
     part: LemmaPart,
+    means: Means,
 ) -> Result<bool, Memory>
     requires { IsOffered R.system R.nodes (LemmaStep part) }
 {
-    if let Some(older) = shared.older(rt, &part) {
-        if carry(rt, lent, shared, share, older, &part)? {
-            return Ok(true);
-        }
+    if means.lifts && carry_older(rt, lent, shared, share, &part)? {
+        return Ok(true);
     }
     offer(rt, shared, share, Step::LemmaStep(part))
 }
@@ -172,6 +188,7 @@ pub(crate) fn offer_turn<R: Run>(
     share: &mut Share<R>,
     step: Step,
     most: u32,
+    means: Means,
 ) -> Result<bool, Memory>
     requires goes_on { GoesOn lent.now }
     requires system { lent.now.system ≡ R.system }
@@ -179,7 +196,7 @@ pub(crate) fn offer_turn<R: Run>(
 {
     match step {
         Step::OpenStep(part) => offer_open(rt, lent, shared, share, part, most),
-        Step::LemmaStep(part) => offer_lemma(rt, lent, shared, share, part),
+        Step::LemmaStep(part) => offer_lemma(rt, lent, shared, share, part, means),
         step => offer(rt, shared, share, step),
     }
 }

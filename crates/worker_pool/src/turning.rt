@@ -8,7 +8,7 @@ ghost use Rattle.book_loop.specs.machinery.Steps.{IsTaken};
 
 use crate::lifting::{Pass, next_lift, pass_of};
 use base::Memory;
-use book_loop::improved;
+use book_loop::{Means, improved};
 use lemma_candidates::{Hints, hints_of};
 use obligation_turn::{Workspace, turn_in};
 use std::alloc::Global;
@@ -22,11 +22,12 @@ pub(crate) struct Mind {
     work: Workspace,
     /// How many further body atoms of an instance it asks at the most.
     pub(crate) siblings: u32,
+    pub(crate) means: Means,
 }
 
 impl Mind {
     /// Nothing yet.
-    pub(crate) fn new(alloc: Global, siblings: u32) -> Mind
+    pub(crate) fn new(alloc: Global, siblings: u32, means: Means) -> Mind
         ensures { (sys : Clauses) → IsWorkspaceFor sys result.work }
     {
         Mind {
@@ -34,6 +35,7 @@ impl Mind {
             pass: None,
             work: Workspace::new(alloc),
             siblings,
+            means,
         }
     }
 }
@@ -60,7 +62,7 @@ fn serve(lent: &Lent, job: u32, nodes: u32, mind: &mut Mind) -> Result<Step, Mem
 {
     let hints = hints_now(lent, &mut mind.hints)?;
     let step = turn_in(lent, job, nodes, &mut mind.work)?;
-    let served = improved(lent, step, &hints, nodes)?;
+    let served = improved(lent, step, &hints, nodes, mind.means)?;
     mind.hints = Some(hints);
     Ok(served)
 }

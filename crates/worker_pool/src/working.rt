@@ -8,6 +8,7 @@ use crate::limits::Limits;
 use crate::offering::offer_turn;
 use crate::turning::{Mind, go_on, next_step, pass_after};
 use base::Memory;
+use book_loop::means_of;
 use shared_book::{Job, Over, Run, Share, SharedBook};
 use std::alloc::Global;
 use std::sync::Wait;
@@ -30,7 +31,7 @@ fn serve<R: Run>(
     let lent = job.lend();
     let step = next_step(&lent, job.obligation(), nodes, mind)?;
     let pass = pass_after(&lent, &step, mind);
-    let taken = offer_turn(rt, &lent, shared, share, step, mind.siblings)?;
+    let taken = offer_turn(rt, &lent, shared, share, step, mind.siblings, mind.means)?;
     go_on(mind, taken, pass);
     Ok(())
 }
@@ -78,7 +79,11 @@ pub(crate) fn work<R: Run, W: Wait, G: Gate>(
     requires some { 0 < limits.nodes }
     requires nodes { limits.nodes ≡ R.nodes }
 {
-    let mut mind = Mind::new(alloc, siblings_for(limits.workers));
+    let mut mind = Mind::new(
+        alloc,
+        siblings_for(limits.workers),
+        means_of(share.worker()),
+    );
     let mut turn: u64 = 0;
     for _ in rt.forever() {
         turn = turn.saturating_add(1);

@@ -1,0 +1,4 @@
+use Rattle.book_loop.proofs.learning.hulled_alike.Goals as goal
+
+pub returns : goal.returns
+returns c = c.in_ok-proposed.ensures.learnt
