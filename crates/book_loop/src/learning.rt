@@ -50,7 +50,7 @@ fn again(lent: &Lent, tries: &mut Tries, nodes: u32, means: Means) -> Result<boo
 fn ready(
     lent: &Lent,
     tries: &mut Tries,
-    hints: &Hints,
+    hints: Option<&Hints>,
     nodes: u32,
     means: Means,
 ) -> Result<bool, Memory>
@@ -62,11 +62,10 @@ fn ready(
     if again(lent, tries, nodes, means)? {
         return Ok(true);
     }
-    if !means.bounds {
-        return Ok(false);
+    match hints {
+        Some(hints) if means.bounds => try_bounds(lent, tries, hints, nodes),
+        _ => Ok(false),
     }
-    let shown = try_bounds(lent, tries, hints, nodes)?;
-    Ok(shown)
 }
 
 /// The lemma with what its proofs use of its cube, where cores come first.
@@ -102,7 +101,7 @@ fn ordered(lent: &Lent, part: LemmaPart, nodes: u32, means: Means) -> Result<Lem
 fn hulled(
     lent: &Lent,
     part: LemmaPart,
-    hints: &Hints,
+    hints: Option<&Hints>,
     nodes: u32,
     means: Means,
 ) -> Result<LemmaPart, Memory>
@@ -111,18 +110,20 @@ fn hulled(
     requires learnt { IsLearnt lent.now part }
     ensures { IfOk result (IsLearnt lent.now) }
 {
-    if !means.hulls {
-        return Ok(part);
+    match hints {
+        Some(hints) if means.hulls => {
+            let proposed = propose_hulls(lent, part, hints, nodes)?;
+            Ok(proposed)
+        }
+        _ => Ok(part),
     }
-    let proposed = propose_hulls(lent, part, hints, nodes)?;
-    Ok(proposed)
 }
 
 /// The same with the fewer cubes that are tried at low levels.
 fn hulled_alike(
     lent: &Lent,
     part: LemmaPart,
-    hints: &Hints,
+    hints: Option<&Hints>,
     nodes: u32,
     means: Means,
 ) -> Result<LemmaPart, Memory>
@@ -131,11 +132,13 @@ fn hulled_alike(
     requires learnt { IsLearnt lent.now part }
     ensures { IfOk result (IsLearnt lent.now) }
 {
-    if !means.hulls {
-        return Ok(part);
+    match hints {
+        Some(hints) if means.hulls => {
+            let proposed = propose_alike(lent, part, hints, nodes)?;
+            Ok(proposed)
+        }
+        _ => Ok(part),
     }
-    let proposed = propose_alike(lent, part, hints, nodes)?;
-    Ok(proposed)
 }
 
 /// A lemma of a sum of two bounds in its place.
@@ -195,7 +198,7 @@ fn raised(lent: &Lent, part: LemmaPart, nodes: u32, means: Means) -> Result<Lemm
 fn guessed(
     lent: &Lent,
     part: LemmaPart,
-    hints: &Hints,
+    hints: Option<&Hints>,
     nodes: u32,
     means: Means,
 ) -> Result<LemmaPart, Memory>
@@ -218,7 +221,7 @@ fn guessed(
 fn plain(
     lent: &Lent,
     part: LemmaPart,
-    hints: &Hints,
+    hints: Option<&Hints>,
     nodes: u32,
     means: Means,
 ) -> Result<LemmaPart, Memory>
@@ -236,7 +239,7 @@ fn plain(
 fn general(
     lent: &Lent,
     part: LemmaPart,
-    hints: &Hints,
+    hints: Option<&Hints>,
     nodes: u32,
     means: Means,
 ) -> Result<LemmaPart, Memory>
@@ -259,7 +262,7 @@ fn general(
 fn served(
     lent: &Lent,
     part: LemmaPart,
-    hints: &Hints,
+    hints: Option<&Hints>,
     nodes: u32,
     means: Means,
 ) -> Result<LemmaPart, Memory>
@@ -282,7 +285,7 @@ fn served(
 fn learnt(
     lent: &Lent,
     part: LemmaPart,
-    hints: &Hints,
+    hints: Option<&Hints>,
     nodes: u32,
     means: Means,
 ) -> Result<LemmaPart, Memory>
@@ -313,7 +316,7 @@ pub fn few(nodes: u32) -> u32
 pub fn improved(
     lent: &Lent,
     step: Step,
-    hints: &Hints,
+    hints: Option<&Hints>,
     nodes: u32,
     means: Means,
 ) -> Result<Step, Memory>

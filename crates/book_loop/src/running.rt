@@ -43,7 +43,7 @@ fn next_step(
     let lent = lend(book);
     hints.renew(lent.alloc, lent.system, lent.level, lent.spent)?;
     let step = turn_in(&lent, job, nodes, work)?;
-    let served = improved(&lent, step, hints, nodes, means_of(WORKER))?;
+    let served = improved(&lent, step, Some(hints), nodes, means_of(WORKER))?;
     Ok(served)
 }
 

@@ -40,15 +40,31 @@ impl Mind {
     }
 }
 
-/// The hints of earlier turns, as this level and these units renew them. They are first asked for in the
-/// first turn.
-fn hints_now(lent: &Lent, kept: &mut Option<Hints>) -> Result<Hints, Memory> {
-    let mut hints = match kept.take() {
-        Some(hints) => hints,
-        None => hints_of(lent.alloc, lent.system)?,
-    };
-    hints.renew(lent.alloc, lent.system, lent.level, lent.spent)?;
+/// The hints of earlier turns. They are first asked for in the first turn.
+fn hints_kept(lent: &Lent, kept: &mut Option<Hints>) -> Result<Hints, Memory> {
+    match kept.take() {
+        Some(hints) => Ok(hints),
+        None => hints_of(lent.alloc, lent.system),
+    }
+}
+
+/// The same, as this level and these units renew them, where the worker uses bounds.
+fn hints_now(lent: &Lent, kept: &mut Option<Hints>, means: Means) -> Result<Hints, Memory> {
+    let mut hints = hints_kept(lent, kept)?;
+    if means.bounds {
+        hints.renew(lent.alloc, lent.system, lent.level, lent.spent)?;
+    }
     Ok(hints)
+}
+
+/// The hints of a worker that uses any.
+fn hints_for(lent: &Lent, kept: &mut Option<Hints>, means: Means) -> Result<Option<Hints>, Memory> {
+    if means.hulls || means.bounds {
+        let hints = hints_now(lent, kept, means)?;
+        Ok(Some(hints))
+    } else {
+        Ok(None)
+    }
 }
 
 /// The step that serves the obligation. A lemma is first made more general and raised.
@@ -60,10 +76,10 @@ fn serve(lent: &Lent, job: u32, nodes: u32, mind: &mut Mind) -> Result<Step, Mem
     ensures taken { IfOk result (IsTaken lent.now nodes) }
     ensures work { OnOk result (IsWorkspaceFor lent.now.system mind.new.work) }
 {
-    let hints = hints_now(lent, &mut mind.hints)?;
+    let hints = hints_for(lent, &mut mind.hints, mind.means)?;
     let step = turn_in(lent, job, nodes, &mut mind.work)?;
-    let served = improved(lent, step, &hints, nodes, mind.means)?;
-    mind.hints = Some(hints);
+    let served = improved(lent, step, hints.as_ref(), nodes, mind.means)?;
+    mind.hints = hints;
     Ok(served)
 }
 
