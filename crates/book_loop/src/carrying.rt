@@ -51,12 +51,15 @@ fn carry(book: &mut Book, id: u32, part: &LemmaPart, nodes: u32) -> Result<bool,
     Ok(taken)
 }
 
-/// Lifts an older lemma that has the part's cube, if there is one.
+/// Lifts an older lemma that has the part's cube, if there is one and that is among the worker's means.
 fn carry_older(book: &mut Book, part: &LemmaPart, nodes: u32) -> Result<bool, Memory>
     requires { AreFor book.old.system part.now.proofs }
     ensures further { IsFurther nodes book.old book.new }
     ensures taken { IfOk result (HasTaken book.old book.new) }
 {
+    if !means_of(WORKER).lifts {
+        return Ok(false);
+    }
     match equal(book.frames(), part) {
         Some(id) => carry(book, id, part, nodes),
         None => Ok(false),
@@ -71,7 +74,7 @@ pub(crate) fn lift_older(book: &mut Book, step: &Step, nodes: u32) -> Result<boo
     ensures taken { IfOk result (HasTaken book.old book.new) }
 {
     match step {
-        Step::LemmaStep(part) if means_of(WORKER).lifts => carry_older(book, part, nodes),
+        Step::LemmaStep(part) => carry_older(book, part, nodes),
         _ => Ok(false),
     }
 }

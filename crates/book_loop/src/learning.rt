@@ -300,7 +300,7 @@ fn learnt(
 }
 
 /// How many inner nodes a guess is worth, or a lift after a step.
-pub fn few(nodes: u32) -> u32
+pub(crate) fn few(nodes: u32) -> u32
     requires { 0 < nodes }
     ensures { 0 < result }
 {

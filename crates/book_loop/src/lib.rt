@@ -15,6 +15,7 @@ mod running;
 mod taking;
 
 pub use laws::systems_of_scripts_can_be_run;
-pub use learning::{few, improved};
+pub use learning::improved;
+pub use lifting::{Pass, lift_of, pass_of};
 pub use means::{Means, means_of};
 pub use running::{begin, search};

@@ -5,7 +5,7 @@ ghost use Rattle.std.specs.Bool.{OnTrue};
 ghost use Rattle.lemma_frames.specs.Frames.{level_of};
 ghost use Rattle.book_rules.specs.Legal.{end};
 ghost use Rattle.chc_core.specs.Views.{standing_of, state_of};
-ghost use Rattle.obligation_turn.specs.Turns.{IsThin};
+ghost use Rattle.obligation_turn.specs.Turns.{GoesOn, IsThin};
 ghost use Rattle.obligation_turn.specs.Workspaces.{IsWorkspaceFor};
 ghost use Rattle.book_loop.specs.Runs.{CanRun};
 ghost use Rattle.book_loop.specs.machinery.Steps.{IsFurther, IsTaken};
@@ -16,62 +16,94 @@ use base::Memory;
 use chc_core::Book;
 use lemma_general::lift_in;
 use obligation_turn::Workspace;
-use step_rules::Step;
+use step_rules::{Lent, Step};
 
 /// Which lemmas are lifted: those from a number on, of at least a level.
-#[derive(Drop)]
-pub(crate) struct Pass {
-    first: u32,
-    least: u32,
+#[derive(Clone, Copy)]
+pub struct Pass {
+    pub next: u32,
+    pub least: u32,
 }
 
-/// The lemmas that are lifted after the step: after a Raise those of the level that was the highest,
-/// after a Lift the later ones.
-pub(crate) fn pass_of(book: &Book, step: &Step) -> Option<Pass> {
+/// The lemmas that are lifted after the step in a book of this level: after a Raise those of the level
+/// that was the highest, after a Lift the later ones.
+pub fn pass_of(level: u32, step: &Step) -> Option<Pass> {
     match step {
         Step::RaiseStep(_) => Some(Pass {
-            first: 0,
-            least: book.level(),
+            next: 0,
+            least: level,
         }),
         Step::LiftStep(part) => Some(Pass {
-            first: part.lemma,
+            next: part.lemma,
             least: 1,
         }),
         _ => None,
     }
 }
 
-/// Whether there is a lemma of that number, of at least a level, and below that of the book.
-fn is_below(book: &Book, id: u32, least: u32) -> bool
-    ensures there { OnTrue result (id < length book.now.frames.lemmas) }
-    ensures below { OnTrue result (level_of book.now.frames.lemmas id < book.now.level) }
+/// Whether the lemma of that number is of at least a level, and below that of the book.
+fn is_below(lent: &Lent, id: u32, least: u32) -> bool
+    requires { id < length lent.now.frames.lemmas }
+    ensures { OnTrue result (level_of lent.now.frames.lemmas id < lent.now.level) }
 {
-    let frames = book.frames();
-    if id >= frames.count() {
-        return false;
-    }
-    let level = frames.level_of(id);
-    least <= level && level < book.level()
+    let level = lent.frames.level_of(id);
+    least <= level && level < lent.level
 }
 
-/// The Lift of the lemma, if the frame of its level implies it.
-fn lift_of(book: &Book, id: u32, nodes: u32, work: &mut Workspace) -> Result<Option<Step>, Memory>
+/// The Lift of the lemma by one level, if it is of at least a level, below that of the book, and the
+/// frame of its own implies it.
+pub fn lift_of(
+    lent: &Lent,
+    id: u32,
+    least: u32,
+    nodes: u32,
+    work: &mut Workspace,
+) -> Result<Option<Step>, Memory>
+    requires goes_on { GoesOn lent.now }
+    requires some { 0 < nodes }
+    requires there { id < length lent.now.frames.lemmas }
+    requires work { IsWorkspaceFor lent.now.system work.old }
+    ensures taken { IfOk result (λ found. IfSome found (IsTaken lent.now nodes)) }
+    ensures work { IsWorkspaceFor lent.now.system work.new }
+{
+    if !is_below(lent, id, least) {
+        return Ok(None);
+    }
+    let most = few(nodes);
+    match lift_in(lent, id, most, work)? {
+        Some(part) => Ok(Some(Step::LiftStep(part))),
+        None => Ok(None),
+    }
+}
+
+/// The same of a book that goes on.
+fn lift_from(
+    book: &Book,
+    id: u32,
+    least: u32,
+    nodes: u32,
+    work: &mut Workspace,
+) -> Result<Option<Step>, Memory>
     requires can_run { CanRun book.now.system }
     requires some { 0 < nodes }
     requires goes_on { end (state_of book.now) ≡ None }
     requires thin { IsThin (standing_of book.now) }
     requires there { id < length book.now.frames.lemmas }
-    requires below { level_of book.now.frames.lemmas id < book.now.level }
     requires work { IsWorkspaceFor book.now.system work.old }
     ensures taken { IfOk result (λ found. IfSome found (IsTaken (standing_of book.now) nodes)) }
     ensures work { OnOk result (IsWorkspaceFor book.now.system work.new) }
 {
     let lent = lend(book);
-    let most = few(nodes);
-    match lift_in(&lent, id, most, work)? {
-        Some(part) => Ok(Some(Step::LiftStep(part))),
-        None => Ok(None),
-    }
+    let found = lift_of(&lent, id, least, nodes, work)?;
+    Ok(found)
+}
+
+/// Whether there is a lemma of that number.
+fn has_lemma(book: &Book, id: u32) -> bool
+    ensures { OnTrue result (id < length book.now.frames.lemmas) }
+{
+    let frames = book.frames();
+    id < frames.count()
 }
 
 /// Lifts the lemma by one level, if it is of at least a level, below that of the book, and the frame of
@@ -90,13 +122,13 @@ fn lift_once(
     ensures further { IsFurther nodes book.old book.new }
     ensures work { OnOk result (IsWorkspaceFor book.old.system work.new) }
 {
-    if !is_below(book, id, least) {
+    if !has_lemma(book, id) {
         return Ok(false);
     }
     if has_ended(book) {
         return Ok(false);
     }
-    match lift_of(book, id, nodes, work)? {
+    match lift_from(book, id, least, nodes, work)? {
         Some(step) => {
             take(book, step, nodes)?;
             Ok(true)
@@ -137,7 +169,7 @@ fn lift_all(book: &mut Book, pass: Pass, nodes: u32, work: &mut Workspace) -> Re
     ensures further { IsFurther nodes book.old book.new }
     ensures work { OnOk result (IsWorkspaceFor book.old.system work.new) }
 {
-    for id in pass.first..book.frames().count() {
+    for id in pass.next..book.frames().count() {
         lift_up(book, id, pass.least, nodes, work)?;
     }
     Ok(())

@@ -79,7 +79,7 @@ fn advance(
     ensures room { OnOk result (length book.new.journal ≤ book.new.given + book.new.given + 1) }
 {
     let step = next_step(book, hints, nodes, work)?;
-    let pass = pass_of(book, &step);
+    let pass = pass_of(book.level(), &step);
     serve(book, step, nodes)?;
     lift_after(book, pass, nodes, work)?;
     book.is_replayed();

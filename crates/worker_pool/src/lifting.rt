@@ -1,75 +1,14 @@
-//! Lemmas that are lifted after a step for the root.
+//! The Lifts that a worker offers after a step for the root, one in each turn.
 
-ghost use Rattle.std.specs.Prelude.{◌<◌, length, IfOk, IfSome};
-ghost use Rattle.std.specs.Bool.{OnTrue};
-ghost use Rattle.lemma_frames.specs.Frames.{level_of};
+ghost use Rattle.std.specs.Prelude.{◌<◌, IfOk, IfSome};
 ghost use Rattle.obligation_turn.specs.Turns.{GoesOn};
 ghost use Rattle.obligation_turn.specs.Workspaces.{IsWorkspaceFor};
 ghost use Rattle.book_loop.specs.machinery.Steps.{IsTaken};
 
 use base::Memory;
-use book_loop::few;
-use lemma_general::lift_in;
+use book_loop::{Pass, lift_of};
 use obligation_turn::Workspace;
 use step_rules::{Lent, Step};
-
-/// Which lemmas a worker lifts: those from a number on, of at least a level.
-#[derive(Clone, Copy)]
-pub(crate) struct Pass {
-    next: u32,
-    least: u32,
-}
-
-/// The lemmas that are lifted after the step: after a Raise those of the level that was the highest,
-/// after a Lift the later ones.
-pub(crate) fn pass_of(lent: &Lent, step: &Step) -> Option<Pass> {
-    match step {
-        Step::RaiseStep(_) => Some(Pass {
-            next: 0,
-            least: lent.level,
-        }),
-        Step::LiftStep(part) => Some(Pass {
-            next: part.lemma,
-            least: 1,
-        }),
-        _ => None,
-    }
-}
-
-/// Whether the lemma of that number is of at least a level, and below that of the book.
-fn is_below(lent: &Lent, id: u32, least: u32) -> bool
-    requires { id < length lent.now.frames.lemmas }
-    ensures { OnTrue result (level_of lent.now.frames.lemmas id < lent.now.level) }
-{
-    let level = lent.frames.level_of(id);
-    least <= level && level < lent.level
-}
-
-/// The Lift of the lemma by one level, if it is of at least a level, below that of the book, and the
-/// frame of its own implies it.
-fn lift_of(
-    lent: &Lent,
-    id: u32,
-    least: u32,
-    nodes: u32,
-    work: &mut Workspace,
-) -> Result<Option<Step>, Memory>
-    requires goes_on { GoesOn lent.now }
-    requires some { 0 < nodes }
-    requires there { id < length lent.now.frames.lemmas }
-    requires work { IsWorkspaceFor lent.now.system work.old }
-    ensures taken { IfOk result (λ found. IfSome found (IsTaken lent.now nodes)) }
-    ensures work { IsWorkspaceFor lent.now.system work.new }
-{
-    if !is_below(lent, id, least) {
-        return Ok(None);
-    }
-    let most = few(nodes);
-    match lift_in(lent, id, most, work)? {
-        Some(part) => Ok(Some(Step::LiftStep(part))),
-        None => Ok(None),
-    }
-}
 
 /// The first Lift from a number on, and the lemma's number.
 fn first_lift(

@@ -6,9 +6,9 @@ ghost use Rattle.obligation_turn.specs.Turns.{GoesOn, IsOpenLeaf};
 ghost use Rattle.obligation_turn.specs.Workspaces.{IsWorkspaceFor};
 ghost use Rattle.book_loop.specs.machinery.Steps.{IsTaken};
 
-use crate::lifting::{Pass, next_lift, pass_of};
+use crate::lifting::next_lift;
 use base::Memory;
-use book_loop::{Means, improved};
+use book_loop::{Means, Pass, improved, pass_of};
 use lemma_candidates::{Hints, hints_of};
 use obligation_turn::{Workspace, turn_in};
 use std::alloc::Global;
@@ -104,7 +104,7 @@ pub(crate) fn next_step(lent: &Lent, job: u32, nodes: u32, mind: &mut Mind) -> R
 pub(crate) fn pass_after(lent: &Lent, step: &Step, mind: &Mind) -> Option<Pass> {
     match mind.pass {
         Some(pass) => Some(pass),
-        None => pass_of(lent, step),
+        None => pass_of(lent.level, step),
     }
 }
 
