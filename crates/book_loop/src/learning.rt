@@ -155,15 +155,6 @@ fn summed(lent: &Lent, part: LemmaPart, nodes: u32, means: Means) -> Result<Lemm
     Ok(proposed)
 }
 
-/// Whether the bounds of the next lemma are widened.
-fn is_widened(lent: &Lent, means: Means) -> bool {
-    if lent.frames.count() % 2 == 0 {
-        means.widens_even
-    } else {
-        means.widens_odd
-    }
-}
-
 /// The lemma with wider bounds.
 fn widened(lent: &Lent, part: LemmaPart, nodes: u32, means: Means) -> Result<LemmaPart, Memory>
     requires goes_on { GoesOn lent.now }
@@ -171,7 +162,7 @@ fn widened(lent: &Lent, part: LemmaPart, nodes: u32, means: Means) -> Result<Lem
     requires learnt { IsLearnt lent.now part }
     ensures { IfOk result (IsLearnt lent.now) }
 {
-    if !is_widened(lent, means) {
+    if !means.widens {
         return Ok(part);
     }
     let wider = widen(lent, part, nodes)?;

@@ -16,30 +16,27 @@ pub struct Means {
     pub hulls: bool,
     /// Sums of two bounds are tried in a lemma's place.
     pub sums: bool,
-    /// Bounds of the lemmas with even numbers are widened.
-    pub widens_even: bool,
-    /// Bounds of the lemmas with odd numbers are widened.
-    pub widens_odd: bool,
+    /// The bounds of a lemma are widened.
+    pub widens: bool,
     /// A lemma is raised as far as the frames carry it before it is learnt.
     pub raises: bool,
     /// An older lemma of the same cube is lifted in place of a copy.
     pub lifts: bool,
 }
 
-/// The means of the worker of this number, from 1. The first one uses those that alone solve the most;
-/// others differ, since one book takes the lemmas of all: workers of even numbers leave out literals in
-/// the other order, those of odd ones begin with what the proofs use, and not each of them widens every
-/// bound or tries what bounds exclude.
+/// The means of the worker of this number, from 1. The first one uses those that alone solve the most. The
+/// others differ from it, since one book takes the lemmas of all: they make no hints of their own, which
+/// would be the same work once more for each; those of even numbers leave out literals in the other order,
+/// and those of odd ones begin with what the proofs use.
 pub fn means_of(worker: u32) -> Means {
     Means {
         again: true,
-        bounds: worker % 8 != 4,
+        bounds: worker == 1,
         cores_first: worker > 1 && worker % 2 == 1,
         reversed: worker % 2 == 1,
-        hulls: true,
+        hulls: worker == 1,
         sums: true,
-        widens_even: worker % 4 != 3,
-        widens_odd: worker % 4 < 2,
+        widens: true,
         raises: true,
         lifts: true,
     }
