@@ -30,6 +30,18 @@ fn cube_of(alloc: Global, lits: Vec<Lit>) -> Result<Option<Cube>, Memory> {
     }
 }
 
+/// The lemma with the cube, if that is taken, else as it is.
+fn with_cube(lent: &Lent, part: LemmaPart, cube: &Cube, nodes: u32) -> Result<LemmaPart, Memory>
+    requires goes_on { GoesOn lent.now }
+    requires some { 0 < nodes }
+    requires learnt { IsLearnt lent.now part }
+    ensures { IfOk result (IsLearnt lent.now) }
+{
+    let mut tries = Tries::new(lent.alloc, part);
+    tries.try_cube(lent, cube, nodes)?;
+    Ok(tries.into_part())
+}
+
 /// The lemma with the cube of these literals, if that is taken, else as it is.
 fn with_lits(lent: &Lent, part: LemmaPart, lits: Vec<Lit>, nodes: u32) -> Result<LemmaPart, Memory>
     requires goes_on { GoesOn lent.now }
@@ -37,11 +49,10 @@ fn with_lits(lent: &Lent, part: LemmaPart, lits: Vec<Lit>, nodes: u32) -> Result
     requires learnt { IsLearnt lent.now part }
     ensures { IfOk result (IsLearnt lent.now) }
 {
-    let mut tries = Tries::new(lent.alloc, part);
-    if let Some(cube) = cube_of(lent.alloc, lits)? {
-        tries.try_cube(lent, &cube, nodes)?;
+    match cube_of(lent.alloc, lits)? {
+        Some(cube) => with_cube(lent, part, &cube, nodes),
+        None => Ok(part),
     }
-    Ok(tries.into_part())
 }
 
 /// The lemma with the literals of its cube in the other order.

@@ -63,7 +63,10 @@ fn ready(
         return Ok(true);
     }
     match hints {
-        Some(hints) if means.bounds => try_bounds(lent, tries, hints, nodes),
+        Some(hints) if means.bounds => {
+            let shown = try_bounds(lent, tries, hints, nodes)?;
+            Ok(shown)
+        }
         _ => Ok(false),
     }
 }
@@ -98,6 +101,17 @@ fn ordered(lent: &Lent, part: LemmaPart, nodes: u32, means: Means) -> Result<Lem
 }
 
 /// A lemma of a cube that the hulls shut out in its place.
+fn by_hulls(lent: &Lent, part: LemmaPart, hints: &Hints, nodes: u32) -> Result<LemmaPart, Memory>
+    requires goes_on { GoesOn lent.now }
+    requires some { 0 < nodes }
+    requires learnt { IsLearnt lent.now part }
+    ensures { IfOk result (IsLearnt lent.now) }
+{
+    let proposed = propose_hulls(lent, part, hints, nodes)?;
+    Ok(proposed)
+}
+
+/// The same for a worker that uses hulls.
 fn hulled(
     lent: &Lent,
     part: LemmaPart,
@@ -111,15 +125,28 @@ fn hulled(
     ensures { IfOk result (IsLearnt lent.now) }
 {
     match hints {
-        Some(hints) if means.hulls => {
-            let proposed = propose_hulls(lent, part, hints, nodes)?;
-            Ok(proposed)
-        }
+        Some(hints) if means.hulls => by_hulls(lent, part, hints, nodes),
         _ => Ok(part),
     }
 }
 
-/// The same with the fewer cubes that are tried at low levels.
+/// A lemma of one of the fewer such cubes that are tried at low levels.
+fn by_hulls_alike(
+    lent: &Lent,
+    part: LemmaPart,
+    hints: &Hints,
+    nodes: u32,
+) -> Result<LemmaPart, Memory>
+    requires goes_on { GoesOn lent.now }
+    requires some { 0 < nodes }
+    requires learnt { IsLearnt lent.now part }
+    ensures { IfOk result (IsLearnt lent.now) }
+{
+    let proposed = propose_alike(lent, part, hints, nodes)?;
+    Ok(proposed)
+}
+
+/// The same for a worker that uses hulls.
 fn hulled_alike(
     lent: &Lent,
     part: LemmaPart,
@@ -133,10 +160,7 @@ fn hulled_alike(
     ensures { IfOk result (IsLearnt lent.now) }
 {
     match hints {
-        Some(hints) if means.hulls => {
-            let proposed = propose_alike(lent, part, hints, nodes)?;
-            Ok(proposed)
-        }
+        Some(hints) if means.hulls => by_hulls_alike(lent, part, hints, nodes),
         _ => Ok(part),
     }
 }
