@@ -1,5 +1,10 @@
 //! Runs of workers with their means.
 
+ghost use Rattle.std.specs.Prelude.{◌≡◌, []};
+ghost use Rattle.chc_core.specs.Views.{standing_of};
+ghost use Rattle.obligation_turn.specs.Turns.{IsThin};
+ghost use Rattle.book_loop.specs.Runs.{CanRun};
+
 use crate::runs::{check_counts, height_of_false, solved};
 use crate::systems::system_of;
 use book_loop::{begin, means_of, search};
@@ -30,10 +35,19 @@ fn letters(rt: &impl Abort, alloc: Global, book: &Book) -> String {
     told
 }
 
+/// A book over the clauses of the script.
+fn opened(rt: &impl Abort, alloc: Global, text: &str) -> Book
+    ensures can_run { CanRun result.system }
+    ensures thin { IsThin (standing_of result) }
+    ensures new { result.journal ≡ [] }
+{
+    let system = system_of(rt, alloc, text);
+    begin(alloc, system, 1_000).expect(rt, "memory")
+}
+
 /// The letters of the search of one worker without a pool.
 fn searched(rt: &impl Abort, alloc: Global, text: &str) -> String {
-    let system = system_of(rt, alloc, text);
-    let mut book = begin(alloc, system, 1_000).expect(rt, "memory");
+    let mut book = opened(rt, alloc, text);
     search(&mut book, 100).expect(rt, "memory");
     letters(rt, alloc, &book)
 }
