@@ -1,9 +1,12 @@
+pub mod DecidingLemmas
 pub mod DefinitionLemmas
 pub mod ExactLemmas
 pub mod FormLemmas
 pub mod GuardLemmas
 pub mod JudgeLemmas
+pub mod LinkLemmas
 pub mod PassLemmas
 pub mod ReadLemmas
+pub mod ReplaceLemmas
 pub mod ScriptLemmas
 pub mod TermLemmas

@@ -2,9 +2,13 @@
 //! of false by its assertions.
 #![tactic(auto)]
 
+mod bounds;
 mod counting;
+mod deciding;
 mod derivation;
 mod laws;
+mod linking;
+mod links;
 mod model;
 mod reading;
 mod verdict;

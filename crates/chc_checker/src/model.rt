@@ -4,22 +4,22 @@ ghost use Rattle.std.specs.Prelude.{◌≡◌, ◌<◌, ◌≤◌, ◌∷◌, []
 ghost use Rattle.term_tree.specs.Solution.{AreFormulas, DefinesEach};
 ghost use Rattle.horn_shape.specs.Clause.{IsLegalScript};
 ghost use Rattle.lin_atoms.specs.declared.form.Form.TheViews.{And};
-ghost use Rattle.lia_search.specs.Decides.{Decides};
 ghost use Rattle.clause_normal.specs.Normal.{first_without_room, normal_clause};
 ghost use Rattle.clause_normal.specs.machinery.Making.{AreTablesOf};
 ghost use Rattle.clause_laws.specs.Defined.{breaking_form, breaking_variables, breaking_wide};
 ghost use Rattle.answer_text.specs.declared.answer.Answer.TheVariants.{Sat};
 ghost use Rattle.chc_checker.specs.Verdicts.{IsNormalScript, IsReached, Says};
-ghost use Rattle.chc_checker.specs.machinery.Judging.{HaveFewArguments, IsDecided};
+ghost use Rattle.chc_checker.specs.machinery.Judging.{HaveFewArguments, IsDecided, Settles};
 
 use crate::counting::count_all;
+use crate::deciding::settle;
 use crate::verdict::{Hidden, Place, Unshown, Verdict};
 use base::{Items, Memory};
 use clause_defined::with_tables;
 use clause_normal::{NormalStop, Tables, assertion_of, has_number, tables_of};
 use derivation_check::clauses_of;
 use horn_shape::HornClause;
-use lia_cases::{Decision, decide};
+use lia_cases::Decision;
 use lin_atoms::Form;
 use std::alloc::Global;
 use term_tree::{Definition, Script};
@@ -40,7 +40,7 @@ fn verdict_by(
     requires formulas { AreFormulas script.now.preds definitions.now }
     requires reached { IsReached script.now definitions.now number clause.now }
     requires vars { vars ≡ breaking_variables definitions.now (normal_clause script.now clause.now) }
-    requires decides { Decides (And (breaking_form definitions.now (normal_clause script.now clause.now) ∷ [])) vars nodes decision }
+    requires decides { Settles (And (breaking_form definitions.now (normal_clause script.now clause.now) ∷ [])) vars nodes decision }
     ensures { IsDecided nodes script.now definitions.now number result }
 {
     script.terms.is_arena();
@@ -55,10 +55,7 @@ fn verdict_by(
                 },
             })
         }
-        Decision::Refuted(refuted) => {
-            refuted.is_refuted();
-            None
-        }
+        Decision::Refuted(_) => None,
         Decision::GaveUp(gave_up) => Some(Verdict::NotShown {
             place: Hidden::Assertion(number),
             evidence: Unshown::Query(gave_up),
@@ -93,7 +90,7 @@ fn decided(
 {
     script.terms.is_arena();
     has_number(assertion_of(script, clause).term);
-    let decision = decide(alloc, &form, &[], vars, nodes)?;
+    let decision = settle(alloc, form, vars, nodes)?;
     Ok(verdict_by(script, definitions, nodes, number, clause, vars, decision))
 }
 

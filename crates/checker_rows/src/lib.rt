@@ -5,6 +5,8 @@
 #[cfg(test)]
 mod faults;
 #[cfg(test)]
+mod links;
+#[cfg(test)]
 mod models;
 #[cfg(test)]
 mod steps;

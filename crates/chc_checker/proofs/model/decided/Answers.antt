@@ -9,8 +9,8 @@ use Rattle.clause_laws.specs.Defined.{breaking_form, breaking_variables}
 use Rattle.chc_checker.proofs.FormLemmas.{form_below, form_short}
 use Rattle.chc_checker.proofs.model.decided.Goals as goal
 
-pub decide-requires-clause-below : goal.decide-requires-clause-below
-decide-requires-clause-below c =
+pub settle-requires-clause-below : goal.settle-requires-clause-below
+settle-requires-clause-below c =
     let script = c.args.script.now in
     let defs = c.args.definitions.now in
     let clause = c.args.clause.now in
@@ -21,8 +21,8 @@ decide-requires-clause-below c =
     form_below script clause c.is_arena.ensures.arena c.requires.legal own c.requires.narrow defs c.requires.defined c.requires.formulas c.requires.wide few in
     subst (λ (n : ℕ). is_below n c.args.form ≡ true) (sym c.requires.vars) (subst (λ (f : Form). is_below total f ≡ true) (sym c.requires.form) below)
 
-pub decide-requires-clause-short : goal.decide-requires-clause-short
-decide-requires-clause-short c =
+pub settle-requires-clause-short : goal.settle-requires-clause-short
+settle-requires-clause-short c =
     let script = c.args.script.now in
     let defs = c.args.definitions.now in
     let clause = c.args.clause.now in
