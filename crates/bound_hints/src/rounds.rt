@@ -5,22 +5,24 @@ use crate::candidates::{Needed, cubes_at, needed_of};
 use crate::fixing::fix;
 use crate::needing::{Needs, needs_of};
 use crate::table::{Size, Table, table_of};
+use crate::walking::walk;
 use base::Memory;
 use clause_form::System;
 use cube_forms::Cube;
+use lin_atoms::Lin;
 use std::alloc::Global;
 
 /// The work that a round may take for each unit that was spent.
-const WORK_OF_A_UNIT: u32 = 16;
+const WORK_OF_A_UNIT: u32 = 24;
 
 /// The least that the first round may take.
-const FIRST_WORK: u32 = 6_000;
+const FIRST_WORK: u32 = 8_000;
 
 /// The least that another may take.
-const LEAST_WORK: u32 = 4_000;
+const LEAST_WORK: u32 = 10_000;
 
 /// The most.
-const MOST_WORK: u32 = 120_000;
+const MOST_WORK: u32 = 240_000;
 
 /// How many rounds there are.
 const ROUNDS: u32 = 4;
@@ -81,6 +83,7 @@ fn work_of(round: u32, units: u32) -> u32 {
 fn found_in(alloc: Global, table: Table, sys: &System, left: u32) -> Result<Option<Found>, Memory> {
     let mut table = table;
     let mut left = left;
+    walk(alloc, &mut table, sys, &mut left)?;
     if !fix(alloc, &mut table, sys, &mut left)? {
         return Ok(None);
     }
@@ -91,8 +94,14 @@ fn found_in(alloc: Global, table: Table, sys: &System, left: u32) -> Result<Opti
     }))
 }
 
-fn round_of(alloc: Global, sys: &System, size: Size, left: u32) -> Result<Option<Found>, Memory> {
-    match table_of(alloc, sys, size)? {
+fn round_of(
+    alloc: Global,
+    sys: &System,
+    shared: &[Vec<Lin>],
+    size: Size,
+    left: u32,
+) -> Result<Option<Found>, Memory> {
+    match table_of(alloc, sys, shared, size)? {
         Some(table) => found_in(alloc, table, sys, left),
         None => Ok(None),
     }
@@ -117,20 +126,31 @@ impl Bounds {
         }
     }
 
+    /// Whether it is time to look for more bounds.
+    pub fn are_due(&self, level: u32, units: u32) -> bool {
+        level >= level_of(self.round)
+            && units >= self.wait
+            && self.round < ROUNDS
+            && !self.are_safe()
+    }
+
     /// Looks for more bounds, where the level of the book and the units that were spent say so. The
-    /// work is at most what `units`, the number of units spent, allows for.
+    /// work is at most what `units`, the number of units spent, allows for. For each predicate forms are
+    /// handed in that may be worth a bound.
     pub fn renew(
         &mut self,
         alloc: Global,
         sys: &System,
+        shared: &[Vec<Lin>],
         level: u32,
         units: u32,
     ) -> Result<(), Memory> {
-        let is_due = level >= level_of(self.round) && units >= self.wait && self.round < ROUNDS;
-        if !is_due || self.are_safe() {
+        if !self.are_due(level, units) {
             return Ok(());
         }
-        match round_of(alloc, sys, size_of(self.round), work_of(self.round, units))? {
+        let size = size_of(self.round);
+        let work = work_of(self.round, units);
+        match round_of(alloc, sys, shared, size, work)? {
             Some(found) => {
                 self.found = Some(found);
                 self.round = self.round.saturating_add(1);

@@ -8,7 +8,7 @@ use base::{Copied, Memory};
 use bound_hints::Bounds;
 use clause_form::System;
 use cube_forms::Cube;
-use lin_atoms::{Lit, WideStop, denied};
+use lin_atoms::{Lin, Lit, WideStop, denied};
 use std::alloc::Global;
 
 /// What was found of the predicates of a system, before its search and in rounds beside it: guesses, of
@@ -78,6 +78,19 @@ fn broken_at(alloc: Global, hull: &Hull, point: &[i64], whole: bool) -> Result<V
     Ok(cubes)
 }
 
+/// For each predicate the forms of equations that its tuples have in common, and that pairs of places
+/// don't have.
+fn long_forms(alloc: Global, known: &[Known]) -> Result<Vec<Vec<Lin>>, Memory> {
+    let mut made = Vec::new(alloc);
+    for one in known {
+        match one {
+            Known::Common(hull) => made.push(hull.long_forms(alloc)?)?,
+            Known::Nothing => made.push(Vec::new(alloc))?,
+        }
+    }
+    Ok(made)
+}
+
 impl Hints {
     /// Looks for bounds that hold together, where the level of the book and the units that were spent say
     /// so.
@@ -88,7 +101,12 @@ impl Hints {
         level: u32,
         units: u32,
     ) -> Result<(), Memory> {
-        self.bounds.renew(alloc, sys, level, units)
+        if !self.bounds.are_due(level, units) {
+            return Ok(());
+        }
+        let shared = long_forms(alloc, self.known.as_slice())?;
+        self.bounds
+            .renew(alloc, sys, shared.as_slice(), level, units)
     }
 
     /// The bounds that were found so far.
