@@ -38,13 +38,13 @@ mod small;
 #[cfg(test)]
 mod stops;
 #[cfg(test)]
+mod sum_places;
+#[cfg(test)]
 mod sums;
 #[cfg(test)]
 mod systems;
 #[cfg(test)]
 mod tables;
-#[cfg(test)]
-mod term_places;
 #[cfg(test)]
 mod texts;
 #[cfg(test)]
