@@ -25,16 +25,16 @@ pub struct Means {
 }
 
 /// The means of the worker of this number, from 1. The first one uses those that alone solve the most. The
-/// others differ from it, since one book takes the lemmas of all: they make no hints of their own, which
-/// would be the same work once more for each; those of even numbers leave out literals in the other order,
-/// and those of odd ones begin with what the proofs use.
+/// others differ from it in the order of what they try, since one book takes the lemmas of all: those of
+/// even numbers leave out literals in the other order, and those of odd ones begin with what the proofs
+/// use. A worker without hints would learn weak lemmas, which lead the others away.
 pub fn means_of(worker: u32) -> Means {
     Means {
         again: true,
-        bounds: worker == 1,
+        bounds: true,
         cores_first: worker > 1 && worker % 2 == 1,
         reversed: worker % 2 == 1,
-        hulls: worker == 1,
+        hulls: true,
         sums: true,
         widens: true,
         raises: true,
