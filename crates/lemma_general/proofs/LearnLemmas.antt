@@ -25,11 +25,11 @@ use Rattle.step_rules.specs.Views.{obligation_of, obligations_of}
 use Rattle.step_rules.specs.declared.lemma_part.LemmaPart.{LemmaPart}
 use Rattle.step_rules.proofs.Public.{obligation_of-at}
 use Rattle.obligation_turn.specs.Turns.{GoesOn}
-use Rattle.obligation_turn.proofs.ProvedLemmas.{proved}
 use Rattle.obligation_turn.proofs.RuleLemmas.{kept, passed, told-of}
 use Rattle.lemma_general.specs.Generals.{IsLearnt}
 use Rattle.lemma_general.specs.Tries.{point_of}
-use Rattle.lemma_general.specs.machinery.Passes.{AreProofsOf, IsCubeOf, IsWithin}
+use Rattle.lemma_general.specs.machinery.Passes.{AreShownOf, IsCubeOf, IsWithin}
+use Rattle.lemma_general.proofs.OwnLemmas.{shown-proved}
 
 -- rules that aren't broken
 
@@ -102,14 +102,14 @@ held-at b part cube learnt within =
 
 -- with refutations of a cube that holds the obligation's point under the frame below, at the same or a higher level
 pub relearnt : (b : Standing) (part : LemmaPart) (level : ℕ) (cube : List Lit) (proofs : List Shown) → GoesOn b → IsLearnt b part → part.level ≤ level → level ≤ b.level → IsCubeOf b part.pred cube → cube_holds (point_of b part.target) cube ≡ true
-    → AreProofsOf b part.pred cube (level - 1) proofs → IsLearnt b (record { target = part.target; pred = part.pred; lemma = cube; level = level; proofs = proofs })
+    → AreShownOf b part.pred cube (level - 1) proofs → IsLearnt b (record { target = part.target; pred = part.pred; lemma = cube; level = level; proofs = proofs })
 relearnt b part level cube proofs goes learnt from to is held are =
     let s = state_of b in
     let lemma : Lemma = record { pred = part.pred; cube = cube } in
     let made : LemmaPart = record { target = part.target; pred = part.pred; lemma = cube; level = level; proofs = proofs } in
     let l : PlainLemma = learn_of made in
     let before = placed b part learnt in
-    let its = proved b.system b.frames.lemmas (level - 1) (Some lemma) (Some lemma) proofs ((goes.standing).over).lemmas is.over are in
+    let its = shown-proved b part.pred (level - 1) cube proofs goes is are in
     let low : nat_le 1 level ≡ true = higher-too 1 part.level level before.low from in
     let high : nat_le level b.level ≡ true = grind (arith, nat_tests, to) in
     let closing : closes lemma level (target_of b part.target) ≡ true = closes-too part.pred part.lemma cube part.level level (target_of b part.target) from held before.closing in

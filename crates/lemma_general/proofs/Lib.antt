@@ -1,5 +1,6 @@
 pub mod PartLemmas
 pub mod BoundLemmas
+pub mod OwnLemmas
 pub mod LearnLemmas
 pub mod MetLemmas
 pub mod AskLemmas

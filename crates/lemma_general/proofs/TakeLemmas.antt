@@ -19,7 +19,7 @@ use Rattle.obligation_turn.specs.Turns.{GoesOn}
 use Rattle.obligation_turn.proofs.LiftLemmas.{lifts}
 use Rattle.lemma_general.specs.Generals.{IsAgainst, IsForSame, IsLearnt, IsLiftOf, bounds_of, without}
 use Rattle.lemma_general.specs.Tries.{IsMet, point_of}
-use Rattle.lemma_general.specs.machinery.Passes.{AreMet, AreProofsOf, IsCubeOf, IsRaisedOnce, IsReplaced, IsSplit, IsTaken}
+use Rattle.lemma_general.specs.machinery.Passes.{AreMet, AreProofsOf, AreShownOf, IsCubeOf, IsRaisedOnce, IsReplaced, IsSplit, IsTaken}
 use Rattle.lemma_general.specs.declared.breaking.Breaking.{Breaking}
 use Rattle.lemma_general.proofs.LearnLemmas.{held-at, placed, relearnt}
 use Rattle.lemma_general.proofs.MetLemmas.{any-hit}
@@ -32,7 +32,7 @@ le-of m n h = grind (arith, nat_tests, h)
 
 -- a cube that is taken, or isn't
 
-pub replaced : (b : Standing) (old : LemmaPart) (cube lemma : List Lit) (proofs : List Shown) → GoesOn b → IsLearnt b old → IsCubeOf b old.pred cube → cube_holds (point_of b old.target) cube ≡ true → lemma ≡ cube → AreProofsOf b old.pred cube (old.level - 1) proofs
+pub replaced : (b : Standing) (old : LemmaPart) (cube lemma : List Lit) (proofs : List Shown) → GoesOn b → IsLearnt b old → IsCubeOf b old.pred cube → cube_holds (point_of b old.target) cube ≡ true → lemma ≡ cube → AreShownOf b old.pred cube (old.level - 1) proofs
     → IsReplaced b cube old (record { target = old.target; pred = old.pred; lemma = lemma; level = old.level; proofs = proofs })
 replaced b old cube lemma proofs goes learnt is held same are =
     let top : old.level ≤ b.level = le-of old.level b.level (placed b old learnt).high in
@@ -80,14 +80,14 @@ split-by b nodes old new cube false is taken = inr (subst (IsAgainst b old.pred 
 
 -- the next level
 
-pub raised-once : (b : Standing) (nodes level : ℕ) (old : LemmaPart) (proofs : List Shown) → GoesOn b → IsLearnt b old → old.level < b.level → level ≡ old.level + 1 → AreProofsOf b old.pred old.lemma old.level proofs
+pub raised-once : (b : Standing) (nodes level : ℕ) (old : LemmaPart) (proofs : List Shown) → GoesOn b → IsLearnt b old → old.level < b.level → level ≡ old.level + 1 → AreShownOf b old.pred old.lemma old.level proofs
     → IsRaisedOnce b nodes old (record { target = old.target; pred = old.pred; lemma = old.lemma; level = level; proofs = proofs }) true
 raised-once b nodes level old proofs goes learnt below up are =
     let same : old.level ≡ level - 1 = omega (arith, up) in
     let from : old.level ≤ level = omega (arith, up) in
     let to : level ≤ b.level = omega (arith, up, below) in
     let held = held-at b old old.lemma learnt (λ tuple h. h) in
-    let made = relearnt b old level old.lemma proofs goes learnt from to (own-cube b old learnt) held (subst (λ (m : ℕ). AreProofsOf b old.pred old.lemma m proofs) same are) in
+    let made = relearnt b old level old.lemma proofs goes learnt from to (own-cube b old learnt) held (subst (λ (m : ℕ). AreShownOf b old.pred old.lemma m proofs) same are) in
     (made, refl, refl, refl, up, to)
 
 pub at-top : (b : Standing) (nodes : ℕ) (old : LemmaPart) → IsLearnt b old → b.level ≤ old.level → IsRaisedOnce b nodes old old false

@@ -5,7 +5,7 @@ ghost use Rattle.cube_forms.specs.Cubes.{cube_holds};
 ghost use Rattle.obligation_turn.specs.Turns.{GoesOn};
 ghost use Rattle.lemma_general.specs.Generals.{IsForSame, IsGeneralised, IsLearnt, without};
 ghost use Rattle.lemma_general.specs.Tries.{point_of};
-ghost use Rattle.lemma_general.specs.machinery.Passes.{AreMet, AreProofsOf, IsCubeOf, IsPassed, IsReplaced, IsSplit, IsTaken};
+ghost use Rattle.lemma_general.specs.machinery.Passes.{AreMet, AreShownOf, IsCubeOf, IsPassed, IsReplaced, IsSplit, IsTaken};
 
 use crate::bounds::{bounds_of, has_equation};
 use crate::breaking::{Breaking, is_met, keep};
@@ -28,7 +28,7 @@ fn replace(
     requires learnt { IsLearnt lent.now part.old }
     requires cube { IsCubeOf lent.now part.old.pred cube.now }
     requires held { cube_holds (point_of lent.now part.old.target) cube.now ≡ true }
-    requires proofs { AreProofsOf lent.now part.old.pred cube.now (part.old.level - 1) proofs }
+    requires proofs { AreShownOf lent.now part.old.pred cube.now (part.old.level - 1) proofs }
     ensures { OnOk result (IsReplaced lent.now cube.now part.old part.new) }
 {
     let lemma = negate(lent.alloc, cube)?;
@@ -37,8 +37,8 @@ fn replace(
     Ok(())
 }
 
-/// Takes the cube in place of the lemma's, where the frame below implies it. An instance that keeps it
-/// out is kept.
+/// Takes the cube in place of the lemma's, where the frame below and the lemma of the cube imply that
+/// lemma. An instance that keeps it out is kept.
 pub(crate) fn take(
     lent: &Lent,
     part: &mut LemmaPart,

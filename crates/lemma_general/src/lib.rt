@@ -1,5 +1,5 @@
 //! Lemmas made more general: literals of a cube are dropped and its level is raised as long as the frame
-//! below still implies the lemma, and lemmas are lifted (Bradley, "SAT-based model checking without
+//! below and the lemma itself still imply it, and lemmas are lifted (Bradley, "SAT-based model checking without
 //! unrolling", section 4; Hoder and Bjorner, "Generalized property directed reachability").
 #![tactic(auto)]
 
@@ -8,6 +8,7 @@ mod breaking;
 mod cubes;
 mod dropping;
 mod lifting;
+mod own;
 mod raising;
 mod showing;
 mod trying;

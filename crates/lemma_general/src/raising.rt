@@ -9,7 +9,8 @@ use crate::showing::show;
 use base::Memory;
 use step_rules::{LemmaPart, Lent};
 
-/// Takes the lemma to the next level, if there is one and its frame implies it.
+/// Takes the lemma to the next level, if there is one and the frame below that and the lemma itself imply
+/// it.
 fn raise_once(lent: &Lent, part: &mut LemmaPart, nodes: u32) -> Result<bool, Memory>
     requires goes_on { GoesOn lent.now }
     requires learnt { IsLearnt lent.now part.old }

@@ -58,8 +58,8 @@ impl Tries {
         }
     }
 
-    /// Takes the cube in the lemma's place where it may stand there and the frame below implies so: for
-    /// the same obligation, at the same level. An instance that keeps it out is kept, and so keeps out
+    /// Takes the cube in the lemma's place where it may stand there and the frame below implies so, or
+    /// does with the lemma of the cube itself: for the same obligation, at the same level. An instance that keeps it out is kept, and so keeps out
     /// later cubes without a query.
     pub fn try_cube(&mut self, lent: &Lent, cube: &Cube, nodes: u32) -> Result<bool, Memory>
         requires goes_on { GoesOn lent.now }

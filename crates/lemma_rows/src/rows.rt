@@ -39,7 +39,7 @@ const CASES: [Case; 4] = [
     Case {
         shows: "a loop with a saturating counter",
         script: "(set-logic HORN)(declare-fun |main@entry| () Bool)(declare-fun |main@loop| (Int Int) Bool)(declare-fun |main@exit| (Int Int) Bool)(assert |main@entry|)(assert (forall ((A Int) (B Int)) (=> (and |main@entry| (= A 0) (= B 0)) (|main@loop| A B))))(assert (forall ((A Int) (B Int) (C Int) (D Int)) (let ((a!1 (and (< A 100) (= C (+ A 1)))) (a!2 (= D (ite (> B 50) B (+ B 2))))) (=> (and (|main@loop| A B) a!1 a!2) (|main@loop| C D)))))(assert (forall ((A Int) (B Int)) (=> (and (|main@loop| A B) (not (< A 100))) (|main@exit| A B))))(assert (forall ((A Int) (B Int)) (=> (and (|main@exit| A B) (not (<= B 52))) false)))(check-sat)",
-        units: 20,
+        units: 19,
         lemmas: "2 at 2:; 1 at 1:; 2 at 2:; 1 at 4: le -1x1+53; 2 at 4: le -1x1+53; 2 at 4: le -1x1+53; ",
     },
 ];

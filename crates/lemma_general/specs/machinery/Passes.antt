@@ -1,5 +1,5 @@
 -- How literals are dropped.
-use Rattle.std.specs.Prelude.{◌≡◌, ◌<◌, ◌≤◌, ◌-◌, ◌+◌, ◌⊎◌, ℕ, ℤ, List, Bool, true, false, Option, Some, None, length}
+use Rattle.std.specs.Prelude.{◌≡◌, ◌<◌, ◌≤◌, ◌-◌, ◌+◌, ◌⊎◌, ◌++◌, ◌∷◌, [], ℕ, ℤ, List, Bool, true, false, Option, Some, None, length}
 use Rattle.lin_atoms.specs.declared.lit.Lit.{Lit}
 use Rattle.cube_forms.specs.Cubes.{cube_holds}
 use Rattle.chc_tokens.specs.declared.goal.Goal.TheVariants.{Holds}
@@ -7,8 +7,11 @@ use Rattle.chc_tokens.specs.declared.refuting.Shown.{Shown}
 use Rattle.book_rules.specs.Areas.{is_wide}
 use Rattle.book_rules.specs.Places.{is_over}
 use Rattle.book_rules.specs.Walks.{AllOf}
-use Rattle.clause_queries.specs.Answers.{AreProofs, IsFound}
+use Rattle.lemma_frames.specs.Frames.{Lemmas}
+use Rattle.lemma_frames.specs.declared.framed.Framed.{Framed}
+use Rattle.clause_queries.specs.Answers.{AreProofs, IsFound, IsHit, IsLost}
 use Rattle.clause_queries.specs.declared.finding.Found.{Found}
+use Rattle.clause_queries.specs.declared.finding.Found.TheVariants.{Instance, Refuted, GivenUp}
 use Rattle.step_rules.specs.Standing.{Standing}
 use Rattle.step_rules.specs.declared.lemma_part.LemmaPart.{LemmaPart}
 use Rattle.lemma_general.specs.Generals.{IsAgainst, IsForSame, IsLearnt, IsLeast, IsPart, bounds_of}
@@ -31,9 +34,32 @@ IsFoundOf b pred cube k nodes found = IsFound b.system b.frames.lemmas (Some pre
 abbrev pub AreProofsOf : Standing → ℕ → List Lit → ℕ → List Shown → Type 0
 AreProofsOf b pred cube k proofs = AreProofs b.system b.frames.lemmas (Some pred) (Holds cube) k proofs
 
--- the refutations of a cube under F(k); none where something stands against it
+-- the frames with the lemma that denies the cube, at this level, as the last one
+abbrev pub with_own : Standing → ℕ → List Lit → ℕ → List Framed
+with_own b pred cube k = b.frames.lemmas ++ (record { pred = pred; level = k; lemma = cube }) ∷ []
+
+abbrev pub IsWithOwn : Standing → ℕ → List Lit → ℕ → Option Lemmas → Type 0
+IsWithOwn b pred cube k (Some frames) = frames.lemmas ≡ with_own b pred cube k
+IsWithOwn b pred cube k None = Unit {0}
+
+-- what is found of a cube under F(k) and the lemma itself
+abbrev pub IsFoundByOwn : Standing → ℕ → List Lit → ℕ → ℕ → Option Found → Type 0
+IsFoundByOwn b pred cube k nodes (Some found) = IsFound b.system (with_own b pred cube k) (Some pred) (Holds cube) k nodes found
+IsFoundByOwn b pred cube k nodes None = Unit {0}
+
+-- the refutations of a cube under F(k), or under F(k) and the lemma itself
+abbrev pub AreShownOf : Standing → ℕ → List Lit → ℕ → List Shown → Type 0
+AreShownOf b pred cube k proofs = AreProofsOf b pred cube k proofs ⊎ AreProofs b.system (with_own b pred cube k) (Some pred) (Holds cube) k proofs
+
+-- what is answered of a cube that the lemma itself may help to refute
+abbrev pub IsAnswerOf : Standing → ℕ → List Lit → ℕ → ℕ → Found → Type 0
+IsAnswerOf b pred cube k nodes (Instance seen) = IsHit b.system b.frames.lemmas (Some pred) (Holds cube) k seen
+IsAnswerOf b pred cube k nodes (Refuted proofs) = AreShownOf b pred cube k proofs
+IsAnswerOf b pred cube k nodes (GivenUp lost) = IsLost b.system b.frames.lemmas (Some pred) (Holds cube) k nodes lost
+
+-- the refutations of a cube under F(k), by the lemma itself, too; none where something stands against it
 abbrev pub IsShownOf : Standing → ℕ → List Lit → ℕ → ℕ → Option (List Shown) → Type 0
-IsShownOf b pred cube k nodes (Some proofs) = AreProofsOf b pred cube k proofs
+IsShownOf b pred cube k nodes (Some proofs) = AreShownOf b pred cube k proofs
 IsShownOf b pred cube k nodes None = IsAgainst b pred k nodes cube
 
 -- instances that were met

@@ -1,12 +1,9 @@
-use Rattle.std.proofs.Common.{ap}
-use Rattle.std.specs.Prelude.{List}
-use Rattle.lin_atoms.specs.declared.lit.Lit.{Lit}
-use Rattle.chc_tokens.specs.declared.goal.Goal.TheVariants.{Holds}
-use Rattle.lemma_general.proofs.AskLemmas.{cube-asks, cube-found}
+use Rattle.std.proofs.Common.{Some, ap, ◌∙◌, subst}
+use Rattle.clause_queries.specs.declared.finding.Found.{Found}
+use Rattle.lemma_general.specs.machinery.Passes.{IsFoundByOwn}
+use Rattle.lemma_general.proofs.OwnLemmas.{own-hit}
 use Rattle.lemma_general.proofs.showing.ask_by.Goals as goal
 
-pub ask_all_by-requires-clause-asks : goal.ask_all_by-requires-clause-asks
-ask_all_by-requires-clause-asks c = cube-asks _ c.args.lent.now c.args.pred c.args.cube.now (Holds c.in_ok-lemma.lemma) c.lent.view_is c.requires.goes_on c.requires.cube (ap (λ (l : List Lit). Holds l) c.in_ok-lemma.ensures)
-
-pub returns : goal.returns
-returns c = cube-found _ c.args.lent.now c.args.pred c.args.cube.now c.in_ok-lemma.lemma c.args.k c.args.nodes c.in_ok-found.found c.lent.view_is c.in_ok-lemma.ensures c.in_ok-found.ensures
+pub returns-in-Some-Instance : goal.returns-in-Some-Instance
+returns-in-Some-Instance c =
+    own-hit c.args.lent.now c.args.pred c.args.k c.args.cube.now c.in-Some-Instance.seen (subst (IsFoundByOwn c.args.lent.now c.args.pred c.args.cube.now c.args.k c.args.nodes) (c.in-Some-Instance.is ∙ ap (λ (f : Found). Some f) c.in-Some-Instance.field-0-is) c.in_ok-asked.ensures)
