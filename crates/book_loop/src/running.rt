@@ -18,7 +18,7 @@ use crate::taking::{has_ended, lend, take};
 use base::Memory;
 use chc_core::Book;
 use clause_form::System;
-use lemma_candidates::{Hints, hints_of};
+use lemma_candidates::{Hints, hints_of, steer};
 use obligation_turn::{Workspace, turn_in};
 use std::alloc::Global;
 use step_rules::Step;
@@ -42,7 +42,8 @@ fn next_step(
     let lent = lend(book);
     hints.renew(lent.alloc, lent.system, lent.level, lent.spent)?;
     let step = turn_in(&lent, job, nodes, work)?;
-    let served = improved(&lent, step, hints, nodes)?;
+    let steered = steer(&lent, job, step, hints, nodes)?;
+    let served = improved(&lent, steered, hints, nodes)?;
     Ok(served)
 }
 

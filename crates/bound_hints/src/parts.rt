@@ -19,6 +19,18 @@ const MOST_PARTS: usize = 250;
 /// Of how many places all pairs are parts.
 const MOST_IN_PAIRS: usize = 8;
 
+/// How many forms that are handed in give parts.
+const MOST_SHARED: usize = 8;
+
+/// How many places that no clause moves stand in parts of three places.
+const MOST_FIXED: usize = 3;
+
+/// How many parts have one.
+const MOST_WITH_FIXED: usize = 60;
+
+/// How often such a place stands in a part.
+const MOST_TIMES: u32 = 3;
+
 /// The greatest coefficient of a part.
 const GREATEST: i64 = 1_000_000_000;
 
@@ -166,12 +178,144 @@ fn push_all_pairs(alloc: Global, parts: &mut Vec<Lin>, places: u32) -> Result<()
     Ok(())
 }
 
-/// The parts of a predicate of arity `places`.
+/// Adds parts of forms that are handed in.
+fn push_shared(
+    alloc: Global,
+    parts: &mut Vec<Lin>,
+    shared: Option<&Vec<Lin>>,
+) -> Result<(), Memory> {
+    let shared = match shared {
+        Some(shared) => shared,
+        None => return Ok(()),
+    };
+    for (at, lin) in shared.iter().enumerate() {
+        if at < MOST_SHARED {
+            push_both(alloc, parts, lin, MOST_PARTS)?;
+        }
+    }
+    Ok(())
+}
+
+/// Whether no increment moves the place.
+fn is_fixed(increments: &[Increment], place: u32) -> bool {
+    for increment in increments {
+        match increment.steps.as_slice().get(place as usize) {
+            Some(Some(0)) => {}
+            _ => return false,
+        }
+    }
+    increments.len() > 0
+}
+
+/// The first few places that no increment moves.
+fn fixed(alloc: Global, increments: &[Increment], places: u32) -> Result<Vec<u32>, Memory> {
+    let mut made = Vec::new(alloc);
+    for place in 0..places {
+        if made.len() < MOST_FIXED && is_fixed(increments, place) {
+            made.push(place)?;
+        }
+    }
+    Ok(made)
+}
+
+/// Adds the part of two places that an increment leaves as it is, with one more place some times.
+fn push_beside(
+    alloc: Global,
+    parts: &mut Vec<Lin>,
+    first: (u32, i64),
+    second: (u32, i64),
+    place: u32,
+    most: usize,
+) -> Result<(), Memory> {
+    if !is_step(first.1) || !is_step(second.1) {
+        return Ok(());
+    }
+    let own = second.1.saturating_neg();
+    for times in 0..MOST_TIMES {
+        let more = i64::from(times).saturating_add(1);
+        let less = more.saturating_neg();
+        push_terms(
+            alloc,
+            parts,
+            &[(first.0, own), (second.0, first.1), (place, more)],
+            most,
+        )?;
+        push_terms(
+            alloc,
+            parts,
+            &[(first.0, own), (second.0, first.1), (place, less)],
+            most,
+        )?;
+    }
+    Ok(())
+}
+
+/// The same of this place and of later ones.
+fn push_later(
+    alloc: Global,
+    parts: &mut Vec<Lin>,
+    steps: &[Option<i64>],
+    first: (u32, i64),
+    fixed: u32,
+    most: usize,
+) -> Result<(), Memory> {
+    for (place, step) in steps.iter().enumerate() {
+        match (u32::try_from(place), step) {
+            (Ok(place), Some(step)) => {
+                if first.0 < place {
+                    push_beside(alloc, parts, first, (place, *step), fixed, most)?;
+                }
+            }
+            _ => {}
+        }
+    }
+    Ok(())
+}
+
+/// Adds parts of the increment with a place that no increment moves.
+fn push_with_fixed(
+    alloc: Global,
+    parts: &mut Vec<Lin>,
+    steps: &[Option<i64>],
+    fixed: u32,
+    most: usize,
+) -> Result<(), Memory> {
+    for (place, step) in steps.iter().enumerate() {
+        match (u32::try_from(place), step) {
+            (Ok(place), Some(step)) => {
+                push_later(alloc, parts, steps, (place, *step), fixed, most)?;
+            }
+            _ => {}
+        }
+    }
+    Ok(())
+}
+
+/// Adds parts of increments with places that none of them moves.
+fn push_all_with_fixed(
+    alloc: Global,
+    parts: &mut Vec<Lin>,
+    increments: &[Increment],
+    places: u32,
+) -> Result<(), Memory> {
+    let most = parts.len().saturating_add(MOST_WITH_FIXED).min(MOST_PARTS);
+    for fixed in fixed(alloc, increments, places)? {
+        for increment in increments {
+            push_with_fixed(alloc, parts, increment.steps.as_slice(), fixed, most)?;
+        }
+    }
+    Ok(())
+}
+
+/// The parts of a predicate of arity `places`: of three places only where they are asked for, or handed
+/// in.
 pub(crate) fn parts_of(
     alloc: Global,
     guarded: &[Guarded],
     increments: &[Increment],
+    shared: Option<&Vec<Lin>>,
     places: usize,
+    is_whole: bool,
 ) -> Result<Vec<Lin>, Memory> {
     let mut parts = Vec::new(alloc);
     let count = match u32::try_from(places) {
@@ -179,10 +323,14 @@ pub(crate) fn parts_of(
         Err(_) => 0,
     };
     push_units(alloc, &mut parts, count)?;
+    push_shared(alloc, &mut parts, shared)?;
     push_guards(alloc, &mut parts, guarded)?;
     push_increments(alloc, &mut parts, increments)?;
     if places <= MOST_IN_PAIRS {
         push_all_pairs(alloc, &mut parts, count)?;
+    }
+    if is_whole {
+        push_all_with_fixed(alloc, &mut parts, increments, count)?;
     }
     Ok(parts)
 }

@@ -8,6 +8,7 @@ use crate::table::{Size, Table, table_of};
 use base::Memory;
 use clause_form::System;
 use cube_forms::Cube;
+use lin_atoms::Lin;
 use std::alloc::Global;
 
 /// The work that a round may take for each unit that was spent.
@@ -91,8 +92,14 @@ fn found_in(alloc: Global, table: Table, sys: &System, left: u32) -> Result<Opti
     }))
 }
 
-fn round_of(alloc: Global, sys: &System, size: Size, left: u32) -> Result<Option<Found>, Memory> {
-    match table_of(alloc, sys, size)? {
+fn round_of(
+    alloc: Global,
+    sys: &System,
+    shared: &[Vec<Lin>],
+    size: Size,
+    left: u32,
+) -> Result<Option<Found>, Memory> {
+    match table_of(alloc, sys, shared, size)? {
         Some(table) => found_in(alloc, table, sys, left),
         None => Ok(None),
     }
@@ -117,20 +124,31 @@ impl Bounds {
         }
     }
 
+    /// Whether it is time to look for more bounds.
+    pub fn are_due(&self, level: u32, units: u32) -> bool {
+        level >= level_of(self.round)
+            && units >= self.wait
+            && self.round < ROUNDS
+            && !self.are_safe()
+    }
+
     /// Looks for more bounds, where the level of the book and the units that were spent say so. The
-    /// work is at most what `units`, the number of units spent, allows for.
+    /// work is at most what `units`, the number of units spent, allows for. For each predicate forms are
+    /// handed in that may be worth a bound.
     pub fn renew(
         &mut self,
         alloc: Global,
         sys: &System,
+        shared: &[Vec<Lin>],
         level: u32,
         units: u32,
     ) -> Result<(), Memory> {
-        let is_due = level >= level_of(self.round) && units >= self.wait && self.round < ROUNDS;
-        if !is_due || self.are_safe() {
+        if !self.are_due(level, units) {
             return Ok(());
         }
-        match round_of(alloc, sys, size_of(self.round), work_of(self.round, units))? {
+        let size = size_of(self.round);
+        let work = work_of(self.round, units);
+        match round_of(alloc, sys, shared, size, work)? {
             Some(found) => {
                 self.found = Some(found);
                 self.round = self.round.saturating_add(1);

@@ -28,7 +28,7 @@ pub(crate) struct Size {
     pub(crate) conditions: usize,
     /// How many bounds.
     pub(crate) bounds: usize,
-    /// Whether predicates with many places have conditions, too.
+    /// Whether predicates with many places have conditions, too, and parts have a third place.
     pub(crate) is_whole: bool,
 }
 
@@ -124,12 +124,20 @@ fn push_pred(
     sys: &System,
     pred: u32,
     places: usize,
+    shared: Option<&Vec<Lin>>,
     size: Size,
 ) -> Result<(), Memory> {
     let own = guards_of(alloc, sys, table.arms.as_slice(), pred)?;
     if places > 0 && places <= MOST_PLACES && table.bounds.len() < MOST_BOUNDS {
         let steps = increments(alloc, sys, table.arms.as_slice(), pred)?;
-        let parts = parts_of(alloc, own.as_slice(), steps.as_slice(), places)?;
+        let parts = parts_of(
+            alloc,
+            own.as_slice(),
+            steps.as_slice(),
+            shared,
+            places,
+            size.is_whole,
+        )?;
         let first = table.bounds.len();
         push_plain(alloc, &mut table.bounds, pred, parts.as_slice())?;
         let count = if places < MANY_PLACES || size.is_whole {
@@ -154,8 +162,13 @@ fn push_pred(
 }
 
 /// The bounds that are looked for in a system, none of which was asked for yet; none where it has too many
-/// ways through its clauses.
-pub(crate) fn table_of(alloc: Global, sys: &System, size: Size) -> Result<Option<Table>, Memory> {
+/// ways through its clauses. For each predicate forms are handed in that may be worth a bound.
+pub(crate) fn table_of(
+    alloc: Global,
+    sys: &System,
+    shared: &[Vec<Lin>],
+    size: Size,
+) -> Result<Option<Table>, Memory> {
     let arms = match arms_of(alloc, sys)? {
         Some(arms) => arms,
         None => return Ok(None),
@@ -168,7 +181,8 @@ pub(crate) fn table_of(alloc: Global, sys: &System, size: Size) -> Result<Option
     };
     for (pred, sorts) in sys.preds().iter().enumerate() {
         if let Ok(pred) = u32::try_from(pred) {
-            push_pred(alloc, &mut table, sys, pred, sorts.len(), size)?;
+            let forms = shared.get(pred as usize);
+            push_pred(alloc, &mut table, sys, pred, sorts.len(), forms, size)?;
         }
     }
     Ok(Some(table))

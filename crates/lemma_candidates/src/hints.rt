@@ -8,8 +8,11 @@ use base::{Copied, Memory};
 use bound_hints::Bounds;
 use clause_form::System;
 use cube_forms::Cube;
-use lin_atoms::{Lit, WideStop, denied};
+use lin_atoms::{Lin, Lit, WideStop, denied};
 use std::alloc::Global;
+
+/// After how many turns in a row that couldn't be steered few are tried.
+const MOST_MISSES: u32 = 12;
 
 /// What was found of the predicates of a system, before its search and in rounds beside it: guesses, of
 /// which none has to be right.
@@ -17,6 +20,8 @@ use std::alloc::Global;
 pub struct Hints {
     known: Vec<Known>,
     bounds: Bounds,
+    /// How many turns in a row couldn't be steered.
+    misses: u32,
 }
 
 /// What is guessed of the tuples of each predicate of the system: equations and residues that they have
@@ -25,6 +30,7 @@ pub fn hints_of(alloc: Global, sys: &System) -> Result<Hints, Memory> {
     Ok(Hints {
         known: hulls(alloc, sys)?,
         bounds: Bounds::new(),
+        misses: 0,
     })
 }
 
@@ -78,6 +84,19 @@ fn broken_at(alloc: Global, hull: &Hull, point: &[i64], whole: bool) -> Result<V
     Ok(cubes)
 }
 
+/// For each predicate the forms of equations that its tuples have in common, and that pairs of places
+/// don't have.
+fn long_forms(alloc: Global, known: &[Known]) -> Result<Vec<Vec<Lin>>, Memory> {
+    let mut made = Vec::new(alloc);
+    for one in known {
+        match one {
+            Known::Common(hull) => made.push(hull.long_forms(alloc)?)?,
+            Known::Nothing => made.push(Vec::new(alloc))?,
+        }
+    }
+    Ok(made)
+}
+
 impl Hints {
     /// Looks for bounds that hold together, where the level of the book and the units that were spent say
     /// so.
@@ -88,7 +107,26 @@ impl Hints {
         level: u32,
         units: u32,
     ) -> Result<(), Memory> {
-        self.bounds.renew(alloc, sys, level, units)
+        if !self.bounds.are_due(level, units) {
+            return Ok(());
+        }
+        let shared = long_forms(alloc, self.known.as_slice())?;
+        self.bounds
+            .renew(alloc, sys, shared.as_slice(), level, units)
+    }
+
+    /// Whether a turn is steered: after some that couldn't be only every eighth.
+    pub(crate) fn steers(&self, turn: u32) -> bool {
+        self.bounds.are_safe() && (self.misses < MOST_MISSES || turn % 8 == 0)
+    }
+
+    /// Notes whether a turn could be steered.
+    pub(crate) fn note(&mut self, steered: bool) {
+        self.misses = if steered {
+            0
+        } else {
+            self.misses.saturating_add(1)
+        };
     }
 
     /// The bounds that were found so far.

@@ -353,6 +353,17 @@ impl Hull {
         self.residues = other.residues;
     }
 
+    /// The forms of equations of three and more places.
+    pub(crate) fn long_forms(&self, alloc: Global) -> Result<Vec<Lin>, Memory> {
+        let mut forms = Vec::new(alloc);
+        for lin in self.equations.as_slice() {
+            if lin.terms().len() > 2 {
+                forms.push(lin.copy(alloc)?)?;
+            }
+        }
+        Ok(forms)
+    }
+
     /// The equations.
     pub(crate) fn equations(&self, alloc: Global) -> Result<Vec<Lit>, Memory> {
         let mut lits = Vec::new(alloc);

@@ -14,7 +14,7 @@ use Rattle.chc_tokens.specs.Instances.{accepts, token_atom_at, token_head_at, is
 use Rattle.chc_tokens.specs.Kept.{seen_clause, seen_point}
 use Rattle.chc_tokens.specs.Queries.{has_places}
 use Rattle.chc_tokens.specs.Tokens.{is_passed, is_seen}
-use Rattle.chc_tokens.specs.declared.goal.Goal.TheVariants.{Holds}
+use Rattle.chc_tokens.specs.declared.goal.Goal.TheVariants.{Query, Holds}
 use Rattle.chc_tokens.specs.declared.seeing.Seen.{Seen}
 use Rattle.book_rules.specs.Frames.{Framed, excludes}
 use Rattle.book_rules.specs.Instances.{Ground, atom_at, body_at}
@@ -27,7 +27,7 @@ use Rattle.cube_rules.proofs.Public.{both_true, from_both}
 use Rattle.clause_queries.specs.Answers.{IsHit}
 use Rattle.clause_queries.specs.Uses.{is_asked, uses}
 use Rattle.clause_queries.proofs.Public.{same_some, uses-all, uses_on-all}
-use Rattle.obligation_turn.specs.machinery.Hits.{breaks_at, is_hit_at}
+use Rattle.obligation_turn.specs.machinery.Hits.{breaks_at, is_hit_at, is_query_hit_at}
 use Rattle.obligation_turn.proofs.BodyLemmas.{body-accepted, body-inside, passed-is}
 use Rattle.obligation_turn.proofs.LiftLemmas.{broken-of}
 
@@ -134,3 +134,28 @@ seen-there sys seen n number is = subst (λ (m : ℕ). m < length sys.clauses) (
   by : (found : Option Clause) → slice_get sys.clauses (seen_clause seen) ≡ found → may_be_instance found (seen_point seen) ≡ true → seen_clause seen < length sys.clauses
   by None at h = absurd (true≢false (sym h))
   by (Some clause) at h = slice_get_within sys.clauses (seen_clause seen) clause at
+
+-- the same of a query
+
+query-hit-of : (sys : Clauses) (fs : List KeptLemma) (k : ℕ) (seen : Seen) (clause : Clause) → slice_get sys.clauses (seen_clause seen) ≡ Some clause → is_seen sys seen ≡ true
+    → is_query_hit_at fs k (seen_point seen) clause ≡ true → IsHit sys fs None Query k seen
+query-hit-of sys fs k seen clause there is h =
+    let point = seen_point seen in
+    let first = both_true (is_asked None k clause) _ h in
+    record {
+      at = record { clause = clause; there = there; asked = first.0 };
+      instance = record {
+        clause = clause;
+        there = there;
+        number = refl;
+        seen_is = is;
+        placed = refl;
+        head = refl;
+        body = body-passed point clause k fs (none-of (first_told (shut_out (lemmas_of fs) k) (body_at point clause)) first.1);
+      };
+    }
+
+pub query-hit : (sys : Clauses) (fs : List KeptLemma) (k : ℕ) (seen : Seen) (n : ℕ) (clause : Clause) (point : List ℤ) → n ≡ seen_clause seen → slice_get sys.clauses n ≡ Some clause → point ≡ seen_point seen → is_seen sys seen ≡ true
+    → is_query_hit_at fs k point clause ≡ true → IsHit sys fs None Query k seen
+query-hit sys fs k seen n clause point number there at is h =
+    query-hit-of sys fs k seen clause (ap (slice_get sys.clauses) (sym number) ∙ there) is (ap (λ (p : List ℤ). is_query_hit_at fs k p clause) (sym at) ∙ h)

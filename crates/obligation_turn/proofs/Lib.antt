@@ -20,3 +20,4 @@ pub mod OpenedLemmas
 pub mod FoundLemmas
 pub mod HitLemmas
 pub mod MemoLemmas
+pub mod InsteadLemmas

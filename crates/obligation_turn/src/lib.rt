@@ -5,6 +5,7 @@
 
 mod finding;
 mod hitting;
+mod instead;
 mod lifting;
 mod opening;
 mod premises;
@@ -13,5 +14,6 @@ mod workspace;
 
 pub use finding::found_of_lemma;
 pub use hitting::is_hit;
+pub use instead::turn_at;
 pub use turning::{turn, turn_in};
 pub use workspace::Workspace;

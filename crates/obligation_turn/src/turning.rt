@@ -29,7 +29,7 @@ fn goal_of(alloc: Global, obligation: &Obligation) -> Result<Goal, Memory>
 
 /// The step that an instance calls for: its head is a fact where its body is recorded, and else the
 /// first body atom whose tuple isn't recorded is asked.
-fn step_at(lent: &Lent, job: u32, seen: Seen) -> Result<Step, Memory>
+pub(crate) fn step_at(lent: &Lent, job: u32, seen: Seen) -> Result<Step, Memory>
     requires goes_on { GoesOn lent.now }
     requires leaf { IsOpenLeaf lent.now job }
     requires hit { IsJobHit lent.now job seen }

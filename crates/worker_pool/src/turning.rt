@@ -9,7 +9,7 @@ ghost use Rattle.book_loop.specs.machinery.Steps.{IsTaken};
 use crate::lifting::{Pass, next_lift, pass_of};
 use base::Memory;
 use book_loop::improved;
-use lemma_candidates::{Hints, hints_of};
+use lemma_candidates::{Hints, hints_of, steer};
 use obligation_turn::{Workspace, turn_in};
 use std::alloc::Global;
 use step_rules::{Lent, Step};
@@ -58,9 +58,10 @@ fn serve(lent: &Lent, job: u32, nodes: u32, mind: &mut Mind) -> Result<Step, Mem
     ensures taken { IfOk result (IsTaken lent.now nodes) }
     ensures work { OnOk result (IsWorkspaceFor lent.now.system mind.new.work) }
 {
-    let hints = hints_now(lent, &mut mind.hints)?;
+    let mut hints = hints_now(lent, &mut mind.hints)?;
     let step = turn_in(lent, job, nodes, &mut mind.work)?;
-    let served = improved(lent, step, &hints, nodes)?;
+    let steered = steer(lent, job, step, &mut hints, nodes)?;
+    let served = improved(lent, steered, &hints, nodes)?;
     mind.hints = Some(hints);
     Ok(served)
 }

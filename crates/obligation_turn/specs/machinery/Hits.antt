@@ -1,5 +1,5 @@
 -- When an instance of a clause breaks a lemma, with its body in a frame.
-use Rattle.std.specs.Prelude.{ℕ, ℤ, List, Bool, not, ◌&&◌, Some, is_some}
+use Rattle.std.specs.Prelude.{ℕ, ℤ, List, Bool, not, ◌&&◌, Some, None, is_some}
 use Rattle.lin_atoms.specs.declared.lit.Lit.{Lit}
 use Rattle.clause_form.specs.declared.clause.Clause.{Clause}
 use Rattle.lemma_frames.specs.declared.framed.Framed.{Framed as KeptLemma}
@@ -18,3 +18,7 @@ breaks_at lemma point clause = has_places clause.head lemma && is_broken lemma (
 -- and no lemma of F(k) shuts a tuple of the body out
 abbrev pub is_hit_at : List KeptLemma → ℕ → List Lit → ℕ → List ℤ → Clause → Bool
 is_hit_at fs pred lemma k point clause = is_asked (Some pred) k clause && (breaks_at lemma point clause && not (is_some (first_told (shut_out (lemmas_of fs) k) (body_at point clause))))
+
+-- whether the clause has no head and is asked, and no lemma of F(k) shuts a tuple of the body out
+abbrev pub is_query_hit_at : List KeptLemma → ℕ → List ℤ → Clause → Bool
+is_query_hit_at fs k point clause = is_asked None k clause && not (is_some (first_told (shut_out (lemmas_of fs) k) (body_at point clause)))
