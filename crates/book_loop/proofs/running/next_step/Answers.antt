@@ -12,8 +12,11 @@ turn_in-requires-clause-leaf c = subst (λ (b : Standing). IsOpenLeaf b c.next_j
 pub turn_in-requires-clause-work : goal.turn_in-requires-clause-work
 turn_in-requires-clause-work c = subst (λ (b : Standing). IsWorkspaceFor b.system c.args.work.now) (sym c.lend-lent.ensures.is) c.requires.work
 
+pub steer-requires-clause-leaf : goal.steer-requires-clause-leaf
+steer-requires-clause-leaf c = subst (λ (b : Standing). IsOpenLeaf b c.next_job-job.result) (sym c.lend-lent.ensures.is) c.next_job-job.ensures
+
 pub improved-requires-clause-taken : goal.improved-requires-clause-taken
-improved-requires-clause-taken c = taken c.lend-lent.result c.next_job-job.result c.args.nodes c.in_ok-step.step c.in_ok-step.ensures.turn
+improved-requires-clause-taken c = taken c.lend-lent.result c.next_job-job.result c.args.nodes c.in_ok-steered.steered c.in_ok-steered.ensures
 
 pub returns-clause-taken : goal.returns-clause-taken
 returns-clause-taken c = subst (λ (b : Standing). IsTaken b c.args.nodes c.in_ok-served.served) c.lend-lent.ensures.is c.in_ok-served.ensures
