@@ -12,16 +12,16 @@ use lin_atoms::Lin;
 use std::alloc::Global;
 
 /// The work that a round may take for each unit that was spent.
-const WORK_OF_A_UNIT: u32 = 16;
+const WORK_OF_A_UNIT: u32 = 48;
 
 /// The least that the first round may take.
-const FIRST_WORK: u32 = 6_000;
+const FIRST_WORK: u32 = 12_000;
 
 /// The least that another may take.
-const LEAST_WORK: u32 = 4_000;
+const LEAST_WORK: u32 = 24_000;
 
 /// The most.
-const MOST_WORK: u32 = 120_000;
+const MOST_WORK: u32 = 240_000;
 
 /// How many rounds there are.
 const ROUNDS: u32 = 4;

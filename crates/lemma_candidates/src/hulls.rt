@@ -353,11 +353,11 @@ impl Hull {
         self.residues = other.residues;
     }
 
-    /// The forms of equations of three and more places.
+    /// The forms of equations of two and more places.
     pub(crate) fn long_forms(&self, alloc: Global) -> Result<Vec<Lin>, Memory> {
         let mut forms = Vec::new(alloc);
         for lin in self.equations.as_slice() {
-            if lin.terms().len() > 2 {
+            if lin.terms().len() > 1 {
                 forms.push(lin.copy(alloc)?)?;
             }
         }
