@@ -230,6 +230,21 @@ pub(crate) fn visit(
     Ok(Answer::GivenUp)
 }
 
+/// A point of the arm that meets the goal, if one is found.
+pub(crate) fn point_of(
+    alloc: Global,
+    clause: &Clause,
+    arm: &Arm,
+    goal: &[Lit],
+    left: &mut u32,
+) -> Result<Option<Vec<i64>>, Memory> {
+    let parts = query(alloc, clause, arm, &[], goal, &[])?;
+    match asked(alloc, clause, parts, left)? {
+        Decided::Point(point) => Ok(Some(point)),
+        _ => Ok(None),
+    }
+}
+
 /// All but the one at a place.
 fn without(alloc: Global, uses: &[Use], at: usize) -> Result<Vec<Use>, Memory> {
     let mut made = Vec::new(alloc);

@@ -103,7 +103,7 @@ fn raise_one(
 }
 
 /// Raises all bounds of the predicate that the tuple breaks.
-fn raise(
+pub(crate) fn raise(
     alloc: Global,
     table: &mut Table,
     pred: u32,

@@ -15,6 +15,7 @@ mod parts;
 mod places;
 mod rounds;
 mod table;
+mod walking;
 
 pub use candidates::Needed;
 pub use rounds::Bounds;

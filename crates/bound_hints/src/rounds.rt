@@ -5,6 +5,7 @@ use crate::candidates::{Needed, cubes_at, needed_of};
 use crate::fixing::fix;
 use crate::needing::{Needs, needs_of};
 use crate::table::{Size, Table, table_of};
+use crate::walking::walk;
 use base::Memory;
 use clause_form::System;
 use cube_forms::Cube;
@@ -12,13 +13,13 @@ use lin_atoms::Lin;
 use std::alloc::Global;
 
 /// The work that a round may take for each unit that was spent.
-const WORK_OF_A_UNIT: u32 = 48;
+const WORK_OF_A_UNIT: u32 = 24;
 
 /// The least that the first round may take.
-const FIRST_WORK: u32 = 12_000;
+const FIRST_WORK: u32 = 8_000;
 
 /// The least that another may take.
-const LEAST_WORK: u32 = 24_000;
+const LEAST_WORK: u32 = 10_000;
 
 /// The most.
 const MOST_WORK: u32 = 240_000;
@@ -82,6 +83,7 @@ fn work_of(round: u32, units: u32) -> u32 {
 fn found_in(alloc: Global, table: Table, sys: &System, left: u32) -> Result<Option<Found>, Memory> {
     let mut table = table;
     let mut left = left;
+    walk(alloc, &mut table, sys, &mut left)?;
     if !fix(alloc, &mut table, sys, &mut left)? {
         return Ok(None);
     }
