@@ -26,7 +26,7 @@ pub record IsReadAs (input : List ℕ) (script answer : ℕ) (checked : Checked)
   pub read : IsCheckedText (take script input) checked
 
 -- the script is refused, before the answer is looked at
-pub record RefusesInput (input : List ℕ) (refusal : Refusal) : Type 0 where
+pub record RefusesScript (input : List ℕ) (refusal : Refusal) : Type 0 where
   pub script : ℕ
   pub answer : ℕ
   pub checked : Checked
@@ -60,5 +60,5 @@ pub record JudgesInput (nodes : ℕ) (input : List ℕ) (verdict : Verdict) (tex
   pub printed : IsVerdictText checked.script answer verdict text
 
 abbrev pub TellsInput : ℕ → List ℕ → Outcome → Type 0
-TellsInput nodes input (Refused refusal) = RefusesInput input refusal
+TellsInput nodes input (Refused refusal) = RefusesScript input refusal
 TellsInput nodes input (Judged verdict text) = JudgesInput nodes input verdict text.items

@@ -1,11 +1,8 @@
 -- How verdicts are printed. Values of an instance are printed as in a derivation, by the sorts of their variables.
-use Rattle.std.specs.Prelude.{◌≡◌, ℕ, ◌+◌, suc, ℤ, pos, List, [], ◌∷◌, ◌++◌, codes, decimal}
-use Rattle.std.specs.Ordering.{int_eq}
-use Rattle.term_tree.specs.declared.scalar.Value.{Value}
-use Rattle.term_tree.specs.declared.scalar.Value.TheVariants.{Int, Bool as Truth}
+use Rattle.std.specs.Prelude.{◌≡◌, ℕ, ◌+◌, suc, List, [], ◌++◌, codes, decimal}
 use Rattle.term_tree.specs.declared.script.Script.{Script}
 use Rattle.term_tree.specs.declared.sort.Sort.{Sort}
-use Rattle.term_tree.specs.declared.sort.Sort.TheVariants.{Int as IntSort, Bool as BoolSort}
+use Rattle.term_tree.specs.Truth.{as_values}
 use Rattle.horn_shape.specs.declared.clause.HornClause.{HornClause}
 use Rattle.horn_shape.specs.Clause.{IsClauseOf}
 use Rattle.answer_text.specs.Names.{spaced, value_text}
@@ -16,20 +13,11 @@ use Rattle.chc_checker.specs.declared.verdict.Place.TheVariants.{Byte, Step, Ins
 use Rattle.chc_checker.specs.declared.verdict.Verdict.{Verdict}
 use Rattle.chc_checker.specs.declared.verdict.Verdict.TheVariants.{Valid, Wrong, NotShown}
 
-abbrev pub value_at : Sort → ℤ → Value
-value_at IntSort n = Int n
-value_at BoolSort n = Truth (int_eq n (pos 1))
-
-abbrev pub values_at : List Sort → List ℤ → List Value
-values_at [] integers = []
-values_at (s ∷ sorts) [] = []
-values_at (s ∷ sorts) (n ∷ integers) = value_at s n ∷ values_at sorts integers
-
 -- bytes count from the start of the input, of which the answer begins there
 abbrev pub place_text : ℕ → List Sort → Place → List ℕ
 place_text start sorts (Byte offset) = codes "; byte " ++ decimal (start + offset) ++ codes "\n"
 place_text start sorts (Step number) = codes "; step " ++ decimal number ++ codes "\n"
-place_text start sorts (Instance number integers) = codes "; assertion " ++ decimal number ++ codes " at (" ++ spaced value_text (values_at sorts integers) ++ codes ")\n"
+place_text start sorts (Instance number integers) = codes "; assertion " ++ decimal number ++ codes " at (" ++ spaced value_text (as_values sorts integers) ++ codes ")\n"
 
 abbrev pub hidden_text : Hidden → List ℕ
 hidden_text (Assertion number) = codes "; assertion " ++ decimal number ++ codes "\n"

@@ -1,8 +1,8 @@
 //! Numbers and values, printed.
 
 ghost use Rattle.std.specs.Prelude.{◌≡◌, ◌<◌, ◌+◌, ◌++◌, codes, decimal, length, nat_abs, pos, slice_index_or, IfOk, OnOk};
+ghost use Rattle.term_tree.specs.Truth.{as_value, as_values};
 ghost use Rattle.answer_text.specs.Names.{after_spaces, number_text, spaced, truth_text, value_text};
-ghost use Rattle.answer_check.specs.Texts.{value_at, values_at};
 
 use base::Memory;
 use itoa::Buffer;
@@ -95,7 +95,7 @@ pub(crate) fn push_values(out: &mut Vec<u8>, values: &[Value]) -> Result<(), Mem
 }
 
 fn value_at(sort: Sort, number: i64) -> Value
-    ensures { result ≡ value_at sort number }
+    ensures { result ≡ as_value sort number }
 {
     match sort {
         Sort::Int => Value::Int(i128::from(number)),
@@ -116,7 +116,7 @@ pub(crate) fn values_at(
     sorts: &[Sort],
     numbers: &[i64],
 ) -> Result<Vec<Value>, Memory>
-    ensures { IfOk result (λ values. values.items ≡ values_at sorts.now numbers.now) }
+    ensures { IfOk result (λ values. values.items ≡ as_values sorts.now numbers.now) }
 {
     let mut values = Vec::new(alloc);
     for (i, sort) in sorts.iter().enumerate() {

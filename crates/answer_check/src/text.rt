@@ -3,12 +3,13 @@
 ghost use Rattle.std.specs.Prelude.{◌≡◌, ◌<◌, ◌≤◌, ◌++◌, [], codes, decimal, length, suc, IfOk, OnOk, ℕ, List};
 ghost use Rattle.term_tree.specs.declared.script.Script.{Script as AScript};
 ghost use Rattle.term_tree.specs.declared.sort.Sort.{Sort as ASort};
+ghost use Rattle.term_tree.specs.Truth.{as_values};
 ghost use Rattle.horn_shape.specs.Clause.{IsClauseOf, IsLegalScript};
 ghost use Rattle.derivation_check.specs.machinery.Tests.{AreClausesOf};
 ghost use Rattle.answer_text.specs.Names.{spaced, value_text};
 ghost use Rattle.chc_checker.specs.declared.verdict.Verdict.TheVariants.{Wrong};
 ghost use Rattle.chc_checker.specs.Verdicts.{IsNormalScript, Judges};
-ghost use Rattle.answer_check.specs.Texts.{AreSortsFor, AreSortsOf, IsAssertionOf, IsVerdictText, hidden_text, place_text, values_at, verdict_text};
+ghost use Rattle.answer_check.specs.Texts.{AreSortsFor, AreSortsOf, IsAssertionOf, IsVerdictText, hidden_text, place_text, verdict_text};
 
 use crate::pieces::{push_numeral, push_short, push_sum, push_values, values_at};
 use base::Memory;
@@ -42,7 +43,7 @@ fn push_instance(
     assertion: u32,
     numbers: &[i64],
 ) -> Result<(), Memory>
-    ensures { OnOk result (out.new.items ≡ out.old.items ++ (codes "; assertion " ++ decimal assertion ++ codes " at (" ++ spaced value_text (values_at sorts.now numbers.now) ++ codes ")\n")) }
+    ensures { OnOk result (out.new.items ≡ out.old.items ++ (codes "; assertion " ++ decimal assertion ++ codes " at (" ++ spaced value_text (as_values sorts.now numbers.now) ++ codes ")\n")) }
 {
     let values = values_at(alloc, sorts, numbers)?;
     push_assertion(out, assertion)?;

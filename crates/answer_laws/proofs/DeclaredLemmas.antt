@@ -14,7 +14,7 @@ use Rattle.term_check.proofs.Public.{bind_ok, unless_ok}
 use Rattle.sort_check.specs.Commands.{Command, alone_fault, assert_fault, assert_term, asserted, assertion, bool_fault, command, declaration, declaration_fault, declare_constant, declare_function, declare_listed, declared, declares, inform_fault, is_check_sat, is_exit, is_inform, is_set_logic, listed, plain, predicate_named, set_logic_fault, worded}
 use Rattle.sort_check.specs.Commands.Command.{SetLogic, Inform, Declare, Assert, CheckSat, GetModel, Exit}
 use Rattle.sort_check.specs.Scripts.{IsScript, IsScriptOf, Outcome, after, end_fault, outcome, stops}
-use Rattle.answer_text.specs.machinery.ReadBack.{AreNames}
+use Rattle.answer_text.specs.ReadBack.{AreNames}
 use Rattle.answer_laws.proofs.NameLemmas.{AreDeclared, declared_joins}
 use Rattle.answer_laws.proofs.SymbolLemmas.{HasQuotable, HoldsQuotable, commands_quotable}
 

@@ -13,18 +13,18 @@ use Rattle.term_tree.specs.Arena.{Arena, IsArena}
 use Rattle.term_tree.specs.Legal.{IsLegal}
 use Rattle.term_tree.specs.Subterms.{IsPlain}
 use Rattle.term_tree.specs.Solution.{AreFormulas}
+use Rattle.term_tree.specs.Sorts.{same_sort}
 use Rattle.term_check.specs.declared.part.Fault.{Fault}
-use Rattle.term_check.specs.machinery.Legality.{AreParameters}
+use Rattle.term_check.specs.Parameters.{AreParameters}
 use Rattle.term_check.specs.Formula.{bool_term, params_from}
-use Rattle.term_check.specs.Rules.{same_sort}
-use Rattle.term_check.specs.Spelling.{Scope, Spelled, scope_of, spelled, sorts_in, sorts_of}
+use Rattle.term_check.specs.Spelling.{SpellingScope, Spelled, scope_of, spelled, sorts_in, sorts_of}
 use Rattle.term_check.specs.Term.{Term, IsTermAt}
 use Rattle.term_check.proofs.Public.{spelled_legal}
 use Rattle.answer_text.specs.Read.{IsDefinition, AreDefinitions, IsReply, Spells}
 use Rattle.answer_text.specs.Reading.{Defined, Reply, reply}
 use Rattle.answer_text.specs.Reading.Reply.{model, refutation}
 use Rattle.answer_text.specs.declared.answer.Answer.TheVariants.{Sat}
-use Rattle.answer_text.specs.machinery.ReadBack.{AreSameDefinitions}
+use Rattle.answer_text.specs.ReadBack.{AreSameDefinitions}
 use Rattle.answer_laws.proofs.FormulaLemmas.{IsRight, AreRight, reply_right}
 use Rattle.answer_laws.proofs.PartnerLemmas.{short_divisors}
 
@@ -50,7 +50,7 @@ bool_is (Ok s) body h = let both = sorted_is s body (same_sort s.part.sort BoolS
 
 -- terms over parameters, without predicates and quantifiers, are plain
 abbrev pub PlainLaw : Type 0
-PlainLaw = (text : List ℕ) (scope : Scope) (variables : List Sort) (tree : Tree) (s : Spelled) (arena : Arena) (id : ℕ) → IsArena arena.nodes → AreParameters 0 scope.names variables
+PlainLaw = (text : List ℕ) (scope : SpellingScope) (variables : List Sort) (tree : Tree) (s : Spelled) (arena : Arena) (id : ℕ) → IsArena arena.nodes → AreParameters 0 scope.names variables
     → scope.preds ≡ [] → scope.quantifies ≡ false → spelled text scope (length variables) tree ≡ Ok s → IsTermAt arena [] s.term id → IsPlain arena.nodes id
 
 module _ (plain_law : PlainLaw) (text : List ℕ) (preds : List Pred) where
@@ -58,7 +58,7 @@ module _ (plain_law : PlainLaw) (text : List ℕ) (preds : List Pred) where
   legal_plain : (d : Defined) (right : IsRight text preds d) (e : Definition) → IsDefinition d e → IsInArena e → (sorts : List Sort) → sorts_of preds d.pred ≡ sorts
       → IsLegal [] e.terms.nodes sorts BoolSort e.body.0 × IsPlain e.terms.nodes e.body.0
   legal_plain d right e is arena sorts same =
-      let scope : Scope = scope_of [] (params_from 0 d.params) false in
+      let scope : SpellingScope = scope_of [] (params_from 0 d.params) false in
       let s = bool_is (spelled text scope (length d.params) right.tree) d.body right.body in
       let variables : List Sort = map (λ p. p.1) d.params in
       let reads : spelled text scope (length variables) right.tree ≡ Ok s.0 = ap (λ (n : ℕ). spelled text scope n right.tree) (length-map d.params (λ p. p.1)) ∙ s.1 in

@@ -11,8 +11,8 @@ use Rattle.term_tree.specs.declared.sort.Sort.TheVariants.{Bool as BoolSort}
 use Rattle.term_tree.specs.declared.script.Name.{Name}
 use Rattle.term_tree.specs.declared.script.Pred.{Pred}
 use Rattle.term_check.specs.Spelling.{is_word, name_of, sorts_of, start_of}
-use Rattle.term_check.specs.Formula.{formula}
-use Rattle.answer_text.specs.Reading.{◌>>=◌, provided, said_by, has_sort, is_new, parameter_of, parameter, parameters_from, parameters, Defined, defined, is_defined, definition_by, definition_of, definition, definitions_from, definition_for, and_then, in_order, Reply, complete, model_listed, derivation, claim, evidence, unless_at, behind, answer_behind, reply, pred}
+use Rattle.term_check.specs.Formula.{spelled_formula}
+use Rattle.answer_text.specs.Reading.{◌>>=◌, provided, said_by, names_sort, is_new, parameter_of, parameter, parameters_from, read_parameters, Defined, defined, is_defined, definition_by, definition_of, definition, definitions_from, definition_for, and_then, in_order, Reply, complete, model_listed, derivation, claim, evidence, unless_at, behind, answer_behind, reply, pred}
 use Rattle.answer_text.specs.Reading.Reply.{model, refutation}
 
 bound : {A B : Type 0} (r : Result A ℕ) (f : A → Result B ℕ) (b : B) → (r >>= f) ≡ Ok b → (a : A) × (r ≡ Ok a) × (f a ≡ Ok b)
@@ -34,7 +34,7 @@ parameter_sort text before sort (List' shape row start end) p h = by (items-the_
     by (name ∷ word ∷ []) e =
         let a = bound (said_by name (name_of text name)) _ p e in
         let b = kept (is_new before a.0) (start_of name) _ p a.2 in
-        let c = kept (has_sort text word sort) (start_of word) _ p b.1 in
+        let c = kept (names_sort text word sort) (start_of word) _ p b.1 in
         let same = c.1 in cc
     by (name ∷ word ∷ more ∷ parts) e = absurd (cc)
 
@@ -54,7 +54,7 @@ sorts_read text before (tree ∷ trees) (sort ∷ sorts) ps many h =
 same_numbers : (m n : ℕ) → nat_eq m n ≡ true → m ≡ n
 same_numbers m n h = grind (arith, nat_tests)
 
-parameters_read : (text : List ℕ) (sorts : List Sort) (tree : Tree) (ps : List (Name × Sort)) → parameters text sorts tree ≡ Ok ps → map (λ p. p.1) ps ≡ sorts
+parameters_read : (text : List ℕ) (sorts : List Sort) (tree : Tree) (ps : List (Name × Sort)) → read_parameters text sorts tree ≡ Ok ps → map (λ p. p.1) ps ≡ sorts
 parameters_read text sorts (Leaf kind start end) ps h = absurd (cc)
 parameters_read text sorts (List' shape row start end) ps h =
     let trees = items-the_row-Tree _ row in
@@ -65,15 +65,15 @@ parameters_read text sorts (List' shape row start end) ps h =
 pub record IsRight (text : List ℕ) (preds : List Pred) (d : Defined) : Type 0 where
   pub tree : Tree
   pub sorts : map (λ p. p.1) d.params ≡ sorts_of preds d.pred
-  pub body : formula text d.params tree ≡ Ok d.body
+  pub body : spelled_formula text d.params tree ≡ Ok d.body
 
 module _ (text : List ℕ) (preds : List Pred) where
   defined_right : (number : ℕ) (params sort term : Tree) (d : Defined) → defined text preds number params sort term ≡ Ok d → IsRight text preds d
   defined_right number params sort term d h =
-      let a = bound (parameters text (sorts_of preds number) params) _ d h in
+      let a = bound (read_parameters text (sorts_of preds number) params) _ d h in
       let ps = a.0 in
-      let b = kept (has_sort text sort BoolSort) (start_of sort) _ d a.2 in
-      let c = bound (formula text ps term) (λ body. Ok (record { pred = number; params = ps; body = body })) d b.1 in
+      let b = kept (names_sort text sort BoolSort) (start_of sort) _ d a.2 in
+      let c = bound (spelled_formula text ps term) (λ body. Ok (record { pred = number; params = ps; body = body })) d b.1 in
       let made : Defined = record { pred = number; params = ps; body = c.0 } in
       let same : made ≡ d = cc in
       let right : IsRight text preds made = record { tree = term; sorts = parameters_read text (sorts_of preds number) params ps a.1; body = c.1 } in

@@ -12,11 +12,11 @@ use Rattle.sexp_read.specs.Leaves.{inner}
 use Rattle.term_tree.specs.declared.script.Pred.{Pred}
 use Rattle.term_check.specs.declared.part.Fault.{Fault}
 use Rattle.term_check.specs.Operators.{first_of, operator_named}
-use Rattle.term_check.specs.Rules.{or_else}
+use Rattle.term_check.specs.Rules.{first_fault}
 use Rattle.term_check.specs.Spelling.{is_some, name_of, name_or_none, pred_from, sort_named, sort_or_bool, start_of}
-use Rattle.term_check.specs.Words.{is_among, reserved_words}
+use Rattle.term_check.specs.Words.{is_word_among, reserved_words}
 use Rattle.sort_check.specs.Commands.{count_fault, declaration_fault, form_fault, most_arguments, order_fault, predicate_named, sorts_fault, taken_fault}
-use Rattle.answer_text.specs.machinery.ReadBack.{AreNames, is_quotable}
+use Rattle.answer_text.specs.ReadBack.{AreNames, is_quotable}
 use Rattle.answer_laws.proofs.SymbolLemmas.{HasQuotable, IsQuotable}
 
 -- One predicate more.
@@ -66,7 +66,7 @@ joins ps p names quotable new free = record {
 
 -- a tree that is a name
 named : (text : List ℕ) (tree : Tree) → HasQuotable text tree → is_some (name_of text tree) ≡ true → IsQuotable (name_or_none (name_of text tree))
-named text (Leaf Symbol start end) h some = by (is_among reserved_words (inner text Symbol start end)) some
+named text (Leaf Symbol start end) h some = by (is_word_among reserved_words (inner text Symbol start end)) some
   where
     by : (b : Bool) → is_some (if b then None else Some (inner text Symbol start end)) ≡ true → IsQuotable (name_or_none (if b then None else Some (inner text Symbol start end)))
     by true e = absurd (cc)
@@ -78,7 +78,7 @@ named text (Leaf Text start end) h some = absurd (cc)
 named text (Leaf Keyword start end) h some = absurd (cc)
 named text (List' shape row start end) h some = absurd (cc)
 
-neither : (a b : Option Fault) → or_else a b ≡ None → (a ≡ None) × (b ≡ None)
+neither : (a b : Option Fault) → first_fault a b ≡ None → (a ≡ None) × (b ≡ None)
 neither None b h = (refl, h)
 neither (Some f) b h = absurd (cc)
 

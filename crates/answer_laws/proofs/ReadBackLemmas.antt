@@ -10,11 +10,11 @@ use Rattle.term_tree.specs.declared.definition.Definition.{Definition}
 use Rattle.term_tree.specs.Arena.{IsArena}
 use Rattle.term_tree.specs.Same.{is_same_tree}
 use Rattle.term_tree.specs.Value.{Environment, environment_of, value_of}
-use Rattle.term_tree.specs.machinery.Agreement.{AgreeEverywhere}
+use Rattle.term_tree.specs.Agreement.{AgreeEverywhere}
 use Rattle.term_tree.specs.Solution.{interpretation_of, DefinesEach, AreFormulas, IsSolution}
 use Rattle.answer_text.specs.declared.answer.Answer.TheVariants.{Sat}
 use Rattle.answer_text.specs.Read.{Spells}
-use Rattle.answer_text.specs.machinery.ReadBack.{AreSameDefinitions, IsReadAs, IsStored}
+use Rattle.answer_text.specs.ReadBack.{AreSameDefinitions, IsReadAs, IsStored}
 use Rattle.answer_text.proofs.Public.{read_as}
 use Rattle.answer_laws.specs.Texts.{IsSatAnswer}
 use Rattle.answer_laws.proofs.DeclaredLemmas.{declared_law}

@@ -15,7 +15,7 @@ use Rattle.sexp_read.specs.Lexicon.{after_gap, after_word, after_plain, after_li
 use Rattle.sexp_read.specs.Trees.{IsTree, AreTrees, leaf, list, none, more}
 use Rattle.sexp_read.proofs.Public.{plain_spans, word_spans}
 use Rattle.term_check.specs.Spelling.{items_of}
-use Rattle.answer_text.specs.machinery.ReadBack.{is_quotable}
+use Rattle.answer_text.specs.ReadBack.{is_quotable}
 
 -- what is said of both is said of the one that is chosen
 either : {A : Type 0} (P : A → Type 0) (b : Bool) (x y : A) → P x → P y → P (cond b x y)

@@ -11,7 +11,7 @@ ghost use Rattle.answer_text.specs.declared.answer.Answer.{Answer};
 ghost use Rattle.answer_text.specs.declared.answer.Answer.TheVariants.{Sat, Unsat};
 ghost use Rattle.answer_text.specs.Printable.{IsAnswerText};
 ghost use Rattle.answer_text.specs.Read.{Spells, IsBad};
-ghost use Rattle.answer_text.specs.machinery.ReadBack.{AreNames, IsSameModel, IsStored, IsReadAs};
+ghost use Rattle.answer_text.specs.ReadBack.{AreNames, IsSameModel, IsStored, IsReadAs};
 ghost use Rattle.term_tree.specs.Arena.{IsArena};
 ghost use Rattle.term_tree.specs.Solution.{IsSolution};
 ghost use Rattle.answer_laws.specs.Texts.{IsSatAnswer};

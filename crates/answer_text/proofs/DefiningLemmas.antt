@@ -50,7 +50,7 @@ module _ (nodes : List Node) (arena : IsArena nodes) (sorts : List Sort) (few : 
   abbrev kinds_of : Kind → List TermId → List Kind
   kinds_of kind ids = map (λ id. kind) ids
 
-  of_sort : (sort : Sort) (constant : Option ℤ) → Rattle.term_check.specs.Rules.same_sort sort sort ≡ true → (ids : List TermId) → AllByRecursion (OfSort sort) (kinds_of (sort, constant) ids)
+  of_sort : (sort : Sort) (constant : Option ℤ) → Rattle.term_tree.specs.Sorts.same_sort sort sort ≡ true → (ids : List TermId) → AllByRecursion (OfSort sort) (kinds_of (sort, constant) ids)
   of_sort sort constant own [] = tt
   of_sort sort constant own (id ∷ ids) = (own, of_sort sort constant own ids)
 

@@ -11,13 +11,13 @@ use Rattle.term_tree.specs.declared.script.Pred.{Pred}
 use Rattle.term_tree.specs.declared.definition.Definition.{Definition}
 use Rattle.term_check.specs.Spelling.{sorts_of, start_of}
 use Rattle.term_check.specs.Term.{Term}
-use Rattle.term_check.specs.machinery.Weight.{weight, weights}
-use Rattle.term_check.specs.Formula.{formula}
+use Rattle.term_check.specs.Weight.{weight, weights}
+use Rattle.term_check.specs.Formula.{spelled_formula}
 use Rattle.term_check.proofs.Public.{weigh_all, weight-List}
 use Rattle.answer_text.specs.declared.answer.Answer.TheVariants.{Sat}
 use Rattle.answer_text.specs.declared.stop.AnswerStop.{AnswerStop}
 use Rattle.answer_text.specs.declared.stop.AnswerStop.TheVariants.{Memory as OutOfMemory, BadAnswer}
-use Rattle.answer_text.specs.Reading.{◌>>=◌, provided, Defined, pred, is_defined, has_sort, parameters, defined, definition_by, definition_of, definition, definitions_from, in_order, complete, model_listed}
+use Rattle.answer_text.specs.Reading.{◌>>=◌, provided, Defined, pred, is_defined, names_sort, read_parameters, defined, definition_by, definition_of, definition, definitions_from, in_order, complete, model_listed}
 use Rattle.answer_text.specs.Reading.Reply.{model}
 use Rattle.answer_text.specs.Read.{TellsDefinition, TellsReply}
 use Rattle.answer_text.specs.machinery.Places.{ArePlaces, Took, TookAll, IsSoFar, gathered}
@@ -38,11 +38,11 @@ one_weighs (t ∷ trees) (suc i) tree h is = let w = one_weighs trees i tree (om
 
 -- one definition
 
-pub defined_is : (text : List ℕ) (preds : List Pred) (number : ℕ) (params sort term : Tree) (ps : List (Name × Sort)) (body : Term) → parameters text (sorts_of preds number) params ≡ Ok ps → has_sort text sort BoolSort ≡ true → formula text ps term ≡ Ok body
+pub defined_is : (text : List ℕ) (preds : List Pred) (number : ℕ) (params sort term : Tree) (ps : List (Name × Sort)) (body : Term) → read_parameters text (sorts_of preds number) params ≡ Ok ps → names_sort text sort BoolSort ≡ true → spelled_formula text ps term ≡ Ok body
     → defined text preds number params sort term ≡ Ok (record { pred = number; params = ps; body = body })
 defined_is text preds number params sort term ps body e b f =
-    ap (λ (r : Result (List (Name × Sort)) ℕ). r >>= λ qs. provided (has_sort text sort BoolSort) (start_of sort) (formula text qs term >>= λ t. Ok (record { pred = number; params = qs; body = t }))) e
-    ∙ ap (λ (h : Bool). provided h (start_of sort) (formula text ps term >>= λ t. Ok (record { pred = number; params = ps; body = t }))) b
+    ap (λ (r : Result (List (Name × Sort)) ℕ). r >>= λ qs. provided (names_sort text sort BoolSort) (start_of sort) (spelled_formula text qs term >>= λ t. Ok (record { pred = number; params = qs; body = t }))) e
+    ∙ ap (λ (h : Bool). provided h (start_of sort) (spelled_formula text ps term >>= λ t. Ok (record { pred = number; params = ps; body = t }))) b
     ∙ ap (λ (r : Result Term ℕ). r >>= λ t. Ok (record { pred = number; params = ps; body = t })) f
 
 pub goes : (text : List ℕ) (preds : List Pred) (before : List Defined) (start : ℕ) (name params sort term : Tree) (number : ℕ) → pred text preds name ≡ Ok number → is_defined before number ≡ false

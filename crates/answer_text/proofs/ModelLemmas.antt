@@ -10,7 +10,7 @@ use Rattle.term_tree.specs.declared.script.Name.{Name}
 use Rattle.term_tree.specs.declared.script.Pred.{Pred}
 use Rattle.term_tree.specs.declared.definition.Definition.{Definition}
 use Rattle.term_tree.specs.Solution.{DefinesEach}
-use Rattle.term_check.specs.Formula.{params_from, bool_term, formula}
+use Rattle.term_check.specs.Formula.{params_from, bool_term, spelled_formula}
 use Rattle.term_check.specs.Spelling.{Spelled, is_symbol, sorts_of, start_of}
 use Rattle.term_check.specs.Term.{Term}
 use Rattle.answer_text.specs.declared.answer.Answer.{Answer}
@@ -18,8 +18,8 @@ use Rattle.answer_text.specs.declared.answer.Answer.TheVariants.{Sat, Unsat, Unk
 use Rattle.answer_text.specs.Terms.{parameter_name, term_text}
 use Rattle.answer_text.specs.AnswerTexts.{pred_text, parameters_text, definition_text, answer_text}
 use Rattle.answer_text.specs.Printable.{IsMadeOfLemmas, IsAnswerText}
-use Rattle.answer_text.specs.machinery.ReadBack.{AreNames, IsStored, AreSameDefinitions, IsSameModel, IsReadAs}
-use Rattle.answer_text.specs.Reading.{◌>>=◌, provided, said_by, has_sort, parameters, Defined, defined, is_defined, definition_by, definition_of, definition, definitions_from, definition_for, and_then, in_order, Reply, complete, model_listed, model_of, claim, evidence, unless_at, reply}
+use Rattle.answer_text.specs.ReadBack.{AreNames, IsStored, AreSameDefinitions, IsSameModel, IsReadAs}
+use Rattle.answer_text.specs.Reading.{◌>>=◌, provided, said_by, names_sort, read_parameters, Defined, defined, is_defined, definition_by, definition_of, definition, definitions_from, definition_for, and_then, in_order, Reply, complete, model_listed, model_of, claim, evidence, unless_at, reply}
 use Rattle.answer_text.specs.Reading.Reply.{model, refutation}
 use Rattle.answer_text.specs.Read.{AreDefinitions, IsReply, Spells, IsBad}
 use Rattle.answer_text.proofs.DefiningLemmas.{defining_reads}
@@ -50,19 +50,19 @@ module _ (preds : List Pred) (names : AreNames preds) (d : Definition) (stored :
   sorts = sorts_of preds d.pred
 
   abbrev IsTerm : List ℕ → Tree → Type 0
-  IsTerm text tree = (body : Term) × (formula text (params_at 0 sorts) tree ≡ Ok body) × IsLike d.terms.nodes body d.body.0
+  IsTerm text tree = (body : Term) × (spelled_formula text (params_at 0 sorts) tree ≡ Ok body) × IsLike d.terms.nodes body d.body.0
 
   shows_term : Shows IsTerm 2 (term_text d.terms.nodes d.body.0)
   shows_term =
       let params = are_parameters sorts few in
       let term = made.term in
       shows_same (ReadsAs d.terms.nodes stored.arena sorts (params_from 0 (params_at 0 sorts)) params (length (params_at 0 sorts)) BoolSort None d.body.0) IsTerm 2 (term_text d.terms.nodes d.body.0)
-      (λ text tree r. (r.found.term, ap bool_term r.is ∙ ap (λ (p : Rattle.term_check.specs.declared.part.Part.Part). cond (Rattle.term_check.specs.Rules.same_sort p.sort BoolSort) (Ok r.found.term) (Err p.start)) r.part, r.like))
+      (λ text tree r. (r.found.term, ap bool_term r.is ∙ ap (λ (p : Rattle.term_check.specs.declared.part.Part.Part). cond (Rattle.term_tree.specs.Sorts.same_sort p.sort BoolSort) (Ok r.found.term) (Err p.start)) r.part, r.like))
       (defining_reads d.terms.nodes stored.arena sorts few (params_from 0 (params_at 0 sorts)) params (length (params_at 0 sorts)) 2 d.body (omega arith) term)
 
   abbrev Parts : List ℕ → List Tree → Type 0
-  Parts = FirstAnd (IsLeaf Symbol (codes "define-fun")) (FirstAnd (IsPred preds names d.pred) (FirstAnd (λ text tree. parameters text sorts tree ≡ Ok (params_at 0 sorts))
-      (FirstAnd (λ text tree. has_sort text tree BoolSort ≡ true) (Only IsTerm))))
+  Parts = FirstAnd (IsLeaf Symbol (codes "define-fun")) (FirstAnd (IsPred preds names d.pred) (FirstAnd (λ text tree. read_parameters text sorts tree ≡ Ok (params_at 0 sorts))
+      (FirstAnd (λ text tree. names_sort text tree BoolSort ≡ true) (Only IsTerm))))
 
   -- the tree is read as a definition that matches, where the predicate has none so far
   abbrev pub IsRead : List ℕ → Tree → Type 0
@@ -74,8 +74,8 @@ module _ (preds : List Pred) (names : AreNames preds) (d : Definition) (stored :
       e1 ∙ ap (λ (l : List Tree). word ∷ l) (e2 ∙ ap (λ (l : List Tree). name ∷ l) (e3 ∙ ap (λ (l : List Tree). params ∷ l) (e4 ∙ ap (λ (l : List Tree). sort ∷ l) (e5 ∙ ap (λ (l : List Tree). term ∷ l) last)))) in
       let found : Defined = record { pred = d.pred; params = params_at 0 sorts; body = body } in
       let one : defined text preds d.pred params sort term ≡ Ok found =
-      ap (λ (r : Result (List (Name × Sort)) ℕ). r >>= λ ps. provided (has_sort text sort BoolSort) (start_of sort) (formula text ps term >>= λ b. Ok (record { pred = d.pred; params = ps; body = b }))) p
-      ∙ ap (λ b. provided b (start_of sort) (formula text (params_at 0 sorts) term >>= λ b. Ok (record { pred = d.pred; params = params_at 0 sorts; body = b }))) s
+      ap (λ (r : Result (List (Name × Sort)) ℕ). r >>= λ ps. provided (names_sort text sort BoolSort) (start_of sort) (spelled_formula text ps term >>= λ b. Ok (record { pred = d.pred; params = ps; body = b }))) p
+      ∙ ap (λ b. provided b (start_of sort) (spelled_formula text (params_at 0 sorts) term >>= λ b. Ok (record { pred = d.pred; params = params_at 0 sorts; body = b }))) s
       ∙ ap (λ (r : Result Term ℕ). r >>= λ b. Ok (record { pred = d.pred; params = params_at 0 sorts; body = b })) t in
       let reads : (before : List Defined) → is_defined before d.pred ≡ false → definition text preds before tree ≡ Ok found =
       λ before new. ap (definition text preds before) at ∙ ap (definition_of text preds before start) (items_hidden-the_row-Tree-0 items ∙ row)

@@ -8,10 +8,11 @@ use Rattle.term_tree.specs.declared.sort.Sort.TheVariants.{Int as IntSort, Bool 
 use Rattle.term_tree.specs.declared.node.OpKind.{OpKind}
 use Rattle.term_tree.specs.declared.node.OpKind.TheVariants.{Not, And, Or, Xor, Implies, Eq, Distinct, Ite, Add, Mul, Sub, Abs, Div, Mod, Le, Lt, Ge, Gt}
 use Rattle.term_tree.specs.declared.refusal.Kind.TheVariants.{Arity, SortMismatch}
+use Rattle.term_tree.specs.Sorts.{same_sort}
 use Rattle.term_check.specs.declared.part.Part.{Part}
 use Rattle.term_check.specs.Operators.{operator_named}
-use Rattle.term_check.specs.Rules.{fault, unless, worth, value_at, number_fault, first_not, constant_of, part_of, wide_unless, without_value, if_short, multiplied, varying, same_sort, applied}
-use Rattle.term_check.specs.Words.{is_among, reserved_words}
+use Rattle.term_check.specs.Rules.{fault, unless, worth, value_at, number_fault, first_not, operator_constant, part_of, wide_unless, without_value, if_short, multiplied, varying, applied}
+use Rattle.term_check.specs.Words.{is_word_among, reserved_words}
 use Rattle.term_check.proofs.Public.{below_is}
 use Rattle.answer_text.specs.Terms.{operator_word}
 use Rattle.answer_text.proofs.ShowLemmas.{Shows, IsLeaf}
@@ -61,7 +62,7 @@ shows_operator depth Gt = shows_symbol depth 62 [] refl refl
 -- the word names its operator, and begins no form with binders
 abbrev pub IsOperator : OpKind → List ℕ → Type 0
 IsOperator op word =
-    (bytes_eq word (codes "let") ≡ false) × (bytes_eq word (codes "forall") ≡ false) × (bytes_eq word (codes "exists") ≡ false) × (is_among reserved_words word ≡ false)
+    (bytes_eq word (codes "let") ≡ false) × (bytes_eq word (codes "forall") ≡ false) × (bytes_eq word (codes "exists") ≡ false) × (is_word_among reserved_words word ≡ false)
     × (operator_named word ≡ Some op)
 
 pub operator_is : (op : OpKind) → IsOperator op (operator_word op)
@@ -162,5 +163,5 @@ pub takes_add : (kinds : List Kind) → AllByRecursion (OfSort IntSort) kinds �
 takes_add kinds all start [] many = absurd (omega (arith, many))
 takes_add kinds all start (a ∷ starts) many =
     let ps : List Part = parts_at starts kinds in
-    ap (λ o. unless o (part_of start IntSort (constant_of Add start (part_at a (IntSort, None) ∷ ps)))) (all_of_sort IntSort starts kinds all)
+    ap (λ o. unless o (part_of start IntSort (operator_constant Add start (part_at a (IntSort, None) ∷ ps)))) (all_of_sort IntSort starts kinds all)
     ∙ ap (λ t. part_of start IntSort (cond t (wide_unless start (if_short (value_at Add (map worth (part_at a (IntSort, None) ∷ ps))))) (Ok None))) (varies (varying ps))

@@ -11,13 +11,13 @@ use Rattle.term_tree.specs.declared.sort.Sort.TheVariants.{Int as IntSort, Bool 
 use Rattle.term_tree.specs.declared.script.Name.{Name}
 use Rattle.term_check.specs.declared.scope.Bound.TheVariants.{Variable}
 use Rattle.term_check.specs.Formula.{params_from}
-use Rattle.term_check.specs.Words.{is_among}
+use Rattle.term_check.specs.Words.{is_word_among}
 use Rattle.term_check.specs.Operators.{first_of}
 use Rattle.term_check.specs.Spelling.{bound_to, is_symbol, start_of}
 use Rattle.answer_text.specs.Names.{after_spaces}
 use Rattle.answer_text.specs.Terms.{parameter_name}
 use Rattle.answer_text.specs.AnswerTexts.{sort_text, parameter_text, parameters_text}
-use Rattle.answer_text.specs.Reading.{◌>>=◌, provided, said_by, is_sort, has_sort, is_new, parameter_of, parameter, parameters_from, parameters_of, parameters}
+use Rattle.answer_text.specs.Reading.{◌>>=◌, provided, said_by, is_sort, names_sort, is_new, parameter_of, parameter, parameters_from, parameters_of, read_parameters}
 use Rattle.answer_text.proofs.DecimalLemmas.{decimal_is}
 use Rattle.answer_text.proofs.PieceLemmas.{ends_word}
 use Rattle.answer_text.proofs.ShowLemmas.{Shows, ShowsRow, FirstAnd, Within, IsLeaf, shows_same, row_same, row_none, row_more, row_behind, shows_list}
@@ -92,36 +92,36 @@ older_more : (n : ℕ) (before : List (Name × Sort)) (sort : Sort) → AllByRec
 older_more n [] sort all = ((n, omega arith, refl), tt)
 older_more n (p ∷ before) sort all = let h = all.0.1 in ((all.0.0, omega (arith, h), all.0.2), older_more n before sort all.1)
 
-new_name : (n : ℕ) (before : List (Name × Sort)) → n < 2 ^ 64 → AllByRecursion (IsOlder n) before → is_among (map (λ p. p.0.bytes) before) (parameter_name n) ≡ false
+new_name : (n : ℕ) (before : List (Name × Sort)) → n < 2 ^ 64 → AllByRecursion (IsOlder n) before → is_word_among (map (λ p. p.0.bytes) before) (parameter_name n) ≡ false
 new_name n [] small all = refl
 new_name n (p ∷ before) small all =
     let less = all.0.1 in
     let other = other_name n all.0.0 small (omega (arith, less, small)) (λ e. omega (arith, e, less)) in
-    ap (λ (b : List ℕ). bytes_eq (parameter_name n) b || is_among (map (λ p. p.0.bytes) before) (parameter_name n)) all.0.2
-    ∙ ap (λ t. t || is_among (map (λ p. p.0.bytes) before) (parameter_name n)) other ∙ new_name n before small all.1
+    ap (λ (b : List ℕ). bytes_eq (parameter_name n) b || is_word_among (map (λ p. p.0.bytes) before) (parameter_name n)) all.0.2
+    ∙ ap (λ t. t || is_word_among (map (λ p. p.0.bytes) before) (parameter_name n)) other ∙ new_name n before small all.1
 
-sort_is : (sort : Sort) (text : List ℕ) (tree : Tree) → IsLeaf Symbol (sort_text sort) text tree → has_sort text tree sort ≡ true
+sort_is : (sort : Sort) (text : List ℕ) (tree : Tree) → IsLeaf Symbol (sort_text sort) text tree → names_sort text tree sort ≡ true
 sort_is IntSort text tree leaf = ap (λ t. is_sort (cond t (Some IntSort) (cond (is_symbol text tree (codes "Bool")) (Some BoolSort) None)) IntSort) (symbol_is (codes "Int") (codes "Int") text tree leaf)
 sort_is BoolSort text tree leaf =
     ap (λ t. is_sort (cond t (Some IntSort) (cond (is_symbol text tree (codes "Bool")) (Some BoolSort) None)) BoolSort) (symbol_is (codes "Bool") (codes "Int") text tree leaf)
     ∙ ap (λ t. is_sort (cond t (Some BoolSort) None) BoolSort) (symbol_is (codes "Bool") (codes "Bool") text tree leaf)
 
-pub shows_sort : (depth : ℕ) (sort : Sort) → Shows (λ text tree. has_sort text tree sort ≡ true) depth (sort_text sort)
-shows_sort depth IntSort = shows_same (IsLeaf Symbol (codes "Int")) (λ text tree. has_sort text tree IntSort ≡ true) depth (codes "Int") (sort_is IntSort) (shows_symbol depth 73 (codes "nt") refl refl)
-shows_sort depth BoolSort = shows_same (IsLeaf Symbol (codes "Bool")) (λ text tree. has_sort text tree BoolSort ≡ true) depth (codes "Bool") (sort_is BoolSort) (shows_symbol depth 66 (codes "ool") refl refl)
+pub shows_sort : (depth : ℕ) (sort : Sort) → Shows (λ text tree. names_sort text tree sort ≡ true) depth (sort_text sort)
+shows_sort depth IntSort = shows_same (IsLeaf Symbol (codes "Int")) (λ text tree. names_sort text tree IntSort ≡ true) depth (codes "Int") (sort_is IntSort) (shows_symbol depth 73 (codes "nt") refl refl)
+shows_sort depth BoolSort = shows_same (IsLeaf Symbol (codes "Bool")) (λ text tree. names_sort text tree BoolSort ≡ true) depth (codes "Bool") (sort_is BoolSort) (shows_symbol depth 66 (codes "ool") refl refl)
 
 abbrev IsParameter : ℕ → Sort → List ℕ → Tree → Type 0
 IsParameter n sort text tree = (before : List (Name × Sort)) → AllByRecursion (IsOlder n) before → parameter text before sort tree ≡ Ok (record { bytes = parameter_name n }, sort)
 
 abbrev Item : ℕ → Sort → List ℕ → List Tree → Type 0
-Item n sort = FirstAnd (IsNamed (parameter_name n)) (Only (λ text tree. has_sort text tree sort ≡ true))
+Item n sort = FirstAnd (IsNamed (parameter_name n)) (Only (λ text tree. names_sort text tree sort ≡ true))
 
 parameter_is : (n : ℕ) (sort : Sort) (text : List ℕ) (tree : Tree) → n < 2 ^ 64 → Within (Item n sort) text tree → IsParameter n sort text tree
 parameter_is n sort text tree small (items, start, end, at, (name, r1, e1, named, (word, r2, e2, sorted, last))) before older =
     let row : items ≡ name ∷ word ∷ [] = e1 ∙ ap (λ (l : List Tree). name ∷ l) (e2 ∙ ap (λ (l : List Tree). word ∷ l) last) in
     ap (parameter text before sort) at ∙ ap (parameter_of text before sort start) (items_hidden-the_row-Tree-0 items ∙ row)
-    ∙ ap (λ o. said_by name o >>= λ bytes. provided (is_new before bytes) (start_of name) (provided (has_sort text word sort) (start_of word) (Ok (record { bytes = bytes }, sort)))) named.4
-    ∙ ap (λ b. provided (not b) (start_of name) (provided (has_sort text word sort) (start_of word) (Ok (record { bytes = parameter_name n }, sort)))) (new_name n before small older)
+    ∙ ap (λ o. said_by name o >>= λ bytes. provided (is_new before bytes) (start_of name) (provided (names_sort text word sort) (start_of word) (Ok (record { bytes = bytes }, sort)))) named.4
+    ∙ ap (λ b. provided (not b) (start_of name) (provided (names_sort text word sort) (start_of word) (Ok (record { bytes = parameter_name n }, sort)))) (new_name n before small older)
     ∙ ap (λ b. provided b (start_of word) (Ok (record { bytes = parameter_name n }, sort))) sorted
 
 parameter_pieces : (o x b s c : List ℕ) → o ++ x ++ b ++ s ++ c ≡ o ++ (x ++ (b ++ s)) ++ c
@@ -133,9 +133,9 @@ shows_parameter depth n sort below small =
     subst (λ (l : List ℕ). Shows (IsParameter n sort) depth l) (sym (parameter_pieces (codes "(") (parameter_name n) (codes " ") (sort_text sort) (codes ")")))
     (shows_same (Within (Item n sort)) (IsParameter n sort) depth (codes "(" ++ row ++ codes ")") (λ text tree w. parameter_is n sort text tree small w)
     (shows_list (Item n sort) depth row below
-    (row_spaced (IsNamed (parameter_name n)) (Only (λ text tree. has_sort text tree sort ≡ true)) (depth + 1) (parameter_name n) (sort_text sort)
+    (row_spaced (IsNamed (parameter_name n)) (Only (λ text tree. names_sort text tree sort ≡ true)) (depth + 1) (parameter_name n) (sort_text sort)
     (shows_bare (depth + 1) (parameter_name n) refl (digits_are_symbols (decimal n) (decimal_is n small).digits) refl)
-    (row_last (λ text tree. has_sort text tree sort ≡ true) (depth + 1) (sort_text sort) (shows_sort (depth + 1) sort)))))
+    (row_last (λ text tree. names_sort text tree sort ≡ true) (depth + 1) (sort_text sort) (shows_sort (depth + 1) sort)))))
 
 -- the trees are the parameters from this one on
 abbrev AreParams : ℕ → List Sort → List ℕ → List Tree → Type 0
@@ -175,13 +175,13 @@ params_row depth (sort ∷ sorts) below few =
     row_same (FirstAnd (IsParameter 0 sort) (AreParams 1 sorts)) (AreParams 0 (sort ∷ sorts)) depth (piece ++ rest) (more_params 0 sort sorts)
     (row_more (IsParameter 0 sort) (AreParams 1 sorts) depth piece rest (shows_parameter depth 0 sort below (omega arith)) (blank 1 sorts) (params_after depth 1 sorts below (omega (arith, few))))
 
-params_are : (sorts : List Sort) (text : List ℕ) (tree : Tree) → Within (AreParams 0 sorts) text tree → parameters text sorts tree ≡ Ok (params_at 0 sorts)
+params_are : (sorts : List Sort) (text : List ℕ) (tree : Tree) → Within (AreParams 0 sorts) text tree → read_parameters text sorts tree ≡ Ok (params_at 0 sorts)
 params_are sorts text tree (items, start, end, at, (many, all)) =
-    ap (parameters text sorts) at ∙ ap (parameters_of text sorts start) (items_hidden-the_row-Tree-0 items)
+    ap (read_parameters text sorts) at ∙ ap (parameters_of text sorts start) (items_hidden-the_row-Tree-0 items)
     ∙ ap (λ (n : ℕ). provided (Rattle.std.proofs.Common.nat_eq n (length sorts)) start (parameters_from text [] items sorts)) many
     ∙ ap (λ b. provided b start (parameters_from text [] items sorts)) (same_number (length sorts)) ∙ all [] tt
 
-pub shows_parameters : (depth : ℕ) (sorts : List Sort) → depth + 1 < most_open → length sorts < 2 ^ 64 → Shows (λ text tree. parameters text sorts tree ≡ Ok (params_at 0 sorts)) depth (codes "(" ++ parameters_text sorts ++ codes ")")
+pub shows_parameters : (depth : ℕ) (sorts : List Sort) → depth + 1 < most_open → length sorts < 2 ^ 64 → Shows (λ text tree. read_parameters text sorts tree ≡ Ok (params_at 0 sorts)) depth (codes "(" ++ parameters_text sorts ++ codes ")")
 shows_parameters depth sorts below few =
-    shows_same (Within (AreParams 0 sorts)) (λ text tree. parameters text sorts tree ≡ Ok (params_at 0 sorts)) depth (codes "(" ++ parameters_text sorts ++ codes ")") (params_are sorts)
+    shows_same (Within (AreParams 0 sorts)) (λ text tree. read_parameters text sorts tree ≡ Ok (params_at 0 sorts)) depth (codes "(" ++ parameters_text sorts ++ codes ")") (params_are sorts)
     (shows_list (AreParams 0 sorts) depth (parameters_text sorts) (omega (arith, below)) (params_row (depth + 1) sorts below few))

@@ -13,13 +13,13 @@ use Rattle.sexp_read.specs.Trees.{most_open}
 use Rattle.term_tree.specs.declared.scalar.Value.{Value}
 use Rattle.term_tree.specs.declared.scalar.Value.TheVariants.{Int, Bool as Truth}
 use Rattle.term_tree.proofs.Public.{both_true}
-use Rattle.term_check.specs.Words.{is_among, reserved_words}
+use Rattle.term_check.specs.Words.{is_word_among, reserved_words}
 use Rattle.term_check.specs.Spelling.{is_symbol, is_spelled, name_of}
 use Rattle.term_check.proofs.Public.{below_is}
 use Rattle.answer_text.specs.Names.{is_simple, is_bare, name_text, number_text, value_text, after_spaces, spaced}
 use Rattle.answer_text.specs.Printable.{IsShortValue}
-use Rattle.answer_text.specs.machinery.ReadBack.{is_quotable}
-use Rattle.answer_text.specs.Reading.{◌>>=◌, in_list, each, said_by, number, integer, negated, negation, value_of, value}
+use Rattle.answer_text.specs.ReadBack.{is_quotable}
+use Rattle.answer_text.specs.Reading.{◌>>=◌, in_list, read_each, said_by, read_numeral, integer_value, negative_value, negation, read_value, value}
 use Rattle.answer_text.proofs.PieceLemmas.{ends_word, not_true}
 use Rattle.answer_text.proofs.DecimalLemmas.{IsSpelled, decimal_is}
 use Rattle.answer_text.proofs.ShowLemmas.{Shows, ShowsRow, FirstAnd, Within, IsLeaf, shows_same, row_same, row_none, row_more, row_behind, shows_list, shows_word, shows_quoted}
@@ -77,9 +77,9 @@ numeral_is n text tree h leaf =
 pub shows_numeral : (depth n : ℕ) → n < 2 ^ 63 → Shows (IsLeaf Numeral (decimal n)) depth (decimal n)
 shows_numeral depth n h = shows_digits depth n (decimal n) (decimal_is n (omega arith))
 
-pub shows_number : (depth n : ℕ) → n < 2 ^ 63 → Shows (λ text tree. number text tree ≡ Ok n) depth (decimal n)
+pub shows_number : (depth n : ℕ) → n < 2 ^ 63 → Shows (λ text tree. read_numeral text tree ≡ Ok n) depth (decimal n)
 shows_number depth n h =
-    shows_same (IsLeaf Numeral (decimal n)) (λ text tree. number text tree ≡ Ok n) depth (decimal n) (λ text tree leaf. ap (said_by tree) (numeral_is n text tree h leaf)) (shows_numeral depth n h)
+    shows_same (IsLeaf Numeral (decimal n)) (λ text tree. read_numeral text tree ≡ Ok n) depth (decimal n) (λ text tree leaf. ap (said_by tree) (numeral_is n text tree h leaf)) (shows_numeral depth n h)
 
 -- (- n)
 
@@ -109,9 +109,9 @@ abbrev pub IsValue : Value → List ℕ → Tree → Type 0
 IsValue v text tree = value text tree ≡ Ok v
 
 truth_is : (b : Bool) (word text : List ℕ) (tree : Tree) → ((name : List ℕ) → is_symbol text tree name ≡ bytes_eq word name) → (leaf : IsLeaf Symbol word text tree)
-    → cond (bytes_eq word (codes "true")) (Some (Truth true)) (cond (bytes_eq word (codes "false")) (Some (Truth false)) None) ≡ Some (Truth b) → value_of text tree ≡ Some (Truth b)
+    → cond (bytes_eq word (codes "true")) (Some (Truth true)) (cond (bytes_eq word (codes "false")) (Some (Truth false)) None) ≡ Some (Truth b) → read_value text tree ≡ Some (Truth b)
 truth_is b word text tree says leaf h =
-    ap (value_of text) leaf.2
+    ap (read_value text) leaf.2
     ∙ ap (λ t. cond t (Some (Truth true)) (cond (is_symbol text (LeafTree Symbol leaf.0 leaf.1) (codes "false")) (Some (Truth false)) None)) (ap (λ (t : Tree). is_symbol text t (codes "true")) (sym leaf.2) ∙ says (codes "true"))
     ∙ ap (λ t. cond (bytes_eq word (codes "true")) (Some (Truth true)) (cond t (Some (Truth false)) None)) (ap (λ (t : Tree). is_symbol text t (codes "false")) (sym leaf.2) ∙ says (codes "false"))
     ∙ h
@@ -119,21 +119,21 @@ truth_is b word text tree says leaf h =
 not_nought : (n : ℕ) → nat_eq (suc n) 0 ≡ false
 not_nought n = grind arith
 
-negated_is : (n : ℕ) → negated (Some (suc n)) ≡ Some (Int (negsuc n))
+negated_is : (n : ℕ) → negative_value (Some (suc n)) ≡ Some (Int (negsuc n))
 negated_is n = ap (λ t. cond t None (Some (Int (negsuc n)))) (not_nought n)
 
-minus_is : (n : ℕ) (text : List ℕ) (tree : Tree) → suc n < 2 ^ 63 → Within (Negation (suc n)) text tree → value_of text tree ≡ Some (Int (negsuc n))
+minus_is : (n : ℕ) (text : List ℕ) (tree : Tree) → suc n < 2 ^ 63 → Within (Negation (suc n)) text tree → read_value text tree ≡ Some (Int (negsuc n))
 minus_is n text tree h (items, start, end, is, (minus, others, all, sign, (digits, rest, only, numeral, last))) =
     let row : items ≡ minus ∷ digits ∷ [] = all ∙ ap (λ (l : List Tree). minus ∷ l) (only ∙ ap (λ (l : List Tree). digits ∷ l) last) in
-    ap (value_of text) is ∙ ap (negation text) (items_hidden-the_row-Tree-0 items) ∙ ap (negation text) row
-    ∙ ap (λ t. cond t (negated (numeral_value text digits)) None) (symbol_is (codes "-") (codes "-") text minus sign)
-    ∙ ap negated (numeral_is (suc n) text digits h numeral) ∙ negated_is n
+    ap (read_value text) is ∙ ap (negation text) (items_hidden-the_row-Tree-0 items) ∙ ap (negation text) row
+    ∙ ap (λ t. cond t (negative_value (numeral_value text digits)) None) (symbol_is (codes "-") (codes "-") text minus sign)
+    ∙ ap negative_value (numeral_is (suc n) text digits h numeral) ∙ negated_is n
 
 pub shows_value : (depth : ℕ) (v : Value) → depth < most_open → IsShortValue v → Shows (IsValue v) depth (value_text v)
 shows_value depth (Int (pos n)) below h =
     subst (λ (l : List ℕ). Shows (IsValue (Int (pos n))) depth l) (sym (plain_text n))
     (shows_same (IsLeaf Numeral (decimal n)) (IsValue (Int (pos n))) depth (decimal n)
-    (λ text tree leaf. ap (said_by tree) (ap (value_of text) leaf.2 ∙ ap (λ (t : Tree). integer (numeral_value text t)) (sym leaf.2) ∙ ap integer (numeral_is n text tree h leaf))) (shows_numeral depth n h))
+    (λ text tree leaf. ap (said_by tree) (ap (read_value text) leaf.2 ∙ ap (λ (t : Tree). integer_value (numeral_value text t)) (sym leaf.2) ∙ ap integer_value (numeral_is n text tree h leaf))) (shows_numeral depth n h))
 shows_value depth (Int (negsuc n)) below h =
     let fits : suc n < 2 ^ 63 = omega (arith, h) in
     subst (λ (l : List ℕ). Shows (IsValue (Int (negsuc n))) depth l) (sym (negative_text n))
@@ -152,14 +152,14 @@ shows_value depth (Truth false) below h =
 abbrev pub IsNamed : List ℕ → List ℕ → Tree → Type 0
 IsNamed name text tree = (kind : LeafKind) × (start : ℕ) × (end : ℕ) × (tree ≡ LeafTree kind start end) × (name_of text tree ≡ Some name) × (symbol_bytes text tree ≡ Some name)
 
-bare_is : (name : List ℕ) → is_bare name ≡ true → (is_simple name ≡ true) × (list_all is_symbol_byte name ≡ true) × (is_among reserved_words name ≡ false)
+bare_is : (name : List ℕ) → is_bare name ≡ true → (is_simple name ≡ true) × (list_all is_symbol_byte name ≡ true) × (is_word_among reserved_words name ≡ false)
 unfolding is_bare
 bare_is name h =
-    let first = both_true (is_simple name) (list_all is_symbol_byte name && not (is_among reserved_words name)) h in
-    let second = both_true (list_all is_symbol_byte name) (not (is_among reserved_words name)) first.1 in
-    (first.0, second.0, not_true (is_among reserved_words name) second.1)
+    let first = both_true (is_simple name) (list_all is_symbol_byte name && not (is_word_among reserved_words name)) h in
+    let second = both_true (list_all is_symbol_byte name) (not (is_word_among reserved_words name)) first.1 in
+    (first.0, second.0, not_true (is_word_among reserved_words name) second.1)
 
-pub shows_bare : (depth : ℕ) (name : List ℕ) → is_simple name ≡ true → list_all is_symbol_byte name ≡ true → is_among reserved_words name ≡ false → Shows (IsNamed name) depth name
+pub shows_bare : (depth : ℕ) (name : List ℕ) → is_simple name ≡ true → list_all is_symbol_byte name ≡ true → is_word_among reserved_words name ≡ false → Shows (IsNamed name) depth name
 shows_bare depth [] simple all free = absurd (cc)
 shows_bare depth (b ∷ bs) simple all free =
     shows_same (IsLeaf Symbol (b ∷ bs)) (IsNamed (b ∷ bs)) depth (b ∷ bs)
@@ -168,7 +168,7 @@ shows_bare depth (b ∷ bs) simple all free =
       leaf.0,
       leaf.1,
       leaf.2,
-      ap (name_of text) leaf.2 ∙ ap (λ (n : List ℕ). cond (is_among reserved_words n) None (Some n)) leaf.3 ∙ ap (λ t. cond t None (Some (b ∷ bs))) free,
+      ap (name_of text) leaf.2 ∙ ap (λ (n : List ℕ). cond (is_word_among reserved_words n) None (Some n)) leaf.3 ∙ ap (λ t. cond t None (Some (b ∷ bs))) free,
       ap (symbol_bytes text) leaf.2 ∙ ap Some leaf.3,
     ))
     (shows_symbol depth b bs (not_true (is_digit b) simple) all)
@@ -190,7 +190,7 @@ named_is name word text tree named = ap (λ o. is_spelled o word) named.5
 
 -- the trees are read as these
 abbrev pub AreRead : {X : Type 0} → (List ℕ → Tree → Result X ℕ) → List X → List ℕ → List Tree → Type 0
-AreRead {X} read xs text trees = ((before : List X) → each (read text) before trees ≡ Ok (before ++ xs)) × (length trees ≡ length xs)
+AreRead {X} read xs text trees = ((before : List X) → read_each (read text) before trees ≡ Ok (before ++ xs)) × (length trees ≡ length xs)
 
 module _ {X : Type 0} (read : List ℕ → Tree → Result X ℕ) where
   pub read_none : (text : List ℕ) → AreRead read [] text []
@@ -198,8 +198,8 @@ module _ {X : Type 0} (read : List ℕ → Tree → Result X ℕ) where
 
   pub read_more : (x : X) (xs : List X) (text : List ℕ) (trees : List Tree) → FirstAnd (λ text tree. read text tree ≡ Ok x) (AreRead read xs) text trees → AreRead read (x ∷ xs) text trees
   read_more x xs text trees (first, others, is, one, (all, many)) =
-      let reads : (before : List X) → each (read text) before trees ≡ Ok (before ++ (x ∷ xs)) =
-      λ before. ap (each (read text) before) is ∙ ap (λ (r : Result X ℕ). r >>= λ a. each (read text) (before ++ a ∷ []) others) one ∙ all (before ++ x ∷ []) ∙ ap Ok (append_assoc before (x ∷ []) xs) in
+      let reads : (before : List X) → read_each (read text) before trees ≡ Ok (before ++ (x ∷ xs)) =
+      λ before. ap (read_each (read text) before) is ∙ ap (λ (r : Result X ℕ). r >>= λ a. read_each (read text) (before ++ a ∷ []) others) one ∙ all (before ++ x ∷ []) ∙ ap Ok (append_assoc before (x ∷ []) xs) in
       (reads, ap length is ∙ ap suc many)
 
   module _ (print : X → List ℕ) (Good : X → Type 0) (depth : ℕ) (shows : (x : X) → Good x → Shows (λ text tree. read text tree ≡ Ok x) depth (print x)) where
@@ -220,5 +220,5 @@ module _ {X : Type 0} (read : List ℕ → Tree → Result X ℕ) where
         row_same (FirstAnd (λ text tree. read text tree ≡ Ok x) (AreRead read xs)) (AreRead read (x ∷ xs)) depth (print x ++ after_spaces print xs) (read_more x xs)
         (row_more (λ text tree. read text tree ≡ Ok x) (AreRead read xs) depth (print x) (after_spaces print xs) (shows x all.0) (blank xs) (rows_after xs all.1))
 
-  pub list_is : (xs : List X) (text : List ℕ) (tree : Tree) → Within (AreRead read xs) text tree → in_list (each (read text) []) tree ≡ Ok xs
-  list_is xs text tree (items, start, end, is, (all, many)) = ap (in_list (each (read text) [])) is ∙ ap (each (read text) []) (items_hidden-the_row-Tree-0 items) ∙ all []
+  pub list_is : (xs : List X) (text : List ℕ) (tree : Tree) → Within (AreRead read xs) text tree → in_list (read_each (read text) []) tree ≡ Ok xs
+  list_is xs text tree (items, start, end, is, (all, many)) = ap (in_list (read_each (read text) [])) is ∙ ap (read_each (read text) []) (items_hidden-the_row-Tree-0 items) ∙ all []

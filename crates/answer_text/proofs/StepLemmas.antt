@@ -12,10 +12,10 @@ use Rattle.term_check.specs.Spelling.{is_symbol, pred_from, sorts_of}
 use Rattle.answer_text.specs.declared.answer.Line.{Line}
 use Rattle.answer_text.specs.declared.answer.Answer.TheVariants.{Unsat}
 use Rattle.answer_text.specs.Names.{name_text, value_text, after_spaces, spaced}
-use Rattle.answer_text.specs.AnswerTexts.{name_in, pred_text, atom_text, conclusion_text, step_text, answer_text}
-use Rattle.answer_text.specs.Printable.{IsShort, IsShortValue, IsConclusion, IsStep, IsAnswerText}
-use Rattle.answer_text.specs.machinery.ReadBack.{is_quotable, AreNames}
-use Rattle.answer_text.specs.Reading.{◌>>=◌, provided, said_by, in_list, each, number, value, declared_by, pred, arity, bare, with_values, applied, atom, conclusion, step_of, step, derivation_of, derivation, claim, evidence, unless_at, reply}
+use Rattle.answer_text.specs.AnswerTexts.{declared_name, pred_text, atom_text, conclusion_text, step_text, answer_text}
+use Rattle.answer_text.specs.Printable.{IsShort, IsShortValue, IsConclusion, IsPrintableStep, IsAnswerText}
+use Rattle.answer_text.specs.ReadBack.{is_quotable, AreNames}
+use Rattle.answer_text.specs.Reading.{◌>>=◌, provided, said_by, in_list, read_each, read_numeral, value, declared_by, pred, arity, bare, with_values, read_applied, atom, conclusion, step_of, step, derivation_of, derivation, claim, evidence, unless_at, reply}
 use Rattle.answer_text.specs.Reading.Reply.{refutation}
 use Rattle.answer_text.specs.Read.{Spells}
 use Rattle.answer_text.proofs.ShowLemmas.{Shows, ShowsRow, FirstAnd, Within, IsLeaf, shows_same, row_same, row_none, row_more, row_behind, shows_list, whole_text}
@@ -61,7 +61,7 @@ module _ (preds : List Pred) (names : AreNames preds) where
   shows_pred depth n within =
       let p = there preds n within in
       let name : List ℕ = p.0.name.bytes in
-      subst (λ (o : Option Pred). Shows (IsPred n) depth (name_text (name_in o))) (sym p.1)
+      subst (λ (o : Option Pred). Shows (IsPred n) depth (name_text (declared_name o))) (sym p.1)
       (shows_same (IsNamed name) (IsPred n) depth (name_text name)
       (λ text tree named. (
         named.0,
@@ -100,12 +100,12 @@ module _ (preds : List Pred) (names : AreNames preds) where
       let fits : with_values preds n (length others) ≡ true =
       ap (λ (k : ℕ). not (nat_eq k 0) && nat_eq k (arity preds n)) counted
       ∙ ap (λ b. not b && nat_eq (length (v ∷ values)) (arity preds n)) (not_nought (length values)) ∙ ap (λ (k : ℕ). nat_eq (length (v ∷ values)) k) many ∙ same_number (length (v ∷ values)) in
-      let one : applied text preds start (first ∷ others) ≡ Ok (n, v ∷ values) =
-      ap (λ (r : Result ℕ ℕ). r >>= λ k. provided (with_values preds k (length others)) start (each (value text) [] others >>= λ vs. Ok (k, vs))) p.4
-      ∙ ap (λ b. provided b start (each (value text) [] others >>= λ vs. Ok (n, vs))) fits
+      let one : read_applied text preds start (first ∷ others) ≡ Ok (n, v ∷ values) =
+      ap (λ (r : Result ℕ ℕ). r >>= λ k. provided (with_values preds k (length others)) start (read_each (value text) [] others >>= λ vs. Ok (k, vs))) p.4
+      ∙ ap (λ b. provided b start (read_each (value text) [] others >>= λ vs. Ok (n, vs))) fits
       ∙ ap (λ (r : Result (List Value) ℕ). r >>= λ vs. Ok (n, vs)) (read []) in
       ap (conclusion text preds) is
-      ∙ ap (λ (r : Result (ℕ × List Value) ℕ). r >>= λ head. Ok (Some head)) (ap (applied text preds start) (items_hidden-the_row-Tree-0 items ∙ all) ∙ one)
+      ∙ ap (λ (r : Result (ℕ × List Value) ℕ). r >>= λ head. Ok (Some head)) (ap (read_applied text preds start) (items_hidden-the_row-Tree-0 items ∙ all) ∙ one)
 
   shows_atom : (depth n : ℕ) (values : List Value) → depth + 1 < most_open → IsConclusion preds (Some (n, values)) → Shows (IsHead (Some (n, values))) depth (atom_text (pred_text preds n) values)
   shows_atom depth n [] below h =
@@ -130,15 +130,15 @@ module _ (preds : List Pred) (names : AreNames preds) where
 
   -- Steps.
 
-  module _ (line : Line) (is : IsStep preds line) where
+  module _ (line : Line) (is : IsPrintableStep preds line) where
     abbrev Values : List ℕ → Tree → Type 0
     Values = Within (AreRead value line.values)
 
     abbrev Premises : List ℕ → Tree → Type 0
-    Premises = Within (AreRead number line.premises)
+    Premises = Within (AreRead read_numeral line.premises)
 
     abbrev Parts : List ℕ → List Tree → Type 0
-    Parts = FirstAnd (IsLeaf Symbol (codes "step")) (FirstAnd (λ text tree. number text tree ≡ Ok line.number) (FirstAnd (λ text tree. number text tree ≡ Ok line.assertion)
+    Parts = FirstAnd (IsLeaf Symbol (codes "step")) (FirstAnd (λ text tree. read_numeral text tree ≡ Ok line.number) (FirstAnd (λ text tree. read_numeral text tree ≡ Ok line.assertion)
         (FirstAnd Values (FirstAnd Premises (Only (IsHead line.head))))))
 
     abbrev values_list : List ℕ
@@ -158,24 +158,24 @@ module _ (preds : List Pred) (names : AreNames preds) where
         (row_spaced _ _ 2 (decimal line.assertion) _ (shows_number 2 line.assertion is.assertion)
         (row_spaced _ _ 2 values_list _ (shows_list (AreRead value line.values) 2 (spaced value_text line.values) (omega arith)
         (rows_spaced value value_text IsShortValue 3 (λ v small. shows_value 3 v (omega arith) small) line.values is.values))
-        (row_spaced _ _ 2 premises_list _ (shows_list (AreRead number line.premises) 2 (spaced decimal line.premises) (omega arith)
-        (rows_spaced number decimal IsShort 3 (λ n small. shows_number 3 n small) line.premises is.premises))
+        (row_spaced _ _ 2 premises_list _ (shows_list (AreRead read_numeral line.premises) 2 (spaced decimal line.premises) (omega arith)
+        (rows_spaced read_numeral decimal IsShort 3 (λ n small. shows_number 3 n small) line.premises is.premises))
         (row_last (IsHead line.head) 2 (conclusion_text preds line.head) (shows_conclusion 2 line.head (omega arith) is.conclusion))))))
 
     step_is : (text : List ℕ) (tree : Tree) → Within Parts text tree → step text preds tree ≡ Ok line
     step_is text tree (items, start, end, at, (word, r1, e1, w, (t2, r2, e2, k, (t3, r3, e3, a, (t4, r4, e4, vs, (t5, r5, e5, ps, (t6, r6, e6, h, last))))))) =
         let row : items ≡ word ∷ t2 ∷ t3 ∷ t4 ∷ t5 ∷ t6 ∷ [] = cc in
         ap (λ (t : Tree). step text preds t) at ∙ ap (step_of text preds start) (items_hidden-the_row-Tree-0 items ∙ row)
-        ∙ ap (λ b. provided b start (number text t2 >>= λ k. number text t3 >>= λ a. in_list (each (value text) []) t4 >>= λ vs. in_list (each (number text) []) t5 >>= λ ps. conclusion text preds t6 >>= λ h.
+        ∙ ap (λ b. provided b start (read_numeral text t2 >>= λ k. read_numeral text t3 >>= λ a. in_list (read_each (value text) []) t4 >>= λ vs. in_list (read_each (read_numeral text) []) t5 >>= λ ps. conclusion text preds t6 >>= λ h.
         Ok (record { number = k; assertion = a; values = vs; premises = ps; head = h }))) (symbol_is (codes "step") (codes "step") text word w)
-        ∙ ap (λ (r : Result ℕ ℕ). r >>= λ k. number text t3 >>= λ a. in_list (each (value text) []) t4 >>= λ vs. in_list (each (number text) []) t5 >>= λ ps. conclusion text preds t6 >>= λ h.
+        ∙ ap (λ (r : Result ℕ ℕ). r >>= λ k. read_numeral text t3 >>= λ a. in_list (read_each (value text) []) t4 >>= λ vs. in_list (read_each (read_numeral text) []) t5 >>= λ ps. conclusion text preds t6 >>= λ h.
         Ok (record { number = k; assertion = a; values = vs; premises = ps; head = h })) k
-        ∙ ap (λ (r : Result ℕ ℕ). r >>= λ a. in_list (each (value text) []) t4 >>= λ vs. in_list (each (number text) []) t5 >>= λ ps. conclusion text preds t6 >>= λ h.
+        ∙ ap (λ (r : Result ℕ ℕ). r >>= λ a. in_list (read_each (value text) []) t4 >>= λ vs. in_list (read_each (read_numeral text) []) t5 >>= λ ps. conclusion text preds t6 >>= λ h.
         Ok (record { number = line.number; assertion = a; values = vs; premises = ps; head = h })) a
-        ∙ ap (λ (r : Result (List Value) ℕ). r >>= λ vs. in_list (each (number text) []) t5 >>= λ ps. conclusion text preds t6 >>= λ h.
+        ∙ ap (λ (r : Result (List Value) ℕ). r >>= λ vs. in_list (read_each (read_numeral text) []) t5 >>= λ ps. conclusion text preds t6 >>= λ h.
         Ok (record { number = line.number; assertion = line.assertion; values = vs; premises = ps; head = h })) (list_is value line.values text t4 vs)
         ∙ ap (λ (r : Result (List ℕ) ℕ). r >>= λ ps. conclusion text preds t6 >>= λ h.
-        Ok (record { number = line.number; assertion = line.assertion; values = line.values; premises = ps; head = h })) (list_is number line.premises text t5 ps)
+        Ok (record { number = line.number; assertion = line.assertion; values = line.values; premises = ps; head = h })) (list_is read_numeral line.premises text t5 ps)
         ∙ ap (λ (r : Result (Option (ℕ × List Value)) ℕ). r >>= λ h. Ok (record { number = line.number; assertion = line.assertion; values = line.values; premises = line.premises; head = h })) h
 
     pub step_printed : step_text preds line ≡ (codes "(" ++ step_row ++ codes ")") ++ codes "\n"
@@ -193,7 +193,7 @@ module _ (preds : List Pred) (names : AreNames preds) where
   abbrev Steps : List Line → List ℕ → List Tree → Type 0
   Steps lines = AreRead (λ text tree. step text preds tree) lines
 
-  rows_of_steps : (lines : List Line) → AllByRecursion (IsStep preds) lines → ShowsRow (Steps lines) 1 (flat_map (step_text preds) lines)
+  rows_of_steps : (lines : List Line) → AllByRecursion (IsPrintableStep preds) lines → ShowsRow (Steps lines) 1 (flat_map (step_text preds) lines)
   rows_of_steps [] all = row_none (Steps []) 1 (read_none (λ text tree. step text preds tree))
   rows_of_steps (line ∷ lines) all =
       let body : List ℕ = codes "(" ++ step_row line all.0 ++ codes ")" in
@@ -203,7 +203,7 @@ module _ (preds : List Pred) (names : AreNames preds) where
       (row_same (FirstAnd (λ text tree. step text preds tree ≡ Ok line) (Steps lines)) (Steps (line ∷ lines)) 1 (body ++ (codes "\n" ++ rest)) (read_more (λ text tree. step text preds tree) line lines)
       (row_more (λ text tree. step text preds tree ≡ Ok line) (Steps lines) 1 body (codes "\n" ++ rest) (shows_step line all.0) refl (row_behind (Steps lines) 1 (codes "\n") rest refl (rows_of_steps lines all.1))))
 
-  module _ (lines : List Line) (all : AllByRecursion (IsStep preds) lines) where
+  module _ (lines : List Line) (all : AllByRecursion (IsPrintableStep preds) lines) where
     abbrev Derived : List ℕ → List Tree → Type 0
     Derived = FirstAnd (IsLeaf Symbol (codes "derivation")) (Steps lines)
 
@@ -222,7 +222,7 @@ module _ (preds : List Pred) (names : AreNames preds) where
     derivation_is : (text : List ℕ) (tree : Tree) → Within Derived text tree → derivation text preds tree ≡ Ok lines
     derivation_is text tree (items, start, end, at, (word, steps, row, w, (read, many))) =
         ap (derivation text preds) at ∙ ap (derivation_of text preds start) (items_hidden-the_row-Tree-0 items ∙ row)
-        ∙ ap (λ b. provided b start (each (step text preds) [] steps)) (symbol_is (codes "derivation") (codes "derivation") text word w) ∙ read []
+        ∙ ap (λ b. provided b start (read_each (step text preds) [] steps)) (symbol_is (codes "derivation") (codes "derivation") text word w) ∙ read []
 
     abbrev Answered : List ℕ → List Tree → Type 0
     Answered = FirstAnd (IsLeaf Symbol (codes "unsat")) (Only (Within Derived))

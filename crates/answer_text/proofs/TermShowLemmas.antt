@@ -21,10 +21,10 @@ use Rattle.term_check.specs.declared.part.Fault.{Fault}
 use Rattle.term_check.specs.declared.atom.Atom.{Atom}
 use Rattle.term_check.specs.declared.scope.Bound.TheVariants.{Variable}
 use Rattle.term_check.specs.declared.scope.Named.{Named}
-use Rattle.term_check.specs.Words.{is_among, reserved_words}
+use Rattle.term_check.specs.Words.{is_word_among, reserved_words}
 use Rattle.term_check.specs.Rules.{fault, unless, if_short, number_fault, applied, first_not, divisible_fault, divisibility_fault}
 use Rattle.term_check.specs.machinery.Reading.{next_spelled, each_spelled, applied_list, any_list}
-use Rattle.term_check.specs.Spelling.{Scope, Spelled, Gathered, ◌>>=◌, is_spelled, is_word, is_symbol, bound_to, bound_symbol, symbol_atom, numeral_if_short, numeral_atom, spelled_atom, leaf_atom, operator_or, head_of, head_fault, list_head, with_part, application, spells, number_or_0, the_argument, added, nothing_yet, spelled, scope_of}
+use Rattle.term_check.specs.Spelling.{SpellingScope, Spelled, Gathered, ◌>>=◌, is_spelled, is_word, is_symbol, bound_to, bound_symbol, symbol_atom, numeral_if_short, numeral_atom, spelled_atom, leaf_atom, operator_or, spelled_head, head_fault, list_head, with_part, application, spells, number_or_0, the_argument, with_spelled, nothing_yet, spelled, scope_of}
 use Rattle.term_check.specs.Term.{operation, divisible, Terms, none, more}
 use Rattle.term_check.proofs.Public.{below_is, head_of-List, spelled-List}
 use Rattle.answer_text.specs.Names.{after_spaces}
@@ -53,7 +53,7 @@ no_binder false true c x y z w h k l = absurd (cc)
 no_binder false false true x y z w h k l = absurd (cc)
 
 module _ (nodes : List Node) (arena : IsArena nodes) (sorts : List Sort) (names : List Named) (params : AreParameters sorts names) (next : ℕ) where
-  abbrev scope : Scope
+  abbrev scope : SpellingScope
   scope = scope_of [] names false
 
   -- the tree spells the term of that number, of this sort and with this value
@@ -93,11 +93,11 @@ module _ (nodes : List Node) (arena : IsArena nodes) (sorts : List Sort) (names 
           }
 
   -- a word that is no reserved one
-  atom_is : (word text : List ℕ) (tree : Tree) (leaf : IsLeaf Symbol word text tree) (atom : Atom) → is_among reserved_words word ≡ false
+  atom_is : (word text : List ℕ) (tree : Tree) (leaf : IsLeaf Symbol word text tree) (atom : Atom) → is_word_among reserved_words word ≡ false
       → bound_symbol [] leaf.0 word (bound_to word names) ≡ Ok atom → spelled text scope next tree ≡ Ok (spelled_atom next leaf.0 atom)
   atom_is word text tree leaf atom free is =
       ap (spelled text scope next) leaf.2
-      ∙ ap (λ (bytes : List ℕ). (cond (is_among reserved_words bytes) (Err (fault UnknownSymbol leaf.0)) (symbol_atom [] names leaf.0 bytes)) >>= λ a. Ok (spelled_atom next leaf.0 a)) leaf.3
+      ∙ ap (λ (bytes : List ℕ). (cond (is_word_among reserved_words bytes) (Err (fault UnknownSymbol leaf.0)) (symbol_atom [] names leaf.0 bytes)) >>= λ a. Ok (spelled_atom next leaf.0 a)) leaf.3
       ∙ ap (λ t. (cond t (Err (fault UnknownSymbol leaf.0)) (symbol_atom [] names leaf.0 word)) >>= λ a. Ok (spelled_atom next leaf.0 a)) free
       ∙ ap (λ (r : Result Atom Fault). r >>= λ a. Ok (spelled_atom next leaf.0 a)) is
 
@@ -189,9 +189,9 @@ module _ (nodes : List Node) (arena : IsArena nodes) (sorts : List Sort) (names 
     where
       by : (g : Gathered) (ids : List TermId) → g.next ≡ next → AreLike nodes g.terms ids → Gathers (k ∷ kinds) (id ∷ args) text trees g ids
       by g ids now like =
-          let h : Gathered = added g r.found in
+          let h : Gathered = with_spelled g r.found in
           let rest = all h (ids ++ id ∷ []) r.next_is (like_last nodes g.terms ids r.found.term id like r.like) in
-          let one : next_spelled text scope g first ≡ Ok h = ap (λ (n : ℕ). spelled text scope n first >>= λ s. Ok (added g s)) now ∙ ap (λ (o : Result Spelled Fault). o >>= λ s. Ok (added g s)) r.is in
+          let one : next_spelled text scope g first ≡ Ok h = ap (λ (n : ℕ). spelled text scope n first >>= λ s. Ok (with_spelled g s)) now ∙ ap (λ (o : Result Spelled Fault). o >>= λ s. Ok (with_spelled g s)) r.is in
           record {
             last = rest.last;
             is = ap (each_spelled text scope g) row ∙ ap (λ (o : Result Gathered Fault). o >>= λ x. each_spelled text scope x others) one ∙ rest.is;
@@ -228,9 +228,9 @@ module _ (nodes : List Node) (arena : IsArena nodes) (sorts : List Sort) (names 
   operation_is id op args kinds kind is counts takes text tree (items, start, end, at, (first, others, row, leaf, (many, all))) =
       let word = operator_is op in
       let g = all (nothing_yet next) [] refl tt in
-      let head : head_of text [] first ≡ Ok (Operator op) =
-      ap (head_of text []) leaf.2
-      ∙ ap (λ (b : List ℕ). cond (is_among reserved_words b) (Err (fault UnknownSymbol leaf.0)) (operator_or [] leaf.0 b (Rattle.term_check.specs.Operators.operator_named b))) leaf.3
+      let head : spelled_head text [] first ≡ Ok (Operator op) =
+      ap (spelled_head text []) leaf.2
+      ∙ ap (λ (b : List ℕ). cond (is_word_among reserved_words b) (Err (fault UnknownSymbol leaf.0)) (operator_or [] leaf.0 b (Rattle.term_check.specs.Operators.operator_named b))) leaf.3
       ∙ ap (λ t. cond t (Err (fault UnknownSymbol leaf.0)) (operator_or [] leaf.0 (operator_word op) (Rattle.term_check.specs.Operators.operator_named (operator_word op)))) word.3
       ∙ ap (operator_or [] leaf.0 (operator_word op)) word.4 in
       let fits : number_fault op start (length others) ≡ None = ap (number_fault op start) many ∙ counts start in
@@ -275,13 +275,13 @@ module _ (nodes : List Node) (arena : IsArena nodes) (sorts : List Sort) (names 
   one_like none id all = absurd all
   one_like (more t ts) id all = all.0
 
-  divisor_is : (n : ℕ) (text : List ℕ) (tree : Tree) → n < 2 ^ 63 → Within (Divisor n) text tree → head_of text [] tree ≡ Ok (Divisibility (Some n))
+  divisor_is : (n : ℕ) (text : List ℕ) (tree : Tree) → n < 2 ^ 63 → Within (Divisor n) text tree → spelled_head text [] tree ≡ Ok (Divisibility (Some n))
   divisor_is n text tree small (items, start, end, at, (mark, r1, e1, m, (word, r2, e2, w, (number, r3, e3, d, last)))) =
       let row : items ≡ mark ∷ word ∷ number ∷ [] = e1 ∙ ap (λ (l : List Tree). mark ∷ l) (e2 ∙ ap (λ (l : List Tree). word ∷ l) (e3 ∙ ap (λ (l : List Tree). number ∷ l) last)) in
-      let numeral : Rattle.term_check.specs.Spelling.is_numeral number ≡ true = ap Rattle.term_check.specs.Spelling.is_numeral d.2 in
-      ap (head_of text []) at ∙ head_of-List text [] items start end ∙ ap (list_head text start) row
-      ∙ ap (λ t. cond (t && is_symbol text word (codes "divisible") && Rattle.term_check.specs.Spelling.is_numeral number) (Ok (Divisibility (numeral_value text number))) (Err (fault CommandForm start))) (word_is (codes "_") (codes "_") text mark m)
-      ∙ ap (λ t. cond (t && Rattle.term_check.specs.Spelling.is_numeral number) (Ok (Divisibility (numeral_value text number))) (Err (fault CommandForm start))) (symbol_is (codes "divisible") (codes "divisible") text word w)
+      let numeral : Rattle.term_check.specs.Spelling.is_numeral_leaf number ≡ true = ap Rattle.term_check.specs.Spelling.is_numeral_leaf d.2 in
+      ap (spelled_head text []) at ∙ head_of-List text [] items start end ∙ ap (list_head text start) row
+      ∙ ap (λ t. cond (t && is_symbol text word (codes "divisible") && Rattle.term_check.specs.Spelling.is_numeral_leaf number) (Ok (Divisibility (numeral_value text number))) (Err (fault CommandForm start))) (word_is (codes "_") (codes "_") text mark m)
+      ∙ ap (λ t. cond (t && Rattle.term_check.specs.Spelling.is_numeral_leaf number) (Ok (Divisibility (numeral_value text number))) (Err (fault CommandForm start))) (symbol_is (codes "divisible") (codes "divisible") text word w)
       ∙ ap (λ t. cond t (Ok (Divisibility (numeral_value text number))) (Err (fault CommandForm start))) numeral
       ∙ ap (λ o. Ok (Divisibility o)) (numeral_is n text number small d)
 
@@ -296,7 +296,7 @@ module _ (nodes : List Node) (arena : IsArena nodes) (sorts : List Sort) (names 
   divisible_is id n arg constant is positive small text tree (items, start, end, at, (first, others, row, head, (many, all))) =
       let g = all (nothing_yet next) [] refl tt in
       let sorted : first_not IntSort g.last.parts ≡ None = ap (first_not IntSort) g.parts ∙ Rattle.answer_text.proofs.OperatorLemmas.all_of_sort IntSort g.starts ((IntSort, constant) ∷ []) (refl, tt) in
-      let fits : divisible_fault (Some n) start g.last.parts ≡ None = ap (λ o. Rattle.term_check.specs.Rules.or_else o (divisibility_fault start (Some n))) sorted ∙ divisor_fits n start positive small in
+      let fits : divisible_fault (Some n) start g.last.parts ≡ None = ap (λ o. Rattle.term_check.specs.Rules.first_fault o (divisibility_fault start (Some n))) sorted ∙ divisor_fits n start positive small in
       let found : Spelled = record { term = divisible start n (the_argument g.last.terms); part = part_at start (BoolSort, None); next = g.last.next } in
       let list : applied_list text scope next start first others ≡ Ok found =
       ap (λ (r : Result Head Fault). r >>= λ h. unless (head_fault [] h start (length others)) (each_spelled text scope (nothing_yet next) others >>= application [] h start)) (divisor_is n text first small head)

@@ -15,13 +15,13 @@ use Rattle.answer_text.specs.Terms.{parameter_name, term_text}
 use Rattle.answer_text.specs.Lines.{level_text}
 
 -- a number past the declarations names nothing
-abbrev pub name_in : Option Pred → List ℕ
-name_in None = []
-name_in (Some pred) = pred.name.bytes
+abbrev pub declared_name : Option Pred → List ℕ
+declared_name None = []
+declared_name (Some pred) = pred.name.bytes
 
 -- the name of the predicate of that number, as it is printed
 abbrev pub pred_text : List Pred → ℕ → List ℕ
-pred_text preds number = name_text (name_in (slice_get preds number))
+pred_text preds number = name_text (declared_name (slice_get preds number))
 
 abbrev pub sort_text : Sort → List ℕ
 sort_text Int = codes "Int"

@@ -1,7 +1,8 @@
 -- The terms that defining terms are: conjunctions of lemmas, each the negation of a cube of linear literals over the
 -- arguments, in numbers below 2^63. Every term is one of SMT-LIB's theory Ints.
-use Rattle.std.specs.Prelude.{◌≡◌, ℕ, ◌+◌, ◌^◌, ◌<◌, ◌≤◌, ◌⊎◌, List, [], ◌∷◌, ◌++◌, length, Option, Some, None, slice_get, ℤ, pos, negsuc, nat_abs}
+use Rattle.std.specs.Prelude.{◌≡◌, ℕ, ◌+◌, ◌<◌, ◌≤◌, ◌⊎◌, List, [], ◌∷◌, ◌++◌, length, Option, Some, None, slice_get, ℤ, pos, negsuc, nat_abs}
 use Rattle.std.specs.List.{AllByRecursion}
+use Rattle.base.specs.Widths.{short_limit}
 use Rattle.term_tree.specs.declared.sort.Sort.{Sort}
 use Rattle.term_tree.specs.declared.sort.Sort.TheVariants.{Int as IntSort, Bool as BoolSort}
 use Rattle.term_tree.specs.declared.node.TermId.{TermId}
@@ -41,7 +42,7 @@ AreProducts nodes sorts (t ∷ ts) [] = ⊥
 -- coefficients by argument place, from this place on; none is 0
 abbrev pub AreTerms : ℕ → List (ℕ × ℤ) → Type 0
 AreTerms from [] = Unit {0}
-AreTerms from (t ∷ ts) = (from ≤ t.0) × (t.1 ≡ pos 0 → ⊥) × (nat_abs t.1 < 2 ^ 63) × AreTerms (t.0 + 1) ts
+AreTerms from (t ∷ ts) = (from ≤ t.0) × (t.1 ≡ pos 0 → ⊥) × (nat_abs t.1 < short_limit) × AreTerms (t.0 + 1) ts
 
 -- 0 without an item, the item with one, a sum of more
 abbrev pub IsSum : List Node → List TermId → TermId → Type 0
@@ -62,7 +63,7 @@ pub record IsShifted (nodes : List Node) (sorts : List Sort) (id : TermId) : Typ
   pub terms : List (ℕ × ℤ)
   pub items : List TermId
   pub constant : ℤ
-  pub short : nat_abs constant < 2 ^ 63
+  pub short : nat_abs constant < short_limit
   pub ordered : AreTerms 0 terms
   pub products : AreProducts nodes sorts terms items
   pub sum : ((constant ≡ pos 0) × IsSum nodes items id) ⊎ ((constant ≡ pos 0 → ⊥) × ((k : TermId) × IsNumber nodes constant k × IsSum nodes (items ++ k ∷ []) id))
@@ -72,7 +73,7 @@ pub record IsComparison (nodes : List Node) (sorts : List Sort) (op : OpKind) (i
   pub left : TermId
   pub right : TermId
   pub number : ℤ
-  pub short : nat_abs number < 2 ^ 63
+  pub short : nat_abs number < short_limit
   pub linear : IsLinear nodes sorts left
   pub constant : IsNumber nodes number right
   pub node : IsNode nodes id (Op op (left ∷ right ∷ []))
@@ -82,7 +83,7 @@ pub record IsDivisibility (nodes : List Node) (sorts : List Sort) (id : TermId) 
   pub divisor : ℕ
   pub sum : TermId
   pub positive : 0 < divisor
-  pub short : divisor < 2 ^ 63
+  pub short : divisor < short_limit
   pub shifted : IsShifted nodes sorts sum
   pub node : IsNode nodes id (Divisible (pos divisor) sum)
 

@@ -4,6 +4,7 @@ pub mod Lines
 pub mod Names
 pub mod Printable
 pub mod Read
+pub mod ReadBack
 pub mod Reading
 pub mod Terms
 pub mod machinery

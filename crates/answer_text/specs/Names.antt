@@ -2,7 +2,7 @@
 use Rattle.std.specs.Prelude.{ℕ, List, [], ◌∷◌, ◌++◌, Bool, true, false, not, ◌&&◌, if◌then◌else◌, ℤ, pos, nat_abs, int_lt, codes, decimal}
 use Rattle.std.specs.List.{list_all, flat_map}
 use Rattle.base.specs.Bytes.{is_digit, is_symbol_byte}
-use Rattle.term_check.specs.Words.{is_among, reserved_words}
+use Rattle.term_check.specs.Words.{is_word_among, reserved_words}
 use Rattle.term_tree.specs.declared.scalar.Value.{Value}
 use Rattle.term_tree.specs.declared.scalar.Value.TheVariants.{Int, Bool as Truth}
 
@@ -13,7 +13,7 @@ is_simple (byte ∷ bytes) = not (is_digit byte)
 
 -- a simple symbol: symbol bytes that don't begin with a digit, and no reserved word
 unfoldable pub is_bare : List ℕ → Bool
-is_bare name = is_simple name && (list_all is_symbol_byte name && not (is_among reserved_words name))
+is_bare name = is_simple name && (list_all is_symbol_byte name && not (is_word_among reserved_words name))
 
 -- every other symbol stands between bars
 abbrev pub name_text : List ℕ → List ℕ

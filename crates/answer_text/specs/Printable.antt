@@ -1,6 +1,7 @@
 -- The answers that are printed: models whose definitions are made of lemmas, and derivations in numbers that fit.
-use Rattle.std.specs.Prelude.{◌≡◌, ℕ, ◌^◌, ◌<◌, List, length, map, Option, Some, None, nat_abs}
+use Rattle.std.specs.Prelude.{◌≡◌, ℕ, ◌<◌, List, length, map, Option, Some, None, nat_abs}
 use Rattle.std.specs.List.{AllByRecursion, enumerate_from}
+use Rattle.base.specs.Widths.{short_limit}
 use Rattle.term_tree.specs.declared.scalar.Value.{Value}
 use Rattle.term_tree.specs.declared.scalar.Value.TheVariants.{Int, Bool as Truth}
 use Rattle.term_tree.specs.declared.script.Pred.{Pred}
@@ -20,7 +21,7 @@ pub record IsMadeOfLemmas (preds : List Pred) (d : Definition) : Type 0 where
   pub term : IsDefiningTerm d.terms.nodes (sorts_of preds d.pred) d.body
 
 abbrev pub IsShort : ℕ → Type 0
-IsShort n = n < 2 ^ 63
+IsShort n = n < short_limit
 
 abbrev pub IsShortValue : Value → Type 0
 IsShortValue (Int n) = IsShort (nat_abs n)
@@ -31,7 +32,7 @@ abbrev pub IsConclusion : List Pred → Option (ℕ × List Value) → Type 0
 IsConclusion preds None = Unit {0}
 IsConclusion preds (Some head) = (head.0 < length preds) × (length head.1 ≡ length (sorts_of preds head.0)) × AllByRecursion IsShortValue head.1
 
-pub record IsStep (preds : List Pred) (line : Line) : Type 0 where
+pub record IsPrintableStep (preds : List Pred) (line : Line) : Type 0 where
   pub number : IsShort line.number
   pub assertion : IsShort line.assertion
   pub values : AllByRecursion IsShortValue line.values
@@ -40,7 +41,7 @@ pub record IsStep (preds : List Pred) (line : Line) : Type 0 where
 
 abbrev pub IsPrintable : List Pred → Answer → Type 0
 IsPrintable preds (Sat definitions) = DefinesEach 0 preds definitions × AllByRecursion (IsMadeOfLemmas preds) definitions
-IsPrintable preds (Unsat lines) = AllByRecursion (IsStep preds) lines
+IsPrintable preds (Unsat lines) = AllByRecursion (IsPrintableStep preds) lines
 IsPrintable preds (Unknown level cause) = Unit {0}
 
 -- the text is the one printed spelling of the answer

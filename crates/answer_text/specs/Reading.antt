@@ -16,15 +16,16 @@ use Rattle.term_tree.specs.declared.scalar.Value.{Value}
 use Rattle.term_tree.specs.declared.scalar.Value.TheVariants.{Int, Bool as Truth}
 use Rattle.term_tree.specs.declared.script.Name.{Name}
 use Rattle.term_tree.specs.declared.script.Pred.{Pred}
-use Rattle.term_check.specs.Words.{is_among}
-use Rattle.term_check.specs.Rules.{same_sort}
+use Rattle.term_tree.specs.Sorts.{same_sort}
+use Rattle.term_check.specs.Words.{is_word_among}
 use Rattle.term_check.specs.Spelling.{is_word, is_symbol, name_of, sort_named, start_of, pred_from, sorts_of}
 use Rattle.term_check.specs.Term.{Term}
-use Rattle.term_check.specs.Formula.{formula}
+use Rattle.term_check.specs.Formula.{spelled_formula}
 use Rattle.answer_text.specs.declared.answer.Line.{Line}
 
 -- What is read, or the offset of the first fault.
 
+-- what the first part gives goes into the rest; terms have their own, whose faults tell the rule as well
 infixl 20 ◌>>=◌
 abbrev pub ◌>>=◌ : {A B : Type 0} → Result A ℕ → (A → Result B ℕ) → Result B ℕ
 Ok a >>= f = f a
@@ -46,39 +47,39 @@ in_list read (Leaf kind start end) = Err start
 in_list read (List' shape row start end) = read (items-the_row-Tree _ row)
 
 -- each tree in order, behind what those so far gave
-abbrev pub each : {A : Type 0} → (Tree → Result A ℕ) → List A → List Tree → Result (List A) ℕ
-each read before [] = Ok before
-each read before (tree ∷ trees) = read tree >>= λ a. each read (before ++ a ∷ []) trees
+abbrev pub read_each : {A : Type 0} → (Tree → Result A ℕ) → List A → List Tree → Result (List A) ℕ
+read_each read before [] = Ok before
+read_each read before (tree ∷ trees) = read tree >>= λ a. read_each read (before ++ a ∷ []) trees
 
 -- Numbers and values: a numeral below 2 ^ 63, or the negation of one that isn't 0.
 
-abbrev pub number : List ℕ → Tree → Result ℕ ℕ
-number text tree = said_by tree (numeral_value text tree)
+abbrev pub read_numeral : List ℕ → Tree → Result ℕ ℕ
+read_numeral text tree = said_by tree (numeral_value text tree)
 
-abbrev pub integer : Option ℕ → Option Value
-integer None = None
-integer (Some n) = Some (Int (pos n))
+abbrev pub integer_value : Option ℕ → Option Value
+integer_value None = None
+integer_value (Some n) = Some (Int (pos n))
 
-abbrev pub negated : Option ℕ → Option Value
-negated None = None
-negated (Some n) = if nat_eq n 0 then None else Some (Int (neg_ℤ (pos n)))
+abbrev pub negative_value : Option ℕ → Option Value
+negative_value None = None
+negative_value (Some n) = if nat_eq n 0 then None else Some (Int (neg_ℤ (pos n)))
 
 abbrev pub negation : List ℕ → List Tree → Option Value
-negation text (minus ∷ n ∷ []) = if is_symbol text minus (codes "-") then negated (numeral_value text n) else None
+negation text (minus ∷ n ∷ []) = if is_symbol text minus (codes "-") then negative_value (numeral_value text n) else None
 negation text _ = None
 
 abbrev pub plain_value : List ℕ → Tree → Option Value
 plain_value text tree =
     if is_symbol text tree (codes "true") then Some (Truth true)
     else if is_symbol text tree (codes "false") then Some (Truth false)
-    else integer (numeral_value text tree)
+    else integer_value (numeral_value text tree)
 
-abbrev pub value_of : List ℕ → Tree → Option Value
-value_of text (Leaf kind start end) = plain_value text (Leaf kind start end)
-value_of text (List' shape row start end) = negation text (items-the_row-Tree _ row)
+abbrev pub read_value : List ℕ → Tree → Option Value
+read_value text (Leaf kind start end) = plain_value text (Leaf kind start end)
+read_value text (List' shape row start end) = negation text (items-the_row-Tree _ row)
 
 abbrev pub value : List ℕ → Tree → Result Value ℕ
-value text tree = said_by tree (value_of text tree)
+value text tree = said_by tree (read_value text tree)
 
 -- Predicates.
 
@@ -102,14 +103,14 @@ bare preds (Some number) = if nat_eq (arity preds number) 0 then Some (number, [
 abbrev pub with_values : List Pred → ℕ → ℕ → Bool
 with_values preds number n = not (nat_eq n 0) && nat_eq n (arity preds number)
 
-abbrev pub applied : List ℕ → List Pred → ℕ → List Tree → Result (ℕ × List Value) ℕ
-applied text preds start [] = Err start
-applied text preds start (name ∷ args) =
-    pred text preds name >>= λ number. provided (with_values preds number (length args)) start (each (value text) [] args >>= λ values. Ok (number, values))
+abbrev pub read_applied : List ℕ → List Pred → ℕ → List Tree → Result (ℕ × List Value) ℕ
+read_applied text preds start [] = Err start
+read_applied text preds start (name ∷ args) =
+    pred text preds name >>= λ number. provided (with_values preds number (length args)) start (read_each (value text) [] args >>= λ values. Ok (number, values))
 
 abbrev pub atom : List ℕ → List Pred → Tree → Result (ℕ × List Value) ℕ
 atom text preds (Leaf kind start end) = said_by (Leaf kind start end) (bare preds (declared_by preds (name_of text (Leaf kind start end))))
-atom text preds (List' shape row start end) = applied text preds start (items-the_row-Tree _ row)
+atom text preds (List' shape row start end) = read_applied text preds start (items-the_row-Tree _ row)
 
 abbrev pub conclusion : List ℕ → List Pred → Tree → Result (Option (ℕ × List Value)) ℕ
 conclusion text preds tree = if is_symbol text tree (codes "false") then Ok None else (atom text preds tree >>= λ head. Ok (Some head))
@@ -118,8 +119,8 @@ conclusion text preds tree = if is_symbol text tree (codes "false") then Ok None
 
 abbrev pub step_of : List ℕ → List Pred → ℕ → List Tree → Result Line ℕ
 step_of text preds start (word ∷ place ∷ assertion ∷ values ∷ premises ∷ head ∷ []) =
-    provided (is_symbol text word (codes "step")) start (number text place >>= λ k. number text assertion >>= λ a.
-    in_list (each (value text) []) values >>= λ vs. in_list (each (number text) []) premises >>= λ ps. conclusion text preds head >>= λ h.
+    provided (is_symbol text word (codes "step")) start (read_numeral text place >>= λ k. read_numeral text assertion >>= λ a.
+    in_list (read_each (value text) []) values >>= λ vs. in_list (read_each (read_numeral text) []) premises >>= λ ps. conclusion text preds head >>= λ h.
     Ok (record { number = k; assertion = a; values = vs; premises = ps; head = h }))
 step_of text preds start _ = Err start
 
@@ -140,15 +141,15 @@ is_sort (Some named) sort = same_sort named sort
 
 -- Parameters: a name each, which differ, and the sorts of the predicate's arguments.
 
-abbrev pub has_sort : List ℕ → Tree → Sort → Bool
-has_sort text tree sort = is_sort (sort_named text tree) sort
+abbrev pub names_sort : List ℕ → Tree → Sort → Bool
+names_sort text tree sort = is_sort (sort_named text tree) sort
 
 abbrev pub is_new : List (Name × Sort) → List ℕ → Bool
-is_new before name = not (is_among (map (λ p. p.0.bytes) before) name)
+is_new before name = not (is_word_among (map (λ p. p.0.bytes) before) name)
 
 abbrev pub parameter_of : List ℕ → List (Name × Sort) → Sort → ℕ → List Tree → Result (Name × Sort) ℕ
 parameter_of text before sort start (name ∷ word ∷ []) =
-    said_by name (name_of text name) >>= λ bytes. provided (is_new before bytes) (start_of name) (provided (has_sort text word sort) (start_of word) (Ok (record { bytes = bytes }, sort)))
+    said_by name (name_of text name) >>= λ bytes. provided (is_new before bytes) (start_of name) (provided (names_sort text word sort) (start_of word) (Ok (record { bytes = bytes }, sort)))
 parameter_of text before sort start _ = Err start
 
 abbrev pub parameter : List ℕ → List (Name × Sort) → Sort → Tree → Result (Name × Sort) ℕ
@@ -163,15 +164,15 @@ parameters_from text before (tree ∷ trees) [] = Ok before
 abbrev pub parameters_of : List ℕ → List Sort → ℕ → List Tree → Result (List (Name × Sort)) ℕ
 parameters_of text sorts start trees = provided (nat_eq (length trees) (length sorts)) start (parameters_from text [] trees sorts)
 
-abbrev pub parameters : List ℕ → List Sort → Tree → Result (List (Name × Sort)) ℕ
-parameters text sorts (Leaf kind start end) = Err start
-parameters text sorts (List' shape row start end) = parameters_of text sorts start (items-the_row-Tree _ row)
+abbrev pub read_parameters : List ℕ → List Sort → Tree → Result (List (Name × Sort)) ℕ
+read_parameters text sorts (Leaf kind start end) = Err start
+read_parameters text sorts (List' shape row start end) = parameters_of text sorts start (items-the_row-Tree _ row)
 
 -- the parameters and the term of a definition of that predicate
 abbrev pub defined : List ℕ → List Pred → ℕ → Tree → Tree → Tree → Result Defined ℕ
 defined text preds number params sort term =
-    parameters text (sorts_of preds number) params >>= λ ps. provided (has_sort text sort BoolSort) (start_of sort) (
-    formula text ps term >>= λ body. Ok (record { pred = number; params = ps; body = body }))
+    read_parameters text (sorts_of preds number) params >>= λ ps. provided (names_sort text sort BoolSort) (start_of sort) (
+    spelled_formula text ps term >>= λ body. Ok (record { pred = number; params = ps; body = body }))
 
 abbrev pub is_defined : List Defined → ℕ → Bool
 is_defined before number = list_any (λ d. nat_eq d.pred number) before
@@ -228,7 +229,7 @@ model_of text preds (List' shape row start end) = model_listed text preds start 
 
 abbrev pub derivation_of : List ℕ → List Pred → ℕ → List Tree → Result (List Line) ℕ
 derivation_of text preds start [] = Err start
-derivation_of text preds start (word ∷ steps) = provided (is_symbol text word (codes "derivation")) start (each (step text preds) [] steps)
+derivation_of text preds start (word ∷ steps) = provided (is_symbol text word (codes "derivation")) start (read_each (step text preds) [] steps)
 
 abbrev pub derivation : List ℕ → List Pred → Tree → Result (List Line) ℕ
 derivation text preds (Leaf kind start end) = Err start

@@ -2,7 +2,7 @@
 
 ghost use Rattle.std.specs.Prelude.{◌≡◌, ◌+◌, ◌<◌, ◌^◌, length, vec_len, slice_set, List, [], Some, IfOk};
 ghost use Rattle.term_tree.specs.declared.script.Pred.{Pred as APred};
-ghost use Rattle.term_check.specs.machinery.Weight.{weight, weights};
+ghost use Rattle.term_check.specs.Weight.{weight, weights};
 ghost use Rattle.answer_text.specs.Reading.{Defined, is_defined, defined, definition_by, definition_of, definition, definitions_from, model_listed, model_of};
 ghost use Rattle.answer_text.specs.Read.{TellsDefinition, TellsReply};
 ghost use Rattle.answer_text.specs.machinery.Places.{AreEmpty, ArePlaces, Took, TookAll, gathered};

@@ -8,7 +8,7 @@ ghost use Rattle.answer_text.specs.declared.answer.Line.{Line};
 ghost use Rattle.answer_text.specs.declared.answer.Answer.{Answer};
 ghost use Rattle.answer_text.specs.declared.answer.Answer.TheVariants.{Sat, Unsat};
 ghost use Rattle.answer_text.specs.Printable.{IsAnswerText};
-ghost use Rattle.answer_text.specs.machinery.ReadBack.{AreNames, IsStored, IsReadAs};
+ghost use Rattle.answer_text.specs.ReadBack.{AreNames, IsStored, IsReadAs};
 ghost use Rattle.answer_text.specs.Read.{Spells, IsBad, ClaimsOrIsBad};
 
 /// Every text claims something over the predicates, or has a first fault.

@@ -1,8 +1,8 @@
 //! The parameters of a definition that is read.
 
 ghost use Rattle.std.specs.Prelude.{◌≡◌, ◌≤◌, length, map, [], IfOk};
-ghost use Rattle.term_check.specs.machinery.Weight.{weight};
-ghost use Rattle.answer_text.specs.Reading.{parameter_of, parameter, parameters_from, parameters_of, parameters};
+ghost use Rattle.term_check.specs.Weight.{weight};
+ghost use Rattle.answer_text.specs.Reading.{parameter_of, parameter, parameters_from, parameters_of, read_parameters};
 ghost use Rattle.answer_text.specs.Read.{Gives, Adds};
 
 use crate::found::Found;
@@ -103,7 +103,7 @@ pub fn parameters(
     sorts: &[Sort],
     tree: &Tree,
 ) -> Result<Items<(Name, Sort)>, AnswerStop>
-    ensures params { Gives (parameters text.now sorts.now tree.now) result }
+    ensures params { Gives (read_parameters text.now sorts.now tree.now) result }
     ensures count { IfOk result (λ params. length params ≤ weight tree.now) }
 {
     match tree {

@@ -3,7 +3,7 @@
 ghost use Rattle.std.specs.Prelude.{◌≡◌, ◌++◌, OnOk, codes, slice_get};
 ghost use Rattle.term_check.specs.Spelling.{sorts_of};
 ghost use Rattle.answer_text.specs.Terms.{term_text};
-ghost use Rattle.answer_text.specs.AnswerTexts.{name_in, pred_text, sort_text, parameter_text, parameters_text, definition_head, definition_text};
+ghost use Rattle.answer_text.specs.AnswerTexts.{declared_name, pred_text, sort_text, parameter_text, parameters_text, definition_head, definition_text};
 
 use crate::names::push_name;
 use crate::term::{push_parameter_name, push_term};
@@ -11,7 +11,7 @@ use base::{Items, Memory};
 use term_tree::{Definition, Pred, Sort, TermId, Terms};
 
 fn name_of(preds: &Items<Pred>, number: u32) -> &[u8]
-    ensures { result.now ≡ name_in (slice_get preds.now number) }
+    ensures { result.now ≡ declared_name (slice_get preds.now number) }
 {
     match preds.get(number as usize) {
         Some(pred) => pred.name.bytes.as_slice(),

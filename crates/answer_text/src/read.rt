@@ -1,7 +1,7 @@
 //! Reading of whole answers.
 
 ghost use Rattle.std.specs.Prelude.{◌≡◌, ◌<◌, ◌^◌, ℕ, length, IfOk, IsErrOf};
-ghost use Rattle.term_check.specs.machinery.Weight.{weight, weights};
+ghost use Rattle.term_check.specs.Weight.{weight, weights};
 ghost use Rattle.answer_text.specs.Reading.{claim, evidence, end_of, behind, answer_behind, reply};
 ghost use Rattle.answer_text.specs.Read.{TellsReply, Spells, IsBad};
 

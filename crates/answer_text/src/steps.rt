@@ -3,7 +3,7 @@
 ghost use Rattle.std.specs.Prelude.{◌≡◌, ◌<◌, [], length, IfOk};
 ghost use Rattle.std.specs.Option.{IfSome};
 ghost use Rattle.term_check.specs.Spelling.{name_of};
-ghost use Rattle.answer_text.specs.Reading.{pred, declared_by, with_values, applied, atom, conclusion, step_of, step, each, derivation_of, derivation};
+ghost use Rattle.answer_text.specs.Reading.{pred, declared_by, with_values, read_applied, atom, conclusion, step_of, step, read_each, derivation_of, derivation};
 ghost use Rattle.answer_text.specs.Read.{Gives};
 
 use crate::answer::Line;
@@ -51,7 +51,7 @@ fn applied(
     start: u32,
     trees: &[Tree],
 ) -> Result<(u32, Items<Value>), AnswerStop>
-    ensures { Gives (applied text.now declared.now start trees.now) result }
+    ensures { Gives (read_applied text.now declared.now start trees.now) result }
 {
     match trees {
         [] => Err(bad_at(start)),
@@ -148,7 +148,7 @@ fn steps(
     declared: &Declared,
     trees: &[Tree],
 ) -> Result<Items<Line>, AnswerStop>
-    ensures { Gives (each (step text.now declared.now) [] trees.now) result }
+    ensures { Gives (read_each (step text.now declared.now) [] trees.now) result }
 {
     let mut lines = Vec::with_capacity(alloc, trees.len())?;
     for tree in trees {

@@ -1,7 +1,7 @@
 //! Sorts among trees.
 
 ghost use Rattle.std.specs.Prelude.{◌≡◌};
-ghost use Rattle.answer_text.specs.Reading.{has_sort};
+ghost use Rattle.answer_text.specs.Reading.{names_sort};
 
 use sexp_read::Tree;
 use term_check::sort_named;
@@ -9,7 +9,7 @@ use term_tree::Sort;
 
 /// Whether the tree names that sort.
 pub fn has_sort(text: &[u8], tree: &Tree, sort: Sort) -> bool
-    ensures { result ≡ has_sort text.now tree.now sort }
+    ensures { result ≡ names_sort text.now tree.now sort }
 {
     match (sort_named(text, tree), sort) {
         (Some(Sort::Int), Sort::Int) => true,

@@ -1,7 +1,7 @@
 //! Numbers and values that are read.
 
 ghost use Rattle.std.specs.Prelude.{◌≡◌, []};
-ghost use Rattle.answer_text.specs.Reading.{number, integer, negated, negation, plain_value, value_of, value, each, in_list};
+ghost use Rattle.answer_text.specs.Reading.{read_numeral, integer_value, negative_value, negation, plain_value, read_value, value, read_each, in_list};
 ghost use Rattle.answer_text.specs.Read.{Gives};
 
 use crate::stop::{AnswerStop, bad_at};
@@ -13,7 +13,7 @@ use term_tree::Value;
 
 /// A numeral below 2 ^ 63.
 pub fn number(text: &[u8], tree: &Tree) -> Result<u64, AnswerStop>
-    ensures { Gives (number text.now tree.now) result }
+    ensures { Gives (read_numeral text.now tree.now) result }
 {
     match numeral_value(text, tree) {
         Some(number) => Ok(number),
@@ -22,7 +22,7 @@ pub fn number(text: &[u8], tree: &Tree) -> Result<u64, AnswerStop>
 }
 
 fn integer(number: Option<u64>) -> Option<Value>
-    ensures { result ≡ integer number }
+    ensures { result ≡ integer_value number }
 {
     match number {
         Some(number) => Some(Value::Int(i128::from(number))),
@@ -31,7 +31,7 @@ fn integer(number: Option<u64>) -> Option<Value>
 }
 
 fn negated(number: Option<u64>) -> Option<Value>
-    ensures { result ≡ negated number }
+    ensures { result ≡ negative_value number }
 {
     match number {
         Some(0) => None,
@@ -62,7 +62,7 @@ fn plain_value(text: &[u8], tree: &Tree) -> Option<Value>
 }
 
 fn value_of(text: &[u8], tree: &Tree) -> Option<Value>
-    ensures { result ≡ value_of text.now tree.now }
+    ensures { result ≡ read_value text.now tree.now }
 {
     match tree {
         Tree::Leaf { .. } => plain_value(text, tree),
@@ -81,7 +81,7 @@ fn value(text: &[u8], tree: &Tree) -> Result<Value, AnswerStop>
 
 /// A value from each tree.
 pub fn values(alloc: Global, text: &[u8], trees: &[Tree]) -> Result<Items<Value>, AnswerStop>
-    ensures { Gives (each (value text.now) [] trees.now) result }
+    ensures { Gives (read_each (value text.now) [] trees.now) result }
 {
     let mut values = Vec::with_capacity(alloc, trees.len())?;
     for tree in trees {
@@ -92,7 +92,7 @@ pub fn values(alloc: Global, text: &[u8], trees: &[Tree]) -> Result<Items<Value>
 }
 
 fn numbers(alloc: Global, text: &[u8], trees: &[Tree]) -> Result<Items<u64>, AnswerStop>
-    ensures { Gives (each (number text.now) [] trees.now) result }
+    ensures { Gives (read_each (read_numeral text.now) [] trees.now) result }
 {
     let mut numbers = Vec::with_capacity(alloc, trees.len())?;
     for tree in trees {
@@ -104,7 +104,7 @@ fn numbers(alloc: Global, text: &[u8], trees: &[Tree]) -> Result<Items<u64>, Ans
 
 /// A list of values.
 pub fn value_list(alloc: Global, text: &[u8], tree: &Tree) -> Result<Items<Value>, AnswerStop>
-    ensures { Gives (in_list (each (value text.now) []) tree.now) result }
+    ensures { Gives (in_list (read_each (value text.now) []) tree.now) result }
 {
     match tree {
         Tree::Leaf { start, .. } => Err(bad_at(*start)),
@@ -114,7 +114,7 @@ pub fn value_list(alloc: Global, text: &[u8], tree: &Tree) -> Result<Items<Value
 
 /// A list of numbers.
 pub fn number_list(alloc: Global, text: &[u8], tree: &Tree) -> Result<Items<u64>, AnswerStop>
-    ensures { Gives (in_list (each (number text.now) []) tree.now) result }
+    ensures { Gives (in_list (read_each (read_numeral text.now) []) tree.now) result }
 {
     match tree {
         Tree::Leaf { start, .. } => Err(bad_at(*start)),

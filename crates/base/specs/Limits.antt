@@ -28,3 +28,11 @@ most_distinct = 64
 -- the rows of a tableau
 abbrev pub most_rows : ℕ
 most_rows = 1024
+
+-- the variables of a clause
+abbrev pub most_variables : ℕ
+most_variables = 2048
+
+-- the workers that share a book
+abbrev pub most_workers : ℕ
+most_workers = 64

@@ -3,13 +3,19 @@
 -- What is wide has no room for its use: the crate that says it says which.
 use Rattle.std.specs.Prelude.{ℕ, ◌^◌, ℤ, nat_abs, Bool, nat_lt}
 
--- below 2 ^ 63 in magnitude
-abbrev pub is_short : ℤ → Bool
-is_short n = nat_lt (nat_abs n) (2 ^ 63)
+-- above what is short, in magnitude
+abbrev pub short_limit : ℕ
+short_limit = 2 ^ 63
 
--- below 2 ^ 64 in magnitude
+-- above what is long, in magnitude
+abbrev pub long_limit : ℕ
+long_limit = 2 ^ 64
+
+abbrev pub is_short : ℤ → Bool
+is_short n = nat_lt (nat_abs n) short_limit
+
 abbrev pub is_long : ℤ → Bool
-is_long n = nat_lt (nat_abs n) (2 ^ 64)
+is_long n = nat_lt (nat_abs n) long_limit
 
 -- above the coefficients of a cube that is thin, in magnitude: 256 of them have a sum that is short
 abbrev pub thin_limit : ℕ

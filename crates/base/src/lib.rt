@@ -10,7 +10,7 @@ mod same;
 pub use bytes::{is_digit, is_symbol_byte, is_white};
 pub use limits::{
     MOST_ARGUMENTS, MOST_ASSERTIONS, MOST_BYTES, MOST_DISTINCT, MOST_OPEN, MOST_PREDICATES,
-    MOST_ROWS,
+    MOST_ROWS, MOST_VARIABLES, MOST_WORKERS,
 };
 pub use memory::Memory;
 pub use same::{Copied, Same};

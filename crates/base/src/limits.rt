@@ -20,3 +20,9 @@ pub const MOST_DISTINCT: usize = 64;
 
 /// The most rows of a tableau.
 pub const MOST_ROWS: usize = 1024;
+
+/// The most variables of a clause.
+pub const MOST_VARIABLES: usize = 2048;
+
+/// The most workers that share a book.
+pub const MOST_WORKERS: u32 = 64;

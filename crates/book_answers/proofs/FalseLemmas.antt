@@ -4,7 +4,7 @@ use Rattle.std.specs.Prelude.{Option, Some, None, option_map, slice_get}
 use Rattle.std.specs.List.{AllPairs}
 use Rattle.std.proofs.lemmas.List.Elements.{All-contains}
 use Rattle.std.proofs.lemmas.Option.{get_or_from_slice_get, slice_get-map, slice_get_within}
-use Rattle.derivations.specs.Facts.{AreRecorded, AreSteps, RestsOn, height_of, pred_of, premises_of}
+use Rattle.derivations.specs.Facts.{AreRecorded, AreSteps, RestsOn, height_of, pred_of, fact_premises}
 use Rattle.derivations.specs.Facts.RestsOn.{itself, through}
 use Rattle.derivations.specs.declared.fact.Fact.{Fact as KeptFact}
 use Rattle.book_rules.specs.Instances.{instances}
@@ -20,10 +20,10 @@ use Rattle.derivation_lines.specs.Claims.{DeriveFalse}
 use Rattle.derivation_lines.specs.Lines.{fact_lines}
 use Rattle.derivation_lines.proofs.Public.{derive-false, steps-end}
 use Rattle.book_answers.specs.Answers.{IsBookOf}
-use Rattle.step_rules.specs.Views.{conclusion_of, facts_of}
+use Rattle.step_rules.specs.Views.{ground_conclusion, facts_of}
 use Rattle.step_rules.proofs.Public.{fact_of-at, length-facts}
 
-no_pred : (pred : Option ℕ) (tuple : List ℤ) → conclusion_of pred tuple ≡ None → pred ≡ None
+no_pred : (pred : Option ℕ) (tuple : List ℤ) → ground_conclusion pred tuple ≡ None → pred ≡ None
 no_pred None tuple h = refl
 no_pred (Some p) tuple h = absurd (cc)
 
@@ -47,7 +47,7 @@ false_pred facts n fact there is = by (slice_get facts n) refl
     by : (kept : Option KeptFact) → slice_get facts n ≡ kept → pred_of facts n ≡ None
     by None missing = absurd (there_is facts n (false_within facts n fact there) missing)
     by (Some f) found =
-        let same = same_fact (record { conclusion = conclusion_of f.pred f.tuple; clause = f.clause; point = f.point; premises = f.premises; height = height_of facts n }) fact (sym (fact_of-at facts n f found) ∙ there) in
+        let same = same_fact (record { conclusion = ground_conclusion f.pred f.tuple; clause = f.clause; point = f.point; premises = f.premises; height = height_of facts n }) fact (sym (fact_of-at facts n f found) ∙ there) in
         let none = no_pred f.pred f.tuple (ap (λ (g : Fact). g.conclusion) same ∙ is) in
         get_or_from_slice_get (map (λ f. f.pred) facts) n f.pred None (slice_get-map (λ f. f.pred) facts n ∙ ap (option_map (λ f. f.pred)) found) ∙ none
 
@@ -84,7 +84,7 @@ lines-as sys b facts steps shown lines is same kept are =
 rests-low : (facts : List KeptFact) {n m : ℕ} → AreRecorded facts → n < length facts → RestsOn facts n m → m ≤ n
 rests-low facts recorded within itself = omega arith
 rests-low facts {n = n} {m = m} recorded within (through p has_it rest) =
-    let less : p < n = All-contains (λ q. q < n) (premises_of facts n) p (recorded.earlier n within) has_it in
+    let less : p < n = All-contains (λ q. q < n) (fact_premises facts n) p (recorded.earlier n within) has_it in
     let low = rests-low facts recorded (omega (arith, less, within)) rest in
     omega (arith, less, low)
 

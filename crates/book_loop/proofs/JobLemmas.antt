@@ -4,7 +4,7 @@ use Rattle.std.specs.Prelude.{Option}
 use Rattle.std.specs.List.{list_all, range_with_len}
 use Rattle.std.proofs.lemmas.List.{at_drop_more, at_drop_all}
 use Rattle.std.proofs.lemmas.List.Elements.{All-filter}
-use Rattle.obligation_tree.specs.Nodes.{has_live_child, is_live_at, leaf_numbers, live_numbers}
+use Rattle.obligation_tree.specs.Nodes.{has_live_child, is_live_at, leaf_numbers, live_numbers, IsLiveLeaf}
 use Rattle.obligation_tree.specs.declared.node.Node.{Node}
 use Rattle.book_rules.specs.declared.end.End.{End}
 use Rattle.book_rules.specs.declared.end.End.TheVariants.{Stalled}
@@ -19,7 +19,7 @@ use Rattle.chc_core.specs.Contents.{Contents}
 use Rattle.chc_core.specs.Views.{state_of}
 use Rattle.chc_core.proofs.EndLemmas.{leaves-there, stuck_is}
 use Rattle.obligation_turn.specs.Turns.{IsOpenLeaf}
-use Rattle.book_loop.specs.machinery.Jobs.{IsJob, IsLeaf, is_stalled}
+use Rattle.book_loop.specs.machinery.Jobs.{IsJob, is_stalled}
 
 -- what a filter leaves passes
 passes : (p : ℕ → Bool) (xs : List ℕ) (i d : ℕ) → i < length (filter p xs) → p (get_or (filter p xs) i d) ≡ true
@@ -31,7 +31,7 @@ passes p (x ∷ xs) i d within = by (λ j w. passes p xs j d w) (p x) refl i wit
   by rest true is (suc j) within = rest j (omega (arith, within))
   by rest false is i within = rest i within
 
-pub leaf_at : (nodes : List Node) (i : ℕ) → i < length (leaf_numbers nodes) → IsLeaf nodes (get_or (leaf_numbers nodes) i 0)
+pub leaf_at : (nodes : List Node) (i : ℕ) → i < length (leaf_numbers nodes) → IsLiveLeaf nodes (get_or (leaf_numbers nodes) i 0)
 leaf_at nodes i within = record {
   there = leaves-there nodes i 0 within;
   live = All-filter (λ m. not (has_live_child nodes m)) (λ n. is_live_at nodes n ≡ true) (live_numbers nodes) (λ k d w. passes (is_live_at nodes) (range_with_len 0 (length nodes)) k d w) i 0 within;

@@ -9,7 +9,7 @@ use Rattle.book_rules.specs.LemmaRules.{rule_10, rule_11, rule_12, rule_13}
 use Rattle.book_rules.specs.State.{Obligation, unless_live}
 use Rattle.book_rules.proofs.CountLemmas.{opening_room}
 use Rattle.book_rules.proofs.SoundLemmas.{unbroken}
-use Rattle.step_rules.specs.Standing.{IsStanding, Standing, state_of as state_standing}
+use Rattle.step_rules.specs.Standing.{IsStanding, Standing, standing_state}
 use Rattle.step_rules.specs.Taken.{learn_of}
 use Rattle.step_rules.specs.Views.{obligation_of, obligations_of}
 use Rattle.step_rules.specs.declared.lemma_part.LemmaPart.{LemmaPart}
@@ -60,7 +60,7 @@ live-within os n live = by (slice_get os n) refl live where
 
 pub target-there : (b : Standing) (part : LemmaPart) → IsLearnt b part → part.target < length b.tree.nodes
 target-there b part h =
-    let s = state_standing b in
+    let s = standing_state b in
     let l = learn_of part in
     let first = unbroken 10 (rule_10 s l) _ h.unbroken in
     let second = unbroken 11 (rule_11 b.system l) _ first.1 in

@@ -15,7 +15,7 @@ use Rattle.horn_shape.specs.Shape.{Reading}
 use Rattle.clause_form.specs.System.{Clauses, most_variables}
 use Rattle.clause_form.specs.declared.clause.Clause.{Clause}
 use Rattle.clause_normal.specs.Normal.{auxiliaries, first_without_room, is_too_large, most_atoms, most_own, names_of, normal_atom, normal_clause}
-use Rattle.clause_normal.specs.Reading.{all_clauses, by_room, by_shape, clause_reading, clause_with, one_more, refusal_at, system_reading, unless_stopped}
+use Rattle.clause_normal.specs.Reading.{all_clauses, by_room, by_shape, normal_reading, clause_with, clause_and_others, refusal_at, system_reading, unless_stopped}
 use Rattle.book_rules.specs.Walks.{AllOf}
 use Rattle.book_rules.proofs.ListLemmas.{both_false}
 use Rattle.book_loop.specs.Runs.{CanRun}
@@ -44,7 +44,7 @@ short_room script a horn clause None h = by_size (is_too_large script horn) refl
     by_size true is e = absurd (cc)
     by_size false is e = let same : normal_clause script horn ≡ clause = cc in subst IsShort same (short_normal script horn is)
 
-short_one : (script : Script) (index : ℕ) (a : Assertion) (clause : Clause) → clause_reading script index a ≡ Ok clause → IsShort clause
+short_one : (script : Script) (index : ℕ) (a : Assertion) (clause : Clause) → normal_reading script index a ≡ Ok clause → IsShort clause
 short_one script index a clause h = by_reading (assertion_reading script a) h
   where
     by_reading : (read : Reading) → by_shape script index a read ≡ Ok clause → IsShort clause
@@ -57,11 +57,11 @@ record AreShortOf (asserts : List Assertion) (clauses : List Clause) : Type 0 wh
 
 short_all : (script : Script) (index : ℕ) (asserts : List Assertion) (clauses : List Clause) → all_clauses script index asserts ≡ Ok clauses → AreShortOf asserts clauses
 short_all script index [] clauses h = let same : [] ≡ clauses = cc in subst (AreShortOf []) same (record { few = tt; long = refl })
-short_all script index (a ∷ asserts) clauses h = by (clause_reading script index a) (all_clauses script (index + 1) asserts) refl (λ more is. short_all script (index + 1) asserts more is) refl h
+short_all script index (a ∷ asserts) clauses h = by (normal_reading script index a) (all_clauses script (index + 1) asserts) refl (λ more is. short_all script (index + 1) asserts more is) refl h
   where
-    by : (one : Result Clause Refusal) (rest : Result (List Clause) Refusal) → clause_reading script index a ≡ one
+    by : (one : Result Clause Refusal) (rest : Result (List Clause) Refusal) → normal_reading script index a ≡ one
         → ((more : List Clause) → all_clauses script (index + 1) asserts ≡ Ok more → AreShortOf asserts more)
-        → all_clauses script (index + 1) asserts ≡ rest → one_more one rest ≡ Ok clauses → AreShortOf (a ∷ asserts) clauses
+        → all_clauses script (index + 1) asserts ≡ rest → clause_and_others one rest ≡ Ok clauses → AreShortOf (a ∷ asserts) clauses
     by (Err refusal) rest is others are made = absurd (cc)
     by (Ok clause) (Err refusal) is others are made = absurd (cc)
     by (Ok clause) (Ok more) is others are made =

@@ -2,11 +2,11 @@
 
 ghost use Rattle.std.specs.Prelude.{◌≡◌, None, true, IfSome};
 ghost use Rattle.std.specs.List.{list_all};
-ghost use Rattle.obligation_tree.specs.Nodes.{leaf_numbers};
+ghost use Rattle.obligation_tree.specs.Nodes.{leaf_numbers, IsLiveLeaf};
 ghost use Rattle.book_rules.specs.Legal.{end};
 ghost use Rattle.chc_core.specs.Views.{standing_of, state_of};
 ghost use Rattle.obligation_turn.specs.Turns.{IsOpenLeaf};
-ghost use Rattle.book_loop.specs.machinery.Jobs.{IsJob, IsLeaf, LeavesNone, is_stalled};
+ghost use Rattle.book_loop.specs.machinery.Jobs.{IsJob, LeavesNone, is_stalled};
 
 use chc_core::Book;
 use obligation_tree::Tree;
@@ -39,7 +39,7 @@ fn better(tree: &Tree, best: Option<u32>, id: u32) -> u32
 /// The best of those so far and one more, which may be stalled.
 fn with_leaf(tree: &Tree, best: Option<u32>, id: u32) -> Option<u32>
     requires best { IfSome best (IsJob tree.now.nodes) }
-    requires leaf { IsLeaf tree.now.nodes id }
+    requires leaf { IsLiveLeaf tree.now.nodes id }
     ensures job { IfSome result (IsJob tree.now.nodes) }
     ensures none { LeavesNone tree.now.nodes best id result }
 {

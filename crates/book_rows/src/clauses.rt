@@ -146,3 +146,20 @@ pub(crate) fn contradiction(rt: &impl Abort, alloc: Global) -> Book {
         .expect(rt, "memory");
     book(rt, alloc, clauses, 50_000)
 }
+
+/// `p` of all, of which each gives false.
+fn any_clauses(rt: &impl Abort, alloc: Global) -> Items<Clause> {
+    let mut clauses = Items::new(alloc);
+    clauses
+        .push(rule(rt, alloc, Form::True))
+        .expect(rt, "memory");
+    clauses
+        .push(query(rt, alloc, Form::True))
+        .expect(rt, "memory");
+    clauses
+}
+
+/// The book of the clauses in which every value is a fact.
+pub(crate) fn anything(rt: &impl Abort, alloc: Global) -> Book {
+    book(rt, alloc, any_clauses(rt, alloc), 50_000)
+}

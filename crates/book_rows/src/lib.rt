@@ -9,15 +9,21 @@ mod choices;
 #[cfg(test)]
 mod clauses;
 #[cfg(test)]
+mod copies;
+#[cfg(test)]
 mod cubes;
 #[cfg(test)]
 mod facts;
 #[cfg(test)]
 mod frames;
 #[cfg(test)]
+mod lookups;
+#[cfg(test)]
 mod obligations;
 #[cfg(test)]
 mod queries;
+#[cfg(test)]
+mod replays;
 #[cfg(test)]
 mod rules;
 #[cfg(test)]

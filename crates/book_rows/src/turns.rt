@@ -99,7 +99,7 @@ fn all_below(lits: &[Lit], n: usize) -> bool
 }
 
 /// The projection of these at a model, where x0 is kept.
-fn projected(rt: &impl Abort, alloc: Global, lits: &[Lit], model: &[i64]) -> Projected {
+pub(crate) fn projected(rt: &impl Abort, alloc: Global, lits: &[Lit], model: &[i64]) -> Projected {
     assert!(rt; all_hold(lits, model), "no model");
     assert!(rt; all_below(lits, model.len()), "a variable without a value");
     project(alloc, lits, model, &[0]).expect(rt, "memory")
@@ -194,7 +194,7 @@ fn learn(
     })
 }
 
-fn fact(
+pub(crate) fn fact(
     rt: &impl Abort,
     alloc: Global,
     sys: &System,
@@ -252,7 +252,7 @@ fn kept(rt: &impl Abort, alloc: Global, sys: &System, first: i64, second: i64) -
     kept
 }
 
-fn raise(
+pub(crate) fn raise(
     rt: &impl Abort,
     alloc: Global,
     sys: &System,

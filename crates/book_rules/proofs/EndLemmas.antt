@@ -10,7 +10,7 @@ use Rattle.book_rules.specs.Walks.{number_from, first_number, or_else}
 use Rattle.book_rules.specs.Instances.{Ground, Relation, IsDerivable}
 use Rattle.book_rules.specs.Frames.{Framed, accepts, in_frame, IsShown, IsSolution}
 use Rattle.book_rules.specs.State.{Fact, State}
-use Rattle.book_rules.specs.Legal.{is_bare, bare_from, all_stalled_from, end}
+use Rattle.book_rules.specs.Legal.{is_level_empty, bare_from, all_stalled_from, end}
 use Rattle.book_rules.specs.Kept.{IsSound, IsFalse}
 use Rattle.book_rules.proofs.ListLemmas.{both_true, from_both, all_weaken, all_at, all_tested, all_of-at, any_false}
 use Rattle.book_rules.proofs.FrameLemmas.{in_frame-level, accepts_else}
@@ -35,16 +35,16 @@ unsat_end None None false false n fact h = absurd (cc)
 
 -- the bare level
 
-bare_is : (es : List Framed) (from count level : ℕ) → bare_from es from count ≡ Some level → (is_bare es level ≡ true) × (from ≤ level) × (level < from + count)
+bare_is : (es : List Framed) (from count level : ℕ) → bare_from es from count ≡ Some level → (is_level_empty es level ≡ true) × (from ≤ level) × (level < from + count)
 bare_is es from zero level h = absurd (cc)
-bare_is es from (suc count) level h = here (is_bare es from) refl h (bare_is es (from + 1) count level) where
-  here : (b : Bool) → is_bare es from ≡ b → cond {A = Option ℕ} b (Some from) (bare_from es (from + 1) count) ≡ Some level
-      → (bare_from es (from + 1) count ≡ Some level → (is_bare es level ≡ true) × (from + 1 ≤ level) × (level < from + 1 + count)) → (is_bare es level ≡ true) × (from ≤ level) × (level < from + suc count)
+bare_is es from (suc count) level h = here (is_level_empty es from) refl h (bare_is es (from + 1) count level) where
+  here : (b : Bool) → is_level_empty es from ≡ b → cond {A = Option ℕ} b (Some from) (bare_from es (from + 1) count) ≡ Some level
+      → (bare_from es (from + 1) count ≡ Some level → (is_level_empty es level ≡ true) × (from + 1 ≤ level) × (level < from + 1 + count)) → (is_level_empty es level ≡ true) × (from ≤ level) × (level < from + suc count)
   here true is found rest =
       let same : from ≡ level = cc in
       let low : from ≤ level = omega (arith, same) in
       let high : level < from + suc count = omega (arith, same) in
-      (subst (λ l. is_bare es l ≡ true) same is, low, high)
+      (subst (λ l. is_level_empty es l ≡ true) same is, low, high)
   here false is found rest =
       let more = rest found in
       let low' = more.1 in
@@ -72,7 +72,7 @@ not_any : (b : Bool) → not b ≡ true → b ≡ false
 not_any true h = absurd (true≢false (sym h))
 not_any false h = refl
 
-pub bare_is_solution : (I : Relation) (s : State) → IsSound I s → (k : ℕ) → 0 < k → k ≤ s.level - 1 → is_bare s.lemmas k ≡ true → IsSolution I s.lemmas k
+pub bare_is_solution : (I : Relation) (s : State) → IsSound I s → (k : ℕ) → 0 < k → k ≤ s.level - 1 → is_level_empty s.lemmas k ≡ true → IsSolution I s.lemmas k
 bare_is_solution I s sound k some below bare =
     let first : nat_lt 0 k ≡ true = grind (arith, nat_tests) in
     let deep : 0 < s.level = omega arith in

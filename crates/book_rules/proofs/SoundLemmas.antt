@@ -20,7 +20,7 @@ use Rattle.book_rules.specs.LemmaRules.{rule_10, rule_11, rule_12, rule_30, rule
 use Rattle.book_rules.specs.FactRules.{concluded, is_fact_of, are_facts_of, rule_20}
 use Rattle.book_rules.specs.RaiseRules.{rule_40, rule_41}
 use Rattle.book_rules.specs.Rules.{Broken, rule, broken}
-use Rattle.book_rules.specs.Effects.{after, written, opened_with, learnt, lifted_with, height_at, greatest, fact_of, recorded, raised, stalled_with}
+use Rattle.book_rules.specs.Effects.{after, written, opened_with, learnt, lifted_with, height_at, greatest_height, fact_of, recorded, raised, stalled_with}
 use Rattle.book_rules.specs.Legal.{replay, AreLegal}
 use Rattle.book_rules.specs.Kept.{AreDerivable, IsSound}
 use Rattle.book_rules.proofs.ListLemmas.{both_true, all_of-push, all_of-set, all_of-map, unless_none}
@@ -103,14 +103,14 @@ fact_at I [] p a derived is = absurd (true≢false (sym is))
 fact_at I (f ∷ facts) zero a derived is = subst (λ head. IsDerivable I f.height head) (conclusion_is f.conclusion (Some a) is) derived.0
 fact_at I (f ∷ facts) (suc p) a derived is = fact_at I facts p a derived.1 is
 
-facts_at : (I : Relation) (facts : List Fact) (ps : List ℕ) (body : List Ground) → AreDerivable I facts → are_facts_of facts ps body ≡ true → AllOf (λ a. IsDerivable I (greatest facts ps) (Some a)) body
+facts_at : (I : Relation) (facts : List Fact) (ps : List ℕ) (body : List Ground) → AreDerivable I facts → are_facts_of facts ps body ≡ true → AllOf (λ a. IsDerivable I (greatest_height facts ps) (Some a)) body
 facts_at I facts [] [] derived are = tt
 facts_at I facts [] (a ∷ body) derived are = absurd (true≢false (sym are))
 facts_at I facts (p ∷ ps) [] derived are = absurd (true≢false (sym are))
 facts_at I facts (p ∷ ps) (a ∷ body) derived are =
     let both = both_true (is_fact_of facts p a) (are_facts_of facts ps body) are in
     let here = height_at (slice_get facts p) in
-    let rest = greatest facts ps in (
+    let rest = greatest_height facts ps in (
       derivable-higher I here (max here rest) (le-max_left here rest) (Some a) (fact_at I facts p a derived both.0),
       all_of-map (λ x. IsDerivable I rest (Some x)) (λ x. IsDerivable I (max here rest) (Some x)) (λ x. derivable-higher I rest (max here rest) (le-max_right here rest) (Some x)) body (facts_at I facts ps body derived both.1),
     )

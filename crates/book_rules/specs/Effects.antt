@@ -65,12 +65,12 @@ height_at None = 0
 height_at (Some f) = f.height
 
 -- the greatest height of the premises, 0 for none
-abbrev pub greatest : List Fact → List ℕ → ℕ
-greatest facts [] = 0
-greatest facts (p ∷ premises) = max (height_at (slice_get facts p)) (greatest facts premises)
+abbrev pub greatest_height : List Fact → List ℕ → ℕ
+greatest_height facts [] = 0
+greatest_height facts (p ∷ premises) = max (height_at (slice_get facts p)) (greatest_height facts premises)
 
 abbrev pub fact_of : Clauses → State → FactStep → Fact
-fact_of sys s f = record { conclusion = concluded sys f; clause = f.seen.clause; point = f.seen.point; premises = f.premises; height = suc (greatest s.facts f.premises) }
+fact_of sys s f = record { conclusion = concluded sys f; clause = f.seen.clause; point = f.seen.point; premises = f.premises; height = suc (greatest_height s.facts f.premises) }
 
 abbrev pub recorded : Clauses → State → FactStep → State
 recorded sys s f = record s { facts = s.facts ++ fact_of sys s f ∷ []; obligations = close (λ o. holds o (concluded sys f)) s }

@@ -8,7 +8,7 @@ use Rattle.cube_forms.specs.Cubes.{cube_holds}
 use Rattle.book_rules.specs.Walks.{AllOf}
 use Rattle.book_rules.specs.Instances.{Relation, IsDerivable, IsInstance, body_at, head_at}
 use Rattle.book_rules.specs.Frames.{Framed, in_frame, IsShown, AreRefuted}
-use Rattle.book_rules.specs.Effects.{greatest}
+use Rattle.book_rules.specs.Effects.{greatest_height}
 use Rattle.book_rules.specs.FactRules.{are_facts_of}
 use Rattle.book_rules.specs.State.{Fact, Obligation, State, holds, is_live, same_conclusion}
 
@@ -32,7 +32,7 @@ pub record IsRecorded (sys : Clauses) (before : List Fact) (f : Fact) : Type 0 w
   pub instance : IsInstance clause f.point
   pub head : head_at f.point clause ≡ f.conclusion
   pub premises : are_facts_of before f.premises (body_at f.point clause) ≡ true
-  pub height : f.height ≡ suc (greatest before f.premises)
+  pub height : f.height ≡ suc (greatest_height before f.premises)
 
 -- the facts, in order, are a derivation
 abbrev pub AreRecorded : Clauses → List Fact → List Fact → Type 0

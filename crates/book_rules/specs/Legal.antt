@@ -18,13 +18,13 @@ use Rattle.book_rules.specs.Effects.{after}
 abbrev pub unsat : State → Option End
 unsat s = option_map Unsat (first_number (λ (f : Fact). is_none f.conclusion) s.facts)
 
-abbrev pub is_bare : List Framed → ℕ → Bool
-is_bare es level = not (list_any (λ (e : Framed). e.level == level) es)
+abbrev pub is_level_empty : List Framed → ℕ → Bool
+is_level_empty es level = not (list_any (λ (e : Framed). e.level == level) es)
 
 -- the least of count levels, from this one on, that no lemma has exactly
 abbrev pub bare_from : List Framed → ℕ → ℕ → Option ℕ
 bare_from es level zero = None
-bare_from es level (suc count) = if is_bare es level then Some level else bare_from es (level + 1) count
+bare_from es level (suc count) = if is_level_empty es level then Some level else bare_from es (level + 1) count
 
 -- sat: some level from 1 to N - 1 has no lemma of exactly that level
 abbrev pub sat : State → Option End

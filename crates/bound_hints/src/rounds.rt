@@ -34,6 +34,17 @@ struct Found {
     needs: Needs,
 }
 
+/// How a round ends.
+#[derive(Drop)]
+enum Outcome {
+    /// With bounds that hold together.
+    Fixed(Found),
+    /// A tuple was met that a query excludes, so no bounds refute each query.
+    Broken,
+    /// It was dropped.
+    Dropped,
+}
+
 /// Bounds of a system's predicates that were found so far: guesses, of which none has to be right.
 #[derive(Drop)]
 pub struct Bounds {
@@ -79,16 +90,18 @@ fn work_of(round: u32, units: u32) -> u32 {
         .min(MOST_WORK)
 }
 
-/// What a round over the table finds, if it comes to an end.
-fn found_in(alloc: Global, table: Table, sys: &System, left: u32) -> Result<Option<Found>, Memory> {
+/// What a round over the table finds.
+fn found_in(alloc: Global, table: Table, sys: &System, left: u32) -> Result<Outcome, Memory> {
     let mut table = table;
     let mut left = left;
-    walk(alloc, &mut table, sys, &mut left)?;
+    if walk(alloc, &mut table, sys, &mut left)? {
+        return Ok(Outcome::Broken);
+    }
     if !fix(alloc, &mut table, sys, &mut left)? {
-        return Ok(None);
+        return Ok(Outcome::Dropped);
     }
     let needs = needs_of(alloc, &mut table, sys, &mut left)?;
-    Ok(Some(Found {
+    Ok(Outcome::Fixed(Found {
         bounds: table.bounds,
         needs,
     }))
@@ -100,10 +113,10 @@ fn round_of(
     shared: &[Vec<Lin>],
     size: Size,
     left: u32,
-) -> Result<Option<Found>, Memory> {
+) -> Result<Outcome, Memory> {
     match table_of(alloc, sys, shared, size)? {
         Some(table) => found_in(alloc, table, sys, left),
-        None => Ok(None),
+        None => Ok(Outcome::Dropped),
     }
 }
 
@@ -151,13 +164,17 @@ impl Bounds {
         let size = size_of(self.round);
         let work = work_of(self.round, units);
         match round_of(alloc, sys, shared, size, work)? {
-            Some(found) => {
+            Outcome::Broken => {
+                self.found = None;
+                self.round = ROUNDS;
+            }
+            Outcome::Fixed(found) => {
                 self.found = Some(found);
                 self.round = self.round.saturating_add(1);
                 self.wait = units.saturating_mul(2);
                 self.drops = 0;
             }
-            None => {
+            Outcome::Dropped => {
                 let more = work_of(self.round, units) / WORK_OF_A_UNIT;
                 let times = self.drops.saturating_add(3);
                 self.wait = units.saturating_mul(times).max(more.saturating_mul(2));

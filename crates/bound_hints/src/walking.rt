@@ -14,7 +14,7 @@ use std::alloc::Global;
 /// How many tuples are met.
 const MOST_MET: usize = 160;
 
-/// How many queries are asked for that.
+/// How many times rules are asked for that.
 const MOST_QUERIES: u32 = 640;
 
 /// A tuple of a predicate.
@@ -135,7 +135,7 @@ fn follow_by(
     }
 }
 
-/// Asks one arm for a tuple that follows.
+/// Asks one arm for a tuple that follows; whether false does.
 fn follow_arm(
     alloc: Global,
     table: &mut Table,
@@ -144,30 +144,36 @@ fn follow_arm(
     number: usize,
     from: Option<usize>,
     left: &mut u32,
-) -> Result<(), Memory> {
+) -> Result<bool, Memory> {
     let arm = match table.arms.as_slice().get(number) {
         Some(arm) => arm,
-        None => return Ok(()),
+        None => return Ok(false),
     };
     let clause = match sys.clauses().get(arm.clause) {
         Some(clause) => clause,
-        None => return Ok(()),
-    };
-    let head = match &clause.head {
-        Some(head) => head,
-        None => return Ok(()),
+        None => return Ok(false),
     };
     let one = match from {
         Some(at) => met.as_slice().get(at),
         None => None,
     };
-    if let Some(point) = follow_by(alloc, clause, arm, one, left)? {
-        meet(alloc, table, met, head, point.as_slice())?;
+    match &clause.head {
+        Some(head) => {
+            if let Some(point) = follow_by(alloc, clause, arm, one, left)? {
+                meet(alloc, table, met, head, point.as_slice())?;
+            }
+            Ok(false)
+        }
+        None => {
+            // What rules may ask isn't spent on queries.
+            let mut own = *left;
+            let found = follow_by(alloc, clause, arm, one, &mut own)?;
+            Ok(found.is_some())
+        }
     }
-    Ok(())
 }
 
-/// Asks each arm for a tuple that follows.
+/// Asks each arm for a tuple that follows; whether false does.
 fn follow(
     alloc: Global,
     table: &mut Table,
@@ -175,13 +181,13 @@ fn follow(
     met: &mut Vec<Met>,
     from: Option<usize>,
     left: &mut u32,
-) -> Result<(), Memory> {
+) -> Result<bool, Memory> {
     for number in 0..table.arms.len() {
-        if *left > 0 {
-            follow_arm(alloc, table, sys, met, number, from, left)?;
+        if *left > 0 && follow_arm(alloc, table, sys, met, number, from, left)? {
+            return Ok(true);
         }
     }
-    Ok(())
+    Ok(false)
 }
 
 /// The first tuple from which nothing was followed yet, or the last.
@@ -202,28 +208,30 @@ fn mark(met: &mut Vec<Met>, at: usize) {
 }
 
 /// Runs clauses with at most one body atom forward, from the last tuple and from the first in turns, and
-/// raises bounds by the tuples that are met.
+/// raises bounds by the tuples that are met; whether false follows from one of them.
 pub(crate) fn walk(
     alloc: Global,
     table: &mut Table,
     sys: &System,
     left: &mut u32,
-) -> Result<(), Memory> {
+) -> Result<bool, Memory> {
     let mut own = MOST_QUERIES.min(*left / 2);
     *left = left.saturating_sub(own);
     let mut met = Vec::new(alloc);
     follow(alloc, table, sys, &mut met, None, &mut own)?;
     for turn in 0..MOST_MET {
         if own == 0 || met.len() >= MOST_MET {
-            return Ok(());
+            return Ok(false);
         }
         match next(met.as_slice(), turn % 4 != 3) {
             Some(at) => {
                 mark(&mut met, at);
-                follow(alloc, table, sys, &mut met, Some(at), &mut own)?;
+                if follow(alloc, table, sys, &mut met, Some(at), &mut own)? {
+                    return Ok(true);
+                }
             }
-            None => return Ok(()),
+            None => return Ok(false),
         }
     }
-    Ok(())
+    Ok(false)
 }

@@ -20,7 +20,7 @@ use Rattle.linear_terms.specs.Width.{first_wide}
 use Rattle.lia_search.specs.Decides.{has_short_multiples}
 use Rattle.clause_form.specs.System.{has_short_in_guard, most_variables}
 use Rattle.clause_form.specs.declared.atom.Atom.{Atom}
-use Rattle.clause_normal.specs.Normal.{auxiliaries, first_without_room, guard_of, normal_clause, sorts_of, top_of}
+use Rattle.clause_normal.specs.Normal.{auxiliaries, first_without_room, clause_guard, normal_clause, variable_sorts, top_of}
 use Rattle.clause_normal.specs.machinery.Making.{HasFewArguments}
 use Rattle.clause_normal.proofs.MadeLemmas.{subterm_most}
 use Rattle.clause_normal.proofs.PassLemmas.{passes}
@@ -64,11 +64,11 @@ module _ (script : Script) (clause : HornClause) (arena : IsArena script.terms.n
 
   own_fit : length clause.vars + length (auxiliaries script clause) ≤ total
   own_fit =
-      let least = at_least defs (uses_of (normal_clause script clause)) (length (sorts_of script clause)) in
+      let least = at_least defs (uses_of (normal_clause script clause)) (length (variable_sorts script clause)) in
       let count = count_is script clause.assertion clause arena legal is in
       omega (arith, least, count)
 
-  can : CanRestBePut defs (uses_of (normal_clause script clause)) (length (sorts_of script clause)) (length (sorts_of script clause))
+  can : CanRestBePut defs (uses_of (normal_clause script clause)) (length (variable_sorts script clause)) (length (variable_sorts script clause))
   can = record {
     defined = all_defined script clause arena legal is defs defines formed;
     below = all_below script clause arena legal is defs defines formed;
@@ -79,14 +79,14 @@ module _ (script : Script) (clause : HornClause) (arena : IsArena script.terms.n
 
   pub form_below : is_below total (breaking_form defs (normal_clause script clause)) ≡ true
   form_below =
-      let uses = use_forms defs (uses_of (normal_clause script clause)) (length (sorts_of script clause)) in
+      let uses = use_forms defs (uses_of (normal_clause script clause)) (length (variable_sorts script clause)) in
       is_below_by total (breaking_form defs (normal_clause script clause))
-      (conjunction_pass (lit_is_below total) (guard_of script clause ∷ uses)
-      (both_hold (passes (lit_is_below total) (guard_of script clause)) (list_all (passes (lit_is_below total)) uses)
+      (conjunction_pass (lit_is_below total) (clause_guard script clause ∷ uses)
+      (both_hold (passes (lit_is_below total) (clause_guard script clause)) (list_all (passes (lit_is_below total)) uses)
       (guard_below script clause arena legal is narrow total own_fit)
       (uses_pass defs (λ d. Unit {0}) (λ i d at. tt) (lit_is_below total) total
       (λ d ok sorts formula args first count below fits room sign. forms_below d sorts formula args first total count below fits room sign)
-      (uses_of (normal_clause script clause)) (length (sorts_of script clause)) (length (sorts_of script clause)) can (omega arith))))
+      (uses_of (normal_clause script clause)) (length (variable_sorts script clause)) (length (variable_sorts script clause)) can (omega arith))))
 
   abbrev Few : Definition → Type 0
   Few d = HasFewArguments d.terms.nodes × (d.body.0 < 2 ^ 32)
@@ -99,12 +99,12 @@ module _ (script : Script) (clause : HornClause) (arena : IsArena script.terms.n
 
   pub form_short : HaveFewArguments script defs → top_of script clause < 2 ^ 32 → has_short_multiples (breaking_form defs (normal_clause script clause)) ≡ true
   form_short have small =
-      let uses = use_forms defs (uses_of (normal_clause script clause)) (length (sorts_of script clause)) in
+      let uses = use_forms defs (uses_of (normal_clause script clause)) (length (variable_sorts script clause)) in
       is_short_by (breaking_form defs (normal_clause script clause))
-      (conjunction_pass has_short_in_guard (guard_of script clause ∷ uses)
-      (both_hold (passes has_short_in_guard (guard_of script clause)) (list_all (passes has_short_in_guard) uses)
+      (conjunction_pass has_short_in_guard (clause_guard script clause ∷ uses)
+      (both_hold (passes has_short_in_guard (clause_guard script clause)) (list_all (passes has_short_in_guard) uses)
       (guard_short script clause arena legal is narrow total own_fit (few_below script.terms.nodes arena (top_of script clause) have.asserted small))
       (uses_pass defs Few have.defined has_short_in_guard total
       (λ d ok sorts formula args first count below fits room sign.
       forms_short d sorts formula args first total count below fits room (few_below d.terms.nodes formula.arena d.body.0 ok.0 ok.1) sign)
-      (uses_of (normal_clause script clause)) (length (sorts_of script clause)) (length (sorts_of script clause)) can (omega arith))))
+      (uses_of (normal_clause script clause)) (length (variable_sorts script clause)) (length (variable_sorts script clause)) can (omega arith))))

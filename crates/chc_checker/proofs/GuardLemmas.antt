@@ -28,7 +28,7 @@ use Rattle.term_widths.specs.machinery.Apart.{Occurs}
 use Rattle.term_widths.proofs.PositionLemmas.{position_is}
 use Rattle.term_formulas.specs.Written.{HasRoom}
 use Rattle.clause_form.specs.System.{has_short_in_guard}
-use Rattle.clause_normal.specs.Normal.{auxiliaries, bits_from, first_without_room, guard_form, guard_of, guard_parts, names_of, place_forms, sorting, top_of}
+use Rattle.clause_normal.specs.Normal.{auxiliaries, bits_from, first_without_room, guard_form, clause_guard, guard_parts, names_of, place_forms, sorting, top_of}
 use Rattle.clause_normal.proofs.LowLemmas.{added_all, negated_all, scaled_all}
 use Rattle.clause_normal.proofs.MadeLemmas.{from_moved, low_top, placed_top, room_sub, top_is}
 use Rattle.clause_normal.proofs.PassLemmas.{le_passes, passes}
@@ -96,7 +96,7 @@ module _ (script : Script) (clause : HornClause) (arena : IsArena script.terms.n
         both_hold (passes t (guard_form (sorting script) (names_of script clause) nodes part)) (list_all (passes t) (map (guard_form (sorting script) (names_of script clause) nodes) parts))
         (formulas part.term.0 (not part.negated) all.0) (guards_pass parts all.1)
 
-    guard_passes : passes t (guard_of script clause) ≡ true
+    guard_passes : passes t (clause_guard script clause) ≡ true
     guard_passes =
         let bits_forms : List Form = bits_from 0 clause.vars in
         let place_list : List Form = place_forms (sorting script) (names_of script clause) nodes (length clause.vars) (auxiliaries script clause) in
@@ -116,7 +116,7 @@ module _ (script : Script) (clause : HornClause) (arena : IsArena script.terms.n
   variable_low : (v : ℕ) → in_total v ≡ true → low (variable_form v)
   variable_low v h = both_hold (in_total v) true h refl
 
-  pub guard_below : passes (lit_is_below total) (guard_of script clause) ≡ true
+  pub guard_below : passes (lit_is_below total) (clause_guard script clause) ≡ true
   guard_below =
       guard_passes (lit_is_below total)
       (λ v h. (
@@ -129,7 +129,7 @@ module _ (script : Script) (clause : HornClause) (arena : IsArena script.terms.n
   abbrev any_form : Linear → Type 0
   any_form l = Unit {0}
 
-  pub guard_short : ((id : ℕ) (op : OpKind) (args : List TermId) → IsSubterm nodes top id → slice_get nodes id ≡ Some (Op op args) → length args < 2 ^ 63) → passes has_short_in_guard (guard_of script clause) ≡ true
+  pub guard_short : ((id : ℕ) (op : OpKind) (args : List TermId) → IsSubterm nodes top id → slice_get nodes id ≡ Some (Op op args) → length args < 2 ^ 63) → passes has_short_in_guard (clause_guard script clause) ≡ true
   guard_short few =
       guard_passes has_short_in_guard
       (λ v h. (

@@ -22,7 +22,7 @@ use Rattle.clause_laws.specs.Defined.{breaking_form, breaking_variables}
 use Rattle.clause_laws.specs.Point.{IsBreakingPointOver}
 use Rattle.clause_laws.proofs.BreakingLemmas.{broken_extends, point_breaks}
 use Rattle.derivation_check.proofs.Public.{clause_once}
-use Rattle.chc_checker.specs.Verdicts.{IsFalseAt, IsNormalScript, IsReached}
+use Rattle.chc_checker.specs.Verdicts.{IsFalseAt, IsNormalScript, IsAssertionReached}
 
 differs : true ≡ false → ⊥
 differs e = absurd (cc)
@@ -31,7 +31,7 @@ one_truth : (point : List ℤ) (form : Form) → truth point (And (form ∷ []))
 one_truth point form = truth-And point (form ∷ [])
 
 module _ (script : Script) (defs : List Definition) (number : ℕ) (clause : HornClause) (arena : IsArena script.terms.nodes) (legal : IsLegalScript script)
-    (defines : DefinesEach 0 script.preds defs) (formed : AreFormulas script.preds defs) (reached : IsReached script defs number clause) where
+    (defines : DefinesEach 0 script.preds defs) (formed : AreFormulas script.preds defs) (reached : IsAssertionReached script defs number clause) where
   abbrev form : Form
   form = breaking_form defs (normal_clause script clause)
 

@@ -15,7 +15,8 @@ use Rattle.lin_atoms.specs.declared.form.Form.TheFolds.{fold-roll-Form}
 use Rattle.lin_atoms.specs.declared.form.Form.TheViews.{And, Or, roll-Form}
 use Rattle.lin_atoms.specs.declared.form.Form.TheVariants.{Lit as Literal}
 use Rattle.lin_atoms.proofs.Public.{both_true, truth-And, truth-Or}
-use Rattle.chc_checker.specs.machinery.Links.{AreLinked, AreValues, AreWithin, IsLink, IsLinkForm, IsValue, bit, link_form, partner}
+use Rattle.chc_checker.specs.machinery.Links.{AreLinked, AreValues, AreWithin, IsLink, IsLinkForm, IsValue, link_form, partner}
+use Rattle.linear_terms.specs.Meeting.{truth_number}
 
 -- numbers
 
@@ -170,13 +171,13 @@ module _ (low high : List Bool) (f g : Form) (u : ℕ) (a : Bool) (v : ℕ) (b c
     (first : partner same a ≡ b) (second : partner same c ≡ d) where
   way : (point : List ℤ) (linked : AreLinked u v same point) → (linked.value ≡ a) ⊎ (linked.value ≡ c) → (truth point f || (truth point g || false)) ≡ true
   way point linked (inl is) =
-      first-or (truth point f) (truth point g) (one.made point (linked.first ∙ ap bit is) (linked.second ∙ ap (λ e. bit (partner same e)) is ∙ ap bit first))
+      first-or (truth point f) (truth point g) (one.made point (linked.first ∙ ap truth_number is) (linked.second ∙ ap (λ e. truth_number (partner same e)) is ∙ ap truth_number first))
   way point linked (inr is) =
-      second-or (truth point f) (truth point g) (other.made point (linked.first ∙ ap bit is) (linked.second ∙ ap (λ e. bit (partner same e)) is ∙ ap bit second))
+      second-or (truth point f) (truth point g) (other.made point (linked.first ∙ ap truth_number is) (linked.second ∙ ap (λ e. truth_number (partner same e)) is ∙ ap truth_number second))
 
   back : (point : List ℤ) → AreWithin low high point → (truth point f ≡ true) ⊎ (truth point g ≡ true) → AreLinked u v same point
-  back point within (inl h) = let both = one.only point within h in record { value = a; first = both.0; second = both.1 ∙ ap bit (sym first) }
-  back point within (inr h) = let both = other.only point within h in record { value = c; first = both.0; second = both.1 ∙ ap bit (sym second) }
+  back point within (inl h) = let both = one.only point within h in record { value = a; first = both.0; second = both.1 ∙ ap truth_number (sym first) }
+  back point within (inr h) = let both = other.only point within h in record { value = c; first = both.0; second = both.1 ∙ ap truth_number (sym second) }
 
   pub two_ways : ((value : Bool) → (value ≡ a) ⊎ (value ≡ c)) → IsLink low high (Or (f ∷ g ∷ [])) u v same
   two_ways cover = record {
@@ -231,34 +232,34 @@ zero-or-one (pos (suc zero)) least most = inr refl
 zero-or-one (pos (suc (suc n))) least most = absurd (omega (arith, ints, most))
 zero-or-one (negsuc n) least most = absurd (omega (arith, ints, least))
 
-same-partner : (w x y : ℤ) (value : Bool) → w ≡ (x +ℤ neg_ℤ y) +ℤ pos 0 → w ≡ pos 0 → x ≡ bit value → y ≡ bit value
+same-partner : (w x y : ℤ) (value : Bool) → w ≡ (x +ℤ neg_ℤ y) +ℤ pos 0 → w ≡ pos 0 → x ≡ truth_number value → y ≡ truth_number value
 same-partner w x y value e none is = let same : y ≡ x = omega (arith, ints, e, none) in same ∙ is
 
 partner-same : (w x y k : ℤ) → w ≡ (x +ℤ neg_ℤ y) +ℤ pos 0 → x ≡ k → y ≡ k → w ≡ pos 0
 partner-same w x y k e first second = omega (arith, ints, e, first, second)
 
-crossed-partner : (w x y : ℤ) (value : Bool) → w ≡ (x +ℤ y) +ℤ negsuc 0 → w ≡ pos 0 → x ≡ bit value → y ≡ bit (not value)
+crossed-partner : (w x y : ℤ) (value : Bool) → w ≡ (x +ℤ y) +ℤ negsuc 0 → w ≡ pos 0 → x ≡ truth_number value → y ≡ truth_number (not value)
 crossed-partner w x y true e none is = let one : x ≡ pos 1 = is in let other : y ≡ pos 0 = omega (arith, ints, e, none, one) in other
 crossed-partner w x y false e none is = let one : x ≡ pos 0 = is in let other : y ≡ pos 1 = omega (arith, ints, e, none, one) in other
 
-partner-crossed : (w x y : ℤ) (value : Bool) → w ≡ (x +ℤ y) +ℤ negsuc 0 → x ≡ bit value → y ≡ bit (not value) → w ≡ pos 0
+partner-crossed : (w x y : ℤ) (value : Bool) → w ≡ (x +ℤ y) +ℤ negsuc 0 → x ≡ truth_number value → y ≡ truth_number (not value) → w ≡ pos 0
 partner-crossed w x y true e first second = let one : x ≡ pos 1 = first in let other : y ≡ pos 0 = second in omega (arith, ints, e, one, other)
 partner-crossed w x y false e first second = let one : x ≡ pos 0 = first in let other : y ≡ pos 1 = second in omega (arith, ints, e, one, other)
 
 -- the equation holds of the other variable's value
-solved : (point : List ℤ) (u v : ℕ) (same value : Bool) → value_at point (link_form u v same) ≡ pos 0 → variable_at point u ≡ bit value → variable_at point v ≡ bit (partner same value)
+solved : (point : List ℤ) (u v : ℕ) (same value : Bool) → value_at point (link_form u v same) ≡ pos 0 → variable_at point u ≡ truth_number value → variable_at point v ≡ truth_number (partner same value)
 solved point u v true value none is = same-partner (value_at point (link_form u v true)) (variable_at point u) (variable_at point v) value (value_same point u v) none is
 solved point u v false value none is = crossed-partner (value_at point (link_form u v false)) (variable_at point u) (variable_at point v) value (value_crossed point u v) none is
 
-solves : (point : List ℤ) (u v : ℕ) (same value : Bool) → variable_at point u ≡ bit value → variable_at point v ≡ bit (partner same value) → value_at point (link_form u v same) ≡ pos 0
-solves point u v true value first second = partner-same (value_at point (link_form u v true)) (variable_at point u) (variable_at point v) (bit value) (value_same point u v) first second
+solves : (point : List ℤ) (u v : ℕ) (same value : Bool) → variable_at point u ≡ truth_number value → variable_at point v ≡ truth_number (partner same value) → value_at point (link_form u v same) ≡ pos 0
+solves point u v true value first second = partner-same (value_at point (link_form u v true)) (variable_at point u) (variable_at point v) (truth_number value) (value_same point u v) first second
 solves point u v false value first second = partner-crossed (value_at point (link_form u v false)) (variable_at point u) (variable_at point v) value (value_crossed point u v) first second
 
-at-least : (x : ℤ) (value : Bool) → x ≡ bit value → pos 0 ≤ℤ x
+at-least : (x : ℤ) (value : Bool) → x ≡ truth_number value → pos 0 ≤ℤ x
 at-least x true is = let e : x ≡ pos 1 = is in omega (arith, ints, e)
 at-least x false is = let e : x ≡ pos 0 = is in omega (arith, ints, e)
 
-at-most : (x : ℤ) (value : Bool) → x ≡ bit value → x ≤ℤ pos 1
+at-most : (x : ℤ) (value : Bool) → x ≡ truth_number value → x ≤ℤ pos 1
 at-most x true is = let e : x ≡ pos 1 = is in omega (arith, ints, e)
 at-most x false is = let e : x ≡ pos 0 = is in omega (arith, ints, e)
 
@@ -299,7 +300,7 @@ twice false = refl
 
 turned : (u v : ℕ) (same : Bool) (point : List ℤ) → AreLinked u v same point → AreLinked v u same point
 turned u v true point linked = record { value = linked.value; first = linked.second; second = linked.first }
-turned u v false point linked = record { value = not linked.value; first = linked.second; second = linked.first ∙ ap bit (twice linked.value) }
+turned u v false point linked = record { value = not linked.value; first = linked.second; second = linked.first ∙ ap truth_number (twice linked.value) }
 
 pub turned_form : (u v : ℕ) (same : Bool) (form : Form) → IsLinkForm v u same form → IsLinkForm u v same form
 turned_form u v same form is = record { made = λ point linked. is.made point (turned u v same point linked); only = λ point h. turned v u same point (is.only point h) }

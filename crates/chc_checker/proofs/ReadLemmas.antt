@@ -14,11 +14,11 @@ use Rattle.term_tree.specs.Constants.{constant_of, is_linear, is_short}
 use Rattle.term_tree.specs.Legal.{IsLegal}
 use Rattle.term_tree.specs.Solution.{AreFormulas, DefinesEach, IsFormula, has_short_divisor}
 use Rattle.term_tree.specs.Subterms.{EverySubterm}
+use Rattle.term_tree.specs.Sorts.{same_sort}
 use Rattle.term_check.specs.declared.part.Fault.{Fault}
-use Rattle.term_check.specs.machinery.Legality.{AreParameters}
+use Rattle.term_check.specs.Parameters.{AreParameters}
 use Rattle.term_check.specs.Formula.{bool_term, params_from}
-use Rattle.term_check.specs.Rules.{same_sort}
-use Rattle.term_check.specs.Spelling.{Scope, Spelled, scope_of, spelled, sorts_in, sorts_of}
+use Rattle.term_check.specs.Spelling.{SpellingScope, Spelled, scope_of, spelled, sorts_in, sorts_of}
 use Rattle.term_check.specs.Term.{Term, IsTermAt}
 use Rattle.term_check.proofs.LegalityLemmas.{spelled_legal, spelled_plain}
 use Rattle.answer_text.specs.Read.{AreDefinitions, IsDefinition, IsReply, Spells}
@@ -66,7 +66,7 @@ module _ (text : List ℕ) (preds : List Pred) where
   -- the term of a definition that is read is a formula over the sorts of the arguments
   formula_is : (d : Defined) (right : IsRight text preds d) (e : Definition) → IsDefinition d e → IsFit e → (sorts : List Sort) → sorts_of preds d.pred ≡ sorts → IsFormula sorts e.terms.nodes e.body.0
   formula_is d right e is fit sorts same =
-      let scope : Scope = scope_of [] (params_from 0 d.params) false in
+      let scope : SpellingScope = scope_of [] (params_from 0 d.params) false in
       let s = bool_is (spelled text scope (length d.params) right.tree) d.body right.body in
       let variables : List Sort = map (λ p. p.1) d.params in
       let reads : spelled text scope (length variables) right.tree ≡ Ok s.0 = ap (λ (n : ℕ). spelled text scope n right.tree) (length-map d.params (λ p. p.1)) ∙ s.1 in

@@ -11,7 +11,7 @@ use Rattle.horn_shape.specs.Shape.{Reading}
 use Rattle.clause_form.specs.System.{Clauses}
 use Rattle.clause_form.specs.declared.clause.Clause.{Clause}
 use Rattle.clause_normal.specs.Normal.{first_without_room}
-use Rattle.clause_normal.specs.Reading.{all_clauses, by_room, by_shape, clause_reading, clause_with, one_more, system_reading}
+use Rattle.clause_normal.specs.Reading.{all_clauses, by_room, by_shape, normal_reading, clause_with, clause_and_others, system_reading}
 use Rattle.derivation_laws.proofs.Public.{IsMadeOf, system_made}
 use Rattle.chc_checker.specs.Verdicts.{IsNormalScript}
 
@@ -20,7 +20,7 @@ narrow_by : (script : Script) (a : Assertion) (horn : HornClause) (clause : Clau
 narrow_by script a horn clause None h = refl
 narrow_by script a horn clause (Some id) h = absurd (cc)
 
-read_has : (script : Script) (index : ℕ) (a : Assertion) (clause : Clause) → slice_get script.asserts index ≡ Some a → clause_reading script index a ≡ Ok clause
+read_has : (script : Script) (index : ℕ) (a : Assertion) (clause : Clause) → slice_get script.asserts index ≡ Some a → normal_reading script index a ≡ Ok clause
     → (horn : HornClause) × IsClauseOf script index horn × (first_without_room script horn ≡ None)
 read_has script index a clause there h = by_reading (assertion_reading script a) refl h
   where
@@ -39,7 +39,7 @@ record IsOneMore (one : Result Clause Refusal) (others : Result (List Clause) Re
   rest : List Clause
   are_rest : others ≡ Ok rest
 
-more_ok : (one : Result Clause Refusal) (others : Result (List Clause) Refusal) (clauses : List Clause) → one_more one others ≡ Ok clauses → IsOneMore one others
+more_ok : (one : Result Clause Refusal) (others : Result (List Clause) Refusal) (clauses : List Clause) → clause_and_others one others ≡ Ok clauses → IsOneMore one others
 more_ok (Err refusal) others clauses h = absurd (cc)
 more_ok (Ok clause) (Err refusal) clauses h = absurd (cc)
 more_ok (Ok clause) (Ok rest) clauses h = record { first = clause; is_first = refl; rest = rest; are_rest = refl }
@@ -57,20 +57,20 @@ from_none : (i : ℕ) → 0 + i ≡ i
 from_none i = omega arith
 
 each_read : (script : Script) (base : ℕ) (asserts : List Assertion) (clauses : List Clause) → all_clauses script base asserts ≡ Ok clauses → (i : ℕ) (a : Assertion) → slice_get asserts i ≡ Some a
-    → (clause : Clause) × (clause_reading script (base + i) a ≡ Ok clause)
+    → (clause : Clause) × (normal_reading script (base + i) a ≡ Ok clause)
 each_read script base [] clauses h i a at = absurd (cc)
 each_read script base (b ∷ asserts) clauses h zero a at =
-    let parts = more_ok (clause_reading script base b) (all_clauses script (base + 1) asserts) clauses h in (
+    let parts = more_ok (normal_reading script base b) (all_clauses script (base + 1) asserts) clauses h in (
       parts.first,
-      ap (λ (n : ℕ). clause_reading script n a) (from_start base) ∙ ap (clause_reading script base) (sym (same_assertion b a at)) ∙ parts.is_first,
+      ap (λ (n : ℕ). normal_reading script n a) (from_start base) ∙ ap (normal_reading script base) (sym (same_assertion b a at)) ∙ parts.is_first,
     )
 each_read script base (b ∷ asserts) clauses h (suc i) a at =
-    let parts = more_ok (clause_reading script base b) (all_clauses script (base + 1) asserts) clauses h in
+    let parts = more_ok (normal_reading script base b) (all_clauses script (base + 1) asserts) clauses h in
     let later = each_read script (base + 1) asserts parts.rest parts.are_rest i a at in
-    (later.0, ap (λ (n : ℕ). clause_reading script n a) (sym (one_on base i)) ∙ later.1)
+    (later.0, ap (λ (n : ℕ). normal_reading script n a) (sym (one_on base i)) ∙ later.1)
 
 pub normal_script : (checked : Checked) (sys : Clauses) → system_reading checked ≡ Ok sys → IsNormalScript checked.script
 normal_script checked sys h index assertion there =
     let script = checked.script in
     let read = each_read script 0 script.asserts sys.clauses (system_made checked sys h).clauses index assertion there in
-    read_has script index assertion read.0 there (ap (λ (n : ℕ). clause_reading script n assertion) (sym (from_none index)) ∙ read.1)
+    read_has script index assertion read.0 there (ap (λ (n : ℕ). normal_reading script n assertion) (sym (from_none index)) ∙ read.1)

@@ -56,7 +56,7 @@ IsValid script (Unknown level cause) = ⊥
 -- the first assertion that isn't true under the definitions, or isn't shown to be
 
 -- the assertion of that number has the clause, and those before it are true under the definitions
-pub record IsReached (script : Script) (definitions : List Definition) (number : ℕ) (clause : HornClause) : Type 0 where
+pub record IsAssertionReached (script : Script) (definitions : List Definition) (number : ℕ) (clause : HornClause) : Type 0 where
   pub index : ℕ
   pub numbered : number ≡ suc index
   pub is : IsClauseOf script index clause
@@ -66,7 +66,7 @@ pub record IsReached (script : Script) (definitions : List Definition) (number :
 -- are true under the definitions and the head isn't
 pub record IsFalseAt (script : Script) (definitions : List Definition) (number : ℕ) (integers : List ℤ) : Type 0 where
   pub clause : HornClause
-  pub reached : IsReached script definitions number clause
+  pub reached : IsAssertionReached script definitions number clause
   pub values : List Given
   pub same : numbers values ≡ integers
   pub breaks : Breaks (interpretation_of definitions) script clause values
@@ -76,20 +76,20 @@ pub record IsFalseAt (script : Script) (definitions : List Definition) (number :
 pub record IsTooWideAt (script : Script) (definitions : List Definition) (offset : ℕ) : Type 0 where
   pub number : ℕ
   pub clause : HornClause
-  pub reached : IsReached script definitions number clause
+  pub reached : IsAssertionReached script definitions number clause
   pub wide : breaking_wide definitions (normal_clause script clause) ≡ Some offset
 
 -- the formula of the instances that make it false is kept as given up with the given number of inner nodes
 pub record IsGivenUpAt (nodes : ℕ) (script : Script) (definitions : List Definition) (number : ℕ) (gave_up : GaveUp) : Type 0 where
   pub clause : HornClause
-  pub reached : IsReached script definitions number clause
+  pub reached : IsAssertionReached script definitions number clause
   pub form : given_form gave_up ≡ And (breaking_form definitions (normal_clause script clause) ∷ [])
   pub count : CountsTo nodes (given_evidence gave_up)
 
 -- that formula has more than 2,048 variables
 pub record IsTooLargeAt (script : Script) (definitions : List Definition) (number : ℕ) : Type 0 where
   pub clause : HornClause
-  pub reached : IsReached script definitions number clause
+  pub reached : IsAssertionReached script definitions number clause
   pub narrow : breaking_wide definitions (normal_clause script clause) ≡ None
   pub large : nat_lt most_variables (breaking_variables definitions (normal_clause script clause)) ≡ true
 

@@ -1,6 +1,7 @@
 //! A formula is decided without its links first, and by itself where that is given up.
 
 ghost use Rattle.std.specs.Prelude.{◌≡◌, ◌<◌, ◌≤◌, ◌∷◌, [], ℕ, true, IfOk, IfSome};
+ghost use Rattle.base.specs.Limits.{most_variables};
 ghost use Rattle.lin_atoms.specs.Truth.{is_below};
 ghost use Rattle.lin_atoms.specs.declared.form.Form.{Form as AForm};
 ghost use Rattle.lin_atoms.specs.declared.form.Form.TheViews.{And};
@@ -34,7 +35,7 @@ fn told(decision: Decision) -> Decision
 fn asked(alloc: Global, form: Form, vars: u32, nodes: u32) -> Result<Decision, Memory>
     requires below { is_below vars form ≡ true }
     requires short { has_short_multiples form ≡ true }
-    requires few { vars ≤ 2048 }
+    requires few { vars ≤ most_variables }
     requires some { 0 < nodes }
     ensures { IfOk result (Settles (And (form ∷ [])) vars nodes) }
 {
@@ -61,7 +62,7 @@ fn asked_without_links(
     vars: u32,
     nodes: u32,
 ) -> Result<Option<Decision>, Memory>
-    requires few { vars ≤ 2048 }
+    requires few { vars ≤ most_variables }
     requires some { 0 < nodes }
     ensures { IfOk result (λ found. IfSome found (Settles (And (form.now ∷ [])) vars nodes)) }
 {
@@ -84,7 +85,7 @@ fn asked_without_links(
 pub(crate) fn settle(alloc: Global, form: Form, vars: u32, nodes: u32) -> Result<Decision, Memory>
     requires below { is_below vars form ≡ true }
     requires short { has_short_multiples form ≡ true }
-    requires few { vars ≤ 2048 }
+    requires few { vars ≤ most_variables }
     requires some { 0 < nodes }
     ensures { IfOk result (Settles (And (form ∷ [])) vars nodes) }
 {

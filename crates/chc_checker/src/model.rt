@@ -1,6 +1,7 @@
 //! Answers that a script is satisfiable.
 
 ghost use Rattle.std.specs.Prelude.{◌≡◌, ◌<◌, ◌≤◌, ◌∷◌, [], None, IfOk};
+ghost use Rattle.base.specs.Limits.{most_variables};
 ghost use Rattle.term_tree.specs.Solution.{AreFormulas, DefinesEach};
 ghost use Rattle.horn_shape.specs.Clause.{IsLegalScript};
 ghost use Rattle.lin_atoms.specs.declared.form.Form.TheViews.{And};
@@ -8,7 +9,7 @@ ghost use Rattle.clause_normal.specs.Normal.{first_without_room, normal_clause};
 ghost use Rattle.clause_normal.specs.machinery.Making.{AreTablesOf};
 ghost use Rattle.clause_laws.specs.Defined.{breaking_form, breaking_variables, breaking_wide};
 ghost use Rattle.answer_text.specs.declared.answer.Answer.TheVariants.{Sat};
-ghost use Rattle.chc_checker.specs.Verdicts.{IsNormalScript, IsReached, Says};
+ghost use Rattle.chc_checker.specs.Verdicts.{IsNormalScript, IsAssertionReached, Says};
 ghost use Rattle.chc_checker.specs.machinery.Judging.{HaveFewArguments, IsDecided, Settles};
 
 use crate::counting::count_all;
@@ -38,7 +39,7 @@ fn verdict_by(
     requires legal { IsLegalScript script.now }
     requires defined { DefinesEach 0 script.now.preds definitions.now }
     requires formulas { AreFormulas script.now.preds definitions.now }
-    requires reached { IsReached script.now definitions.now number clause.now }
+    requires reached { IsAssertionReached script.now definitions.now number clause.now }
     requires vars { vars ≡ breaking_variables definitions.now (normal_clause script.now clause.now) }
     requires decides { Settles (And (breaking_form definitions.now (normal_clause script.now clause.now) ∷ [])) vars nodes decision }
     ensures { IsDecided nodes script.now definitions.now number result }
@@ -78,10 +79,10 @@ fn decided(
     requires legal { IsLegalScript script.now }
     requires defined { DefinesEach 0 script.now.preds definitions.now }
     requires formulas { AreFormulas script.now.preds definitions.now }
-    requires reached { IsReached script.now definitions.now number clause.now }
+    requires reached { IsAssertionReached script.now definitions.now number clause.now }
     requires form { form ≡ breaking_form definitions.now (normal_clause script.now clause.now) }
     requires vars { vars ≡ breaking_variables definitions.now (normal_clause script.now clause.now) }
-    requires few { vars ≤ 2048 }
+    requires few { vars ≤ most_variables }
     requires narrow { first_without_room script.now clause.now ≡ None }
     requires wide { breaking_wide definitions.now (normal_clause script.now clause.now) ≡ None }
     requires counted { HaveFewArguments script.now definitions.now }
@@ -109,7 +110,7 @@ fn judged(
     requires tables { AreTablesOf script.now tables.now }
     requires defined { DefinesEach 0 script.now.preds definitions.now }
     requires formulas { AreFormulas script.now.preds definitions.now }
-    requires reached { IsReached script.now definitions.now number clause.now }
+    requires reached { IsAssertionReached script.now definitions.now number clause.now }
     requires counted { HaveFewArguments script.now definitions.now }
     requires some { 0 < nodes }
     ensures { IfOk result (IsDecided nodes script.now definitions.now number) }

@@ -1,6 +1,7 @@
 //! What is read as an answer can be checked.
 
-ghost use Rattle.std.specs.Prelude.{◌≡◌, ◌<◌, ◌^◌, ℕ, ℤ, List, pos, int_lt, true, length, slice_get};
+ghost use Rattle.std.specs.Prelude.{◌≡◌, ◌<◌, ℕ, ℤ, List, pos, int_lt, true, length, slice_get};
+ghost use Rattle.base.specs.Widths.{short_limit};
 ghost use Rattle.term_tree.specs.declared.node.TermId.{TermId};
 ghost use Rattle.term_tree.specs.declared.node.Node.TheVariants.{Divisible};
 ghost use Rattle.answer_text.specs.Read.{Spells};
@@ -13,7 +14,7 @@ use term_tree::{Definition, Node, Script, TermId, Terms};
 
 /// That a divisor has 64 bits.
 fn divisor_fits(node: &Node)
-    ensures { (by : ℤ) (arg : TermId) → node.now ≡ Divisible by arg → int_lt by (pos (2 ^ 63)) ≡ true }
+    ensures { (by : ℤ) (arg : TermId) → node.now ≡ Divisible by arg → int_lt by (pos short_limit) ≡ true }
 {
     if let Node::Divisible { by, .. } = node {
         let _by = *by;

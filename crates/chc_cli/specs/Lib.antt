@@ -1,2 +1,2 @@
 pub mod Commands
-pub mod machinery
+pub mod Words

@@ -3,7 +3,7 @@
 ghost use Rattle.std.specs.Prelude.{Some, map};
 ghost use Rattle.std.specs.String.{string_bytes};
 ghost use Rattle.solve_words.specs.Properties.{AreWordsOf, IsWithin};
-ghost use Rattle.chc_cli.specs.machinery.Reading.{IsCommandOf};
+ghost use Rattle.chc_cli.specs.Words.{IsCommandOf};
 
 use solve_words::{Limits, Words, words_of};
 use std::alloc::Global;

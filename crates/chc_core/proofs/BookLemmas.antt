@@ -1,5 +1,5 @@
 -- The invariant of a book: the opening has it, and each commit keeps it.
-use Rattle.std.proofs.Common.{◌≡◌, ℕ, ◌+◌, ◌≤◌, List, [], ◌∷◌, ◌++◌, length, Some, None, refl, ap, sym, ◌∙◌, subst, arith}
+use Rattle.std.proofs.Common.{◌≡◌, ℕ, zero, suc, ◌+◌, ◌<◌, ◌≤◌, List, [], ◌∷◌, ◌++◌, length, get_or, Some, None, refl, ap, sym, ◌∙◌, subst, arith}
 use Rattle.std.specs.Prelude.{Option, replicate, true}
 use Rattle.std.proofs.lemmas.List.{length-map, map-append}
 use Rattle.clause_form.specs.System.{Clauses, is_system}
@@ -20,6 +20,7 @@ use Rattle.book_rules.proofs.CountLemmas.{counts-replay, opening_room}
 use Rattle.book_rules.proofs.EndLemmas.{sat_is_solution, solution_has_no_false, unsat_is_derivable}
 use Rattle.book_rules.proofs.FrameLemmas.{no_false}
 use Rattle.book_rules.proofs.JournalLemmas.{legal-push, replay-push}
+use Rattle.book_rules.proofs.ListLemmas.{all_of-push}
 use Rattle.book_rules.proofs.OverLemmas.{over-after, over-opening}
 use Rattle.book_rules.proofs.OrderedLemmas.{ordered-opening, ordered-replay}
 use Rattle.book_rules.proofs.RecordLemmas.{recorded-replay}
@@ -28,7 +29,7 @@ use Rattle.book_rules.proofs.SoundLemmas.{sound-opening, sound-replay}
 use Rattle.book_rules.proofs.ValueLemmas.{short-opening, short-replay}
 use Rattle.chc_core.specs.Contents.{Contents}
 use Rattle.chc_core.specs.Openings.{IsOpening, most_units, opening_of}
-use Rattle.chc_core.specs.Views.{steps_of}
+use Rattle.chc_core.specs.Views.{AreMadeFor, steps_of}
 use Rattle.step_rules.specs.Taken.{AreProjected, IsMadeFor, step_of}
 use Rattle.step_rules.specs.declared.step.Step.{Step}
 use Rattle.chc_core.specs.Views.{standing_of, state_of}
@@ -120,6 +121,7 @@ new-kept sys units legal numbered given = record {
   opened = new_book sys units;
   replayed = refl;
   legal = tt;
+  made = tt;
   over = over-opening sys units;
   preds = refl;
   false_last = λ n within. absurd (omega arith);
@@ -136,8 +138,8 @@ kept-journal b m entry kept legal made =
     let now = subst (λ (s : State). IsLegal b.system s (step_of entry.step)) (sym kept.replayed) legal in
     (ap (replay b.system (opening_of b)) (steps-push b.journal entry) ∙ replay-push b.system (opening_of b) (steps_of b.journal) (step_of entry.step) ∙ ap (λ (s : State). after b.system s (step_of entry.step)) kept.replayed ∙ sym (made.state entry), subst (AreLegal b.system (opening_of b)) (sym (steps-push b.journal entry)) (legal-push b.system (opening_of b) (steps_of b.journal) (step_of entry.step) kept.legal now))
 
-pub kept-book : (b : Contents) (m : Made) (entry : Entry) → CanTake b entry.step → IsLegal b.system (state_of b) (step_of entry.step) → has_places b.system (step_of entry.step) ≡ true → IsMadeBy b entry.step m → IsBook (with_made b m entry)
-kept-book b m entry can legal places made =
+pub kept-book : (b : Contents) (m : Made) (entry : Entry) → CanTake b entry.step → IsMadeFor b.system entry.step → IsLegal b.system (state_of b) (step_of entry.step) → has_places b.system (step_of entry.step) ≡ true → IsMadeBy b entry.step m → IsBook (with_made b m entry)
+kept-book b m entry can for legal places made =
     let kept = can.kept in
     let journal = kept-journal b m entry kept legal made in
     record {
@@ -147,6 +149,7 @@ kept-book b m entry can legal places made =
       opened = kept.opened;
       replayed = journal.0;
       legal = journal.1;
+      made = all_of-push (λ (e : Entry). IsMadeFor b.system e.step) b.journal entry kept.made for;
       over = subst (AreOver b.system) (sym (made.state entry)) (over-after b.system (state_of b) (step_of entry.step) kept.system kept.over places);
       preds = made.preds ∙ kept.preds;
       false_last = made.last;
@@ -154,4 +157,10 @@ kept-book b m entry can legal places made =
 
 -- claims are no part of it
 pub kept-claims : (b : Contents) (claims : List (Option ℕ)) → IsBook b → IsBook (record b { tree = record b.tree { claims = claims } })
-kept-claims b claims kept = record { system = kept.system; numbered = kept.numbered; given = kept.given; opened = kept.opened; replayed = kept.replayed; legal = kept.legal; over = kept.over; preds = kept.preds; false_last = kept.false_last }
+kept-claims b claims kept = record { system = kept.system; numbered = kept.numbered; given = kept.given; opened = kept.opened; replayed = kept.replayed; legal = kept.legal; made = kept.made; over = kept.over; preds = kept.preds; false_last = kept.false_last }
+
+-- the tokens of one entry
+pub made-at : (sys : Clauses) (journal : List Entry) (n : ℕ) (e : Entry) → n < length journal → e ≡ get_or journal n e → AreMadeFor sys journal → IsMadeFor sys e.step
+made-at sys [] n e within is made = absurd (omega arith)
+made-at sys (x ∷ journal) zero e within is made = subst (λ (y : Entry). IsMadeFor sys y.step) (sym is) made.0
+made-at sys (x ∷ journal) (suc n) e within is made = made-at sys journal n e (omega arith) is made.1

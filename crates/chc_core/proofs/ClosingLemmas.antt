@@ -15,7 +15,7 @@ use Rattle.book_rules.specs.Effects.{close_from, closed_at, is_closing, raised_t
 use Rattle.book_rules.specs.LemmaRules.{closes}
 use Rattle.book_rules.specs.State.{Obligation, holds, holds_of, is_live, is_of}
 use Rattle.book_rules.specs.Walks.{AllOf, has}
-use Rattle.step_rules.specs.Views.{conclusion_of, obligation_of, obligations_of}
+use Rattle.step_rules.specs.Views.{ground_conclusion, obligation_of, obligations_of}
 
 -- whether a parent that stands before is closed
 parent-closed : (before : List Node) (parent : ℕ) → is_closed_at before parent ≡ has (slice_get (obligations_of before) parent) (λ (o : Obligation). not (is_live o))
@@ -76,17 +76,17 @@ closes-lemma pred level lemma entry nodes = closing_is (λ number o. is_excluded
 abbrev pub IsBareRoot : Node → Type 0
 IsBareRoot node = node.obligation.pred ≡ None → node.obligation.cube ≡ []
 
-met_is : (pred : Option ℕ) (tuple : List ℤ) (node : Node) → IsBareRoot node → is_met pred tuple node.obligation ≡ holds (obligation_of node) (conclusion_of pred tuple)
+met_is : (pred : Option ℕ) (tuple : List ℤ) (node : Node) → IsBareRoot node → is_met pred tuple node.obligation ≡ holds (obligation_of node) (ground_conclusion pred tuple)
 met_is pred tuple node bare = by pred node.obligation.pred bare where
-  by : (p q : Option ℕ) → (q ≡ None → node.obligation.cube ≡ []) → (is_same_pred p q && cube_holds tuple node.obligation.cube) ≡ holds_of q node.obligation.cube (conclusion_of p tuple)
+  by : (p q : Option ℕ) → (q ≡ None → node.obligation.cube ≡ []) → (is_same_pred p q && cube_holds tuple node.obligation.cube) ≡ holds_of q node.obligation.cube (ground_conclusion p tuple)
   by None None empty = ap (cube_holds tuple) (empty refl)
   by None (Some q) empty = refl
   by (Some p) None empty = refl
   by (Some p) (Some q) empty = ap (λ b. b && cube_holds tuple node.obligation.cube) (same_number p q)
 
-pub closes-fact : (pred : Option ℕ) (tuple : List ℤ) (entry : ℕ) (nodes : List Node) → AllOf IsBareRoot nodes → obligations_of (after_fact pred tuple entry nodes) ≡ close_from (λ o. holds o (conclusion_of pred tuple)) entry [] (obligations_of nodes)
-closes-fact pred tuple entry nodes bare = closing_is (λ number o. is_met pred tuple o) (λ o. holds o (conclusion_of pred tuple)) entry [] nodes (each 0 nodes bare) where
-  each : (n : ℕ) (rest : List Node) → AllOf IsBareRoot rest → AreAlike (λ number o. is_met pred tuple o) (λ o. holds o (conclusion_of pred tuple)) n rest
+pub closes-fact : (pred : Option ℕ) (tuple : List ℤ) (entry : ℕ) (nodes : List Node) → AllOf IsBareRoot nodes → obligations_of (after_fact pred tuple entry nodes) ≡ close_from (λ o. holds o (ground_conclusion pred tuple)) entry [] (obligations_of nodes)
+closes-fact pred tuple entry nodes bare = closing_is (λ number o. is_met pred tuple o) (λ o. holds o (ground_conclusion pred tuple)) entry [] nodes (each 0 nodes bare) where
+  each : (n : ℕ) (rest : List Node) → AllOf IsBareRoot rest → AreAlike (λ number o. is_met pred tuple o) (λ o. holds o (ground_conclusion pred tuple)) n rest
   each n [] all = tt
   each n (node ∷ rest) all = (met_is pred tuple node all.0, each (n + 1) rest all.1)
 

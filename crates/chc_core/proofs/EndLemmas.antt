@@ -14,7 +14,7 @@ use Rattle.lemma_frames.specs.declared.framed.Framed.{Framed as KeptLemma}
 use Rattle.obligation_tree.specs.Nodes.{has_live_child, is_child_of, is_live as is_live_node, is_live_at, leaf_numbers, live_numbers, node_at, parent_at}
 use Rattle.obligation_tree.specs.declared.node.Node.{Node}
 use Rattle.book_rules.specs.Frames.{Framed}
-use Rattle.book_rules.specs.Legal.{all_stalled_from, bare_from, is_bare}
+use Rattle.book_rules.specs.Legal.{all_stalled_from, bare_from, is_level_empty}
 use Rattle.book_rules.specs.Rooted.{AreRooted}
 use Rattle.book_rules.specs.StallRules.{is_live_child}
 use Rattle.book_rules.specs.State.{Fact, Obligation}
@@ -40,7 +40,7 @@ no_level [] level none n within is = omega arith
 no_level (f ∷ lemmas) level none zero within is = true_not_false (f.level == level) (eq-eqb f.level level is) (both_false (f.level == level) (list_any (λ (e : Framed). e.level == level) (lemmas_of lemmas)) none).0
 no_level (f ∷ lemmas) level none (suc n) within is = no_level lemmas level (both_false (f.level == level) (list_any (λ (e : Framed). e.level == level) (lemmas_of lemmas)) none).1 n (omega arith) is
 
-pub bare_is : (lemmas : List KeptLemma) (level : ℕ) (b : Bool) → (IsTrue b ↔ IsBare lemmas level) → b ≡ is_bare (lemmas_of lemmas) level
+pub bare_is : (lemmas : List KeptLemma) (level : ℕ) (b : Bool) → (IsTrue b ↔ IsBare lemmas level) → b ≡ is_level_empty (lemmas_of lemmas) level
 bare_is lemmas level b exact = by b (list_any (λ (e : Framed). e.level == level) (lemmas_of lemmas)) refl exact where
   by : (b found : Bool) → list_any (λ (e : Framed). e.level == level) (lemmas_of lemmas) ≡ found → (IsTrue b ↔ IsBare lemmas level) → b ≡ not found
   by true false is exact = refl
@@ -50,12 +50,12 @@ bare_is lemmas level b exact = by b (list_any (λ (e : Framed). e.level == level
 
 -- a loop over the levels keeps what those to come decide
 
-pub bare-next : (es : List Framed) (level n : ℕ) → level < n → is_bare es level ≡ false → bare_from es level (n - level) ≡ bare_from es (level + 1) (n - (level + 1))
+pub bare-next : (es : List Framed) (level n : ℕ) → level < n → is_level_empty es level ≡ false → bare_from es level (n - level) ≡ bare_from es (level + 1) (n - (level + 1))
 bare-next es level n below isnt =
     let more : n - level ≡ suc (n - (level + 1)) = omega (arith, below) in
     ap (bare_from es level) more ∙ ap (λ b. cond {A = Option ℕ} b (Some level) (bare_from es (level + 1) (n - (level + 1)))) isnt
 
-pub bare-found : (es : List Framed) (level n : ℕ) → level < n → is_bare es level ≡ true → bare_from es level (n - level) ≡ Some level
+pub bare-found : (es : List Framed) (level n : ℕ) → level < n → is_level_empty es level ≡ true → bare_from es level (n - level) ≡ Some level
 bare-found es level n below is =
     let more : n - level ≡ suc (n - (level + 1)) = omega (arith, below) in
     ap (bare_from es level) more ∙ ap (λ b. cond {A = Option ℕ} b (Some level) (bare_from es (level + 1) (n - (level + 1)))) is

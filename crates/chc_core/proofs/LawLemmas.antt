@@ -6,7 +6,7 @@ use Rattle.std.proofs.lemmas.List.{length-take, take-append-drop}
 use Rattle.std.proofs.lemmas.List.Elements.{All-contains, Contains-append_cases, Contains-get_or}
 use Rattle.std.proofs.lemmas.Option.{get_or_from_slice_get, slice_get-map, slice_get_within}
 use Rattle.clause_form.specs.System.{Clauses}
-use Rattle.derivations.specs.Facts.{AreSteps, RestsOn, height_of, premises_of}
+use Rattle.derivations.specs.Facts.{AreSteps, RestsOn, height_of, fact_premises}
 use Rattle.derivations.specs.Facts.RestsOn.{itself, through}
 use Rattle.derivations.specs.declared.fact.Fact.{Fact as KeptFact}
 use Rattle.derivations.proofs.Public.{steps_closed}
@@ -17,7 +17,7 @@ use Rattle.book_rules.specs.State.{Fact, same_conclusion}
 use Rattle.book_rules.specs.Walks.{has}
 use Rattle.book_rules.proofs.ListLemmas.{both_true, from_both}
 use Rattle.chc_core.specs.Derivations.{AreStepsAfter, IsDerivation, IsStep}
-use Rattle.step_rules.specs.Views.{conclusion_of, facts_of}
+use Rattle.step_rules.specs.Views.{ground_conclusion, facts_of}
 use Rattle.step_rules.proofs.ViewLemmas.{fact_of-at}
 
 -- the fact of a number is recorded after those before it
@@ -66,7 +66,7 @@ at-number [] n within = absurd (omega arith)
 at-number (x ∷ xs) zero within = (x, refl)
 at-number (x ∷ xs) (suc n) within = at-number xs n (omega arith)
 
-premises-are : (facts : List KeptFact) (n : ℕ) (f : KeptFact) → slice_get facts n ≡ Some f → premises_of facts n ≡ f.premises
+premises-are : (facts : List KeptFact) (n : ℕ) (f : KeptFact) → slice_get facts n ≡ Some f → fact_premises facts n ≡ f.premises
 premises-are facts n f there = get_or_from_slice_get (map (λ (g : KeptFact). g.premises) facts) n f.premises [] (slice_get-map (λ (g : KeptFact). g.premises) facts n ∙ ap (option_map (λ (g : KeptFact). g.premises)) there)
 
 -- the fact of a number, as it was recorded
@@ -74,16 +74,16 @@ record Known (sys : Clauses) (facts : List KeptFact) (n : ℕ) : Type 0 where
   fact : Fact
   there : slice_get (facts_of facts) n ≡ Some fact
   recorded : IsRecorded sys (take n (facts_of facts)) fact
-  premises : premises_of facts n ≡ fact.premises
+  premises : fact_premises facts n ≡ fact.premises
 
 known : (sys : Clauses) (facts : List KeptFact) (n : ℕ) → AreRecorded sys [] (facts_of facts) → n < length facts → Known sys facts n
 known sys facts n all within =
     let at = at-number facts n within in
     let there = fact_of-at facts n at.0 at.1 in
-    let fact : Fact = record { conclusion = conclusion_of (at.0).pred (at.0).tuple; clause = (at.0).clause; point = (at.0).point; premises = (at.0).premises; height = height_of facts n } in
+    let fact : Fact = record { conclusion = ground_conclusion (at.0).pred (at.0).tuple; clause = (at.0).clause; point = (at.0).point; premises = (at.0).premises; height = height_of facts n } in
     record { fact = fact; there = there; recorded = recorded-at sys [] (facts_of facts) n fact all there; premises = premises-are facts n at.0 at.1 }
 
-earlier : (sys : Clauses) (facts : List KeptFact) (n p : ℕ) → AreRecorded sys [] (facts_of facts) → n < length facts → Contains (premises_of facts n) p → p < n
+earlier : (sys : Clauses) (facts : List KeptFact) (n p : ℕ) → AreRecorded sys [] (facts_of facts) → n < length facts → Contains (fact_premises facts n) p → p < n
 earlier sys facts n p all within has_it =
     let k = known sys facts n all within in
     let below = premises-there (take n (facts_of facts)) (k.fact).premises _ (k.recorded).premises in
@@ -102,7 +102,7 @@ rests-below sys facts {n = n} {m = m} all within (through p has_it rest) =
 
 -- a list of numbers that ascends, each of a recorded fact whose premises are among it or before it, is a list of steps
 ascending : (sys : Clauses) (facts : List KeptFact) (before steps : List ℕ) → AreRecorded sys [] (facts_of facts) → AllPairs (λ x y. x < y) steps
-    → ((m : ℕ) → Contains steps m → m < length facts) → ((m q : ℕ) → Contains steps m → Contains (premises_of facts m) q → Contains (before ++ steps) q) → AreStepsAfter sys (facts_of facts) before steps
+    → ((m : ℕ) → Contains steps m → m < length facts) → ((m q : ℕ) → Contains steps m → Contains (fact_premises facts m) q → Contains (before ++ steps) q) → AreStepsAfter sys (facts_of facts) before steps
 ascending sys facts before [] all order there closed = tt
 ascending sys facts before (n ∷ steps) all order there closed = (step, ascending sys facts (before ++ n ∷ []) steps all below inside among) where
   within : n < length facts
@@ -148,7 +148,7 @@ ascending sys facts before (n ∷ steps) all order there closed = (step, ascendi
   inside : (m : ℕ) → Contains steps m → m < length facts
   inside m has_it = there m (suc has_it.0, (let l = has_it.1 in omega (arith, l)), has_it.2)
 
-  among : (m q : ℕ) → Contains steps m → Contains (premises_of facts m) q → Contains ((before ++ n ∷ []) ++ steps) q
+  among : (m q : ℕ) → Contains steps m → Contains (fact_premises facts m) q → Contains ((before ++ n ∷ []) ++ steps) q
   among m q has_it of_m = subst (λ (xs : List ℕ). Contains xs q) (sym (append_assoc before (n ∷ []) steps)) (closed m q (suc has_it.0, (let l = has_it.1 in omega (arith, l)), has_it.2) of_m)
 
 -- the greatest is the last

@@ -12,12 +12,12 @@ use Rattle.lemma_frames.specs.Frames.{Lemmas, lemma_of, level_of, lifted, pred_o
 use Rattle.derivations.specs.Facts.{Concludes, pred_of, tuple_of}
 use Rattle.derivations.specs.declared.fact.Fact.{Fact as KeptFact}
 use Rattle.obligation_tree.specs.Closing.{after_fact, after_lemma, after_raise}
-use Rattle.obligation_tree.specs.Nodes.{State as Tree, fresh, marked_at, node_at}
+use Rattle.obligation_tree.specs.Nodes.{TreeState as Tree, fresh, marked_at, node_at}
 use Rattle.obligation_tree.specs.declared.node.Node.{Node}
 use Rattle.obligation_tree.specs.declared.obligation.Obligation.{Obligation as Asked}
 use Rattle.book_rules.specs.declared.by.By.TheVariants.{Fact as ByFact}
 use Rattle.book_rules.specs.declared.end.End.TheVariants.{Unsat}
-use Rattle.book_rules.specs.Effects.{after, child_of, close_from, lifted_with, opened_with, raised, stalled_with, written, learnt, recorded, greatest}
+use Rattle.book_rules.specs.Effects.{after, child_of, close_from, lifted_with, opened_with, raised, stalled_with, written, learnt, recorded, greatest_height}
 use Rattle.book_rules.specs.FactRules.{concluded, rule_20, rule_21}
 use Rattle.book_rules.specs.Frames.{Framed}
 use Rattle.book_rules.specs.Instances.{Ground}
@@ -32,7 +32,7 @@ use Rattle.book_rules.proofs.EqualLemmas.{tuples_equal}
 use Rattle.book_rules.proofs.ListLemmas.{both_false, from_both, neither, true_not_false, untold_passes}
 use Rattle.book_rules.proofs.SoundLemmas.{unbroken}
 use Rattle.step_rules.specs.Taken.{learn_of, open_of, record_of, step_of}
-use Rattle.step_rules.specs.Views.{conclusion_of, facts_of, framed_at, framed_of, fresh_of, lemmas_of, obligation_of, obligations_of}
+use Rattle.step_rules.specs.Views.{ground_conclusion, facts_of, framed_at, framed_of, fresh_of, lemmas_of, obligation_of, obligations_of}
 use Rattle.step_rules.specs.declared.fact_part.FactPart.{FactPart}
 use Rattle.step_rules.specs.declared.lemma_part.LemmaPart.{LemmaPart}
 use Rattle.step_rules.specs.declared.lift_part.LiftPart.{LiftPart}
@@ -184,7 +184,7 @@ all-some b step can n within =
     let at = at-number b.facts n within in
     let some = none-at (λ (f : Fact). is_none f.conclusion) s.facts n _ no_false (fact_of-at b.facts n at.0 at.1) in
     ap is_some (fact-pred b.facts n at.0 at.1) ∙ by (at.0).pred (at.0).tuple some where
-      by : (pred : Option ℕ) (tuple : List ℤ) → is_none (conclusion_of pred tuple) ≡ false → is_some pred ≡ true
+      by : (pred : Option ℕ) (tuple : List ℤ) → is_none (ground_conclusion pred tuple) ≡ false → is_some pred ≡ true
       by None tuple h = absurd (true≢false h)
       by (Some p) tuple h = refl
 
@@ -201,7 +201,7 @@ same-itself None = refl
 same-itself (Some a) = from_both (a.0 == a.0) (same_tuple a.1 a.1) (eq-eqb a.0 a.0 refl) ((tuples_equal a.1 a.1).1 refl)
 
 -- the conclusion isn't recorded
-pub not-recorded : (b : Contents) (f : FactPart) (pred : Option ℕ) (tuple : List ℤ) → CanTake b (FactStep f) → conclusion_of pred tuple ≡ concluded b.system (record_of f) → (n : ℕ) → Concludes b.facts n pred tuple → ⊥
+pub not-recorded : (b : Contents) (f : FactPart) (pred : Option ℕ) (tuple : List ℤ) → CanTake b (FactStep f) → ground_conclusion pred tuple ≡ concluded b.system (record_of f) → (n : ℕ) → Concludes b.facts n pred tuple → ⊥
 not-recorded b f pred tuple can head n is =
     let s = state_of b in
     let plain = record_of f in
@@ -213,10 +213,10 @@ not-recorded b f pred tuple can head n is =
     let other = none-at (λ (old : Fact). same_conclusion old.conclusion told) s.facts n _ none (fact_of-at b.facts n at.0 at.1) in
     let pred_is : (at.0).pred ≡ pred = sym (fact-pred b.facts n at.0 at.1) ∙ is.1 in
     let tuple_is : (at.0).tuple ≡ tuple = sym (fact-tuple b.facts n at.0 at.1) ∙ is.2 in
-    let same : conclusion_of (at.0).pred (at.0).tuple ≡ told = ap₂ conclusion_of pred_is tuple_is ∙ head in
+    let same : ground_conclusion (at.0).pred (at.0).tuple ≡ told = ap₂ ground_conclusion pred_is tuple_is ∙ head in
     true≢false (sym (same-itself told) ∙ ap (λ (c : Option Ground). same_conclusion c told) (sym same) ∙ other)
 
-pub made-fact : (b : Contents) (f : FactPart) (m : Made) (pred : Option ℕ) (tuple : List ℤ) → CanTake b (FactStep f) → conclusion_of pred tuple ≡ concluded b.system (record_of f)
+pub made-fact : (b : Contents) (f : FactPart) (m : Made) (pred : Option ℕ) (tuple : List ℤ) → CanTake b (FactStep f) → ground_conclusion pred tuple ≡ concluded b.system (record_of f)
     → IsMadeOf b m b.frames (b.facts ++ (record { clause = (record_of f).seen.clause; point = (record_of f).seen.point; premises = f.premises; pred = pred; tuple = tuple }) ∷ []) (after_fact pred tuple (length b.journal + 1) b.tree.nodes)
     → m.level ≡ b.level → m.spent ≡ b.spent + 1 → IsMadeBy b (FactStep f) m
 made-fact b f m pred tuple can head made level spent =
@@ -224,7 +224,7 @@ made-fact b f m pred tuple can head made level spent =
     let new : KeptFact = record { clause = plain.seen.clause; point = plain.seen.point; premises = f.premises; pred = pred; tuple = tuple } in
     let told = concluded b.system plain in
     let nodes = after_fact pred tuple (length b.journal + 1) b.tree.nodes in
-    let facts = facts-push b.facts new ∙ ap (λ (c : Option Ground). facts_of b.facts ++ (record { conclusion = c; clause = plain.seen.clause; point = plain.seen.point; premises = f.premises; height = suc (greatest (facts_of b.facts) f.premises) }) ∷ []) head in
+    let facts = facts-push b.facts new ∙ ap (λ (c : Option Ground). facts_of b.facts ++ (record { conclusion = c; clause = plain.seen.clause; point = plain.seen.point; premises = f.premises; height = suc (greatest_height (facts_of b.facts) f.premises) }) ∷ []) head in
     let closed = closes-fact pred tuple (length b.journal + 1) b.tree.nodes (bare-roots (b.level + 1) (facts_of b.facts) b.tree.nodes (rooted b can.kept)) ∙ ap (λ (c : Option Ground). close_from (λ (o : Obligation). holds o c) (length b.journal + 1) [] (obligations_of b.tree.nodes)) head in
     made-is b (FactStep f) m b.frames (b.facts ++ new ∷ []) nodes (written 1 (recorded b.system (state_of b) plain)) made refl level refl facts closed refl spent refl refl (last-false b (FactStep f) new can)
 

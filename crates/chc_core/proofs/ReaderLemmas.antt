@@ -2,7 +2,7 @@
 use Rattle.std.proofs.Common.{◌≡◌, ℕ, ◌≤◌, List, [], length, Bool, true, false, subst, sym}
 use Rattle.std.specs.Prelude.{Option}
 use Rattle.std.specs.Bool.{OnTrue, OnFalse}
-use Rattle.obligation_tree.specs.Nodes.{State as Tree}
+use Rattle.obligation_tree.specs.Nodes.{TreeState as Tree}
 use Rattle.book_rules.specs.Frames.{AreGood}
 use Rattle.book_rules.specs.Instances.{instances}
 use Rattle.book_rules.specs.Kept.{AreDerivable, AreInRange, ArePlaced}

@@ -3,7 +3,7 @@ use Rattle.std.specs.Prelude.{ℕ, List}
 use Rattle.clause_form.specs.System.{Clauses}
 use Rattle.lemma_frames.specs.Frames.{Lemmas}
 use Rattle.derivations.specs.declared.fact.Fact.{Fact}
-use Rattle.obligation_tree.specs.Nodes.{State as Tree}
+use Rattle.obligation_tree.specs.Nodes.{TreeState as Tree}
 use Rattle.chc_core.specs.declared.entry.Entry.{Entry}
 
 -- the clauses, the units given and spent, the closed level, and the journal beside lemmas, facts and obligations

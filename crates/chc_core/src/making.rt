@@ -9,7 +9,7 @@ ghost use Rattle.book_rules.specs.State.{Obligation as PlainObligation};
 ghost use Rattle.chc_tokens.specs.Kept.{seen_point};
 ghost use Rattle.step_rules.specs.Taken.{open_of};
 ghost use Rattle.chc_core.specs.Views.{state_of};
-ghost use Rattle.step_rules.specs.Views.{conclusion_of, fresh_of};
+ghost use Rattle.step_rules.specs.Views.{ground_conclusion, fresh_of};
 ghost use Rattle.step_rules.specs.declared.step.Step.TheVariants.{OpenStep, LemmaStep, FactStep, LiftStep, RaiseStep, StallStep};
 ghost use Rattle.chc_core.specs.machinery.Making.{CanTake, IsMadeBy};
 
@@ -96,7 +96,7 @@ fn concluded(
     step: &FactPart,
     clause: &Clause,
 ) -> Result<(Option<u32>, Tuple), Memory>
-    ensures head { IfOk result (λ c. conclusion_of c.0 c.1 ≡ head_at (seen_point step.now.seen) clause.now) }
+    ensures head { IfOk result (λ c. ground_conclusion c.0 c.1 ≡ head_at (seen_point step.now.seen) clause.now) }
     ensures bare { IfOk result (λ c. c.0 ≡ None → c.1 ≡ []) }
 {
     match &clause.head {

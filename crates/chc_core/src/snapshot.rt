@@ -9,7 +9,7 @@ ghost use Rattle.step_rules.specs.Standing.{IsNumbered, IsStanding};
 ghost use Rattle.book_rules.specs.Places.{AreOver};
 ghost use Rattle.book_rules.specs.Rooted.{IsRooted};
 ghost use Rattle.book_rules.specs.Values.{AreShort};
-ghost use Rattle.chc_core.specs.Views.{steps_of};
+ghost use Rattle.chc_core.specs.Views.{AreMadeFor, steps_of};
 ghost use Rattle.chc_core.specs.Views.{standing_of, state_of};
 
 use crate::book::Book;
@@ -140,14 +140,15 @@ impl Snapshot {
 
     /// Tells that the book is the replay of its journal, in which each entry is legal where it is
     /// written; that each lemma is implied by the frame below it and itself on the body, through every
-    /// clause, in the frames as they are now; and that cubes and lemmas name only places that their
-    /// predicates have.
+    /// clause, in the frames as they are now; that cubes and lemmas name only places that their
+    /// predicates have; and that the tokens of each entry were made for the clauses.
     pub fn is_replayed(&self)
         ensures replayed { replay self.now.system (opening_of self.now) (steps_of self.now.journal) ≡ state_of self.now }
         ensures legal { AreLegal self.now.system (opening_of self.now) (steps_of self.now.journal) }
         ensures over { AreOver self.now.system (state_of self.now) }
         ensures sound { IsSound (instances self.now.system) (state_of self.now) }
         ensures numbered { IsNumbered self.now.system }
+        ensures made { AreMadeFor self.now.system self.now.journal }
     {
         self.book.is_replayed();
     }

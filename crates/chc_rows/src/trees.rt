@@ -10,11 +10,21 @@ use std::process::Abort;
 
 /// What a case shows, its text, how many predicates and assertions its legal commands have, and the refusal.
 const TEXTS: &str = "\
-    a script§(set-logic HORN)(declare-fun p (Int) Bool)(assert (p 0))(check-sat)§1 1¶\
-    what follows an exit§(set-logic HORN)(check-sat)(exit))))§0 0¶\
-    an illegal command before a fault of the text§(set-logic HORN)(declare-fun p (Int) Bool)(assert (q 0))(§1 0 kind 10 at byte 51 after 2 commands¶\
-    a fault of the text behind legal commands§(set-logic HORN)(declare-const q Bool)(assert q)#§1 1 kind 2 at byte 48 after 3 commands¶\
-    no question§(set-logic HORN)§0 0 kind 18 at byte 16 after 1 commands";
+    a script§\
+        (set-logic HORN)(declare-fun p (Int) Bool)(assert (p 0))(check-sat)§\
+        1 1¶\
+    what follows an exit§\
+        (set-logic HORN)(check-sat)(exit))))§\
+        0 0¶\
+    an illegal command before a fault of the text§\
+        (set-logic HORN)(declare-fun p (Int) Bool)(assert (q 0))(§\
+        1 0 kind 10 at byte 51 after 2 commands¶\
+    a fault of the text behind legal commands§\
+        (set-logic HORN)(declare-const q Bool)(assert q)#§\
+        1 1 kind 2 at byte 48 after 3 commands¶\
+    no question§\
+        (set-logic HORN)§\
+        0 0 kind 18 at byte 16 after 1 commands";
 
 /// How many predicates and assertions the text has, and its refusal.
 fn told(rt: &impl Abort, alloc: Global, text: &[u8]) -> String

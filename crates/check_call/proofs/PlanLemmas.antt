@@ -7,7 +7,7 @@ use Rattle.outside_io.specs.Bytes.{Appends, TakesCount}
 use Rattle.outside_io.specs.Counts.{counted}
 use Rattle.term_tree.specs.declared.refusal.Refusal.{Refusal}
 use Rattle.term_tree.specs.declared.refusal.Kind.TheVariants.{TooLong}
-use Rattle.check_call.specs.Calls.{IsMeant, IsRefusal, RefusesLeft, WritesPartOfCheck}
+use Rattle.check_call.specs.Calls.{IsMeantByCheck, IsRefusal, RefusesLeft, WritesPartOfCheck}
 use Rattle.check_call.specs.declared.plan.Plan.{Plan}
 use Rattle.check_call.specs.declared.plan.Plan.TheVariants.{Valid, Wrong, NotShown, Refused, Overlong, ReadFault, OutOfMemory}
 use Rattle.check_call.specs.machinery.Plans.{IsPlan}
@@ -51,7 +51,7 @@ of_too_long nodes old (Some rest) limit plan is h told untold =
 pub appended : (text written : List ℕ) (old new : Option (List ℕ)) → written ≡ text → Appends written old new → Appends text old new
 appended text written old new same held = subst (λ (t : List ℕ). Appends t old new) same held
 
-pub written_part : (nodes : ℕ) (left : Option (List ℕ)) (ends after : ℕ) (read : List ℕ) (old new : Option (List ℕ)) (text written : List ℕ) → IsMeant nodes left ends after read text
+pub written_part : (nodes : ℕ) (left : Option (List ℕ)) (ends after : ℕ) (read : List ℕ) (old new : Option (List ℕ)) (text written : List ℕ) → IsMeantByCheck nodes left ends after read text
     → written ≡ text → (n : ℕ) → n < length written → Appends (take n written) old new → WritesPartOfCheck nodes left ends after read old new
 written_part nodes left ends after read old new text written meant same n short held =
     record { text = text; meant = meant; count = n; part = subst (λ (t : List ℕ). n < length t) same short; held = subst (λ (t : List ℕ). Appends (take n t) old new) same held }

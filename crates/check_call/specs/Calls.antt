@@ -11,12 +11,12 @@ use Rattle.sort_check.specs.Scripts.{IsScript, IsScriptOf}
 use Rattle.answer_text.specs.Lines.{error_text, memory_text}
 use Rattle.chc_checker.specs.declared.verdict.Verdict.{Verdict}
 use Rattle.chc_checker.specs.declared.verdict.Verdict.TheVariants.{Valid, Wrong, NotShown}
-use Rattle.answer_check.specs.Inputs.{HasNoRefusal, JudgesInput, RefusesInput}
+use Rattle.answer_check.specs.Inputs.{HasNoRefusal, JudgesInput, RefusesScript}
 
 -- the refusal of an input: that it has too many bytes, or that of its script
 pub data IsRefusal (input : List ℕ) (refusal : Refusal) : Type 0 where
   too_long : most_bytes < length input → refusal ≡ record { kind = TooLong; offset = most_bytes; command = 0 } → IsRefusal input refusal
-  script : length input ≤ most_bytes → RefusesInput input refusal → IsRefusal input refusal
+  script : length input ≤ most_bytes → RefusesScript input refusal → IsRefusal input refusal
 
 -- no refusal of it
 pub record IsUnrefusedCheck (input : List ℕ) : Type 0 where
@@ -63,20 +63,16 @@ pub record RefusesCheck (left : Option (List ℕ)) (ends after : ℕ) (read : Li
   pub refused : RefusesLeft left ends after read refusal
   pub held : Appends (error_text refusal) old new
 
--- where the refusal isn't that the bytes are too many, all of them were read
-abbrev pub ReadsAll : Option (List ℕ) → List ℕ → Refusal → Type 0
-ReadsAll left read refusal = refusal.kind ≢ TooLong → IfSome left (λ bytes. read ≡ bytes)
-
 -- the text that the call was to write
-pub data IsMeant (nodes : ℕ) (left : Option (List ℕ)) (old new : ℕ) (read : List ℕ) (text : List ℕ) : Type 0 where
-  verdict : (status : ℕ) → IsJudged nodes read status text → IfSome left (λ bytes. read ≡ bytes) → IsMeant nodes left old new read text
-  error : (refusal : Refusal) → RefusesLeft left old new read refusal → text ≡ error_text refusal → IsMeant nodes left old new read text
-  memory : text ≡ memory_text → IsMeant nodes left old new read text
+pub data IsMeantByCheck (nodes : ℕ) (left : Option (List ℕ)) (old new : ℕ) (read : List ℕ) (text : List ℕ) : Type 0 where
+  verdict : (status : ℕ) → IsJudged nodes read status text → IfSome left (λ bytes. read ≡ bytes) → IsMeantByCheck nodes left old new read text
+  error : (refusal : Refusal) → RefusesLeft left old new read refusal → text ≡ error_text refusal → IsMeantByCheck nodes left old new read text
+  memory : text ≡ memory_text → IsMeantByCheck nodes left old new read text
 
 -- status 4: a prefix of the text that was meant is held, and not all of it
 pub record WritesPartOfCheck (nodes : ℕ) (left : Option (List ℕ)) (ends after : ℕ) (read : List ℕ) (old new : Option (List ℕ)) : Type 0 where
   pub text : List ℕ
-  pub meant : IsMeant nodes left ends after read text
+  pub meant : IsMeantByCheck nodes left ends after read text
   pub count : ℕ
   pub part : count < length text
   pub held : Appends (take count text) old new

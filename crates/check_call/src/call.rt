@@ -6,7 +6,8 @@ ghost use Rattle.outside_io.specs.Turns.{EndsOnce};
 ghost use Rattle.term_tree.specs.declared.refusal.Refusal.{Refusal};
 ghost use Rattle.answer_text.specs.Lines.{memory_text};
 ghost use Rattle.answer_check.specs.Inputs.{HasNoSystemOfCheck, HasRefusedScript};
-ghost use Rattle.check_call.specs.Calls.{Checks, IsUnrefusedCheck, ReadsAll, RefusesCheck, TellsVerdict, WritesPartOfCheck};
+ghost use Rattle.check_call.specs.Calls.{Checks, IsUnrefusedCheck, RefusesCheck, TellsVerdict, WritesPartOfCheck};
+ghost use Rattle.sort_check.specs.Scripts.{ReadsInput};
 
 use crate::plan::{Plan, plan_for};
 use answer_check::inputs_are_parted_once;
@@ -58,7 +59,7 @@ pub fn check_call<S: Source, K: Sink>(
 
     // 1: it holds the line of the script's refusal.
     ensures refused { IfSome result.refusal (λ refusal. RefusesCheck (S.left source.old) (S.ends source.old) (S.ends source.new) result.read.items refusal (K.held sink.old) (K.held sink.new)) }
-    ensures refuses_all { IfSome result.refusal (ReadsAll (S.left source.old) result.read.items) }
+    ensures refuses_all { IfSome result.refusal (ReadsInput (S.left source.old) result.read.items) }
     ensures refusal { IsSome result.refusal ↔ (result.status ≡ 1) }
 
     // Both exactly: of an input that has no refusal none is told, and where the script is refused by the rules of commands, or has no system of clauses, no verdict is.

@@ -25,7 +25,7 @@ use Rattle.linear_terms.specs.Text.{is_variable}
 use Rattle.linear_terms.proofs.RelationLemmas.{bool_same}
 use Rattle.term_widths.proofs.PositionLemmas.{position_is}
 use Rattle.clause_form.specs.declared.atom.Atom.{Atom}
-use Rattle.clause_normal.specs.Normal.{argument_variable, auxiliaries, names_of, normal_atom, normal_clause, sorts_of, top_of}
+use Rattle.clause_normal.specs.Normal.{argument_variable, auxiliaries, names_of, normal_atom, normal_clause, variable_sorts, top_of}
 use Rattle.clause_normal.proofs.MadeLemmas.{all_got, all_map, subterm_most, top_within}
 use Rattle.clause_normal.proofs.ReadLemmas.{HeadHas}
 use Rattle.clause_normal.proofs.TextLemmas.{placed_position}
@@ -140,7 +140,7 @@ module _ (script : Script) (clause : HornClause) (arena : IsArena script.terms.n
   other_name : (part : Part) (k : IsOther part.term.0) → variable_in (slice_get script.terms.nodes part.term.0) ≡ None
   other_name part k = ap variable_in k.there ∙ no_number k.node k.other
 
-  argument_low : (part : Part) → Argument part → variable_of (names_of script clause) script.terms.nodes part < length (sorts_of script clause)
+  argument_low : (part : Part) → Argument part → variable_of (names_of script clause) script.terms.nodes part < length (variable_sorts script clause)
   argument_low part argument =
       let count = count_is script clause.assertion clause arena legal is in
       elim (kind part argument) [
@@ -191,9 +191,9 @@ module _ (script : Script) (clause : HornClause) (arena : IsArena script.terms.n
               some_same (length clause.vars + x.place) (length clause.vars + y.place) (sym x.named ∙ ap (names_of script clause).auxiliary e ∙ y.named) in
               ap (λ (k : ℕ). k == (length clause.vars + y.place)) v ∙ eqb_self (length clause.vars + y.place)
 
-  at_variables_one : (atom : AtomUse) → IsApplied script clause.assertion clause arena legal is atom → IsAtVariables script.terms.nodes (names_of script clause) (length (sorts_of script clause)) atom
+  at_variables_one : (atom : AtomUse) → IsApplied script clause.assertion clause arena legal is atom → IsAtVariables script.terms.nodes (names_of script clause) (length (variable_sorts script clause)) atom
   at_variables_one atom applied = record {
-    below = all_mapped Argument (λ v. v < length (sorts_of script clause)) (variable_of (names_of script clause) script.terms.nodes) argument_low atom.args applied.each;
+    below = all_mapped Argument (λ v. v < length (variable_sorts script clause)) (variable_of (names_of script clause) script.terms.nodes) argument_low atom.args applied.each;
     apart = all_map Argument
         (λ (b : Part). AllByRecursion (λ (a : Part). is_same_argument script.terms.nodes a b ≡ (variable_of (names_of script clause) script.terms.nodes a == variable_of (names_of script clause) script.terms.nodes b)) atom.args)
         atom.args
@@ -202,12 +202,12 @@ module _ (script : Script) (clause : HornClause) (arena : IsArena script.terms.n
         (λ a first. same_variables a b first second) applied.each) applied.each;
   }
 
-  pub at_variables : AreAtVariables script.terms.nodes (names_of script clause) (length (sorts_of script clause)) clause
+  pub at_variables : AreAtVariables script.terms.nodes (names_of script clause) (length (variable_sorts script clause)) clause
   at_variables =
       let all = parts script clause.assertion clause arena legal is in
       record {
-        atoms = all_map (IsApplied script clause.assertion clause arena legal is) (IsAtVariables script.terms.nodes (names_of script clause) (length (sorts_of script clause))) clause.atoms at_variables_one all.atoms;
-        head = head_map (IsApplied script clause.assertion clause arena legal is) (IsAtVariables script.terms.nodes (names_of script clause) (length (sorts_of script clause))) at_variables_one clause.head all.head;
+        atoms = all_map (IsApplied script clause.assertion clause arena legal is) (IsAtVariables script.terms.nodes (names_of script clause) (length (variable_sorts script clause))) clause.atoms at_variables_one all.atoms;
+        head = head_map (IsApplied script clause.assertion clause arena legal is) (IsAtVariables script.terms.nodes (names_of script clause) (length (variable_sorts script clause))) at_variables_one clause.head all.head;
       }
 
   -- their definitions
@@ -249,7 +249,7 @@ module _ (script : Script) (clause : HornClause) (arena : IsArena script.terms.n
     uses_defined (u ∷ atoms) head a h = (defined_use u a.0, uses_defined atoms head a.1 h)
 
     uses_below : (atoms : List AtomUse) (head : Option AtomUse) → AllByRecursion (IsApplied script clause.assertion clause arena legal is) atoms → HeadHas (IsApplied script clause.assertion clause arena legal is) head
-        → AllByRecursion (λ (p : Atom × Bool). AllByRecursion (λ v. v < length (sorts_of script clause)) p.0.args) (use_list (names_of script clause) script.terms.nodes atoms head)
+        → AllByRecursion (λ (p : Atom × Bool). AllByRecursion (λ v. v < length (variable_sorts script clause)) p.0.args) (use_list (names_of script clause) script.terms.nodes atoms head)
     uses_below [] None a h = tt
     uses_below [] (Some u) a h = ((at_variables_one u h).below, tt)
     uses_below (u ∷ atoms) head a h = ((at_variables_one u a.0).below, uses_below atoms head a.1 h)
@@ -260,8 +260,8 @@ module _ (script : Script) (clause : HornClause) (arena : IsArena script.terms.n
         subst (λ (uses : List (Atom × Bool)). AllByRecursion (λ (p : Atom × Bool). IsDefinedFor (definition_at defs p.0) (length p.0.args)) uses) (sym (uses_listed script clause))
         (uses_defined clause.atoms clause.head all.atoms all.head)
 
-    pub all_below : AllByRecursion (λ (p : Atom × Bool). AllByRecursion (λ v. v < length (sorts_of script clause)) p.0.args) (uses_of (normal_clause script clause))
+    pub all_below : AllByRecursion (λ (p : Atom × Bool). AllByRecursion (λ v. v < length (variable_sorts script clause)) p.0.args) (uses_of (normal_clause script clause))
     all_below =
         let all = parts script clause.assertion clause arena legal is in
-        subst (λ (uses : List (Atom × Bool)). AllByRecursion (λ (p : Atom × Bool). AllByRecursion (λ v. v < length (sorts_of script clause)) p.0.args) uses) (sym (uses_listed script clause))
+        subst (λ (uses : List (Atom × Bool)). AllByRecursion (λ (p : Atom × Bool). AllByRecursion (λ v. v < length (variable_sorts script clause)) p.0.args) uses) (sym (uses_listed script clause))
         (uses_below clause.atoms clause.head all.atoms all.head)

@@ -12,7 +12,7 @@ use Rattle.horn_shape.specs.Clause.{IsClauseOf, IsLegalScript}
 use Rattle.clause_form.specs.System.{most_variables}
 use Rattle.clause_form.specs.declared.atom.Atom.{Atom}
 use Rattle.clause_form.specs.declared.clause.Clause.{Clause}
-use Rattle.clause_normal.specs.Normal.{auxiliaries, names_of, normal_clause, sorts_of}
+use Rattle.clause_normal.specs.Normal.{auxiliaries, names_of, normal_clause, variable_sorts}
 use Rattle.clause_laws.specs.Defined.{HasTooManyAt, breaking_variables, breaking_wide, first_wide_use, variables_after}
 use Rattle.clause_laws.proofs.PointLemmas.{count_is}
 use Rattle.clause_defined.specs.machinery.Uses.{AreAtVariables, CanAllBePut, capped, use_list}
@@ -27,7 +27,7 @@ is_more a b h = grind (arith, nat_tests)
 
 module _ (script : Script) (clause : HornClause) (arena : IsArena script.terms.nodes) (legal : IsLegalScript script) (is : IsClauseOf script clause.assertion clause) (defs : List Definition)
     (defines : DefinesEach 0 script.preds defs) (formed : AreFormulas script.preds defs) (placed : List ℕ) (are : placed ≡ auxiliaries script clause) where
-  first_is : length clause.vars + length placed ≡ length (sorts_of script clause)
+  first_is : length clause.vars + length placed ≡ length (variable_sorts script clause)
   first_is = ap (λ (ids : List ℕ). length clause.vars + length ids) are ∙ sym (count_is script clause.assertion clause arena legal is)
 
   pub stands_here : AreAtVariables script.terms.nodes (names_of script clause) (length clause.vars + length placed) clause
@@ -36,12 +36,12 @@ module _ (script : Script) (clause : HornClause) (arena : IsArena script.terms.n
   pub counted_here : variables_after defs (use_list (names_of script clause) script.terms.nodes clause.atoms clause.head) (length clause.vars + length placed) ≡ breaking_variables defs (normal_clause script clause)
   counted_here =
       ap (variables_after defs (use_list (names_of script clause) script.terms.nodes clause.atoms clause.head)) first_is
-      ∙ ap (λ (uses : List (Atom × Bool)). variables_after defs uses (length (sorts_of script clause))) (sym (uses_listed script clause))
+      ∙ ap (λ (uses : List (Atom × Bool)). variables_after defs uses (length (variable_sorts script clause))) (sym (uses_listed script clause))
 
   pub wide_here : first_wide_use defs (use_list (names_of script clause) script.terms.nodes clause.atoms clause.head) (length clause.vars + length placed) ≡ breaking_wide defs (normal_clause script clause)
   wide_here =
       ap (first_wide_use defs (use_list (names_of script clause) script.terms.nodes clause.atoms clause.head)) first_is
-      ∙ ap (λ (uses : List (Atom × Bool)). first_wide_use defs uses (length (sorts_of script clause))) (sym (uses_listed script clause))
+      ∙ ap (λ (uses : List (Atom × Bool)). first_wide_use defs uses (length (variable_sorts script clause))) (sym (uses_listed script clause))
 
   -- a count of at most 2,048 is the number of variables
   module _ (count : ℕ) (counted : count ≡ capped 0 (variables_after defs (use_list (names_of script clause) script.terms.nodes clause.atoms clause.head) (length clause.vars + length placed))) where

@@ -8,9 +8,9 @@ ghost use Rattle.clause_normal.specs.Normal.{auxiliaries, first_without_room, no
 ghost use Rattle.clause_normal.specs.machinery.Making.{AreTablesOf, IsGiven};
 ghost use Rattle.clause_laws.specs.Defined.{HasTooManyAt, breaking_form, breaking_variables, breaking_wide};
 
-use crate::judging::{MOST_VARIABLES, judge_all};
+use crate::judging::judge_all;
 use crate::putting::put_all;
-use base::Memory;
+use base::{MOST_VARIABLES, Memory};
 use clause_form::Clause;
 use clause_normal::{NormalStop, Tables, assertion_of, auxiliaries, made_own, names_of, tables_of};
 use horn_shape::HornClause;

@@ -13,15 +13,13 @@ ghost use Rattle.clause_defined.specs.machinery.Uses.{AreAtVariables, CanAllBeJu
 
 use crate::classes::classes_of;
 use crate::putting::definition_places;
+use base::MOST_VARIABLES;
 use clause_normal::{NormalStop, Tables, has_number, judged, tables_of};
 use horn_shape::{AtomUse, HornClause};
 use std::alloc::Global;
 use term_forms::nothing_read;
 use term_tree::{Definition, Terms};
 use term_widths::apart_names;
-
-/// How many variables the formula may have.
-pub(crate) const MOST_VARIABLES: usize = 2048;
 
 /// The sum, or 2,049 where it is more: by then it is too many.
 fn capped(count: usize, more: usize) -> usize

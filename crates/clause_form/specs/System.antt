@@ -4,6 +4,7 @@
 use Rattle.std.specs.Prelude.{ℕ, List, Bool, true, false, ◌==◌, ◌&&◌, nat_le, nat_lt, length, slice_get, Option, Some, None}
 use Rattle.std.specs.List.{list_all}
 use Rattle.base.specs.Limits.{most_arguments}
+pub use Rattle.base.specs.Limits.{most_variables}
 use Rattle.term_tree.specs.declared.sort.Sort.{Sort}
 use Rattle.lin_atoms.specs.Linear.{is_short}
 use Rattle.lin_atoms.specs.Truth.{is_below}
@@ -14,10 +15,6 @@ use Rattle.lin_atoms.specs.declared.form.Form.TheOpen.{Form-F}
 use Rattle.lin_atoms.specs.declared.form.Form.TheFolds.{fold-Form}
 use Rattle.clause_form.specs.declared.atom.Atom.{Atom}
 use Rattle.clause_form.specs.declared.clause.Clause.{Clause}
-
--- how many variables a clause may have
-abbrev pub most_variables : ℕ
-most_variables = 2048
 
 -- the clauses, and the sorts of each predicate's arguments
 pub record Clauses : Type 0 where

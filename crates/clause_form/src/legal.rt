@@ -5,11 +5,8 @@ ghost use Rattle.clause_form.specs.System.{are_clauses, has_arguments, is_atom, 
 use crate::atom::Atom;
 use crate::clause::Clause;
 use crate::short::has_short_multiples;
-use base::{Items, MOST_ARGUMENTS};
+use base::{Items, MOST_ARGUMENTS, MOST_VARIABLES};
 use term_tree::Sort;
-
-/// How many variables a clause may have.
-const MOST_VARIABLES: usize = 2048;
 
 fn have_arguments(preds: &[Items<Sort>], pred: u32, args: &[u32]) -> bool
     ensures { result ≡ has_arguments (slice_get preds.now pred) args.now }

@@ -11,8 +11,8 @@ use Rattle.term_tree.specs.declared.script.Assertion.{Assertion}
 use Rattle.term_tree.specs.declared.script.Script.{Script}
 
 -- the number of the root
-abbrev pub start_of : ℕ → ℕ
-start_of seed = (1103515245 * seed + 12345) % 2 ^ 31 % 1000
+abbrev pub root_number : ℕ → ℕ
+root_number seed = (1103515245 * seed + 12345) % 2 ^ 31 % 1000
 
 abbrev pub ids : List ℕ → List TermId
 ids ns = map (λ n. record { 0 = n }) ns
@@ -78,5 +78,5 @@ abbrev pub generated_script : ℕ → ℕ → Script
 generated_script depth seed = record {
   preds = generated_preds;
   asserts = generated_asserts;
-  terms = record { nodes = generated_nodes depth (start_of seed); offsets = zeros 39 };
+  terms = record { nodes = generated_nodes depth (root_number seed); offsets = zeros 39 };
 }

@@ -1,5 +1,6 @@
 ghost use Rattle.std.specs.Prelude.{◌≡◌, ◌<◌, ◌≤◌, ◌^◌, ◌*◌, ◌+◌, ◌++◌, pos, IfOk, OnOk, IsTrue, length, codes, vec_len};
-ghost use Rattle.clause_gen.specs.Generated.{start_of, generated_nodes, generated_asserts, generated_preds, generated_script};
+ghost use Rattle.base.specs.Widths.{short_limit};
+ghost use Rattle.clause_gen.specs.Generated.{root_number, generated_nodes, generated_asserts, generated_preds, generated_script};
 ghost use Rattle.clause_gen.specs.machinery.Order.{are_in_order};
 
 use crate::arena::terms_of;
@@ -10,7 +11,7 @@ use term_tree::{Assertion, Name, Node, Pred, Script, Sort, TermId};
 
 /// The number of the root, by one step of a linear congruential generator.
 fn start_of(seed: u32) -> u32
-    ensures value { result ≡ start_of seed }
+    ensures value { result ≡ root_number seed }
     ensures small { result < 1000 }
 {
     let step = 1_103_515_245 * u64::from(seed) + 12_345;
@@ -26,7 +27,7 @@ fn power_of_two(depth: u32) -> u64
 }
 
 fn signed(n: u64) -> i64
-    requires { n < 2 ^ 63 }
+    requires { n < short_limit }
     ensures { result ≡ pos n }
 {
     n as i64

@@ -15,7 +15,7 @@ use Rattle.term_tree.specs.declared.script.Pred.{Pred as Declared}
 use Rattle.term_tree.specs.declared.script.Script.{Script}
 use Rattle.term_tree.specs.declared.scalar.Value.{Value}
 use Rattle.term_tree.specs.Arena.{IsArena}
-use Rattle.term_tree.specs.Operators.{truth as truth_of}
+use Rattle.term_tree.specs.Operators.{truth as truth_of, same_truth}
 use Rattle.term_tree.specs.Solution.{AreFormulas, DefinesEach, IsFormula, defined_value, interpretation_of}
 use Rattle.term_tree.specs.Truth.{HaveSorts}
 use Rattle.term_tree.specs.Value.{environment_of, value_of}
@@ -28,9 +28,9 @@ use Rattle.horn_shape.specs.Instance.{ground, tuple_of}
 use Rattle.horn_shape.proofs.DisjunctLemmas.{truth_is_true}
 use Rattle.lin_atoms.specs.Linear.{variable_at}
 use Rattle.lin_atoms.specs.Truth.{truth}
-use Rattle.linear_terms.specs.Meeting.{number, signed}
+use Rattle.linear_terms.specs.Meeting.{number}
 use Rattle.clause_form.specs.declared.atom.Atom.{Atom}
-use Rattle.clause_normal.specs.Normal.{auxiliaries, guard_of, names_of, normal_atom, normal_clause, sorts_of}
+use Rattle.clause_normal.specs.Normal.{auxiliaries, clause_guard, names_of, normal_atom, normal_clause, variable_sorts}
 use Rattle.clause_normal.proofs.ReadLemmas.{HeadHas}
 use Rattle.clause_laws.specs.Defined.{breaking_form, breaking_variables, count_of, defined_forms, definition_places, head_use, use_forms, uses_of, variables_after}
 use Rattle.clause_laws.specs.Point.{IsBreakingPointOver, numbers}
@@ -153,7 +153,7 @@ module _ (script : Script) (index : ℕ) (clause : HornClause) (arena : IsArena 
     -- each predicate is true, or false, as it should be
     abbrev Agree : List (AtomUse × Bool) → Type 0
     Agree [] = Unit {0}
-    Agree (q ∷ uses) = (signed q.1 (told q.0) ≡ true) × Agree uses
+    Agree (q ∷ uses) = (same_truth q.1 (told q.0) ≡ true) × Agree uses
 
     variables_are : (uses : List (AtomUse × Bool)) (next : ℕ) → variables_after definitions (named uses) next ≡ next + length (all_worths uses)
     variables_are [] next = omega arith
@@ -170,15 +170,15 @@ module _ (script : Script) (index : ℕ) (clause : HornClause) (arena : IsArena 
     module _ (point : List ℤ) (front : take (length clause.vars) point ≡ map number values) (each : HaveValues script index clause arena legal is values point) where
       -- one of them
       one_holds : (u : AtomUse) (sign : Bool) (next : ℕ) → IsKnown u → Stand point next (use_worths (slice_get definitions u.pred) (tuple_of script.terms.nodes (environment_of values) u))
-          → signed sign (told u) ≡ true → list_all (truth point) (defined_forms (slice_get definitions u.pred) (normal_atom (names_of script clause) script.terms.nodes u) sign next) ≡ true
+          → same_truth sign (told u) ≡ true → list_all (truth point) (defined_forms (slice_get definitions u.pred) (normal_atom (names_of script clause) script.terms.nodes u) sign next) ≡ true
       one_holds u sign next known_u stand says =
           let d = definition_known u known_u in
           let vs : List Value = tuple_of script.terms.nodes (environment_of values) u in
           let sorted = tuple_sorted script index clause arena legal is values have known_u.0.pred.args u.args known_u.0.each known_u.1 known_u.0.fits in
           let same = tuple_same script index clause arena legal is values have point front each u.args known_u.0.each in
           let stand_here : Stand point next (use_worths (Some d.definition) vs) = subst (λ (o : Option Definition). Stand point next (use_worths o vs)) d.there stand in
-          let says_here : signed sign (truth_of (value_of d.definition.terms.nodes d.definition.body.0 (environment_of vs))) ≡ true =
-          subst (λ (o : Option Definition). signed sign (truth_of (defined_value o vs)) ≡ true) d.there says in
+          let says_here : same_truth sign (truth_of (value_of d.definition.terms.nodes d.definition.body.0 (environment_of vs))) ≡ true =
+          subst (λ (o : Option Definition). same_truth sign (truth_of (defined_value o vs)) ≡ true) d.there says in
           ap (λ (o : Option Definition). list_all (truth point) (defined_forms o (normal_atom (names_of script clause) script.terms.nodes u) sign next)) d.there
           ∙ definition_holds d.definition known_u.0.pred.args d.formula vs sorted (normal_atom (names_of script clause) script.terms.nodes u).args next point same
           (λ i id at.
@@ -189,7 +189,7 @@ module _ (script : Script) (index : ℕ) (clause : HornClause) (arena : IsArena 
           sign says_here
 
       one_gives : (u : AtomUse) (sign : Bool) (next : ℕ) → IsKnown u → list_all (truth point) (defined_forms (slice_get definitions u.pred) (normal_atom (names_of script clause) script.terms.nodes u) sign next) ≡ true
-          → Stand point next (use_worths (slice_get definitions u.pred) (tuple_of script.terms.nodes (environment_of values) u)) × (signed sign (told u) ≡ true)
+          → Stand point next (use_worths (slice_get definitions u.pred) (tuple_of script.terms.nodes (environment_of values) u)) × (same_truth sign (told u) ≡ true)
       one_gives u sign next known_u holds =
           let d = definition_known u known_u in
           let vs : List Value = tuple_of script.terms.nodes (environment_of values) u in
@@ -202,7 +202,7 @@ module _ (script : Script) (index : ℕ) (clause : HornClause) (arena : IsArena 
                 (stand_by point next (use_worths (Some d.definition) vs)
                 (λ i less. let place = there_at (definition_places d.definition) i (omega (arith, less, long)) in
                 given.each i place.0 place.1 ∙ sym (mapped_at (λ k. number (value_of d.definition.terms.nodes k (environment_of vs))) (definition_places d.definition) i place.0 place.1))),
-            subst (λ (o : Option Definition). signed sign (truth_of (defined_value o vs)) ≡ true) (sym d.there) given.says,
+            subst (λ (o : Option Definition). same_truth sign (truth_of (defined_value o vs)) ≡ true) (sym d.there) given.says,
           )
 
       -- all of them
@@ -240,7 +240,7 @@ module _ (script : Script) (index : ℕ) (clause : HornClause) (arena : IsArena 
     head_agrees None never = tt
     head_agrees (Some u) never = (by_truth (told u) refl, tt)
       where
-        by_truth : (b : Bool) → told u ≡ b → signed false b ≡ true
+        by_truth : (b : Bool) → told u ≡ b → same_truth false b ≡ true
         by_truth true holds = absurd (never (truth_is_true (interpretation_of definitions u.pred (tuple_of script.terms.nodes (environment_of values) u)) holds))
         by_truth false fails = refl
 
@@ -255,7 +255,7 @@ module _ (script : Script) (index : ℕ) (clause : HornClause) (arena : IsArena 
 
     head_agreed : (atoms : List AtomUse) (head : Option AtomUse) → Agree (all_uses atoms head) → IsTrueHead (interpretation_of definitions) (option_map (ground script.terms.nodes (environment_of values)) head) → ⊥
     head_agreed [] None agree holds = holds
-    head_agreed [] (Some u) agree holds = never (sym agree.0 ∙ ap (λ (v : Value). signed false (truth_of v)) holds)
+    head_agreed [] (Some u) agree holds = never (sym agree.0 ∙ ap (λ (v : Value). same_truth false (truth_of v)) holds)
       where
         never : true ≡ false → ⊥
         never e = absurd (cc)
@@ -266,15 +266,15 @@ module _ (script : Script) (index : ℕ) (clause : HornClause) (arena : IsArena 
   uses_here = all_uses clause.atoms clause.head
 
   form_is : (point : List ℤ) → truth point (breaking_form definitions (normal_clause script clause))
-      ≡ (truth point (guard_of script clause) && list_all (truth point) (use_forms definitions (named uses_here) (length (sorts_of script clause))))
+      ≡ (truth point (clause_guard script clause) && list_all (truth point) (use_forms definitions (named uses_here) (length (variable_sorts script clause))))
   form_is point =
-      conjunction_truth point (guard_of script clause ∷ use_forms definitions (uses_of (normal_clause script clause)) (length (sorts_of script clause)))
-      ∙ ap (λ (uses : List (Atom × Bool)). truth point (guard_of script clause) && list_all (truth point) (use_forms definitions uses (length (sorts_of script clause)))) (uses_named clause.atoms clause.head)
+      conjunction_truth point (clause_guard script clause ∷ use_forms definitions (uses_of (normal_clause script clause)) (length (variable_sorts script clause)))
+      ∙ ap (λ (uses : List (Atom × Bool)). truth point (clause_guard script clause) && list_all (truth point) (use_forms definitions uses (length (variable_sorts script clause)))) (uses_named clause.atoms clause.head)
 
-  variables_here : (values : List Value) (have : HaveSorts clause.vars values) → breaking_variables definitions (normal_clause script clause) ≡ length (sorts_of script clause) + length (all_worths values have uses_here)
+  variables_here : (values : List Value) (have : HaveSorts clause.vars values) → breaking_variables definitions (normal_clause script clause) ≡ length (variable_sorts script clause) + length (all_worths values have uses_here)
   variables_here values have =
-      ap (λ (uses : List (Atom × Bool)). variables_after definitions uses (length (sorts_of script clause))) (uses_named clause.atoms clause.head)
-      ∙ variables_are values have uses_here (length (sorts_of script clause))
+      ap (λ (uses : List (Atom × Bool)). variables_after definitions uses (length (variable_sorts script clause))) (uses_named clause.atoms clause.head)
+      ∙ variables_are values have uses_here (length (variable_sorts script clause))
 
   at_least : (uses : List (Atom × Bool)) (next : ℕ) → next ≤ variables_after definitions uses next
   at_least [] next = omega arith
@@ -295,8 +295,8 @@ module _ (script : Script) (index : ℕ) (clause : HornClause) (arena : IsArena 
       (let within = slice_get_within (auxiliaries script clause) i id at in
       let count = length-map (auxiliaries script clause) (λ k. number (value_of script.terms.nodes k (environment_of values))) in omega (arith, within, count))
       ∙ worth_at script index clause arena legal is values i id at) in
-      let behind : Stand point (length (sorts_of script clause)) more =
-      stand_by point (length (sorts_of script clause)) more
+      let behind : Stand point (length (variable_sorts script clause)) more =
+      stand_by point (length (variable_sorts script clause)) more
       (λ i less. ap (λ (n : ℕ). variable_at point (n + i)) (sym long) ∙ ap (λ (zs : List ℤ). variable_at zs (length (map number values ++ worths) + i)) (sym assoc)
       ∙ behind_at (map number values ++ worths) more i) in (
         point,
@@ -304,24 +304,24 @@ module _ (script : Script) (index : ℕ) (clause : HornClause) (arena : IsArena 
           front = stands.front;
           each = ap length (sym assoc) ∙ length-append (map number values ++ worths) more ∙ ap (λ (n : ℕ). n + length more) long ∙ sym (variables_here values have);
           form = form_is point
-              ∙ both_hold (truth point (guard_of script clause)) (list_all (truth point) (use_forms definitions (named uses_here) (length (sorts_of script clause)))) stands.guard
-              (uses_hold values have point stands.front stands.each uses_here known (length (sorts_of script clause)) behind (agree_all values have clause.atoms clause.head breaks.body breaks.head));
+              ∙ both_hold (truth point (clause_guard script clause)) (list_all (truth point) (use_forms definitions (named uses_here) (length (variable_sorts script clause)))) stands.guard
+              (uses_hold values have point stands.front stands.each uses_here known (length (variable_sorts script clause)) behind (agree_all values have clause.atoms clause.head breaks.body breaks.head));
         },
       )
 
   -- what a point says
   record IsReadBreaking (own point : List ℤ) : Type 0 where
     read : IsReadOff script index clause arena legal is own point
-    behind : Stand point (length (sorts_of script clause)) (all_worths (valued clause.vars own) read.have uses_here)
+    behind : Stand point (length (variable_sorts script clause)) (all_worths (valued clause.vars own) read.have uses_here)
     agree : Agree (valued clause.vars own) read.have uses_here
 
   read_breaking : (own point : List ℤ) → IsBreakingPointOver definitions (normal_clause script clause) own point → IsReadBreaking own point
   read_breaking own point over =
-      let both = both_true (truth point (guard_of script clause)) (list_all (truth point) (use_forms definitions (named uses_here) (length (sorts_of script clause)))) (sym (form_is point) ∙ over.form) in
-      let least = at_least (uses_of (normal_clause script clause)) (length (sorts_of script clause)) in
+      let both = both_true (truth point (clause_guard script clause)) (list_all (truth point) (use_forms definitions (named uses_here) (length (variable_sorts script clause)))) (sym (form_is point) ∙ over.form) in
+      let least = at_least (uses_of (normal_clause script clause)) (length (variable_sorts script clause)) in
       let count = count_is script index clause arena legal is in
       let read = read_off script index clause arena legal is own point over.front (omega (arith, over.each, least, count)) both.0 in
-      let given = uses_give (valued clause.vars own) read.have point (over.front ∙ sym read.are) read.each uses_here known (length (sorts_of script clause)) both.1 in
+      let given = uses_give (valued clause.vars own) read.have point (over.front ∙ sym read.are) read.each uses_here known (length (variable_sorts script clause)) both.1 in
       record { read = read; behind = given.0; agree = given.1 }
 
   pub point_breaks : (own point : List ℤ) → IsBreakingPointOver definitions (normal_clause script clause) own point
@@ -349,7 +349,7 @@ module _ (script : Script) (index : ℕ) (clause : HornClause) (arena : IsArena 
       second : IsReadBreaking own q
       second = read_breaking own q y
 
-      behind_own : (i : ℕ) → i < length p → length clause.vars ≤ i → (i < length (sorts_of script clause)) ⊎ (length (sorts_of script clause) ≤ i) → variable_at p i ≡ variable_at q i
+      behind_own : (i : ℕ) → i < length p → length clause.vars ≤ i → (i < length (variable_sorts script clause)) ⊎ (length (variable_sorts script clause) ≤ i) → variable_at p i ≡ variable_at q i
       behind_own i less past (inl before) =
           let j : ℕ = i - length clause.vars in
           let count = count_is script index clause arena legal is in
@@ -357,16 +357,16 @@ module _ (script : Script) (index : ℕ) (clause : HornClause) (arena : IsArena 
           let place = there_at (auxiliaries script clause) j (omega (arith, before, count, past)) in
           ap (variable_at p) at ∙ first.read.each j place.0 place.1 ∙ sym (second.read.each j place.0 place.1) ∙ ap (variable_at q) (sym at)
       behind_own i less past (inr behind) =
-          let j : ℕ = i - length (sorts_of script clause) in
-          let at : i ≡ length (sorts_of script clause) + j = omega (arith, behind) in
+          let j : ℕ = i - length (variable_sorts script clause) in
+          let at : i ≡ length (variable_sorts script clause) + j = omega (arith, behind) in
           let total = variables_here (valued clause.vars own) first.read.have in
           let within : j < length (all_worths (valued clause.vars own) first.read.have uses_here) = omega (arith, less, x.each, total, behind) in
           ap (variable_at p) at
-          ∙ stood p (length (sorts_of script clause)) (all_worths (valued clause.vars own) first.read.have uses_here) first.behind j within
-          ∙ sym (stood q (length (sorts_of script clause)) (all_worths (valued clause.vars own) first.read.have uses_here) second.behind j within)
+          ∙ stood p (length (variable_sorts script clause)) (all_worths (valued clause.vars own) first.read.have uses_here) first.behind j within
+          ∙ sym (stood q (length (variable_sorts script clause)) (all_worths (valued clause.vars own) first.read.have uses_here) second.behind j within)
           ∙ ap (variable_at q) (sym at)
 
       by_place : (i : ℕ) → i < length p → (i < length clause.vars) ⊎ (length clause.vars ≤ i) → variable_at p i ≡ variable_at q i
       by_place i less (inl before) =
           taken (length clause.vars) i p before ∙ ap (λ (xs : List ℤ). variable_at xs i) (x.front ∙ sym y.front) ∙ sym (taken (length clause.vars) i q before)
-      by_place i less (inr past) = behind_own i less past (cases_lt i (length (sorts_of script clause)))
+      by_place i less (inr past) = behind_own i less past (cases_lt i (length (variable_sorts script clause)))

@@ -10,7 +10,7 @@ use Rattle.term_tree.specs.declared.node.Node.TheVariants.{Var}
 use Rattle.term_tree.specs.declared.definition.Definition.{Definition}
 use Rattle.term_tree.specs.declared.scalar.Value.{Value}
 use Rattle.term_tree.specs.Legal.{parameters}
-use Rattle.term_tree.specs.Operators.{truth as truth_of}
+use Rattle.term_tree.specs.Operators.{truth as truth_of, same_truth}
 use Rattle.term_tree.specs.Solution.{IsFormula}
 use Rattle.term_tree.specs.Subterms.{IsSubterm, itself}
 use Rattle.term_tree.specs.Truth.{HaveSorts}
@@ -21,7 +21,7 @@ use Rattle.lin_atoms.specs.Algebra.{name_in}
 use Rattle.lin_atoms.specs.Linear.{variable_at}
 use Rattle.lin_atoms.specs.Truth.{truth}
 use Rattle.linear_terms.specs.Formula.{formula}
-use Rattle.linear_terms.specs.Meeting.{number, signed}
+use Rattle.linear_terms.specs.Meeting.{number}
 use Rattle.linear_terms.proofs.Public.{sorted_there}
 use Rattle.clause_normal.specs.Normal.{place_forms}
 use Rattle.clause_laws.specs.Defined.{definition_forms, definition_places, definition_sorting, naming_at}
@@ -59,7 +59,7 @@ module _ (d : Definition) (sorts : List Sort) (is : IsFormula sorts d.terms.node
   abbrev pub HaveWorths : Type 0
   HaveWorths = (i id : ℕ) → slice_get (definition_places d) i ≡ Some id → variable_at point (first + i) ≡ number (value_of d.terms.nodes id (environment_of values))
 
-  body_says : HaveWorths → (sign : Bool) → truth point (formula (definition_sorting d) (naming_at d args first) d.terms.nodes d.body.0 sign) ≡ signed sign (truth_of (value_of d.terms.nodes d.body.0 (environment_of values)))
+  body_says : HaveWorths → (sign : Bool) → truth point (formula (definition_sorting d) (naming_at d args first) d.terms.nodes d.body.0 sign) ≡ same_truth sign (truth_of (value_of d.terms.nodes d.body.0 (environment_of values)))
   body_says each sign =
       guard_says [] d.terms.nodes d.body.0 sorts sorts (name_in args) first is.arena is.legal start values have point stands d.body.0 sign itself
       (passes d.terms.nodes is.arena d.body.0 (sorted_there [] d.terms.nodes d.body.0 BoolSort is.legal.sorted) is.plain) is.legal.sorted each
@@ -72,7 +72,7 @@ module _ (d : Definition) (sorts : List Sort) (is : IsFormula sorts d.terms.node
       (formula (definition_sorting d) (naming_at d args first) d.terms.nodes d.body.0 sign ∷ [])
 
   -- where they have, and the definition is as it is said, the formulas hold
-  pub definition_holds : HaveWorths → (sign : Bool) → signed sign (truth_of (value_of d.terms.nodes d.body.0 (environment_of values))) ≡ true → list_all (truth point) (definition_forms sign d args first) ≡ true
+  pub definition_holds : HaveWorths → (sign : Bool) → same_truth sign (truth_of (value_of d.terms.nodes d.body.0 (environment_of values))) ≡ true → list_all (truth point) (definition_forms sign d args first) ≡ true
   definition_holds each sign says =
       forms_are sign
       ∙ ap (λ (b : Bool). b && (truth point (formula (definition_sorting d) (naming_at d args first) d.terms.nodes d.body.0 sign) && true))
@@ -83,7 +83,7 @@ module _ (d : Definition) (sorts : List Sort) (is : IsFormula sorts d.terms.node
   -- and the other way round
   pub record DefinitionSays (sign : Bool) : Type 0 where
     pub each : HaveWorths
-    pub says : signed sign (truth_of (value_of d.terms.nodes d.body.0 (environment_of values))) ≡ true
+    pub says : same_truth sign (truth_of (value_of d.terms.nodes d.body.0 (environment_of values))) ≡ true
 
   pub definition_gives : (sign : Bool) → list_all (truth point) (definition_forms sign d args first) ≡ true → DefinitionSays sign
   definition_gives sign holds =

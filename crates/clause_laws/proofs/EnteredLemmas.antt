@@ -15,14 +15,14 @@ use Rattle.term_tree.specs.declared.node.OpKind.TheVariants.{Xor, Eq, Distinct, 
 use Rattle.term_tree.specs.declared.node.Node.{Node}
 use Rattle.term_tree.specs.declared.node.Node.TheVariants.{Num, True, False, Var, LetVar, Pred, Op, Divisible, Let, Forall, Exists}
 use Rattle.term_tree.specs.Arena.{IsArena, has_parts_below}
-use Rattle.term_tree.specs.Legal.{IsLegal, Scope, has_some, is_scoped, node_is_scoped, parameters, with_bound, with_variables}
+use Rattle.term_tree.specs.Legal.{IsLegal, NamesInScope, has_some, is_scoped, node_is_scoped, parameters, with_bound, with_variables}
 use Rattle.term_tree.specs.Sorts.{are_alike, has_sort, sort_of}
 use Rattle.term_tree.specs.Subterms.{IsSubterm, inside, is_among, is_part, itself}
 use Rattle.term_tree.proofs.Public.{arena_below, below_from, both_true, eqb_self, scoped_at, sort_at, there_is}
 use Rattle.linear_terms.specs.declared.standing.Spot.{Spot}
 use Rattle.linear_terms.specs.declared.standing.Standing.{Standing}
 use Rattle.linear_terms.specs.declared.standing.Standing.TheVariants.{Plain, Bit, Argument}
-use Rattle.linear_terms.specs.Text.{Sorting, are_truths, chosen, has_auxiliary, inner, is_ready, is_unit, is_wanted, needs_one, node_spots, operands, places, spot_as, spots}
+use Rattle.linear_terms.specs.Text.{Sorting, are_truths, chosen, has_auxiliary, inner_spots, is_ready, is_unit, is_wanted, needs_one, node_spots, operands, places, spot_as, spots}
 use Rattle.linear_terms.specs.Linear.{naming_of}
 use Rattle.linear_terms.specs.Meeting.{NamesBits, NamesUnits, asks, is_first}
 use Rattle.linear_terms.proofs.Public.{sorted_there}
@@ -88,7 +88,7 @@ same_node a b h = cc
 
 -- the parts of what is in a text are in it
 text_closed : (sorts : Sorting) (nodes : List Node) → IsArena nodes → (n : ℕ) (s : Spot) → s.id < n → s.id < length nodes → (spot part : Spot) (node : Node)
-    → IsIn spot (spots sorts nodes s.id s) → slice_get nodes spot.id ≡ Some node → IsIn part (inner sorts node) → IsIn part (spots sorts nodes s.id s)
+    → IsIn spot (spots sorts nodes s.id s) → slice_get nodes spot.id ≡ Some node → IsIn part (inner_spots sorts node) → IsIn part (spots sorts nodes s.id s)
 text_closed sorts nodes arena zero s less within spot part node met at listed = absurd (omega arith)
 text_closed sorts nodes arena (suc n) s less within spot part node met at listed =
     let found = there_is nodes s.id within in
@@ -97,27 +97,27 @@ text_closed sorts nodes arena (suc n) s less within spot part node met at listed
     let below : has_parts_below s.id own ≡ true = arena_below nodes s.id own arena is in
     let text : spots sorts nodes s.id s ≡ node_spots sorts (spots sorts nodes) own s = spots_at sorts nodes s.id own s is below in
     let f : Spot → List Spot = λ q. spots sorts nodes q.id q in
-    let lower : (q : Spot) → IsIn q (inner sorts own) → q.id < s.id = λ q one. part_there s.id (inner sorts own) q (inner_below sorts s.id own below) one in
-    let before : IsIn spot (s ∷ flat_map f (inner sorts own)) = subst (λ (xs : List Spot). IsIn spot xs) text met in
+    let lower : (q : Spot) → IsIn q (inner_spots sorts own) → q.id < s.id = λ q one. part_there s.id (inner_spots sorts own) q (inner_below sorts s.id own below) one in
+    let before : IsIn spot (s ∷ flat_map f (inner_spots sorts own)) = subst (λ (xs : List Spot). IsIn spot xs) text met in
     subst (λ (xs : List Spot). IsIn part xs) (sym text) (elim before [
       | inl same ↦
           let node_is : node ≡ own = same_node node own (sym at ∙ ap (λ (x : Spot). slice_get nodes x.id) same ∙ is) in
-          let here : IsIn part (inner sorts own) = subst (λ (m : Node). IsIn part (inner sorts m)) node_is listed in
+          let here : IsIn part (inner_spots sorts own) = subst (λ (m : Node). IsIn part (inner_spots sorts m)) node_is listed in
           let small = lower part here in
-          inr (flat_in f (inner sorts own) part part here (text_head sorts nodes arena part (omega (arith, small, within))))
+          inr (flat_in f (inner_spots sorts own) part part here (text_head sorts nodes arena part (omega (arith, small, within))))
       | inr later ↦
-          let inside_one = in_flat f (inner sorts own) spot later in
+          let inside_one = in_flat f (inner_spots sorts own) spot later in
           let small = lower inside_one.part inside_one.listed in
-          inr (flat_in f (inner sorts own) part inside_one.part inside_one.listed
+          inr (flat_in f (inner_spots sorts own) part inside_one.part inside_one.listed
           (text_closed sorts nodes arena n inside_one.part (omega (arith, small, less)) (omega (arith, small, within)) spot part node inside_one.met at listed))
     ])
 
 -- the scope of a part: the names of a `let` stand in its body alone, which is the part that is no bit
-abbrev pub body_scope : Standing → List TermId → Scope → Scope
+abbrev pub body_scope : Standing → List TermId → NamesInScope → NamesInScope
 body_scope Plain bound scope = with_bound bound scope
 body_scope _ bound scope = scope
 
-abbrev pub part_scope : Node → Spot → Scope → Scope
+abbrev pub part_scope : Node → Spot → NamesInScope → NamesInScope
 part_scope (Let bound body) part scope = body_scope part.standing bound scope
 part_scope (Forall first kinds body) part scope = with_variables first kinds scope
 part_scope (Exists first kinds body) part scope = with_variables first kinds scope
@@ -130,13 +130,13 @@ abbrev pub bit_spot : ℕ → Spot
 bit_spot id = record { id = id; standing = Bit }
 
 -- the spot is met in the text of the term, under a scope in which its term is scoped
-pub data IsEntered (sorts : Sorting) (nodes : List Node) (top : ℕ) (variables : List Sort) : Spot → Scope → Type 0 where
+pub data IsEntered (sorts : Sorting) (nodes : List Node) (top : ℕ) (variables : List Sort) : Spot → NamesInScope → Type 0 where
   at_top : IsEntered sorts nodes top variables (top_spot top) (parameters variables)
-  at_part : (spot part : Spot) (scope : Scope) (node : Node) → IsEntered sorts nodes top variables spot scope → slice_get nodes spot.id ≡ Some node → IsIn part (inner sorts node)
+  at_part : (spot part : Spot) (scope : NamesInScope) (node : Node) → IsEntered sorts nodes top variables spot scope → slice_get nodes spot.id ≡ Some node → IsIn part (inner_spots sorts node)
       → IsEntered sorts nodes top variables part (part_scope node part scope)
 
 -- 1. What is entered is in the text.
-pub entered_in_text : (sorts : Sorting) (nodes : List Node) (top : ℕ) (variables : List Sort) (spot : Spot) (scope : Scope) → IsArena nodes → top < length nodes
+pub entered_in_text : (sorts : Sorting) (nodes : List Node) (top : ℕ) (variables : List Sort) (spot : Spot) (scope : NamesInScope) → IsArena nodes → top < length nodes
     → IsEntered sorts nodes top variables spot scope → IsIn spot (spots sorts nodes top (top_spot top))
 entered_in_text sorts nodes top variables spot scope arena there at_top = text_head sorts nodes arena (top_spot top) there
 entered_in_text sorts nodes top variables spot scope arena there (at_part s part outer node entered is listed) =
@@ -168,7 +168,7 @@ bit_standing standing [] part h = absurd h
 bit_standing standing (id ∷ ids) part (inl same) = ap (λ (s : Spot). s.standing) same
 bit_standing standing (id ∷ ids) part (inr later) = bit_standing standing ids part later
 
-scoped_part : (sorts : Sorting) (p : ℕ → Scope → Bool) (node : Node) (scope : Scope) (part : Spot) → node_is_scoped p node scope ≡ true → IsIn part (inner sorts node)
+scoped_part : (sorts : Sorting) (p : ℕ → NamesInScope → Bool) (node : Node) (scope : NamesInScope) (part : Spot) → node_is_scoped p node scope ≡ true → IsIn part (inner_spots sorts node)
     → p part.id (part_scope node part scope) ≡ true
 scoped_part sorts p (Num n) scope part h listed = absurd listed
 scoped_part sorts p True scope part h listed = absurd listed
@@ -197,7 +197,7 @@ scoped_part sorts p (Exists first kinds body) scope part h (inl same) =
     ap (λ (s : Spot). p s.id (with_variables first kinds scope)) same ∙ (both_true (has_some kinds) (p body.0 (with_variables first kinds scope)) h).1
 scoped_part sorts p (Exists first kinds body) scope part h (inr none) = absurd none
 
-pub entered_scoped : (sorts : Sorting) (nodes : List Node) (top : ℕ) (variables : List Sort) (spot : Spot) (scope : Scope) → IsArena nodes → is_scoped nodes top (parameters variables) ≡ true
+pub entered_scoped : (sorts : Sorting) (nodes : List Node) (top : ℕ) (variables : List Sort) (spot : Spot) (scope : NamesInScope) → IsArena nodes → is_scoped nodes top (parameters variables) ≡ true
     → IsEntered sorts nodes top variables spot scope → is_scoped nodes spot.id scope ≡ true
 entered_scoped sorts nodes top variables spot scope arena scoped at_top = scoped
 entered_scoped sorts nodes top variables spot scope arena scoped (at_part s part outer node entered is listed) =
@@ -223,10 +223,10 @@ among_both part (x ∷ xs) ys h = by_test (x.0 == part) h (λ e. among_both part
     by_test false h rest = rest h
 
 -- the node binds the term to a name
-abbrev Binds : Sorting → Node → Scope → ℕ → Type 0
-Binds sorts node scope id = IsIn (bit_spot id) (inner sorts node) × (part_scope node (bit_spot id) scope ≡ scope)
+abbrev Binds : Sorting → Node → NamesInScope → ℕ → Type 0
+Binds sorts node scope id = IsIn (bit_spot id) (inner_spots sorts node) × (part_scope node (bit_spot id) scope ≡ scope)
 
-bound_in : (sorts : Sorting) (node : Node) (part : Spot) (scope : Scope) (id : ℕ) → is_among id (part_scope node part scope).bound ≡ true → (is_among id scope.bound ≡ true) ⊎ Binds sorts node scope id
+bound_in : (sorts : Sorting) (node : Node) (part : Spot) (scope : NamesInScope) (id : ℕ) → is_among id (part_scope node part scope).bound ≡ true → (is_among id scope.bound ≡ true) ⊎ Binds sorts node scope id
 bound_in sorts (Let bound body) part scope id h = by_standing part.standing h
   where
     by_standing : (st : Standing) → is_among id (body_scope st bound scope).bound ≡ true → (is_among id scope.bound ≡ true) ⊎ Binds sorts (Let bound body) scope id
@@ -240,18 +240,18 @@ bound_in sorts (Forall first kinds body) part scope id h = inl h
 bound_in sorts (Exists first kinds body) part scope id h = inl h
 bound_in sorts _ part scope id h = inl h
 
-pub bound_entered : (sorts : Sorting) (nodes : List Node) (top : ℕ) (variables : List Sort) (spot : Spot) (scope : Scope) (id : ℕ) → IsEntered sorts nodes top variables spot scope
-    → is_among id scope.bound ≡ true → (outer : Scope) × IsEntered sorts nodes top variables (bit_spot id) outer
+pub bound_entered : (sorts : Sorting) (nodes : List Node) (top : ℕ) (variables : List Sort) (spot : Spot) (scope : NamesInScope) (id : ℕ) → IsEntered sorts nodes top variables spot scope
+    → is_among id scope.bound ≡ true → (outer : NamesInScope) × IsEntered sorts nodes top variables (bit_spot id) outer
 bound_entered sorts nodes top variables spot scope id at_top bound = absurd (cc)
 bound_entered sorts nodes top variables spot scope id (at_part s part before node entered is listed) bound = elim (bound_in sorts node part before id bound) [
   | inl outer ↦ bound_entered sorts nodes top variables s before id entered outer
-  | inr here ↦ (before, subst (λ (o : Scope). IsEntered sorts nodes top variables (bit_spot id) o) here.1 (at_part s (bit_spot id) before node entered is here.0))
+  | inr here ↦ (before, subst (λ (o : NamesInScope). IsEntered sorts nodes top variables (bit_spot id) o) here.1 (at_part s (bit_spot id) before node entered is here.0))
 ]
 
 -- 4. So every subterm was entered.
 pub record WasEntered (sorts : Sorting) (nodes : List Node) (top : ℕ) (variables : List Sort) (id : ℕ) : Type 0 where
   pub spot : Spot
-  pub scope : Scope
+  pub scope : NamesInScope
   pub same : spot.id ≡ id
   pub entered : IsEntered sorts nodes top variables spot scope
 
@@ -260,7 +260,7 @@ abbrev IsNameOf : Node → ℕ → Type 0
 IsNameOf node part = (bound : TermId) × (node ≡ LetVar bound) × (bound.0 ≡ part)
 
 abbrev IsInner : Sorting → Node → ℕ → Type 0
-IsInner sorts node part = (s : Spot) × IsIn s (inner sorts node) × (s.id ≡ part)
+IsInner sorts node part = (s : Spot) × IsIn s (inner_spots sorts node) × (s.id ≡ part)
 
 chosen_spot : (part : ℕ) (ids : List TermId) → is_among part ids ≡ true → (s : Spot) × IsIn s (chosen ids) × (s.id ≡ part)
 chosen_spot part [] has = absurd (cc)
@@ -299,8 +299,8 @@ part_found sorts (Exists first kinds body) part has = inr (spot_as Plain body, i
 
 module _ (sorts : Sorting) (nodes : List Node) (top : ℕ) (variables : List Sort) (arena : IsArena nodes) (scoped : is_scoped nodes top (parameters variables) ≡ true) where
   -- what a name that was entered stands for
-  name_entered : (spot : Spot) (scope : Scope) (bound : TermId) → IsEntered sorts nodes top variables spot scope → slice_get nodes spot.id ≡ Some (LetVar bound)
-      → (outer : Scope) × IsEntered sorts nodes top variables (bit_spot bound.0) outer
+  name_entered : (spot : Spot) (scope : NamesInScope) (bound : TermId) → IsEntered sorts nodes top variables spot scope → slice_get nodes spot.id ≡ Some (LetVar bound)
+      → (outer : NamesInScope) × IsEntered sorts nodes top variables (bit_spot bound.0) outer
   name_entered spot scope bound entered is =
       bound_entered sorts nodes top variables spot scope bound.0 entered
       (sym (scoped_at nodes spot.id (LetVar bound) scope is (arena_below nodes spot.id (LetVar bound) arena is)) ∙ entered_scoped sorts nodes top variables spot scope arena scoped entered)
@@ -376,7 +376,7 @@ module _ (preds : List Declared) (nodes : List Node) (top first : ℕ) (variable
 
   -- a part whose bit is asked for is a name's term, or stands as a bit
   asked_bit : (id part : ℕ) (node : Node) (s : Sort) → slice_get nodes id ≡ Some node → sort_of preds nodes id ≡ Some s → asks node part ≡ true → sort_of preds nodes part ≡ Some BoolSort
-      → IsNameOf node part ⊎ IsIn (bit_spot part) (inner (sort_of preds nodes) node)
+      → IsNameOf node part ⊎ IsIn (bit_spot part) (inner_spots (sort_of preds nodes) node)
   asked_bit id part (LetVar bound) s is sorted asked at = inl (bound, refl, eqb-true bound.0 part asked)
   asked_bit id part (Op Xor args) s is sorted asked at = inr (among_spot Bit part args asked)
   asked_bit id part (Op Eq args) s is sorted asked at =

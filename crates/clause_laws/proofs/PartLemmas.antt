@@ -15,7 +15,7 @@ use Rattle.horn_shape.proofs.KnownLemmas.{among_plain}
 use Rattle.linear_terms.specs.declared.standing.Spot.{Spot}
 use Rattle.linear_terms.specs.declared.standing.Standing.{Standing}
 use Rattle.linear_terms.specs.declared.standing.Standing.TheVariants.{Plain, Bit, Argument}
-use Rattle.linear_terms.specs.Text.{Sorting, are_truths, chosen, inner, operands, spot_as}
+use Rattle.linear_terms.specs.Text.{Sorting, are_truths, chosen, inner_spots, operands, spot_as}
 use Rattle.clause_laws.proofs.EnteredLemmas.{IsIn, in_both}
 
 pub id_same : (a b : Spot) → a ≡ b → a.id ≡ b.id
@@ -47,7 +47,7 @@ pub one_spot : (id : TermId) (part : Spot) → IsIn part (spot_as Plain id ∷ [
 one_spot id part (inl same) = same
 one_spot id part (inr none) = absurd none
 
-pub part_of_inner : (sorts : Sorting) (node : Node) (part : Spot) → IsIn part (inner sorts node) → is_part part.id node ≡ true
+pub part_of_inner : (sorts : Sorting) (node : Node) (part : Spot) → IsIn part (inner_spots sorts node) → is_part part.id node ≡ true
 part_of_inner sorts (Pred pred args) part h = mapped_among Argument args part h
 part_of_inner sorts (Op op args) part h = operand_among sorts args part op h
 part_of_inner sorts (Divisible by arg) part h = ap (λ (k : ℕ). arg.0 == k) (id_same part (spot_as Plain arg) (one_spot arg part h)) ∙ eqb_self arg.0

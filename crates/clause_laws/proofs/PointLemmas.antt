@@ -19,7 +19,7 @@ use Rattle.term_tree.specs.declared.node.Node.{Node}
 use Rattle.term_tree.specs.declared.node.Node.TheVariants.{Num, True, False, Var, LetVar, Pred, Op, Divisible, Let, Forall, Exists}
 use Rattle.term_tree.specs.Arena.{IsArena}
 use Rattle.term_tree.specs.Legal.{IsLegal, next_variable, parameters}
-use Rattle.term_tree.specs.Operators.{truth as truth_of}
+use Rattle.term_tree.specs.Operators.{truth as truth_of, same_truth}
 use Rattle.term_tree.specs.Sorts.{has_sort, have_sorts, sort_of}
 use Rattle.term_tree.specs.Subterms.{IsSubterm, inside, is_among, itself}
 use Rattle.term_tree.specs.Truth.{HaveSorts}
@@ -39,11 +39,11 @@ use Rattle.lin_atoms.specs.Truth.{truth}
 use Rattle.lin_atoms.specs.declared.form.Form.{Form}
 use Rattle.linear_terms.specs.Text.{is_variable}
 use Rattle.linear_terms.specs.declared.standing.Standing.TheVariants.{Plain}
-use Rattle.linear_terms.specs.Meeting.{number, signed}
+use Rattle.linear_terms.specs.Meeting.{number}
 use Rattle.linear_terms.proofs.PartLemmas.{first_among, later_among}
 use Rattle.linear_terms.proofs.Public.{sorted_there, value_sort}
 use Rattle.linear_terms.proofs.SortLemmas.{has_sort_is}
-use Rattle.clause_normal.specs.Normal.{argument_variable, auxiliaries, bits_from, guard_form, guard_of, names_of, normal_atom, normal_clause, place_forms, sorting, sorts_of, top_of}
+use Rattle.clause_normal.specs.Normal.{argument_variable, auxiliaries, bits_from, guard_form, clause_guard, names_of, normal_atom, normal_clause, place_forms, sorting, variable_sorts, top_of}
 use Rattle.clause_normal.proofs.MadeLemmas.{legal_top, top_is}
 use Rattle.clause_normal.proofs.PlaceLemmas.{predicate_is}
 use Rattle.clause_normal.proofs.ReadLemmas.{HeadHas, Holds, clause_holds}
@@ -58,7 +58,7 @@ use Rattle.clause_laws.proofs.SortedLemmas.{subterm_sorted}
 use Rattle.clause_laws.proofs.StageLemmas.{IsRead, term_id}
 use Rattle.clause_laws.proofs.WrittenLemmas.{front_stands, guard_says, met, named_place, places_have, values_hold, variable_known, written}
 
-met_sign : (negated b : Bool) → signed (not negated) b ≡ (if negated then not b else b)
+met_sign : (negated b : Bool) → same_truth (not negated) b ≡ (if negated then not b else b)
 met_sign true b = refl
 met_sign false b = refl
 
@@ -151,13 +151,13 @@ module _ (script : Script) (index : ℕ) (clause : HornClause) (arena : IsArena 
   plain_parts =
       clause_plain_parts script.preds script.terms.nodes arena given.assertion.term [] (content_of clause) (ap (sort_of script.preds script.terms.nodes) (sym top_same) ∙ legal_here.sorted) given.reading
 
-  pub count_is : length (sorts_of script clause) ≡ length clause.vars + length (auxiliaries script clause)
+  pub count_is : length (variable_sorts script clause) ≡ length clause.vars + length (auxiliaries script clause)
   count_is =
       length-append clause.vars (map (λ (id : ℕ). unwrap_or (sorting script id) IntSort) (auxiliaries script clause))
       ∙ ap (λ (k : ℕ). length clause.vars + k) (length-map (auxiliaries script clause) (λ (id : ℕ). unwrap_or (sorting script id) IntSort))
 
   -- the guard's parts
-  guard_is : (point : List ℤ) → truth point (guard_of script clause)
+  guard_is : (point : List ℤ) → truth point (clause_guard script clause)
       ≡ ((list_all (truth point) (bits_from 0 clause.vars)
       && list_all (truth point) (place_forms (sorting script) (names_of script clause) script.terms.nodes (length clause.vars) (auxiliaries script clause)))
       && list_all (truth point) (map (guard_form (sorting script) (names_of script clause) script.terms.nodes) clause.guards))
@@ -285,7 +285,7 @@ module _ (script : Script) (index : ℕ) (clause : HornClause) (arena : IsArena 
   pub record IsStanding (values : List Value) (point : List ℤ) : Type 0 where
     pub front : take (length clause.vars) point ≡ map number values
     pub each : HaveValues values point
-    pub guard : truth point (guard_of script clause) ≡ true
+    pub guard : truth point (clause_guard script clause) ≡ true
 
   numbers_long : (values : List Value) → HaveSorts clause.vars values → length (map number values) ≡ length clause.vars
   numbers_long values have = length-map values number ∙ have_length clause.vars values have
@@ -315,7 +315,7 @@ module _ (script : Script) (index : ℕ) (clause : HornClause) (arena : IsArena 
       all_hold true false c x y z = y
       all_hold false b c x y z = x
 
-  pub worths_long : (values : List Value) → HaveSorts clause.vars values → length (map number values ++ worths_of values) ≡ length (sorts_of script clause)
+  pub worths_long : (values : List Value) → HaveSorts clause.vars values → length (map number values ++ worths_of values) ≡ length (variable_sorts script clause)
   worths_long values have =
       length-append (map number values) (worths_of values) ∙ ap (λ (n : ℕ). n + length (worths_of values)) (numbers_long values have)
       ∙ ap (λ (n : ℕ). length clause.vars + n) (length-map (auxiliaries script clause) (λ id. number (value_of script.terms.nodes id (environment_of values)))) ∙ sym count_is
@@ -338,7 +338,7 @@ module _ (script : Script) (index : ℕ) (clause : HornClause) (arena : IsArena 
     pub each : HaveValues (valued clause.vars own) point
     pub met_all : list_all (is_met script.terms.nodes (environment_of (valued clause.vars own))) clause.guards ≡ true
 
-  pub read_off : (own point : List ℤ) → take (length clause.vars) point ≡ own → length clause.vars ≤ length point → truth point (guard_of script clause) ≡ true → IsReadOff own point
+  pub read_off : (own point : List ℤ) → take (length clause.vars) point ≡ own → length clause.vars ≤ length point → truth point (clause_guard script clause) ≡ true → IsReadOff own point
   read_off own point begins within holds =
       let long : length own ≡ length clause.vars = ap length (sym begins) ∙ length-take-le (length clause.vars) point within in
       let B : Bool = list_all (truth point) (bits_from 0 clause.vars) in

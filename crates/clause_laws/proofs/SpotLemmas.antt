@@ -12,7 +12,7 @@ use Rattle.term_tree.proofs.Public.{below_from, both_true, told_at_each}
 use Rattle.linear_terms.specs.declared.standing.Spot.{Spot}
 use Rattle.linear_terms.specs.declared.standing.Standing.{Standing}
 use Rattle.linear_terms.specs.declared.standing.Standing.TheVariants.{Plain, Bit, Argument}
-use Rattle.linear_terms.specs.Text.{Sorting, are_truths, chosen, inner, node_spots, operands, spot_as, spots}
+use Rattle.linear_terms.specs.Text.{Sorting, are_truths, chosen, inner_spots, node_spots, operands, spot_as, spots}
 
 abbrev pub are_below : ℕ → List Spot → Bool
 are_below n parts = list_all (λ s. nat_lt s.id n) parts
@@ -43,7 +43,7 @@ last_below n (p ∷ parts) part below less =
     ap (λ (b : Bool). b && are_below n (parts ++ part ∷ [])) both.0 ∙ last_below n parts part both.1 less
 
 -- the parts of a node are below where it may stand
-pub inner_below : (sorts : Sorting) (n : ℕ) (node : Node) → has_parts_below n node ≡ true → are_below n (inner sorts node) ≡ true
+pub inner_below : (sorts : Sorting) (n : ℕ) (node : Node) → has_parts_below n node ≡ true → are_below n (inner_spots sorts node) ≡ true
 inner_below sorts n (Pred pred args) below = spots_below n Argument args below
 inner_below sorts n (Op op args) below = operands_below sorts n args below op
 inner_below sorts n (Divisible by arg) below = ap (λ (b : Bool). b && true) below
@@ -63,7 +63,7 @@ parts_rest p q n (part ∷ parts) same below =
 
 texts_rest : (sorts : Sorting) (p q : ℕ → Spot → List Spot) (n : ℕ) (node : Node) (spot : Spot) → ((c : ℕ) → c < n → (s : Spot) → p c s ≡ q c s) → has_parts_below n node ≡ true
     → node_spots sorts p node spot ≡ node_spots sorts q node spot
-texts_rest sorts p q n node spot same below = ap (λ (xs : List Spot). spot ∷ xs) (parts_rest p q n (inner sorts node) same (inner_below sorts n node below))
+texts_rest sorts p q n node spot same below = ap (λ (xs : List Spot). spot ∷ xs) (parts_rest p q n (inner_spots sorts node) same (inner_below sorts n node below))
 
 pub spots_at : (sorts : Sorting) (nodes : List Node) (id : ℕ) (node : Node) (spot : Spot) → slice_get nodes id ≡ Some node → has_parts_below id node ≡ true
     → spots sorts nodes id spot ≡ node_spots sorts (spots sorts nodes) node spot

@@ -14,10 +14,10 @@ use Rattle.term_tree.specs.declared.node.Node.{Node}
 use Rattle.term_tree.specs.declared.node.Node.TheVariants.{Pred, Op, Let, Forall, Exists}
 use Rattle.term_tree.specs.declared.scalar.Value.TheVariants.{Bool as Truth}
 use Rattle.term_tree.specs.Arena.{IsArena, has_parts_below}
-use Rattle.term_tree.specs.Legal.{Scope, next_variable, node_numbers, numbers_through, parameters, with_bound, with_variables}
+use Rattle.term_tree.specs.Legal.{NamesInScope, next_variable, node_numbers, numbers_through, parameters, with_bound, with_variables}
 use Rattle.term_tree.proofs.Public.{arena_below, numbered_at}
 use Rattle.horn_shape.specs.Plain.{is_plain_term, node_is_plain}
-use Rattle.horn_shape.specs.Shape.{Content, Reading, arguments, at, atom_of, body_form, body_reading, both, clause_form, clause_reading, denial, disjunct_form, disjunct_reading, disjuncts, each, head_of, implication, is_application, quantified}
+use Rattle.horn_shape.specs.Shape.{Content, Reading, arguments, at, atom_of, body_form, body_reading, both, clause_form, clause_reading, denial, disjunct_form, disjunct_reading, disjuncts, each, head_of, implication, is_application, quantified_reading}
 use Rattle.horn_shape.specs.machinery.Gathering.{place_of}
 use Rattle.horn_shape.proofs.FlagLemmas.{plain_at}
 use Rattle.horn_shape.proofs.BodyLemmas.{body_is, both_ok, bound_ok, chosen_ok, never_read, same_read}
@@ -27,7 +27,7 @@ use Rattle.horn_shape.proofs.ShapeLemmas.{body_mixed, clause_mixed, disjunct_mix
 use Rattle.linear_terms.specs.declared.standing.Spot.{Spot}
 use Rattle.linear_terms.specs.declared.standing.Standing.{Standing}
 use Rattle.linear_terms.specs.declared.standing.Standing.TheVariants.{Plain, Bit, Argument}
-use Rattle.linear_terms.specs.Text.{Sorting, inner, is_unit, needs_one, spot_as}
+use Rattle.linear_terms.specs.Text.{Sorting, inner_spots, is_unit, needs_one, spot_as}
 use Rattle.clause_laws.proofs.EnteredLemmas.{IsEntered, IsIn, at_part, at_top, body_scope, in_both, part_scope, top_spot}
 use Rattle.clause_laws.proofs.PartLemmas.{id_same, mapped_among, one_spot, part_of_inner, plain_below}
 
@@ -35,10 +35,10 @@ abbrev pub term_id : ℕ → TermId
 term_id k = record { 0 = k }
 
 -- each variable in scope has the sort that the clause's has
-abbrev pub Knows : List Sort → Scope → Type 0
+abbrev pub Knows : List Sort → NamesInScope → Type 0
 Knows whole scope = (k : ℕ) (s : Sort) → scope.variables k ≡ Some s → slice_get whole k ≡ Some s
 
-abbrev pub IsLow : ℕ → Scope → Type 0
+abbrev pub IsLow : ℕ → NamesInScope → Type 0
 IsLow n scope = (k : ℕ) (s : Sort) → scope.variables k ≡ Some s → k < n
 
 -- these come next among the clause's variables
@@ -53,7 +53,7 @@ IsBody nodes k = (lets : List TermId) × (c : Content) × (body_reading nodes k 
 abbrev pub IsDisjunct : List Node → ℕ → Type 0
 IsDisjunct nodes k = (lets : List TermId) × (c : Content) × (disjunct_reading nodes (slice_get nodes k) (place_of (term_id k) lets) ≡ Ok c)
 
-pub record IsClauseAt (nodes : List Node) (whole : List Sort) (k : ℕ) (scope : Scope) : Type 0 where
+pub record IsClauseAt (nodes : List Node) (whole : List Sort) (k : ℕ) (scope : NamesInScope) : Type 0 where
   pub lets : List TermId
   pub content : Content
   pub from : ℕ
@@ -64,7 +64,7 @@ pub record IsClauseAt (nodes : List Node) (whole : List Sort) (k : ℕ) (scope :
   pub ahead : AreNext whole from content.vars
 
 -- an `exists` that is denied
-pub record IsDenied (nodes : List Node) (whole : List Sort) (k : ℕ) (scope : Scope) : Type 0 where
+pub record IsDenied (nodes : List Node) (whole : List Sort) (k : ℕ) (scope : NamesInScope) : Type 0 where
   pub lets : List TermId
   pub content : Content
   pub from : ℕ
@@ -78,10 +78,10 @@ pub record IsDenied (nodes : List Node) (whole : List Sort) (k : ℕ) (scope : S
   pub low : IsLow from scope
   pub ahead : AreNext whole from (sorts ++ content.vars)
 
-abbrev pub IsMixed : List Node → List Sort → ℕ → Scope → Type 0
+abbrev pub IsMixed : List Node → List Sort → ℕ → NamesInScope → Type 0
 IsMixed nodes whole k scope = IsBody nodes k ⊎ (IsDisjunct nodes k ⊎ (IsClauseAt nodes whole k scope ⊎ IsDenied nodes whole k scope))
 
-pub record IsRead (nodes : List Node) (whole : List Sort) (spot : Spot) (scope : Scope) : Type 0 where
+pub record IsRead (nodes : List Node) (whole : List Sort) (spot : Spot) (scope : NamesInScope) : Type 0 where
   pub known : Knows whole scope
   pub stage : (is_plain_term nodes spot.id ≡ true) ⊎ ((spot.standing ≡ Plain) × IsMixed nodes whole spot.id scope)
 
@@ -104,10 +104,10 @@ below_is a b e = grind (arith, nat_tests)
 past_is : (a b : ℕ) → nat_lt a b ≡ false → b ≤ a
 past_is a b e = grind (arith, nat_tests)
 
-abbrev variable_by : Scope → ℕ → List Sort → ℕ → Bool → Bool → Option Sort
+abbrev variable_by : NamesInScope → ℕ → List Sort → ℕ → Bool → Bool → Option Sort
 variable_by scope n sorts k a b = if a then scope.variables k else if b then slice_get sorts (k - n) else scope.variables k
 
-module _ (whole : List Sort) (n : ℕ) (sorts vars : List Sort) (scope : Scope) (ahead : AreNext whole n (sorts ++ vars)) where
+module _ (whole : List Sort) (n : ℕ) (sorts vars : List Sort) (scope : NamesInScope) (ahead : AreNext whole n (sorts ++ vars)) where
   at_variable : (k : ℕ) (s : Sort) → n ≤ k → slice_get sorts (k - n) ≡ Some s → slice_get whole k ≡ Some s
   at_variable k s le h =
       let long = ahead.long in
@@ -135,18 +135,18 @@ module _ (whole : List Sort) (n : ℕ) (sorts vars : List Sort) (scope : Scope) 
       let long = ahead.long in
       record { front = ahead.front ++ sorts; are = ahead.are ∙ sym (append_assoc ahead.front sorts vars); long = omega (arith, long, length-append ahead.front sorts) }
 
-knows_let : (whole : List Sort) (standing : Standing) (bound : List TermId) (scope : Scope) → Knows whole scope → Knows whole (body_scope standing bound scope)
+knows_let : (whole : List Sort) (standing : Standing) (bound : List TermId) (scope : NamesInScope) → Knows whole scope → Knows whole (body_scope standing bound scope)
 knows_let whole Plain bound scope known = known
 knows_let whole Bit bound scope known = known
 knows_let whole Argument bound scope known = known
 
-low_let : (n : ℕ) (standing : Standing) (bound : List TermId) (scope : Scope) → IsLow n scope → IsLow n (body_scope standing bound scope)
+low_let : (n : ℕ) (standing : Standing) (bound : List TermId) (scope : NamesInScope) → IsLow n scope → IsLow n (body_scope standing bound scope)
 low_let n Plain bound scope low = low
 low_let n Bit bound scope low = low
 low_let n Argument bound scope low = low
 
 -- without a quantifier the variables stay
-knows_part : (whole : List Sort) (f : ℕ → Bool) (node : Node) (part : Spot) (scope : Scope) → node_is_plain f node ≡ true → Knows whole scope → Knows whole (part_scope node part scope)
+knows_part : (whole : List Sort) (f : ℕ → Bool) (node : Node) (part : Spot) (scope : NamesInScope) → node_is_plain f node ≡ true → Knows whole scope → Knows whole (part_scope node part scope)
 knows_part whole f (Let bound body) part scope plain known = knows_let whole part.standing bound scope known
 knows_part whole f (Forall first kinds body) part scope plain known = absurd (cc)
 knows_part whole f (Exists first kinds body) part scope plain known = absurd (cc)
@@ -157,7 +157,7 @@ mapped_standing standing [] part h = absurd h
 mapped_standing standing (id ∷ ids) part (inl same) = ap (λ (s : Spot). s.standing) same
 mapped_standing standing (id ∷ ids) part (inr later) = mapped_standing standing ids part later
 
-quantified_ok : (sorts : List Sort) (r : Reading) (c : Content) → quantified sorts r ≡ Ok c → (x : Content) × (r ≡ Ok x) × (c.vars ≡ sorts ++ x.vars)
+quantified_ok : (sorts : List Sort) (r : Reading) (c : Content) → quantified_reading sorts r ≡ Ok c → (x : Content) × (r ≡ Ok x) × (c.vars ≡ sorts ++ x.vars)
 quantified_ok sorts (Err t) c h = never_read t c h
 quantified_ok sorts (Ok x) c h = (x, refl, ap (λ (z : Content). z.vars) (sym (same_read (record { vars = sorts ++ x.vars; atoms = x.atoms; guards = x.guards; head = x.head }) c h)))
 
@@ -187,7 +187,7 @@ module _ (nodes : List Node) (arena : IsArena nodes) (whole : List Sort) where
       let read = both_ok (at (body_reading nodes) lets id) (each (body_reading nodes) lets ids) c h in each_read lets ids read.1 part read.3 later
 
   -- parts of what is read under a scope
-  module _ (sorts : Sorting) (scope : Scope) (known : Knows whole scope) where
+  module _ (sorts : Sorting) (scope : NamesInScope) (known : Knows whole scope) where
     args_plain : (args : List TermId) (part : Spot) → list_all (λ a. is_plain_term nodes a.0) args ≡ true → IsIn part (map (spot_as Argument) args) → IsRead nodes whole part scope
     args_plain args part all listed = record { known = known; stage = inl (among_plain (is_plain_term nodes) part.id args all (mapped_among Argument args part listed)) }
 
@@ -205,7 +205,7 @@ module _ (nodes : List Node) (arena : IsArena nodes) (whole : List Sort) where
     }
 
     body_parts : (k : ℕ) (lets : List TermId) (c : Content) (node : Node) (part : Spot) → body_form (is_plain_term nodes) (body_reading nodes) node (place_of (term_id k) lets) ≡ Ok c
-        → IsIn part (inner sorts node) → IsRead nodes whole part (part_scope node part scope)
+        → IsIn part (inner_spots sorts node) → IsRead nodes whole part (part_scope node part scope)
     body_parts k lets c (Pred pred args) part h listed =
         args_plain args part (chosen_ok (list_all (λ a. is_plain_term nodes a.0) args) (atom_of (record { pred = pred; args = arguments lets args })) (term_id k) c h).0 listed
     body_parts k lets c (Op AndOp args) part h listed =
@@ -221,7 +221,7 @@ module _ (nodes : List Node) (arena : IsArena nodes) (whole : List Sort) where
         record { known = known; stage = inr (ap (λ (s : Spot). s.standing) same, inl (body_at_part id lets c part (id_same part (spot_as Plain id) same) h)) }
 
     disjunct_parts : (k : ℕ) (lets : List TermId) (c : Content) (node : Node) (part : Spot) → disjunct_form nodes node (place_of (term_id k) lets) ≡ Ok c
-        → IsIn part (inner sorts node) → IsRead nodes whole part (part_scope node part scope)
+        → IsIn part (inner_spots sorts node) → IsRead nodes whole part (part_scope node part scope)
     disjunct_parts k lets c (Pred pred args) part h listed =
         args_plain args part (chosen_ok (list_all (λ a. is_plain_term nodes a.0) args) (head_of (record { pred = pred; args = arguments lets args })) (term_id k) c h).0 listed
     disjunct_parts k lets c (Op Not (body ∷ [])) part h listed = one_body body lets c part h listed
@@ -294,7 +294,7 @@ module _ (nodes : List Node) (arena : IsArena nodes) (whole : List Sort) where
     denial_read body lets c n m part (Some node) is h numbers low ahead same = inl (body_at_part body lets c part same h)
 
     clause_parts : (k n m : ℕ) (lets : List TermId) (c : Content) (node : Node) (part : Spot) → clause_form nodes (clause_reading nodes) node (place_of (term_id k) lets) ≡ Ok c
-        → node_numbers (next_variable nodes) node n ≡ Some m → IsLow n scope → AreNext whole n c.vars → IsIn part (inner sorts node) → IsRead nodes whole part (part_scope node part scope)
+        → node_numbers (next_variable nodes) node n ≡ Some m → IsLow n scope → AreNext whole n c.vars → IsIn part (inner_spots sorts node) → IsRead nodes whole part (part_scope node part scope)
     clause_parts k n m lets c (Pred pred args) part h numbers low ahead listed =
         args_plain args part (chosen_ok (list_all (λ a. is_plain_term nodes a.0) args) (head_of (record { pred = pred; args = arguments lets args })) (term_id k) c h).0 listed
     clause_parts k n m lets c (Forall first kinds body) part h numbers low ahead listed =
@@ -347,10 +347,10 @@ module _ (nodes : List Node) (arena : IsArena nodes) (whole : List Sort) where
         }
     clause_parts k n m lets c _ part h numbers low ahead listed = never_read (term_id k) c h
 
-    denied_parts : (k : ℕ) (node : Node) (part : Spot) (d : IsDenied nodes whole k scope) → slice_get nodes k ≡ Some node → IsIn part (inner sorts node) → IsRead nodes whole part (part_scope node part scope)
+    denied_parts : (k : ℕ) (node : Node) (part : Spot) (d : IsDenied nodes whole k scope) → slice_get nodes k ≡ Some node → IsIn part (inner_spots sorts node) → IsRead nodes whole part (part_scope node part scope)
     denied_parts k node part d is listed =
         let node_is : Exists d.first d.sorts d.body ≡ node = same_node (Exists d.first d.sorts d.body) node (sym d.is ∙ is) in
-        subst (λ (n : Node). IsRead nodes whole part (part_scope n part scope)) node_is (exists_parts (subst (λ (n : Node). IsIn part (inner sorts n)) (sym node_is) listed))
+        subst (λ (n : Node). IsRead nodes whole part (part_scope n part scope)) node_is (exists_parts (subst (λ (n : Node). IsIn part (inner_spots sorts n)) (sym node_is) listed))
       where
         same_node : (a b : Node) → Some a ≡ Some b → a ≡ b
         same_node a b h = cc
@@ -365,7 +365,7 @@ module _ (nodes : List Node) (arena : IsArena nodes) (whole : List Sort) where
             })
 
   -- the parts of a spot that is read are read
-  read_part : (sorts : Sorting) (spot part : Spot) (scope : Scope) (node : Node) → IsRead nodes whole spot scope → slice_get nodes spot.id ≡ Some node → IsIn part (inner sorts node)
+  read_part : (sorts : Sorting) (spot part : Spot) (scope : NamesInScope) (node : Node) → IsRead nodes whole spot scope → slice_get nodes spot.id ≡ Some node → IsIn part (inner_spots sorts node)
       → IsRead nodes whole part (part_scope node part scope)
   read_part sorts spot part scope node reads is listed = by_plain (is_plain_term nodes spot.id) refl
     where
@@ -396,13 +396,13 @@ module _ (nodes : List Node) (arena : IsArena nodes) (whole : List Sort) where
           differ e = absurd (cc)
 
   -- so whatever is entered is read
-  pub entered_read : (sorts : Sorting) (top : ℕ) (variables : List Sort) (spot : Spot) (scope : Scope) → IsRead nodes whole (top_spot top) (parameters variables) → IsEntered sorts nodes top variables spot scope
+  pub entered_read : (sorts : Sorting) (top : ℕ) (variables : List Sort) (spot : Spot) (scope : NamesInScope) → IsRead nodes whole (top_spot top) (parameters variables) → IsEntered sorts nodes top variables spot scope
       → IsRead nodes whole spot scope
   entered_read sorts top variables spot scope start at_top = start
   entered_read sorts top variables spot scope start (at_part s part outer node entered is listed) = read_part sorts s part outer node (entered_read sorts top variables s outer start entered) is listed
 
   -- a place is a term without predicates and quantifiers
-  no_form : {A : Type 0} (k : ℕ) (sort : Option Sort) (node : Node) (scope : Scope) → is_unit sort node ≡ true → slice_get nodes k ≡ Some node → is_plain_term nodes k ≡ false → IsMixed nodes whole k scope → A
+  no_form : {A : Type 0} (k : ℕ) (sort : Option Sort) (node : Node) (scope : NamesInScope) → is_unit sort node ≡ true → slice_get nodes k ≡ Some node → is_plain_term nodes k ≡ false → IsMixed nodes whole k scope → A
   no_form k sort node scope unit is isnt (inl body) =
       no_body_form sort node (term_id k) body.0 body.1 unit (sym (body_mixed nodes k node (place_of (term_id k) body.0) is (arena_below nodes k node arena is) isnt) ∙ body.2)
     where
@@ -443,7 +443,7 @@ module _ (nodes : List Node) (arena : IsArena nodes) (whole : List Sort) where
       no_exists sort (Exists first sorts body) unit same = absurd (cc)
       no_exists sort _ unit same = absurd (cc)
 
-  pub place_plain : (sort : Option Sort) (spot : Spot) (scope : Scope) (node : Node) → IsRead nodes whole spot scope → slice_get nodes spot.id ≡ Some node → needs_one spot.standing sort (Some node) ≡ true
+  pub place_plain : (sort : Option Sort) (spot : Spot) (scope : NamesInScope) (node : Node) → IsRead nodes whole spot scope → slice_get nodes spot.id ≡ Some node → needs_one spot.standing sort (Some node) ≡ true
       → is_plain_term nodes spot.id ≡ true
   place_plain sort spot scope node reads is needs = by_plain (is_plain_term nodes spot.id) refl
     where

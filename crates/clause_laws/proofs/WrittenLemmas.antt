@@ -13,8 +13,8 @@ use Rattle.term_tree.specs.declared.node.Node.TheVariants.{Var}
 use Rattle.term_tree.specs.declared.scalar.Value.{Value}
 use Rattle.term_tree.specs.declared.scalar.Value.TheVariants.{Bool as Truth}
 use Rattle.term_tree.specs.Arena.{IsArena, has_parts_below}
-use Rattle.term_tree.specs.Legal.{IsLegal, Scope, parameters}
-use Rattle.term_tree.specs.Operators.{truth as truth_of}
+use Rattle.term_tree.specs.Legal.{IsLegal, NamesInScope, parameters}
+use Rattle.term_tree.specs.Operators.{truth as truth_of, same_truth}
 use Rattle.term_tree.specs.Sorts.{has_sort, sort_of}
 use Rattle.term_tree.specs.Subterms.{IsSubterm, inside, itself}
 use Rattle.term_tree.specs.Truth.{HaveSorts}
@@ -26,9 +26,9 @@ use Rattle.horn_shape.proofs.ScopeLemmas.{get_sorted, sort_is}
 use Rattle.lin_atoms.specs.Linear.{variable_at}
 use Rattle.lin_atoms.specs.Truth.{truth}
 use Rattle.linear_terms.specs.declared.standing.Spot.{Spot}
-use Rattle.linear_terms.specs.Text.{Sorting, has_auxiliary, inner, needs_one, places, spots}
+use Rattle.linear_terms.specs.Text.{Sorting, has_auxiliary, inner_spots, needs_one, places, spots}
 use Rattle.linear_terms.specs.Linear.{Naming}
-use Rattle.linear_terms.specs.Meeting.{IsWritten, MeetsBelow, MeetsVariables, number, signed}
+use Rattle.linear_terms.specs.Meeting.{IsWritten, MeetsBelow, MeetsVariables, number}
 use Rattle.linear_terms.specs.Place.{place_form}
 use Rattle.linear_terms.specs.Formula.{formula}
 use Rattle.linear_terms.proofs.Public.{formula_is, place_value, sorted_there}
@@ -45,14 +45,14 @@ through : (nodes : List Node) (top mid id : ℕ) → IsSubterm nodes top mid →
 through nodes top mid id first itself = first
 through nodes top mid id first (inside part node second is has) = inside part node (through nodes top mid _ first second) is has
 
-pub entered_subterm : (sorts : Sorting) (nodes : List Node) (top : ℕ) (variables : List Sort) (spot : Spot) (scope : Scope) → IsEntered sorts nodes top variables spot scope → IsSubterm nodes top spot.id
+pub entered_subterm : (sorts : Sorting) (nodes : List Node) (top : ℕ) (variables : List Sort) (spot : Spot) (scope : NamesInScope) → IsEntered sorts nodes top variables spot scope → IsSubterm nodes top spot.id
 entered_subterm sorts nodes top variables spot scope at_top = itself
 entered_subterm sorts nodes top variables spot scope (at_part s part outer node entered is listed) =
     inside part.id node (entered_subterm sorts nodes top variables s outer entered) is (part_of_inner sorts node part listed)
 
 -- all that is in the text of a spot that was entered was entered
-text_entered : (sorts : Sorting) (nodes : List Node) (top : ℕ) (variables : List Sort) → IsArena nodes → (n : ℕ) (s : Spot) (scope : Scope) → s.id < n → s.id < length nodes
-    → IsEntered sorts nodes top variables s scope → (spot : Spot) → IsIn spot (spots sorts nodes s.id s) → (outer : Scope) × IsEntered sorts nodes top variables spot outer
+text_entered : (sorts : Sorting) (nodes : List Node) (top : ℕ) (variables : List Sort) → IsArena nodes → (n : ℕ) (s : Spot) (scope : NamesInScope) → s.id < n → s.id < length nodes
+    → IsEntered sorts nodes top variables s scope → (spot : Spot) → IsIn spot (spots sorts nodes s.id s) → (outer : NamesInScope) × IsEntered sorts nodes top variables spot outer
 text_entered sorts nodes top variables arena zero s scope less within entered spot listed = absurd (omega (arith, less))
 text_entered sorts nodes top variables arena (suc n) s scope less within entered spot listed =
     let found = there_is nodes s.id within in
@@ -60,12 +60,12 @@ text_entered sorts nodes top variables arena (suc n) s scope less within entered
     let is : slice_get nodes s.id ≡ Some own = found.1 in
     let below : has_parts_below s.id own ≡ true = arena_below nodes s.id own arena is in
     let f : Spot → List Spot = λ q. spots sorts nodes q.id q in
-    let here : IsIn spot (s ∷ flat_map f (inner sorts own)) = subst (λ (xs : List Spot). IsIn spot xs) (spots_at sorts nodes s.id own s is below) listed in
+    let here : IsIn spot (s ∷ flat_map f (inner_spots sorts own)) = subst (λ (xs : List Spot). IsIn spot xs) (spots_at sorts nodes s.id own s is below) listed in
     elim here [
       | inl same ↦ (scope, subst (λ (x : Spot). IsEntered sorts nodes top variables x scope) (sym same) entered)
       | inr later ↦
-          let one = in_flat f (inner sorts own) spot later in
-          let lower = part_there s.id (inner sorts own) one.part (inner_below sorts s.id own below) one.listed in
+          let one = in_flat f (inner_spots sorts own) spot later in
+          let lower = part_there s.id (inner_spots sorts own) one.part (inner_below sorts s.id own below) one.listed in
           text_entered sorts nodes top variables arena n one.part (part_scope own one.part scope) (omega (arith, lower, less)) (omega (arith, lower, within))
           (at_part s one.part scope own entered is one.listed) spot one.met
     ]
@@ -202,7 +202,7 @@ module _ (preds : List Declared) (nodes : List Node) (top : ℕ) (variables vars
 
       -- so a guard is as true as its formula
       pub guard_says : (id : ℕ) (sign : Bool) → IsSubterm nodes top id → is_plain_term nodes id ≡ true → sort_of preds nodes id ≡ Some BoolSort → ((i k : ℕ) → slice_get placed i ≡ Some k → HasValueAt i k)
-          → truth point (formula (sort_of preds nodes) names nodes id sign) ≡ signed sign (truth_of (value_of nodes id (environment_of values)))
+          → truth point (formula (sort_of preds nodes) names nodes id sign) ≡ same_truth sign (truth_of (value_of nodes id (environment_of values)))
       guard_says id sign sub plain sorted each =
           formula_is preds nodes id (environment_of values) names (written id sub plain) point (met id sub) id (meets_from id id sub (λ i k lower at. each i k at)) id itself (lt_more id) sorted sign
         where

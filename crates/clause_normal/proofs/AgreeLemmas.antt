@@ -19,7 +19,7 @@ use Rattle.lin_atoms.specs.declared.form.Form.TheVariants.{Lit}
 use Rattle.lin_atoms.specs.declared.form.Form.TheViews.{And, Or}
 use Rattle.linear_terms.specs.Text.{Sorting, are_truths, is_truth}
 use Rattle.linear_terms.specs.Linear.{Naming, bit_of, less, linear_of, variable_form}
-use Rattle.linear_terms.specs.Formula.{choice, comparison, denied, eq, formula, implied, joined, le, node_formula, complement_of, operation}
+use Rattle.linear_terms.specs.Formula.{choice, comparison, denied, eq, formula, implication_forms, joined, le, node_formula, complement_of, operation}
 use Rattle.linear_terms.specs.Place.{abs_place, choice_place, constant_value, integer_place, place_form, quotient_place, remainder_place, truth_place}
 use Rattle.linear_terms.proofs.PartLemmas.{body_among, first_among, later_among}
 use Rattle.linear_terms.proofs.Public.{formula_at}
@@ -38,11 +38,11 @@ module _ (bit : ℕ → Linear) (S T : Sorting) (L M : ℕ → Linear) (naming :
   abbrev SameForms : (ℕ → Bool) → Type 0
   SameForms among = (part : ℕ) (sign : Bool) → among part ≡ true → p part sign ≡ q part sign
 
-  implied_same : (sign : Bool) (ids : List TermId) → SameForms (λ part. is_among part ids) → implied p sign ids ≡ implied q sign ids
+  implied_same : (sign : Bool) (ids : List TermId) → SameForms (λ part. is_among part ids) → implication_forms p sign ids ≡ implication_forms q sign ids
   implied_same sign [] same = refl
   implied_same sign (id ∷ []) same = ap (λ (f : Form). f ∷ []) (same id.0 sign (first_among id []))
   implied_same sign (id ∷ next ∷ ids) same =
-      ap (λ (f : Form). f ∷ implied p sign (next ∷ ids)) (same id.0 (not sign) (first_among id (next ∷ ids)))
+      ap (λ (f : Form). f ∷ implication_forms p sign (next ∷ ids)) (same id.0 (not sign) (first_among id (next ∷ ids)))
       ∙ ap (λ (fs : List Form). q id.0 (not sign) ∷ fs) (implied_same sign (next ∷ ids) (λ part s has. same part s (later_among part id (next ∷ ids) has)))
 
   denied_same : (sign : Bool) (ids : List TermId) → SameForms (λ part. is_among part ids) → denied p sign ids ≡ denied q sign ids

@@ -44,7 +44,7 @@ use Rattle.term_widths.specs.Wide.{has_wide_sides}
 use Rattle.term_widths.specs.machinery.Apart.{Occurs}
 use Rattle.term_formulas.specs.Written.{HasRoom}
 use Rattle.clause_form.specs.System.{has_arguments, has_short_in_guard, has_short_guard, is_atom, is_clause, is_head, most_variables}
-use Rattle.clause_normal.specs.Normal.{argument_variable, auxiliaries, bits_from, conjunction, first_without_room, guard_form, guard_of, guard_parts, is_too_large, most_atoms, most_own, names_of, normal_atom, normal_clause, place_forms, sorting, sorts_of, top_of}
+use Rattle.clause_normal.specs.Normal.{argument_variable, auxiliaries, bits_from, conjunction, first_without_room, guard_form, clause_guard, guard_parts, is_too_large, most_atoms, most_own, names_of, normal_atom, normal_clause, place_forms, sorting, variable_sorts, top_of}
 use Rattle.clause_normal.proofs.Lower.{position_is}
 use Rattle.clause_normal.proofs.LowLemmas.{added_all, among_low, bit_low, collected_all, formula_passes, length_is, less_variable, linear_low, narrow_constant, negated_all, place_passes, scaled_all, sum_small, sums_low}
 use Rattle.clause_normal.proofs.MadeLemmas.{all_got, all_map, from_moved, legal_top, low_top, placed_top, room_sub, top_is}
@@ -128,7 +128,7 @@ module _ (script : Script) (clause : HornClause) (arena : IsArena script.terms.n
     (narrow : first_without_room script clause ≡ None) where
   -- as many variables as the clause has
   abbrev total : ℕ
-  total = length (sorts_of script clause)
+  total = length (variable_sorts script clause)
 
   long : total ≡ length clause.vars + length (auxiliaries script clause)
   long =
@@ -182,7 +182,7 @@ module _ (script : Script) (clause : HornClause) (arena : IsArena script.terms.n
         both_hold (passes t (guard_form (sorting script) (names_of script clause) script.terms.nodes part)) (list_all (passes t) (map (guard_form (sorting script) (names_of script clause) script.terms.nodes) parts))
         (formulas part.term.0 (not part.negated) all.0) (guards_pass parts all.1)
 
-    guard_passes : AllByRecursion (λ part. IsSubterm script.terms.nodes (top_of script clause) part.term.0) clause.guards → passes t (guard_of script clause) ≡ true
+    guard_passes : AllByRecursion (λ part. IsSubterm script.terms.nodes (top_of script clause) part.term.0) clause.guards → passes t (clause_guard script clause) ≡ true
     guard_passes all =
         let bits_forms : List Form = bits_from 0 clause.vars in
         let place_list : List Form = place_forms (sorting script) (names_of script clause) script.terms.nodes (length clause.vars) (auxiliaries script clause) in
@@ -228,9 +228,9 @@ module _ (script : Script) (clause : HornClause) (arena : IsArena script.terms.n
   less_in id v sub within h =
       added_all in_total (linear_of (names_of script clause) script.terms.nodes id) (negated (variable_form v)) (linear_in id sub within) (negated_all in_total (variable_form v) (variable_in v h))
 
-  guard_below : AllByRecursion (λ part. IsSubterm script.terms.nodes (top_of script clause) part.term.0) clause.guards → names_below total (guard_of script clause) ≡ true
+  guard_below : AllByRecursion (λ part. IsSubterm script.terms.nodes (top_of script clause) part.term.0) clause.guards → names_below total (clause_guard script clause) ≡ true
   guard_below all =
-      below_passes total (guard_of script clause)
+      below_passes total (clause_guard script clause)
       ∙ guard_passes (lit_is_below total)
       (λ v h. (
         le_passes (lit_is_below total) low (λ l ok. ok) (λ l ok. ok) (negated_all in_total) (added_all in_total) (λ l k ok. ok) (scaled_all in_total) (negated (variable_form v)) (negated_all in_total (variable_form v) (variable_in v h)),
@@ -265,9 +265,9 @@ module _ (script : Script) (clause : HornClause) (arena : IsArena script.terms.n
         let few : length args < 2 ^ 63 = few_args id Xor args sub at in
         lt-ltb (nat_abs (all_constants bits)) (2 ^ 63) (omega (arith, small, same, few))
 
-    guard_short : AllByRecursion (λ part. IsSubterm script.terms.nodes (top_of script clause) part.term.0) clause.guards → has_short_guard (guard_of script clause) ≡ true
+    guard_short : AllByRecursion (λ part. IsSubterm script.terms.nodes (top_of script clause) part.term.0) clause.guards → has_short_guard (clause_guard script clause) ≡ true
     guard_short all =
-        short_passes (guard_of script clause)
+        short_passes (clause_guard script clause)
         ∙ guard_passes has_short_in_guard
         (λ v h. (
           le_passes has_short_in_guard any_form (λ l ok. refl) (λ l ok. refl) (λ l ok. tt) (λ a b x y. tt) (λ l k ok. tt) (λ k l ok. tt) (negated (variable_form v)) tt,
@@ -368,8 +368,8 @@ module _ (script : Script) (clause : HornClause) (arena : IsArena script.terms.n
         let most : nat_le total most_variables ≡ true = ap (λ (k : ℕ). nat_le k most_variables) long ∙ le_from (length clause.vars + length (auxiliaries script clause)) most_variables size in
         let atoms : list_all (is_atom sorts_given total) (map (normal_atom (names_of script clause) script.terms.nodes) clause.atoms) ≡ true =
         mapped_all (normal_atom (names_of script clause) script.terms.nodes) (is_atom sorts_given total) clause.atoms parts.atoms in
-        both_hold _ (has_short_guard (guard_of script clause))
-        (both_hold _ (names_below total (guard_of script clause))
+        both_hold _ (has_short_guard (clause_guard script clause))
+        (both_hold _ (names_below total (clause_guard script clause))
         (both_hold _ (is_head sorts_given total (option_map (normal_atom (names_of script clause) script.terms.nodes) clause.head))
         (both_hold _ (list_all (is_atom sorts_given total) (map (normal_atom (names_of script clause) script.terms.nodes) clause.atoms))
         (both_hold (nat_le (length clause.vars) total) (nat_le total most_variables) own most) atoms)

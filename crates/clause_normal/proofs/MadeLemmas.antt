@@ -37,7 +37,7 @@ use Rattle.term_formulas.specs.machinery.Fresh.{IsFresh}
 use Rattle.term_formulas.specs.machinery.Parts.{ArePlaces, is_shaped}
 use Rattle.clause_form.specs.declared.clause.Clause.{Clause}
 use Rattle.clause_form.specs.System.{most_variables}
-use Rattle.clause_normal.specs.Normal.{auxiliaries, bits_from, conjunction, first_without_room, guard_form, names_of, normal_atom, normal_clause, place_forms, sorting, sorts_of, term_number, top_of}
+use Rattle.clause_normal.specs.Normal.{auxiliaries, bits_from, conjunction, first_without_room, guard_form, names_of, normal_atom, normal_clause, place_forms, sorting, variable_sorts, term_number, top_of}
 use Rattle.clause_normal.specs.machinery.Making.{HasRoomFor, IsHeadThere, IsThere, clause_by, guard_by, parts_by}
 use Rattle.clause_normal.proofs.AgreeLemmas.{formulas_same, place_same}
 use Rattle.clause_normal.proofs.Lower.{judged_same, position_is, room_part}
@@ -262,9 +262,9 @@ module _ (script : Script) (clause : HornClause) (arena : IsArena script.terms.n
       clause_is =
           ap (λ (ss : List Sort). with_parts ss (conjunction (parts_by (constant_in known) (sort_in sorts) (names_of script clause) script.terms.nodes clause (auxiliaries script clause))))
           (ap (λ (ss : List Sort). clause.vars ++ ss) (sorts_are (auxiliaries script clause) placed_top))
-          ∙ ap (λ (fs : List Form). with_parts (sorts_of script clause) (conjunction (bits_from 0 clause.vars ++ fs ++ map (guard_by (constant_in known) (sort_in sorts) (names_of script clause) script.terms.nodes) clause.guards)))
+          ∙ ap (λ (fs : List Form). with_parts (variable_sorts script clause) (conjunction (bits_from 0 clause.vars ++ fs ++ map (guard_by (constant_in known) (sort_in sorts) (names_of script clause) script.terms.nodes) clause.guards)))
           (places_are_forms (auxiliaries script clause) (length clause.vars) placed_top)
-          ∙ ap (λ (fs : List Form). with_parts (sorts_of script clause) (conjunction (bits_from 0 clause.vars ++ place_forms (sorting script) (names_of script clause) script.terms.nodes (length clause.vars) (auxiliaries script clause) ++ fs)))
+          ∙ ap (λ (fs : List Form). with_parts (variable_sorts script clause) (conjunction (bits_from 0 clause.vars ++ place_forms (sorting script) (names_of script clause) script.terms.nodes (length clause.vars) (auxiliaries script clause) ++ fs)))
           (guards_are clause.guards parts_hold.guards)
         where
           with_parts : List Sort → Form → Clause

@@ -11,7 +11,7 @@ use Rattle.term_tree.specs.declared.node.TermId.{TermId}
 use Rattle.term_tree.specs.declared.node.Node.{Node}
 use Rattle.term_tree.specs.declared.node.Node.TheVariants.{Num, True, False, Var, LetVar, Pred, Op, Divisible, Let, Forall, Exists}
 use Rattle.term_tree.specs.Arena.{IsArena, is_below, has_parts_below}
-use Rattle.term_tree.specs.Legal.{Scope, carried, has_some, is_scoped, next_variable, node_is_scoped, node_numbers, numbers_through, parameters, with_bound, with_variables}
+use Rattle.term_tree.specs.Legal.{NamesInScope, carried, has_some, is_scoped, next_variable, node_is_scoped, node_numbers, numbers_through, parameters, with_bound, with_variables}
 use Rattle.term_tree.specs.Subterms.{IsSubterm, inside, is_among, is_part, itself}
 use Rattle.term_tree.proofs.Public.{arena_below, below_from, both_true, numbered_at, scoped_at, there_is, told_past}
 use Rattle.horn_shape.proofs.KnownLemmas.{carried_on, one_through}
@@ -52,11 +52,11 @@ low_from nodes m id node is own parts low binder sort sub at = elim (from_top no
 ]
 
 -- the variables in scope are below the number, and so are those in the terms that names stand for
-pub record IsLowScope (nodes : List Node) (n : ℕ) (scope : Scope) : Type 0 where
+pub record IsLowScope (nodes : List Node) (n : ℕ) (scope : NamesInScope) : Type 0 where
   pub low : (k : ℕ) (s : Sort) → scope.variables k ≡ Some s → k < n
   pub bound : (id : ℕ) → is_among id scope.bound ≡ true → IsLow nodes n id
 
-scope_more : (nodes : List Node) (n m : ℕ) (scope : Scope) → n ≤ m → IsLowScope nodes n scope → IsLowScope nodes m scope
+scope_more : (nodes : List Node) (n m : ℕ) (scope : NamesInScope) → n ≤ m → IsLowScope nodes n scope → IsLowScope nodes m scope
 scope_more nodes n m scope less is = record {
   low = λ k s h. let small = is.low k s h in omega (arith, less, small);
   bound = λ id h. low_more nodes n m id less (is.bound id h);
@@ -66,13 +66,13 @@ either_by : {A : Type 0} (a b : Bool) → (a || b) ≡ true → (a ≡ true → 
 either_by true b h f g = f refl
 either_by false b h f g = g h
 
-scope_bound : (nodes : List Node) (n : ℕ) (scope : Scope) (ids : List TermId) → IsLowScope nodes n scope → ((id : ℕ) → is_among id ids ≡ true → IsLow nodes n id) → IsLowScope nodes n (with_bound ids scope)
+scope_bound : (nodes : List Node) (n : ℕ) (scope : NamesInScope) (ids : List TermId) → IsLowScope nodes n scope → ((id : ℕ) → is_among id ids ≡ true → IsLow nodes n id) → IsLowScope nodes n (with_bound ids scope)
 scope_bound nodes n scope ids is lows = record {
   low = is.low;
   bound = λ id h. either_by (is_among id ids) (is_among id scope.bound) (sym (list_any-append (λ (i : TermId). i.0 == id) ids scope.bound) ∙ h) (lows id) (is.bound id);
 }
 
-scope_variables : (nodes : List Node) (n : ℕ) (scope : Scope) (sorts : List Sort) → IsLowScope nodes n scope → IsLowScope nodes (n + length sorts) (with_variables n sorts scope)
+scope_variables : (nodes : List Node) (n : ℕ) (scope : NamesInScope) (sorts : List Sort) → IsLowScope nodes n scope → IsLowScope nodes (n + length sorts) (with_variables n sorts scope)
 scope_variables nodes n scope sorts is = record {
   low = λ k s h. by_tests k s (nat_lt k n) (nat_lt (k - n) (length sorts)) refl refl h;
   bound = λ id h. low_more nodes n (n + length sorts) id (omega arith) (is.bound id h);
@@ -109,9 +109,9 @@ numbered_from first n x m false e h = absurd (differ (sym (ap (λ (b : Bool). if
 
 module _ (nodes : List Node) (arena : IsArena nodes) where
   abbrev Lows : ℕ → Type 0
-  Lows bound = (k n m : ℕ) (scope : Scope) → k < bound → IsLowScope nodes n scope → is_scoped nodes k scope ≡ true → next_variable nodes k n ≡ Some m → (n ≤ m) × IsLow nodes m k
+  Lows bound = (k n m : ℕ) (scope : NamesInScope) → k < bound → IsLowScope nodes n scope → is_scoped nodes k scope ≡ true → next_variable nodes k n ≡ Some m → (n ≤ m) × IsLow nodes m k
 
-  through : (id : ℕ) (ids : List TermId) (n m : ℕ) (scope : Scope) → Lows id → list_all (is_below id) ids ≡ true → IsLowScope nodes n scope
+  through : (id : ℕ) (ids : List TermId) (n m : ℕ) (scope : NamesInScope) → Lows id → list_all (is_below id) ids ≡ true → IsLowScope nodes n scope
       → list_all (λ a. is_scoped nodes a.0 scope) ids ≡ true → numbers_through (next_variable nodes) ids n ≡ Some m → (n ≤ m) × ((part : ℕ) → is_among part ids ≡ true → IsLow nodes m part)
   through id [] n m scope ih below is scoped h = let same : n ≡ m = cc in (omega (arith, same), λ part has. absurd (cc))
   through id (k ∷ ids) n m scope ih below is scoped h =
@@ -127,7 +127,7 @@ module _ (nodes : List Node) (arena : IsArena nodes) where
             (λ e. subst (λ (j : ℕ). IsLow nodes m j) (eqb-true k.0 part e) (low_more nodes next.0 m k.0 rest_less one.1)) (λ e. rest.1 part e)),
       )
 
-  low_node : (id n m : ℕ) (node : Node) (scope : Scope) → Lows id → slice_get nodes id ≡ Some node → has_parts_below id node ≡ true → IsLowScope nodes n scope
+  low_node : (id n m : ℕ) (node : Node) (scope : NamesInScope) → Lows id → slice_get nodes id ≡ Some node → has_parts_below id node ≡ true → IsLowScope nodes n scope
       → node_is_scoped (is_scoped nodes) node scope ≡ true → node_numbers (next_variable nodes) node n ≡ Some m → (n ≤ m) × IsLow nodes m id
   low_node id n m (Num k) scope ih at below is scoped h = let same : n ≡ m = cc in (omega (arith, same), low_from nodes m id (Num k) at (λ b s e. absurd (cc)) (λ part has. absurd (cc)))
   low_node id n m True scope ih at below is scoped h = let same : n ≡ m = cc in (omega (arith, same), low_from nodes m id True at (λ b s e. absurd (cc)) (λ part has. absurd (cc)))
@@ -179,12 +179,12 @@ module _ (nodes : List Node) (arena : IsArena nodes) where
       let less : n + length sorts ≤ m = one.0 in
       (omega (arith, less), low_from nodes m id (Exists first sorts body) at (λ b s e. absurd (cc)) (λ part has. subst (λ (j : ℕ). IsLow nodes m j) (eqb-true body.0 part has) one.1))
 
-  scoped_there : (id : ℕ) (scope : Scope) → is_scoped nodes id scope ≡ true → id < length nodes
+  scoped_there : (id : ℕ) (scope : NamesInScope) → is_scoped nodes id scope ≡ true → id < length nodes
   scoped_there id scope h = elim (cases_lt id (length nodes)) [
     | inl less ↦ less
     | inr past ↦
-        let none = told_past (Scope → Bool) (λ s. false) node_is_scoped nodes id past in
-        absurd (differ (sym (ap (λ (f : Scope → Bool). f scope) none) ∙ h))
+        let none = told_past (NamesInScope → Bool) (λ s. false) node_is_scoped nodes id past in
+        absurd (differ (sym (ap (λ (f : NamesInScope → Bool). f scope) none) ∙ h))
   ]
     where
       differ : false ≡ true → ⊥

@@ -12,6 +12,7 @@ use Rattle.term_tree.specs.declared.node.Node.TheVariants.{Num, True as TrueTerm
 use Rattle.term_tree.specs.declared.sort.Sort.{Sort}
 use Rattle.term_tree.specs.Subterms.{is_among, is_part}
 use Rattle.term_tree.proofs.Public.{eqb_self}
+use Rattle.term_tree.specs.Operators.{is_distinct}
 use Rattle.lin_atoms.specs.Linear.{Linear}
 use Rattle.lin_atoms.specs.Algebra.{added, negated, plus, scaled}
 use Rattle.lin_atoms.specs.Truth.{is_below, lit_all, lit_is_below, variables_step}
@@ -24,7 +25,7 @@ use Rattle.lin_atoms.specs.declared.form.Form.TheViews.{And, Or, roll-Form}
 use Rattle.lin_atoms.specs.declared.form.Form.TheFolds.{fold-Form, fold-roll-Form}
 use Rattle.linear_terms.specs.Text.{are_truths}
 use Rattle.linear_terms.specs.Linear.{Naming, less, sum_form, variable_form}
-use Rattle.linear_terms.specs.Formula.{Reading, choice, comparison, denied, eq, equal, implied, is_pairwise, is_one, joined, le, neighbours, node_formula, odd, complement_of, one_more, operation, pairs, related, same_bits, sides}
+use Rattle.linear_terms.specs.Formula.{TermForms, choice, comparison, denied, eq, equal, implication_forms, is_one, joined, le, neighbours, node_formula, odd, complement_of, one_more, operation, pairs, related, same_bits, sides}
 use Rattle.linear_terms.specs.Place.{abs_place, choice_place, integer_place, quotient_place, remainder_place, truth_place}
 use Rattle.linear_terms.proofs.PartLemmas.{body_among, first_among, later_among}
 use Rattle.clause_form.specs.System.{has_short_in_guard, has_short_guard, guard_step}
@@ -194,9 +195,9 @@ module _ (t : Literal → Bool) (Ok : Linear → Type 0) (les : (l : Linear) →
 
   comparison_passes : (op : OpKind) (truths sign : Bool) (bits forms : List Linear) → AllByRecursion Ok bits → AllByRecursion Ok forms → passes t (comparison op truths sign bits forms) ≡ true
   comparison_passes op true sign bits forms x y =
-      joined_pass t sign (map (λ p. same_bits (if is_pairwise op then not sign else sign) p.0 p.1) (sides op bits))
-      (mapped_pass t (λ p. same_bits (if is_pairwise op then not sign else sign) p.0 p.1) (λ (p : Linear × Linear). Ok p.0 × Ok p.1) (sides op bits)
-      (λ p ok. bits_pass (if is_pairwise op then not sign else sign) p.0 p.1 ok.0 ok.1) (sides_all Ok op bits x))
+      joined_pass t sign (map (λ p. same_bits (if is_distinct op then not sign else sign) p.0 p.1) (sides op bits))
+      (mapped_pass t (λ p. same_bits (if is_distinct op then not sign else sign) p.0 p.1) (λ (p : Linear × Linear). Ok p.0 × Ok p.1) (sides op bits)
+      (λ p ok. bits_pass (if is_distinct op then not sign else sign) p.0 p.1 ok.0 ok.1) (sides_all Ok op bits x))
   comparison_passes op false sign bits forms x y =
       joined_pass t sign (map (λ p. related op sign (less p.0 p.1)) (sides op forms))
       (mapped_pass t (λ p. related op sign (less p.0 p.1)) (λ (p : Linear × Linear). Ok p.0 × Ok p.1) (sides op forms)
@@ -210,11 +211,11 @@ module _ (t : Literal → Bool) (Ok : Linear → Type 0) (les : (l : Linear) →
   abbrev pub PartsPass : (ℕ → Bool → Form) → (ℕ → Bool) → Type 0
   PartsPass p among = (part : ℕ) (sign : Bool) → among part ≡ true → passes t (p part sign) ≡ true
 
-  implied_pass : (p : ℕ → Bool → Form) (sign : Bool) (ids : List TermId) → PartsPass p (λ part. is_among part ids) → list_all (passes t) (implied p sign ids) ≡ true
+  implied_pass : (p : ℕ → Bool → Form) (sign : Bool) (ids : List TermId) → PartsPass p (λ part. is_among part ids) → list_all (passes t) (implication_forms p sign ids) ≡ true
   implied_pass p sign [] parts = refl
   implied_pass p sign (id ∷ []) parts = both_pass (passes t (p id.0 sign)) true (parts id.0 sign (first_among id [])) refl
   implied_pass p sign (id ∷ next ∷ ids) parts =
-      both_pass (passes t (p id.0 (not sign))) (list_all (passes t) (implied p sign (next ∷ ids))) (parts id.0 (not sign) (first_among id (next ∷ ids)))
+      both_pass (passes t (p id.0 (not sign))) (list_all (passes t) (implication_forms p sign (next ∷ ids))) (parts id.0 (not sign) (first_among id (next ∷ ids)))
       (implied_pass p sign (next ∷ ids) (λ part s has. parts part s (later_among part id (next ∷ ids) has)))
 
   denied_passes : (p : ℕ → Bool → Form) (sign : Bool) (ids : List TermId) → PartsPass p (λ part. is_among part ids) → passes t (denied p sign ids) ≡ true
@@ -244,7 +245,7 @@ module _ (t : Literal → Bool) (Ok : Linear → Type 0) (les : (l : Linear) →
   odd_passes true sum h = passes-Lit t (NDiv 2 sum) ∙ h.1
   odd_passes false sum h = passes-Lit t (Div 2 sum) ∙ h.0
 
-  module _ (reading : Reading) (naming : Naming) (p : ℕ → Bool → Form) where
+  module _ (reading : TermForms) (naming : Naming) (p : ℕ → Bool → Form) where
     by_sides : (op : OpKind) (ids : List TermId) (sign : Bool) → ((part : ℕ) → is_among part ids ≡ true → Ok (reading.bit part)) → ((part : ℕ) → is_among part ids ≡ true → Ok (reading.linear part))
         → passes t (comparison op (are_truths reading.sorts ids) sign (map (λ a. reading.bit a.0) ids) (map (λ a. reading.linear a.0) ids)) ≡ true
     by_sides op ids sign bits forms =
@@ -259,7 +260,7 @@ module _ (t : Literal → Bool) (Ok : Linear → Type 0) (les : (l : Linear) →
         joined_pass t sign (map (λ a. p a.0 sign) ids) (mapped_pass t (λ a. p a.0 sign) (λ (a : TermId). passes t (p a.0 sign) ≡ true) ids (λ a h. h) (among_all (λ part. passes t (p part sign) ≡ true) ids (λ part has. parts part sign has)))
     operation_passes OrOp ids sign parts bits forms odds =
         joined_pass t (not sign) (map (λ a. p a.0 sign) ids) (mapped_pass t (λ a. p a.0 sign) (λ (a : TermId). passes t (p a.0 sign) ≡ true) ids (λ a h. h) (among_all (λ part. passes t (p part sign) ≡ true) ids (λ part has. parts part sign has)))
-    operation_passes Implies ids sign parts bits forms odds = joined_pass t (not sign) (implied p sign ids) (implied_pass p sign ids parts)
+    operation_passes Implies ids sign parts bits forms odds = joined_pass t (not sign) (implication_forms p sign ids) (implied_pass p sign ids parts)
     operation_passes Xor ids sign parts bits forms odds = odd_passes sign (sum_form (map (λ (a : TermId). reading.bit a.0) ids)) (odds refl)
     operation_passes Ite ids sign parts bits forms odds = choice_passes p reading.bit sign ids parts bits
     operation_passes Equal ids sign parts bits forms odds = by_sides Equal ids sign bits forms

@@ -19,7 +19,7 @@ use Rattle.horn_shape.proofs.ScopeLemmas.{chosen_sort, sort_chosen}
 use Rattle.linear_terms.specs.declared.standing.Spot.{Spot}
 use Rattle.linear_terms.specs.declared.standing.Standing.{Standing}
 use Rattle.linear_terms.specs.declared.standing.Standing.TheVariants.{Plain, Bit, Argument}
-use Rattle.linear_terms.specs.Text.{Sorting, are_truths, chosen, inner, is_variable, needs_one, operands, places, spot_as}
+use Rattle.linear_terms.specs.Text.{Sorting, are_truths, chosen, inner_spots, is_variable, needs_one, operands, places, spot_as}
 use Rattle.linear_terms.proofs.PartLemmas.{body_among, first_among, later_among}
 use Rattle.term_places.specs.machinery.Placed.{all_placed, placed}
 use Rattle.term_places.proofs.PlacedLemmas.{placed_at}
@@ -47,7 +47,7 @@ operands_among sorts Distinct args node parts = spots_among (if are_truths sorts
 operands_among sorts Ite args node parts = chosen_among args node parts
 operands_among sorts _ args node parts = spots_among Plain args node parts
 
-inner_among : (sorts : Sorting) (node : Node) → ArePartsOf node (inner sorts node)
+inner_among : (sorts : Sorting) (node : Node) → ArePartsOf node (inner_spots sorts node)
 inner_among sorts (Pred pred args) = spots_among Argument args (Pred pred args) (λ part has. has)
 inner_among sorts (Op op args) = operands_among sorts op args (Op op args) (λ part has. has)
 inner_among sorts (Divisible by arg) = (eqb_self arg.0, tt)
@@ -107,9 +107,9 @@ module _ (sorts : Sorting) (nodes : List Node) (arena : IsArena nodes) (top : �
       let is : slice_get nodes spot.id ≡ Some node = found.1 in
       let below : has_parts_below spot.id node ≡ true = arena_below nodes spot.id node arena is in
       subst (λ (ids : List ℕ). AllByRecursion (IsPlaced nodes top) ids) (sym (placed_at sorts nodes node spot is below))
-      (all_append (IsPlaced nodes top) (if needs_one spot.standing (sorts spot.id) (Some node) then spot.id ∷ [] else []) (all_placed sorts nodes (inner sorts node))
+      (all_append (IsPlaced nodes top) (if needs_one spot.standing (sorts spot.id) (Some node) then spot.id ∷ [] else []) (all_placed sorts nodes (inner_spots sorts node))
       (own_placed spot node (needs_one spot.standing (sorts spot.id) (Some node)) refl sub is)
-      (parts_placed spot.id node (inner sorts node) (λ s lt inside_all sb. placings_below bound s (omega (arith, lt, less)) inside_all sb) within sub is below (inner_among sorts node)))
+      (parts_placed spot.id node (inner_spots sorts node) (λ s lt inside_all sb. placings_below bound s (omega (arith, lt, less)) inside_all sb) within sub is below (inner_among sorts node)))
 
   pub places_are : top < length nodes → AllByRecursion (IsPlaced nodes top) (places sorts nodes top)
   places_are within = placings_below (suc top) (record { id = top; standing = Plain }) (omega arith) within itself

@@ -17,7 +17,7 @@ use Rattle.term_tree.proofs.Public.{arena_below, below_from, both_true, eqb_self
 use Rattle.horn_shape.specs.declared.clause.AtomUse.{AtomUse}
 use Rattle.horn_shape.specs.declared.clause.Part.{Part}
 use Rattle.horn_shape.specs.Plain.{is_plain_term}
-use Rattle.horn_shape.specs.Shape.{Content, Place, Reading, nothing, beside, both, arguments, atom_of, guard_of, head_of, either_head, at, each, body_form, node_body, body_reading, node_clause, clause_form, clause_reading, denial, disjunct_form, disjunct_reading, disjuncts, implication, is_application, quantified}
+use Rattle.horn_shape.specs.Shape.{Content, Place, Reading, nothing, beside, both, arguments, atom_of, guard_of, head_of, either_head, at, each, body_form, node_body, body_reading, node_clause, clause_form, clause_reading, denial, disjunct_form, disjunct_reading, disjuncts, implication, is_application, quantified_reading}
 use Rattle.horn_shape.specs.machinery.Gathering.{place_of}
 use Rattle.horn_shape.proofs.BodyLemmas.{both_ok, bound_ok, chosen_ok, misread, never_read, same_read}
 use Rattle.horn_shape.proofs.DisjunctLemmas.{read_chosen}
@@ -55,7 +55,7 @@ holds_beside P Q a b x y = record {
   head = head_beside Q a.head b.head x.head y.head;
 }
 
-pub quantified_is : (sorts : List Sort) (r : Reading) (c : Content) → quantified sorts r ≡ Ok c
+pub quantified_is : (sorts : List Sort) (r : Reading) (c : Content) → quantified_reading sorts r ≡ Ok c
     → (x : Content) × (r ≡ Ok x) × (record { vars = sorts ++ x.vars; atoms = x.atoms; guards = x.guards; head = x.head } ≡ c)
 quantified_is sorts (Err misfit) c h = absurd (cc)
 quantified_is sorts (Ok x) c h = (x, refl, cc)

@@ -14,7 +14,7 @@ use Rattle.term_tree.proofs.Public.{arena_below, eqb_self}
 use Rattle.linear_terms.specs.declared.standing.Spot.{Spot}
 use Rattle.linear_terms.specs.declared.standing.Standing.{Standing}
 use Rattle.linear_terms.specs.declared.standing.Standing.TheVariants.{Plain, Bit, Argument}
-use Rattle.linear_terms.specs.Text.{Sorting, are_truths, chosen, inner, is_unit, is_variable, needs_one, operands, spot_as}
+use Rattle.linear_terms.specs.Text.{Sorting, are_truths, chosen, inner_spots, is_unit, is_variable, needs_one, operands, spot_as}
 use Rattle.term_places.specs.machinery.Placed.{all_placed, placed}
 use Rattle.term_places.proofs.PlacedLemmas.{placed_at}
 use Rattle.clause_normal.proofs.Lower.{position_on}
@@ -108,7 +108,7 @@ module _ (sorts : Sorting) (nodes : List Node) where
   one_has : (s : Standing) (id : TermId) (part : ℕ) → (id.0 == part) ≡ true → Has part (spot_as s id ∷ [])
   one_has s id part e = (s, λ q h. among_left q (placed sorts nodes (spot_as s id)) [] (subst (λ (k : ℕ). Among q (placed sorts nodes (record { id = k; standing = s }))) (sym (eqb-true id.0 part e)) h))
 
-  inner_has : (node : Node) (part : ℕ) → is_name node ≡ false → is_part part node ≡ true → Has part (inner sorts node)
+  inner_has : (node : Node) (part : ℕ) → is_name node ≡ false → is_part part node ≡ true → Has part (inner_spots sorts node)
   inner_has (Num n) part none has = absurd (cc)
   inner_has True part none has = absurd (cc)
   inner_has False part none has = absurd (cc)
@@ -133,10 +133,10 @@ module _ (sorts : Sorting) (nodes : List Node) where
     abbrev pub InText : ℕ → Type 0
     InText id = (s : Standing) × ((q : ℕ) → Among q (placed sorts nodes (record { id = id; standing = s })) → Among q whole)
 
-    inner_in : (id : ℕ) (node : Node) → slice_get nodes id ≡ Some node → InText id → (q : ℕ) → Among q (all_placed sorts nodes (inner sorts node)) → Among q whole
+    inner_in : (id : ℕ) (node : Node) → slice_get nodes id ≡ Some node → InText id → (q : ℕ) → Among q (all_placed sorts nodes (inner_spots sorts node)) → Among q whole
     inner_in id node is text q h =
         text.1 q (subst (λ (ids : List ℕ). Among q ids) (sym (placed_at sorts nodes node (record { id = id; standing = text.0 }) is (arena_below nodes id node arena is)))
-        (among_right q (if needs_one text.0 (sorts id) (Some node) then id ∷ [] else []) (all_placed sorts nodes (inner sorts node)) h))
+        (among_right q (if needs_one text.0 (sorts id) (Some node) then id ∷ [] else []) (all_placed sorts nodes (inner_spots sorts node)) h))
 
     -- so does each part of it, unless it is a name
     pub text_part : (id part : ℕ) (node : Node) → slice_get nodes id ≡ Some node → is_part part node ≡ true → is_name node ≡ false → InText id → InText part
@@ -156,5 +156,5 @@ module _ (sorts : Sorting) (nodes : List Node) where
     argument_placed id pred args part node is text has part_is other =
         inner_in id (Pred pred args) is text part (spots_has Argument args part has part
         (subst (λ (ids : List ℕ). Among part ids) (sym (placed_at sorts nodes node (record { id = part; standing = Argument }) part_is (arena_below nodes part node arena part_is)))
-        (among_left part (if needs_one Argument (sorts part) (Some node) then part ∷ [] else []) (all_placed sorts nodes (inner sorts node))
+        (among_left part (if needs_one Argument (sorts part) (Some node) then part ∷ [] else []) (all_placed sorts nodes (inner_spots sorts node))
         (subst (λ (b : Bool). Among part (if b then part ∷ [] else [])) (sym (needed (sorts part) node other)) (inl refl)))))

@@ -78,8 +78,8 @@ guard_parts script clause =
     ++ map (guard_form (sorting script) (names_of script clause) script.terms.nodes) clause.guards
 
 -- what the clause asks of its variables: the bits, what determines the auxiliary variables, and the guards
-abbrev pub guard_of : Script → HornClause → Form
-guard_of script clause = conjunction (guard_parts script clause)
+abbrev pub clause_guard : Script → HornClause → Form
+clause_guard script clause = conjunction (guard_parts script clause)
 
 -- a variable stands for itself, and another argument has an auxiliary one
 abbrev pub argument_variable : (ℕ → Option ℕ) → ℕ → Option Node → ℕ
@@ -91,17 +91,17 @@ normal_atom naming nodes atom =
     record { pred = atom.pred; args = map (λ part. argument_variable naming.auxiliary part.term.0 (slice_get nodes part.term.0)) atom.args }
 
 -- an auxiliary variable has the sort of its term
-abbrev pub sorts_of : Script → HornClause → List Sort
-sorts_of script clause = clause.vars ++ map (λ id. unwrap_or (sorting script id) Int) (auxiliaries script clause)
+abbrev pub variable_sorts : Script → HornClause → List Sort
+variable_sorts script clause = clause.vars ++ map (λ id. unwrap_or (sorting script id) Int) (auxiliaries script clause)
 
 abbrev pub normal_clause : Script → HornClause → Clause
 normal_clause script clause =
     record {
       assertion = clause.assertion;
       user = length clause.vars;
-      sorts = sorts_of script clause;
+      sorts = variable_sorts script clause;
       atoms = map (normal_atom (names_of script clause) script.terms.nodes) clause.atoms;
-      guard = guard_of script clause;
+      guard = clause_guard script clause;
       head = option_map (normal_atom (names_of script clause) script.terms.nodes) clause.head;
     }
 

@@ -17,12 +17,12 @@ abbrev pub refusal_at : Kind → ℕ → Assertion → Refusal
 refusal_at kind offset a = record { kind = kind; offset = offset; command = a.command }
 
 -- where a term of the script starts
-abbrev pub start_of : Script → ℕ → ℕ
-start_of script id = slice_index_or script.terms.offsets id 0
+abbrev pub term_start : Script → ℕ → ℕ
+term_start script id = slice_index_or script.terms.offsets id 0
 
 -- numbers without room come before numbers past a limit
 abbrev pub by_room : Script → Assertion → HornClause → Option ℕ → Result Clause Refusal
-by_room script a clause (Some id) = Err (refusal_at TooWide (start_of script id) a)
+by_room script a clause (Some id) = Err (refusal_at TooWide (term_start script id) a)
 by_room script a clause None = if is_too_large script clause then Err (refusal_at Count a.offset a) else Ok (normal_clause script clause)
 
 abbrev pub clause_with : ℕ → Content → HornClause
@@ -30,21 +30,21 @@ clause_with index content =
     record { assertion = index; vars = content.vars; atoms = content.atoms; guards = content.guards; head = content.head }
 
 abbrev pub by_shape : Script → ℕ → Assertion → Reading → Result Clause Refusal
-by_shape script index a (Err misfit) = Err (refusal_at NotHorn (start_of script misfit.0) a)
+by_shape script index a (Err misfit) = Err (refusal_at NotHorn (term_start script misfit.0) a)
 by_shape script index a (Ok content) = by_room script a (clause_with index content) (first_without_room script (clause_with index content))
 
 -- the normal clause of the assertion of that number, or why it has none
-abbrev pub clause_reading : Script → ℕ → Assertion → Result Clause Refusal
-clause_reading script index a = by_shape script index a (assertion_reading script a)
+abbrev pub normal_reading : Script → ℕ → Assertion → Result Clause Refusal
+normal_reading script index a = by_shape script index a (assertion_reading script a)
 
-abbrev pub one_more : Result Clause Refusal → Result (List Clause) Refusal → Result (List Clause) Refusal
-one_more (Err refusal) others = Err refusal
-one_more (Ok clause) (Err refusal) = Err refusal
-one_more (Ok clause) (Ok clauses) = Ok (clause ∷ clauses)
+abbrev pub clause_and_others : Result Clause Refusal → Result (List Clause) Refusal → Result (List Clause) Refusal
+clause_and_others (Err refusal) others = Err refusal
+clause_and_others (Ok clause) (Err refusal) = Err refusal
+clause_and_others (Ok clause) (Ok clauses) = Ok (clause ∷ clauses)
 
 abbrev pub all_clauses : Script → ℕ → List Assertion → Result (List Clause) Refusal
 all_clauses script index [] = Ok []
-all_clauses script index (a ∷ asserts) = one_more (clause_reading script index a) (all_clauses script (index + 1) asserts)
+all_clauses script index (a ∷ asserts) = clause_and_others (normal_reading script index a) (all_clauses script (index + 1) asserts)
 
 -- the refusal of an assertion comes before the stop that the script has
 abbrev pub unless_stopped : Option Refusal → Script → Result (List Clause) Refusal → Result Clauses Refusal

@@ -16,7 +16,7 @@ use crate::guard::guard_of;
 use crate::naming::{names_over, sorts_of};
 use crate::stop::NormalStop;
 use crate::tables::{Tables, tables_of};
-use base::Memory;
+use base::{MOST_VARIABLES, Memory};
 use clause_form::Clause;
 use horn_shape::HornClause;
 use lin_atoms::Lin;
@@ -32,9 +32,6 @@ const MOST_OWN: usize = 1024;
 
 /// How many body atoms an assertion may have.
 const MOST_ATOMS: usize = 64;
-
-/// How many variables a clause may have.
-const MOST_VARIABLES: usize = 2048;
 
 /// Whether a clause with `auxiliary` auxiliary variables has more variables or body atoms than it may.
 fn is_too_large(clause: &HornClause, auxiliary: usize) -> bool

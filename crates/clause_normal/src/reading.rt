@@ -7,8 +7,8 @@ ghost use Rattle.term_tree.specs.declared.node.Node.TheVariants.{Op};
 ghost use Rattle.term_tree.specs.declared.refusal.Refusal.{Refusal};
 ghost use Rattle.term_tree.specs.declared.script.Assertion.{Assertion};
 ghost use Rattle.horn_shape.specs.Clause.{IsClauseOf, IsLegalScript};
-ghost use Rattle.horn_shape.specs.machinery.Flags.{ArePlainFlags};
-ghost use Rattle.clause_normal.specs.Reading.{all_clauses, clause_reading, refusal_at, system_reading};
+ghost use Rattle.horn_shape.specs.Flags.{ArePlainFlags};
+ghost use Rattle.clause_normal.specs.Reading.{all_clauses, normal_reading, refusal_at, system_reading};
 ghost use Rattle.clause_form.specs.System.{are_clauses, is_clause};
 ghost use Rattle.clause_normal.specs.machinery.Making.{AreTablesOf, HasFewArguments, MeansHorn, MeansNormal};
 
@@ -87,8 +87,8 @@ fn read_normal(
     requires few { HasFewArguments script.now.terms.nodes }
     requires there { slice_get script.now.asserts index ≡ Some assertion }
     ensures kept { IfOk result (λ made. is_clause (map (λ p. p.args) script.now.preds) made ≡ true) }
-    ensures made { IfOk result (λ made. clause_reading script.now index assertion ≡ Ok made) }
-    ensures refused { (refusal : Refusal) → IsErrOf result (ClauseStop.Refused refusal) → clause_reading script.now index assertion ≡ Err refusal }
+    ensures made { IfOk result (λ made. normal_reading script.now index assertion ≡ Ok made) }
+    ensures refused { (refusal : Refusal) → IsErrOf result (ClauseStop.Refused refusal) → normal_reading script.now index assertion ≡ Err refusal }
 {
     has_number(assertion.term);
     script.terms.is_arena();
@@ -113,8 +113,8 @@ fn read_clause(
     requires tables { AreTablesOf script.now tables.now }
     requires few { HasFewArguments script.now.terms.nodes }
     ensures kept { IfOk result (λ clause. is_clause (map (λ p. p.args) script.now.preds) clause ≡ true) }
-    ensures made { IfOk result (λ clause. clause_reading script.now index assertion ≡ Ok clause) }
-    ensures refused { (refusal : Refusal) → IsErrOf result (ClauseStop.Refused refusal) → clause_reading script.now index assertion ≡ Err refusal }
+    ensures made { IfOk result (λ clause. normal_reading script.now index assertion ≡ Ok clause) }
+    ensures refused { (refusal : Refusal) → IsErrOf result (ClauseStop.Refused refusal) → normal_reading script.now index assertion ≡ Err refusal }
 {
     match clause_with(alloc, script, plain, index) {
         Ok(clause) => read_normal(alloc, script, tables, &clause, index, assertion),

@@ -34,10 +34,11 @@ use Rattle.book_rules.proofs.OverLemmas.{atom_places}
 use Rattle.cube_rules.specs.Views.{lemmas_of}
 use Rattle.clause_queries.specs.Answers.{GoalFits, MayAskAll}
 use Rattle.clause_queries.specs.Kept.{are_linear, is_kept, lemma_is_kept}
-use Rattle.clause_queries.specs.Uses.{IsAskedAt, is_asked, uses}
+use Rattle.clause_queries.specs.Uses.{AreUses, IsAskedAt, is_asked, uses}
 use Rattle.clause_queries.specs.machinery.Asking.{MayAsk}
 use Rattle.clause_queries.proofs.BoolLemmas.{number_is, same_some}
 use Rattle.clause_queries.proofs.FormLemmas.{below-lemma, below-literals, cube-at, short-cube, short-guard, short-lemma, short-literals}
+use Rattle.clause_queries.proofs.NeedLemmas.{of-uses}
 use Rattle.clause_queries.proofs.UseLemmas.{thin-cube, uses-all, uses_on-all}
 
 -- a cube over a predicate, on an atom of it: it has the atom's places, and room there
@@ -114,9 +115,9 @@ used-room sys k fs clause one all =
 used-short : (sys : Clauses) (k : ℕ) (fs : List Framed) (clause : Clause) → is_clause sys.preds clause ≡ true → AllOf (IsUsable sys.preds) fs → list_all (λ (u : Used). cube_is_short u.lemma) (uses k fs clause) ≡ true
 used-short sys k fs clause one all = uses-have sys k fs clause (λ (u : Used). cube_is_short u.lemma) one all (λ n atom f there on kept. (both_true _ _ kept).1)
 
-pub may-ask : (sys : Clauses) (fs : List Framed) (pred : Option ℕ) (goal : Goal) (k n : ℕ) (clause : Clause) → MayAskAll sys fs pred goal → is_clause sys.preds clause ≡ true → list_all lemma_is_kept fs ≡ true → is_kept (goal_cube goal) ≡ true
-    → slice_get sys.clauses n ≡ Some clause → is_asked pred k clause ≡ true → MayAsk sys n goal (uses k fs clause)
-may-ask sys fs pred goal k n clause asks one kept goal_kept there asked =
+pub may-ask : (sys : Clauses) (fs : List Framed) (pred : Option ℕ) (goal : Goal) (k n : ℕ) (clause : Clause) (used : List Used) → MayAskAll sys fs pred goal → is_clause sys.preds clause ≡ true → list_all lemma_is_kept fs ≡ true → is_kept (goal_cube goal) ≡ true
+    → slice_get sys.clauses n ≡ Some clause → is_asked pred k clause ≡ true → AreUses k fs clause used → MayAsk sys n goal used
+may-ask sys fs pred goal k n clause used asks one kept goal_kept there asked are =
     let its = keeps sys.preds clause one in
     let all = usable sys.preds fs asks.over asks.thin kept in
     let headed = (both_true (is_head pred clause.head) _ asked).0 in
@@ -124,11 +125,12 @@ may-ask sys fs pred goal k n clause asks one kept goal_kept there asked =
     let goal_there = has-goal sys.preds (length clause.sorts) pred goal clause asks.fits goal_kept headed its.head in
     record {
       base = ap (λ (o : Option Clause). is_some (base_in o goal)) there ∙ some-if (has_goal clause goal && goal_has_room clause goal) (base clause goal) (from_both (has_goal clause goal) _ goal_there at_head.1);
-      forms = ap (λ (o : Option Clause). is_some (forms_in o (uses k fs clause))) there
-          ∙ some-if (has_used clause.atoms (uses k fs clause) && used_have_room clause.atoms (uses k fs clause)) (map (used_form clause.atoms) (uses k fs clause))
-          (from_both _ _ (used-places sys k fs clause one all) (used-room sys k fs clause one all));
+      forms = ap (λ (o : Option Clause). is_some (forms_in o used)) there
+          ∙ some-if (has_used clause.atoms used && used_have_room clause.atoms used) (map (used_form clause.atoms) used)
+          (from_both (has_used clause.atoms used) _ (of-uses k fs clause used (λ (u : Used). has_places (slice_get clause.atoms u.atom) u.lemma) are (used-places sys k fs clause one all))
+          (of-uses k fs clause used (used_has_room clause.atoms) are (used-room sys k fs clause one all)));
       goal_short = (both_true (are_linear (goal_cube goal)) _ goal_kept).1;
-      used_short = used-short sys k fs clause one all;
+      used_short = of-uses k fs clause used (λ (u : Used). cube_is_short u.lemma) are (used-short sys k fs clause one all);
     }
 
 -- what the solver asks of the forms
@@ -200,8 +202,7 @@ forms-short sys n clause used forms there is short =
 
 -- the same of what the code has in hand
 pub may-ask-at : (sys : Clauses) (fs : List Framed) (pred : Option ℕ) (goal other : Goal) (k n : ℕ) (used : List Used) (clause : Clause) (at : IsAskedAt sys pred k n) → MayAskAll sys fs pred goal → slice_get sys.clauses n ≡ Some clause → is_clause sys.preds clause ≡ true
-    → list_all lemma_is_kept fs ≡ true → is_kept (goal_cube goal) ≡ true → other ≡ goal → used ≡ uses k fs clause → MayAsk sys n other used
-may-ask-at sys fs pred goal other k n used clause at asks there one kept goal_kept same is =
+    → list_all lemma_is_kept fs ≡ true → is_kept (goal_cube goal) ≡ true → other ≡ goal → AreUses k fs clause used → MayAsk sys n other used
+may-ask-at sys fs pred goal other k n used clause at asks there one kept goal_kept same are =
     let first : at.clause ≡ clause = (let both = sym at.there ∙ there in cc) in
-    let its = may-ask sys fs pred goal k n clause asks one kept goal_kept there (ap (is_asked pred k) (sym first) ∙ at.asked) in
-    subst (λ (g : Goal). MayAsk sys n g used) (sym same) (subst (λ (us : List Used). MayAsk sys n goal us) (sym is) its)
+    subst (λ (g : Goal). MayAsk sys n g used) (sym same) (may-ask sys fs pred goal k n clause used asks one kept goal_kept there (ap (is_asked pred k) (sym first) ∙ at.asked) are)

@@ -7,7 +7,8 @@ use mathlib.Core.Bool.{true≢false}
 use Rattle.clause_form.specs.System.{Clauses}
 use Rattle.clause_form.specs.declared.clause.Clause.{Clause}
 use Rattle.lemma_frames.specs.declared.framed.Framed.{Framed}
-use Rattle.chc_tokens.specs.Kept.{shown_clause}
+use Rattle.chc_tokens.specs.Kept.{seen_point, shown_clause, shown_used}
+use Rattle.chc_tokens.specs.Tokens.{is_passed}
 use Rattle.chc_tokens.specs.declared.goal.Goal.{Goal}
 use Rattle.chc_tokens.specs.declared.refuting.Shown.{Shown}
 use Rattle.chc_tokens.specs.declared.seeing.Seen.{Seen}
@@ -16,7 +17,7 @@ use Rattle.book_rules.specs.Walks.{AllOf, has}
 use Rattle.book_rules.proofs.ListLemmas.{all_of-push, all_weaken, either_is}
 use Rattle.cube_rules.proofs.Public.{both_true, from_both}
 use Rattle.clause_queries.specs.Answers.{IsFound, IsGivenUpFor, IsHit, IsInstanceFor, IsProof, IsRefutedFor, IsUnknown, NoneFound, is_through}
-use Rattle.clause_queries.specs.Uses.{IsAskedAt, is_asked, uses}
+use Rattle.clause_queries.specs.Uses.{AreUses, IsAskedAt, is_asked, uses}
 use Rattle.clause_queries.specs.machinery.Asking.{HaveAsked, IsAnswer, IsAnswerAt, IsComplete, IsNoted, first_lost, found_by, found_of}
 use Rattle.clause_queries.specs.machinery.Choices.{AreAsked, is_in}
 use Rattle.clause_queries.specs.declared.asking.Asked.{Asked}
@@ -55,28 +56,46 @@ pub asked-at : (sys : Clauses) (pred : Option ℕ) (k n : ℕ) → has (slice_ge
 asked-at sys pred k n is = asked-in (slice_get sys.clauses n) sys pred k n refl is
 
 -- an answer of a clause
-pub answer-at : (sys : Clauses) (fs : List Framed) (pred : Option ℕ) (goal other : Goal) (k nodes n : ℕ) (used : List Used) (asked : Asked) (clause : Clause) → (at : IsAskedAt sys pred k n) → slice_get sys.clauses n ≡ Some clause → other ≡ goal → used ≡ uses k fs clause
+pub answer-at : (sys : Clauses) (fs : List Framed) (pred : Option ℕ) (goal other : Goal) (k nodes n : ℕ) (used : List Used) (asked : Asked) (clause : Clause) → (at : IsAskedAt sys pred k n) → slice_get sys.clauses n ≡ Some clause → other ≡ goal → AreUses k fs clause used
     → IsAnswer sys n other used nodes asked → IsAnswerAt sys fs pred goal k nodes n asked
-answer-at sys fs pred goal other k nodes n used asked clause at there same is answer =
+answer-at sys fs pred goal other k nodes n used asked clause at there same are answer =
     let first : clause ≡ at.clause = (let both = sym there ∙ at.there in cc) in
-    record { at = at; answer = subst (λ (c : Clause). IsAnswer sys n goal (uses k fs c) nodes asked) first (subst (λ (us : List Used). IsAnswer sys n goal us nodes asked) is (subst (λ (g : Goal). IsAnswer sys n g used nodes asked) same answer)) }
+    record { at = at; used = used; under = subst (λ (c : Clause). AreUses k fs c used) first are; answer = subst (λ (g : Goal). IsAnswer sys n g used nodes asked) same answer }
 
 -- one answer more
 
-proof-of : (sys : Clauses) (fs : List Framed) (pred : Option ℕ) (goal : Goal) (k n : ℕ) (shown : Shown) (at : IsAskedAt sys pred k n) → IsRefutedFor sys n goal (uses k fs at.clause) shown → IsProof sys fs pred goal k shown
-proof-of sys fs pred goal k n shown at refuted =
-    let moved = subst (λ (m : ℕ). (its : IsAskedAt sys pred k m) × IsRefutedFor sys m goal (uses k fs its.clause) shown) (sym refuted.number) (at, refuted) in
-    record { at = moved.0; refuted = moved.1 }
+proof-of : (sys : Clauses) (fs : List Framed) (pred : Option ℕ) (goal : Goal) (k n : ℕ) (shown : Shown) (used : List Used) (at : IsAskedAt sys pred k n) → AreUses k fs at.clause used → IsRefutedFor sys n goal used shown → IsProof sys fs pred goal k shown
+proof-of sys fs pred goal k n shown used at under refuted =
+    let own = subst (λ (us : List Used). AreUses k fs at.clause us × IsRefutedFor sys n goal us shown) (sym refuted.used_is) (under, refuted) in
+    let moved = subst (λ (m : ℕ). (its : IsAskedAt sys pred k m) × AreUses k fs its.clause (shown_used shown) × IsRefutedFor sys m goal (shown_used shown) shown) (sym refuted.number) (at, own.0, own.1) in
+    record { at = moved.0; under = moved.1; refuted = moved.2 }
 
-hit-of : (sys : Clauses) (fs : List Framed) (pred : Option ℕ) (goal : Goal) (k n : ℕ) (seen : Seen) (at : IsAskedAt sys pred k n) → IsInstanceFor sys n goal (uses k fs at.clause) seen → IsHit sys fs pred goal k seen
-hit-of sys fs pred goal k n seen at instance =
-    let moved = subst (λ (m : ℕ). (its : IsAskedAt sys pred k m) × IsInstanceFor sys m goal (uses k fs its.clause) seen) (sym instance.number) (at, instance) in
+-- the body is accepted by all lemmas of F(k)
+inside : (sys : Clauses) (fs : List Framed) (pred : Option ℕ) (goal : Goal) (k n : ℕ) (seen : Seen) (used : List Used) (at : IsAskedAt sys pred k n) → AreUses k fs at.clause used → IsInstanceFor sys n goal used seen → IsInstanceFor sys n goal (uses k fs at.clause) seen
+inside sys fs pred goal k n seen used at under its =
+    let same : at.clause ≡ its.clause = (let both = sym at.there ∙ its.there in cc) in
+    let passed = subst (λ (c : Clause). list_all (is_passed (seen_point seen) c) used ≡ true) (sym same) its.body in
+    record {
+      clause = its.clause;
+      there = its.there;
+      number = its.number;
+      seen_is = its.seen_is;
+      placed = its.placed;
+      head = its.head;
+      body = subst (λ (c : Clause). list_all (is_passed (seen_point seen) c) (uses k fs at.clause) ≡ true) same (under.enough (seen_point seen) passed);
+    }
+
+hit-of : (sys : Clauses) (fs : List Framed) (pred : Option ℕ) (goal : Goal) (k n : ℕ) (seen : Seen) (used : List Used) (at : IsAskedAt sys pred k n) → AreUses k fs at.clause used → IsInstanceFor sys n goal used seen → IsHit sys fs pred goal k seen
+hit-of sys fs pred goal k n seen used at under instance =
+    let moved = subst (λ (m : ℕ). (its : IsAskedAt sys pred k m) × IsInstanceFor sys m goal (uses k fs its.clause) seen) (sym instance.number) (at, inside sys fs pred goal k n seen used at under instance) in
     record { at = moved.0; instance = moved.1 }
 
-lost-of : (sys : Clauses) (fs : List Framed) (pred : Option ℕ) (goal : Goal) (k nodes n : ℕ) (lost : Lost) (at : IsAskedAt sys pred k n) → IsGivenUpFor sys n goal (uses k fs at.clause) nodes lost → IsUnknown sys fs pred goal k nodes lost
-lost-of sys fs pred goal k nodes n lost at given_up =
-    let moved = subst (λ (m : ℕ). (its : IsAskedAt sys pred k m) × IsGivenUpFor sys m goal (uses k fs its.clause) nodes lost) (sym given_up.number) (at, given_up) in
-    record { at = moved.0; given_up = moved.1 }
+lost-of : (sys : Clauses) (fs : List Framed) (pred : Option ℕ) (goal : Goal) (k nodes n : ℕ) (lost : Lost) (used : List Used) (at : IsAskedAt sys pred k n) → AreUses k fs at.clause used → IsGivenUpFor sys n goal used nodes lost
+    → IsUnknown sys fs pred goal k nodes lost
+lost-of sys fs pred goal k nodes n lost used at under given_up =
+    let own = subst (λ (us : List Used). AreUses k fs at.clause us × IsGivenUpFor sys n goal us nodes lost) (sym given_up.used_is) (under, given_up) in
+    let moved = subst (λ (m : ℕ). (its : IsAskedAt sys pred k m) × AreUses k fs its.clause lost.used × IsGivenUpFor sys m goal lost.used nodes lost) (sym given_up.number) (at, own.0, own.1) in
+    record { at = moved.0; under = moved.1; given_up = moved.2 }
 
 more-shown : (sys : Clauses) (fs : List Framed) (pred : Option ℕ) (goal : Goal) (k nodes n : ℕ) (done : List ℕ) (proofs : List Shown) (shown : Shown) (lost : Option Lost) → shown_clause shown ≡ n
     → IsComplete sys fs pred goal k nodes done proofs lost → IsComplete sys fs pred goal k nodes (done ++ n ∷ []) (proofs ++ shown ∷ []) lost
@@ -101,9 +120,9 @@ IsNext sys fs pred goal k nodes done gathered (Some seen) = IsHit sys fs pred go
 noted : (sys : Clauses) (fs : List Framed) (pred : Option ℕ) (goal : Goal) (k nodes n : ℕ) (asked : Asked) (done : List ℕ) (old new : Gathered) (result : Option Seen)
     → IsAnswerAt sys fs pred goal k nodes n asked → IsNoted asked old new result → HaveAsked sys fs pred goal k nodes done old → IsNext sys fs pred goal k nodes (done ++ n ∷ []) new result
 noted sys fs pred goal k nodes n (Instance seen) done old new result is how before =
-    subst (IsNext sys fs pred goal k nodes (done ++ n ∷ []) new) (sym how) (hit-of sys fs pred goal k n seen is.at is.answer)
+    subst (IsNext sys fs pred goal k nodes (done ++ n ∷ []) new) (sym how) (hit-of sys fs pred goal k n seen is.used is.at is.under is.answer)
 noted sys fs pred goal k nodes n (Refuted shown) done old new result is how before =
-    let one = proof-of sys fs pred goal k n shown is.at is.answer in
+    let one = proof-of sys fs pred goal k n shown is.used is.at is.under is.answer in
     let each = subst (AllOf (IsProof sys fs pred goal k)) (sym how.1) (all_of-push (IsProof sys fs pred goal k) old.proofs shown before.each one) in
     let none = all_of-push (NoneFound sys fs pred goal k nodes) done n before.none (inl (shown, (is.answer).number, one)) in
     let complete = more-shown sys fs pred goal k nodes n done old.proofs shown old.lost (is.answer).number before.complete in
@@ -111,7 +130,7 @@ noted sys fs pred goal k nodes n (Refuted shown) done old new result is how befo
     subst (IsNext sys fs pred goal k nodes (done ++ n ∷ []) new) (sym how.0)
     (record { each = each; none = none; complete = subst (IsComplete sys fs pred goal k nodes (done ++ n ∷ []) new.proofs) (sym how.2) moved })
 noted sys fs pred goal k nodes n (GivenUp lost) done old new result is how before =
-    let one = lost-of sys fs pred goal k nodes n lost is.at is.answer in
+    let one = lost-of sys fs pred goal k nodes n lost is.used is.at is.under is.answer in
     let each = subst (AllOf (IsProof sys fs pred goal k)) (sym how.1) before.each in
     let none = all_of-push (NoneFound sys fs pred goal k nodes) done n before.none (inr (lost, (is.answer).number, one)) in
     let complete = more-lost sys fs pred goal k nodes n done old.proofs old.lost lost one before.complete in
@@ -140,6 +159,7 @@ all-found : (sys : Clauses) (fs : List Framed) (pred : Option ℕ) (goal : Goal)
     → AllOf (IsProof sys fs pred goal k) proofs → AllOf (NoneFound sys fs pred goal k nodes) numbers → IsComplete sys fs pred goal k nodes numbers proofs lost → IsFound sys fs pred goal k nodes (found_by proofs lost)
 all-found sys fs pred goal k nodes numbers proofs (Some lost) asked each none complete = record {
   at = complete.at;
+  under = complete.under;
   given_up = complete.given_up;
   none = λ n clause there is. in-all (NoneFound sys fs pred goal k nodes) n numbers none (asked.complete n clause there is);
 }

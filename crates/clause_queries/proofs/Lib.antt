@@ -4,6 +4,7 @@ pub mod FormLemmas
 pub mod AskLemmas
 pub mod ChoiceLemmas
 pub mod LoopLemmas
+pub mod NeedLemmas
 pub mod AnswerLemmas
 pub mod GatheredLemmas
 pub mod Public

@@ -3,12 +3,11 @@ use Rattle.std.proofs.Common.{◌≡◌, ℕ, ◌+◌, ◌<◌, ◌≤◌, zero,
 use Rattle.std.specs.Prelude.{nat_le, ◌==◌}
 use Rattle.std.specs.List.{list_all}
 use Rattle.std.proofs.lemmas.List.{append-nil, append_assoc}
-use Rattle.clause_form.specs.declared.atom.Atom.{Atom}
 use Rattle.lemma_frames.specs.Frames.{lemma_of}
 use Rattle.lemma_frames.specs.declared.framed.Framed.{Framed}
 use Rattle.chc_tokens.specs.declared.used.Used.{Used}
 use Rattle.clause_queries.specs.Kept.{is_kept, lemma_is_kept}
-use Rattle.clause_queries.specs.Uses.{uses_from, uses_on}
+use Rattle.clause_queries.specs.Uses.{uses_on}
 use Rattle.clause_queries.specs.machinery.Choices.{use_at}
 
 plus-one : (n : ℕ) → n + 1 ≡ suc n
@@ -19,10 +18,10 @@ rest-suc [] i x within is = absurd (omega arith)
 rest-suc (y ∷ xs) zero x within is = ap (λ z. z ∷ xs) (sym is)
 rest-suc (y ∷ xs) (suc i) x within is = rest-suc xs i x (omega arith) is
 
-rest-is : {X : Type 0} (xs : List X) (i : ℕ) (x : X) → i < length xs → x ≡ get_or xs i x → drop i xs ≡ x ∷ drop (i + 1) xs
+pub rest-is : {X : Type 0} (xs : List X) (i : ℕ) (x : X) → i < length xs → x ≡ get_or xs i x → drop i xs ≡ x ∷ drop (i + 1) xs
 rest-is xs i x within is = rest-suc xs i x within is ∙ ap (λ k. x ∷ drop k xs) (sym (plus-one i))
 
-rest-end : {X : Type 0} (xs : List X) (i : ℕ) → length xs ≤ i → drop i xs ≡ []
+pub rest-end : {X : Type 0} (xs : List X) (i : ℕ) → length xs ≤ i → drop i xs ≡ []
 rest-end [] zero past = refl
 rest-end [] (suc i) past = refl
 rest-end (x ∷ xs) zero past = absurd (omega arith)
@@ -47,18 +46,6 @@ use-done k number pred fs id items new whole within made was =
 
 pub uses-over : (k number pred : ℕ) (fs : List Framed) (id : ℕ) (items whole : List Used) → length fs ≤ id → items ++ uses_on k number pred (drop id fs) ≡ whole → items ≡ whole
 uses-over k number pred fs id items whole past was = sym (append-nil items) ∙ sym (ap (λ (rest : List Framed). items ++ uses_on k number pred rest) (rest-end fs id past)) ∙ was
-
--- atom after atom
-
-pub atom-done : (k : ℕ) (fs : List Framed) (atoms : List Atom) (i : ℕ) (atom : Atom) (items new whole : List Used) → i < length atoms → atom ≡ get_or atoms i atom → new ≡ items ++ uses_on k i atom.pred fs → items ++ uses_from k fs i (drop i atoms) ≡ whole
-    → new ++ uses_from k fs (i + 1) (drop (i + 1) atoms) ≡ whole
-atom-done k fs atoms i atom items new whole within is made was =
-    ap (λ (us : List Used). us ++ uses_from k fs (i + 1) (drop (i + 1) atoms)) made
-    ∙ append_assoc items (uses_on k i atom.pred fs) (uses_from k fs (i + 1) (drop (i + 1) atoms))
-    ∙ ap (λ (rest : List Atom). items ++ uses_from k fs i rest) (sym (rest-is atoms i atom within is)) ∙ was
-
-pub atoms-over : (k : ℕ) (fs : List Framed) (atoms : List Atom) (i : ℕ) (items whole : List Used) → length atoms ≤ i → items ++ uses_from k fs i (drop i atoms) ≡ whole → items ≡ whole
-atoms-over k fs atoms i items whole past was = sym (append-nil items) ∙ sym (ap (λ (rest : List Atom). items ++ uses_from k fs i rest) (rest-end atoms i past)) ∙ was
 
 -- what is kept of each lemma
 

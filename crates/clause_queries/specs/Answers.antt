@@ -21,7 +21,7 @@ use Rattle.book_rules.specs.Frames.{Framed as FramedLemma}
 use Rattle.book_rules.specs.Places.{is_over}
 use Rattle.book_rules.specs.Walks.{AllOf}
 use Rattle.cube_rules.specs.Views.{lemmas_of}
-use Rattle.clause_queries.specs.Uses.{IsAskedAt, is_asked, uses}
+use Rattle.clause_queries.specs.Uses.{AreUses, IsAskedAt, is_asked, uses}
 use Rattle.clause_queries.specs.declared.finding.Found.{Found}
 use Rattle.clause_queries.specs.declared.finding.Found.TheVariants.{Instance, Refuted, GivenUp}
 use Rattle.clause_queries.specs.declared.lost.Lost.{Lost}
@@ -72,10 +72,11 @@ pub record IsHit (sys : Clauses) (fs : List Framed) (pred : Option ℕ) (goal : 
   pub at : IsAskedAt sys pred k (seen_clause seen)
   pub instance : IsInstanceFor sys (seen_clause seen) goal (uses k fs at.clause) seen
 
--- a refutation through a clause that is asked
+-- a refutation through a clause that is asked, under F(k)
 pub record IsProof (sys : Clauses) (fs : List Framed) (pred : Option ℕ) (goal : Goal) (k : ℕ) (shown : Shown) : Type 0 where
   pub at : IsAskedAt sys pred k (shown_clause shown)
-  pub refuted : IsRefutedFor sys (shown_clause shown) goal (uses k fs at.clause) shown
+  pub under : AreUses k fs at.clause (shown_used shown)
+  pub refuted : IsRefutedFor sys (shown_clause shown) goal (shown_used shown) shown
 
 abbrev pub is_through : ℕ → Shown → Bool
 is_through n shown = shown_clause shown == n
@@ -85,20 +86,22 @@ pub record AreProofs (sys : Clauses) (fs : List Framed) (pred : Option ℕ) (goa
   pub each : AllOf (IsProof sys fs pred goal k) proofs
   pub complete : (n : ℕ) (clause : Clause) → slice_get sys.clauses n ≡ Some clause → is_asked pred k clause ≡ true → list_any (is_through n) proofs ≡ true
 
--- a query of a clause that is asked was given up
+-- a query of a clause that is asked, under F(k), was given up
 pub record IsUnknown (sys : Clauses) (fs : List Framed) (pred : Option ℕ) (goal : Goal) (k : ℕ) (nodes : ℕ) (lost : Lost) : Type 0 where
   pub at : IsAskedAt sys pred k lost.clause
-  pub given_up : IsGivenUpFor sys lost.clause goal (uses k fs at.clause) nodes lost
+  pub under : AreUses k fs at.clause lost.used
+  pub given_up : IsGivenUpFor sys lost.clause goal lost.used nodes lost
 
 -- no instance was found of a clause: it has a refutation, or its query was given up
 abbrev pub NoneFound : Clauses → List Framed → Option ℕ → Goal → ℕ → ℕ → ℕ → Type 0
 NoneFound sys fs pred goal k nodes n =
     ((shown : Shown) × (shown_clause shown ≡ n) × IsProof sys fs pred goal k shown) ⊎ ((lost : Lost) × (lost.clause ≡ n) × IsUnknown sys fs pred goal k nodes lost)
 
--- a query of a clause that is asked was given up, and no instance was found of any
+-- a query of a clause that is asked, under F(k), was given up, and no instance was found of any
 pub record IsLost (sys : Clauses) (fs : List Framed) (pred : Option ℕ) (goal : Goal) (k : ℕ) (nodes : ℕ) (lost : Lost) : Type 0 where
   pub at : IsAskedAt sys pred k lost.clause
-  pub given_up : IsGivenUpFor sys lost.clause goal (uses k fs at.clause) nodes lost
+  pub under : AreUses k fs at.clause lost.used
+  pub given_up : IsGivenUpFor sys lost.clause goal lost.used nodes lost
   pub none : (n : ℕ) (clause : Clause) → slice_get sys.clauses n ≡ Some clause → is_asked pred k clause ≡ true → NoneFound sys fs pred goal k nodes n
 
 abbrev pub IsFound : Clauses → List Framed → Option ℕ → Goal → ℕ → ℕ → Found → Type 0

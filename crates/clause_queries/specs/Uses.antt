@@ -1,10 +1,12 @@
 -- The lemmas of a frame on body atoms, and the clauses that are asked (Hoder and Bjorner, "Generalized property directed
 -- reachability", section 3: the frame below on the body, and F(0) is false).
-use Rattle.std.specs.Prelude.{◌≡◌, ◌+◌, ◌==◌, ◌&&◌, ◌||◌, ℕ, List, [], ◌∷◌, ◌++◌, Bool, true, nat_le, nat_lt, Option, Some, slice_get, if◌then◌else◌}
+use Rattle.std.specs.Prelude.{◌≡◌, ◌+◌, ◌==◌, ◌&&◌, ◌||◌, ℕ, ℤ, List, [], ◌∷◌, ◌++◌, Bool, true, nat_le, nat_lt, Option, Some, slice_get, if◌then◌else◌}
+use Rattle.std.specs.List.{All, Contains, list_all}
 use Rattle.clause_form.specs.System.{Clauses}
 use Rattle.clause_form.specs.declared.atom.Atom.{Atom}
 use Rattle.clause_form.specs.declared.clause.Clause.{Clause}
 use Rattle.lemma_frames.specs.declared.framed.Framed.{Framed}
+use Rattle.chc_tokens.specs.Tokens.{is_passed}
 use Rattle.chc_tokens.specs.declared.used.Used.{Used}
 use Rattle.book_rules.specs.Proofs.{is_empty, is_head}
 
@@ -23,6 +25,11 @@ uses_from k fs n (atom ∷ atoms) = uses_on k n atom.pred fs ++ uses_from k fs (
 
 abbrev pub uses : ℕ → List Framed → Clause → List Used
 uses k fs clause = uses_from k fs 0 clause.atoms
+
+-- some of these, so that a body that they accept is in F(k): a lemma that others of them imply may be left out
+pub record AreUses (k : ℕ) (fs : List Framed) (clause : Clause) (used : List Used) : Type 0 where
+  pub each : All (Contains (uses k fs clause)) used
+  pub enough : (point : List ℤ) → list_all (is_passed point clause) used ≡ true → list_all (is_passed point clause) (uses k fs clause) ≡ true
 
 -- whether a clause is asked for tuples of the predicate, or for false, under F(k): at level 0 only without a body
 abbrev pub is_asked : Option ℕ → ℕ → Clause → Bool

@@ -3,6 +3,7 @@
 ghost use Rattle.std.specs.Prelude.{◌≡◌, ◌<◌, ◌≤◌, Some, length, true, IfOk, IfSome};
 ghost use Rattle.std.specs.List.{list_all};
 ghost use Rattle.base.specs.Widths.{is_short};
+ghost use Rattle.base.specs.Limits.{most_variables};
 ghost use Rattle.farkas_proof.specs.Kept.{form_of};
 ghost use Rattle.chc_tokens.specs.Instances.{is_instance_of, is_point_of};
 ghost use Rattle.chc_tokens.specs.Kept.{seen_clause, seen_point};
@@ -52,7 +53,7 @@ fn instance(sys: &System, clause: u32, point: Vec<i64>) -> Seen
 
 /// How many variables the clause has.
 fn variables(clause: &Clause) -> u32
-    requires { length clause.now.sorts ≤ 2048 }
+    requires { length clause.now.sorts ≤ most_variables }
     ensures { result ≡ length clause.now.sorts }
 {
     clause.sorts.len() as u32

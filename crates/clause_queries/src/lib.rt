@@ -9,6 +9,7 @@ mod choosing;
 mod finding;
 mod keeping;
 mod lost;
+mod needing;
 mod using;
 
 pub use finding::{Found, ask_all, ask_all_by};

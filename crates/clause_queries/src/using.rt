@@ -1,9 +1,11 @@
-//! The lemmas of a frame, as uses on body atoms.
+//! The lemmas of a frame, as uses on body atoms, but those that others imply.
 
 ghost use Rattle.std.specs.Prelude.{◌≡◌, ◌++◌, ◌<◌, ◌^◌, length, IfOk, OnOk};
 ghost use Rattle.clause_queries.specs.Uses.{uses_from, uses_on};
 ghost use Rattle.clause_queries.specs.machinery.Choices.{use_at};
+ghost use Rattle.clause_queries.specs.machinery.Needs.{AreEnough};
 
+use crate::needing::Needed;
 use base::{Copied, Memory};
 use chc_tokens::Used;
 use clause_form::Atom;
@@ -52,7 +54,29 @@ fn push_on(
     Ok(())
 }
 
-/// The lemmas of level k or more, on each body atom of their predicate.
+/// Adds a use of each such lemma, but those that a newer one implies, and then those that an older one
+/// does. They stand in the order of their numbers. The newest of all may be one that is only tried, so
+/// for its sake none is left out: what stands before it is then the same whichever is tried, and so are
+/// the numbers of literals in proofs.
+fn push_needed(
+    alloc: Global,
+    needed: &mut Needed,
+    frames: &Frames,
+    k: u32,
+    number: u32,
+    pred: u32,
+) -> Result<(), Memory>
+    ensures { OnOk result (AreEnough (needed.old.used.items ++ uses_on k number pred frames.now.lemmas) needed.new.used.items) }
+{
+    let mut all = Vec::new(alloc);
+    push_on(alloc, &mut all, frames, k, number, pred)?;
+    let mut newest = Needed::new(alloc);
+    newest.take_all(Needed::of(alloc, all), 1)?;
+    needed.take_all(newest, 0)?;
+    Ok(())
+}
+
+/// The lemmas of level k or more, on each body atom of their predicate, but those that others imply.
 pub(crate) fn frame_used(
     alloc: Global,
     frames: &Frames,
@@ -60,11 +84,11 @@ pub(crate) fn frame_used(
     atoms: &[Atom],
 ) -> Result<Vec<Used>, Memory>
     requires { length atoms.now < 2 ^ 32 }
-    ensures { IfOk result (λ used. used.items ≡ uses_from k frames.now.lemmas 0 atoms.now) }
+    ensures { IfOk result (λ used. AreEnough (uses_from k frames.now.lemmas 0 atoms.now) used.items) }
 {
-    let mut used = Vec::new(alloc);
+    let mut needed = Needed::new(alloc);
     for (number, atom) in atoms.iter().enumerate() {
-        push_on(alloc, &mut used, frames, k, number as u32, atom.pred)?;
+        push_needed(alloc, &mut needed, frames, k, number as u32, atom.pred)?;
     }
-    Ok(used)
+    Ok(needed.used)
 }

@@ -14,11 +14,11 @@ use Rattle.term_tree.specs.Arena.{Arena, IsArena}
 use Rattle.term_tree.specs.Legal.{IsLegal}
 use Rattle.term_tree.specs.Solution.{AreFormulas, DefinesEach, IsFormula, has_short_divisor}
 use Rattle.term_tree.specs.Subterms.{EverySubterm}
+use Rattle.term_tree.specs.Sorts.{same_sort}
 use Rattle.term_check.specs.declared.part.Fault.{Fault}
-use Rattle.term_check.specs.machinery.Legality.{AreParameters}
-use Rattle.term_check.specs.Formula.{bool_term, formula, params_from}
-use Rattle.term_check.specs.Rules.{same_sort}
-use Rattle.term_check.specs.Spelling.{Scope, Spelled, scope_of, spelled}
+use Rattle.term_check.specs.Parameters.{AreParameters}
+use Rattle.term_check.specs.Formula.{bool_term, spelled_formula, params_from}
+use Rattle.term_check.specs.Spelling.{SpellingScope, Spelled, scope_of, spelled}
 use Rattle.term_check.specs.Term.{Term, IsTermAt}
 use Rattle.term_check.proofs.LegalityLemmas.{spelled_legal, spelled_plain}
 
@@ -39,9 +39,9 @@ bool_is (Err f) body h = absurd (cc)
 bool_is (Ok s) body h = let both = sorted_is s body (same_sort s.part.sort BoolSort) refl h in (s, refl, both.0, both.1)
 
 pub read_formula : (text : List ℕ) (params : List (Name × Sort)) (tree : Tree) (term : Term) (arena : Arena) (id : ℕ) (sorts : List Sort) → IsArena arena.nodes → map (λ p. p.1) params ≡ sorts
-    → formula text params tree ≡ Ok term → IsTermAt arena [] term id → EverySubterm has_short_divisor arena.nodes id → IsFormula sorts arena.nodes id
+    → spelled_formula text params tree ≡ Ok term → IsTermAt arena [] term id → EverySubterm has_short_divisor arena.nodes id → IsFormula sorts arena.nodes id
 read_formula text params tree term arena id sorts arranged same reads at short =
-    let scope : Scope = scope_of [] (params_from 0 params) false in
+    let scope : SpellingScope = scope_of [] (params_from 0 params) false in
     let variables : List Sort = map (λ p. p.1) params in
     let s = bool_is (spelled text scope (length params) tree) term reads in
     let spells : spelled text scope (length variables) tree ≡ Ok s.0 = ap (λ (n : ℕ). spelled text scope n tree) (length-map params (λ p. p.1)) ∙ s.1 in

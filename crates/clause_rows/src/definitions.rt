@@ -5,7 +5,7 @@ ghost use Rattle.base.specs.Limits.{most_arguments};
 ghost use Rattle.term_tree.specs.declared.node.Node.{Node as ANode};
 ghost use Rattle.term_tree.specs.Solution.{AreFormulas, DefinesEach, IsFormula, has_short_divisor};
 ghost use Rattle.horn_shape.specs.Clause.{IsLegalScript};
-ghost use Rattle.term_check.specs.machinery.Weight.{weight};
+ghost use Rattle.term_check.specs.Weight.{weight};
 
 use base::{Copied, Items, Memory};
 use sexp_read::{Tree, read_commands};

@@ -2,6 +2,7 @@
 
 ghost use Rattle.std.specs.Prelude.{◌≡◌, ◌≤◌, ℕ, ℤ, List, length, not, true};
 ghost use Rattle.std.specs.List.{list_all};
+ghost use Rattle.base.specs.Limits.{most_arguments};
 ghost use Rattle.cube_forms.specs.Cubes.{cube_at, cube_holds, cube_is_below, cube_is_thin, has_room, lemma_at, tuple_at};
 ghost use Rattle.lin_atoms.specs.Truth.{lit_truth, truth};
 ghost use Rattle.lin_atoms.specs.declared.lit.Lit.{Lit};
@@ -20,5 +21,5 @@ pub fn a_cube_follows_its_arguments()
 
 /// At up to 256 arguments there is room for every cube whose coefficients are at most 2^54.
 pub fn thin_cubes_have_room()
-    ensures { (args : List ℕ) (cube : List Lit) → length args ≤ 256 → cube_is_thin cube ≡ true → cube_is_below (length args) cube ≡ true → has_room args cube ≡ true }
+    ensures { (args : List ℕ) (cube : List Lit) → length args ≤ most_arguments → cube_is_thin cube ≡ true → cube_is_below (length args) cube ≡ true → has_room args cube ≡ true }
 {}

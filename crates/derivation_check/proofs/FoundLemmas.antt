@@ -13,7 +13,7 @@ use Rattle.horn_shape.specs.Clause.{IsClauseOf, IsNotHornAt, assertion_reading, 
 use Rattle.horn_shape.specs.Shape.{Content, Reading}
 use Rattle.answer_text.specs.declared.answer.Line.{Line}
 use Rattle.derivation_lines.specs.Claims.{IsLine}
-use Rattle.derivation_check.specs.Findings.{AreRightBefore, HasWide, IsPartOf, IsReached, IsWideAt, IsWrongAt}
+use Rattle.derivation_check.specs.Findings.{AreRightBefore, HasWide, IsPartOf, IsLineReached, IsWideAt, IsWrongAt}
 use Rattle.derivation_check.specs.machinery.Tests.{AreClausesOf, IsJudged, is_right, is_shaped, unless_right}
 use Rattle.derivation_check.proofs.RightLemmas.{is_right_by, right_is, shape_is}
 
@@ -28,7 +28,7 @@ module _ (script : Script) (lines : List Line) (number : ℕ) (line : Line) (cla
   pub right_found : is_right script.terms.nodes lines number line clause ≡ true → IsJudged script lines number line None
   right_found h = λ place numbered. right_is script lines number place line numbered named.0 clause named.1 named.2 h
 
-  pub wrong_found : IsReached script lines number line → is_right script.terms.nodes lines number line clause ≡ false → IsWrongAt script lines number
+  pub wrong_found : IsLineReached script lines number line → is_right script.terms.nodes lines number line clause ≡ false → IsWrongAt script lines number
   wrong_found reached h =
       inl (record {
         line = line;
@@ -37,11 +37,11 @@ module _ (script : Script) (lines : List Line) (number : ℕ) (line : Line) (cla
       })
 
   -- both at once
-  pub told_found : IsReached script lines number line → (right : Bool) → is_right script.terms.nodes lines number line clause ≡ right → IsJudged script lines number line (unless_right right number)
+  pub told_found : IsLineReached script lines number line → (right : Bool) → is_right script.terms.nodes lines number line clause ≡ right → IsJudged script lines number line (unless_right right number)
   told_found reached true h = right_found h
   told_found reached false h = wrong_found reached h
 
-  pub wide_found : (term : ℕ) → IsReached script lines number line → is_shaped number line clause ≡ true
+  pub wide_found : (term : ℕ) → IsLineReached script lines number line → is_shaped number line clause ≡ true
       → (part : Part) × IsPartOf clause part × HasWide script.terms.nodes (environment_of line.values) part term → IsWideAt script lines number term
   wide_found term reached shaped found = let shape = shape_is number reached.place line clause reached.numbered shaped in record {
     line = line;
@@ -60,18 +60,18 @@ module _ (script : Script) (lines : List Line) (number : ℕ) (line : Line) (cla
   }
 
 -- it has the number of a line
-pub reached_within : (script : Script) (lines : List Line) (number : ℕ) (line : Line) → IsReached script lines number line → number ≤ length lines
+pub reached_within : (script : Script) (lines : List Line) (number : ℕ) (line : Line) → IsLineReached script lines number line → number ≤ length lines
 reached_within script lines number line reached =
     let less : reached.place < length lines = slice_get_within lines reached.place line reached.there in
     let numbered = reached.numbered in
     omega (arith, less, numbered)
 
 -- no assertion has the number 0, or one past theirs
-pub unnamed_zero : (script : Script) (lines : List Line) (number : ℕ) (line : Line) → IsReached script lines number line → line.assertion ≡ 0 → IsWrongAt script lines number
+pub unnamed_zero : (script : Script) (lines : List Line) (number : ℕ) (line : Line) → IsLineReached script lines number line → line.assertion ≡ 0 → IsWrongAt script lines number
 unnamed_zero script lines number line reached none =
     inl (record { line = line; reached = reached; wrong = λ right. (let e : 0 ≡ suc right.assertion = sym none ∙ right.names in absurd (omega (arith, e))) })
 
-pub unnamed_past : (script : Script) (clauses : List HornClause) (lines : List Line) (number : ℕ) (line : Line) → AreClausesOf script clauses → IsReached script lines number line
+pub unnamed_past : (script : Script) (clauses : List HornClause) (lines : List Line) (number : ℕ) (line : Line) → AreClausesOf script clauses → IsLineReached script lines number line
     → length clauses < line.assertion → IsWrongAt script lines number
 unnamed_past script clauses lines number line are reached past =
     inl (record {

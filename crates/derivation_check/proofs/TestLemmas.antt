@@ -19,7 +19,7 @@ use Rattle.horn_shape.specs.declared.clause.Part.{Part}
 use Rattle.horn_shape.specs.Instance.{ground, part_value}
 use Rattle.answer_text.specs.declared.answer.Line.{Line}
 use Rattle.derivation_lines.specs.Claims.{concluded_in}
-use Rattle.derivation_lines.specs.Lines.{head_of}
+use Rattle.derivation_lines.specs.Lines.{line_head}
 use Rattle.derivation_check.specs.machinery.Tests.{agree, fits, is_argument, is_atom, is_conclusion, is_earlier, is_given, is_head}
 
 pub eq_of : (m n : ℕ) → (m == n) ≡ true → m ≡ n
@@ -119,45 +119,45 @@ module _ (nodes : List Node) (env : Environment) where
   tuple_same [] = refl
   tuple_same (part ∷ args) = ap (λ (b : Bool). b && agree (is_argument nodes env) args (map (part_value nodes env) args)) (value_same (part_value nodes env part)) ∙ tuple_same args
 
-  pub atom_is : (atom : AtomUse) (said : Option (ℕ × List Value)) → is_atom nodes env atom said ≡ true → said ≡ Some (head_of (ground nodes env atom))
+  pub atom_is : (atom : AtomUse) (said : Option (ℕ × List Value)) → is_atom nodes env atom said ≡ true → said ≡ Some (line_head (ground nodes env atom))
   atom_is atom None h = absurd (cc)
   atom_is atom (Some (pred, values)) h =
       let both = both_true (pred == atom.pred) (agree (is_argument nodes env) atom.args values) h in
       ap (λ (p : ℕ). said_as p values) (eq_of pred atom.pred both.0) ∙ ap (λ (vs : List Value). said_as atom.pred vs) (tuple_is atom.args values both.1)
 
-  pub atom_same : (atom : AtomUse) → is_atom nodes env atom (Some (head_of (ground nodes env atom))) ≡ true
+  pub atom_same : (atom : AtomUse) → is_atom nodes env atom (Some (line_head (ground nodes env atom))) ≡ true
   atom_same atom =
       ap (λ (b : Bool). b && agree (is_argument nodes env) atom.args (map (part_value nodes env) atom.args)) (eqb_self atom.pred) ∙ tuple_same atom.args
 
-  conclusion_is : (atom : AtomUse) (found : Option (Option (ℕ × List Value))) → is_conclusion nodes env atom found ≡ true → found ≡ Some (Some (head_of (ground nodes env atom)))
+  conclusion_is : (atom : AtomUse) (found : Option (Option (ℕ × List Value))) → is_conclusion nodes env atom found ≡ true → found ≡ Some (Some (line_head (ground nodes env atom)))
   conclusion_is atom None h = absurd (cc)
   conclusion_is atom (Some said) h = ap (λ (o : Option (ℕ × List Value)). Some o) (atom_is atom said h)
 
   pub given_are : (lines : List Line) (atoms : List AtomUse) (premises : List ℕ) → agree (is_given nodes env lines) atoms premises ≡ true
-      → map (concluded_in lines) premises ≡ map (λ atom. Some (Some (head_of atom))) (map (ground nodes env) atoms)
+      → map (concluded_in lines) premises ≡ map (λ atom. Some (Some (line_head atom))) (map (ground nodes env) atoms)
   given_are lines [] [] h = refl
   given_are lines [] (p ∷ premises) h = absurd (cc)
   given_are lines (atom ∷ atoms) [] h = absurd (cc)
   given_are lines (atom ∷ atoms) (p ∷ premises) h =
       let both = both_true (is_given nodes env lines atom p) (agree (is_given nodes env lines) atoms premises) h in
       ap (λ (o : Option (Option (ℕ × List Value))). o ∷ map (concluded_in lines) premises) (conclusion_is atom (concluded_in lines p) both.0)
-      ∙ ap (λ (os : List (Option (Option (ℕ × List Value)))). Some (Some (head_of (ground nodes env atom))) ∷ os) (given_are lines atoms premises both.1)
+      ∙ ap (λ (os : List (Option (Option (ℕ × List Value)))). Some (Some (line_head (ground nodes env atom))) ∷ os) (given_are lines atoms premises both.1)
 
-  pub are_given : (lines : List Line) (atoms : List AtomUse) (premises : List ℕ) → map (concluded_in lines) premises ≡ map (λ atom. Some (Some (head_of atom))) (map (ground nodes env) atoms)
+  pub are_given : (lines : List Line) (atoms : List AtomUse) (premises : List ℕ) → map (concluded_in lines) premises ≡ map (λ atom. Some (Some (line_head atom))) (map (ground nodes env) atoms)
       → agree (is_given nodes env lines) atoms premises ≡ true
   are_given lines [] [] e = refl
   are_given lines [] (p ∷ premises) e = absurd (cc)
   are_given lines (atom ∷ atoms) [] e = absurd (cc)
   are_given lines (atom ∷ atoms) (p ∷ premises) e =
-      let first : concluded_in lines p ≡ Some (Some (head_of (ground nodes env atom))) = first_same _ _ _ _ e in
+      let first : concluded_in lines p ≡ Some (Some (line_head (ground nodes env atom))) = first_same _ _ _ _ e in
       ap (λ (b : Bool). b && agree (is_given nodes env lines) atoms premises) (ap (is_conclusion nodes env atom) first ∙ atom_same atom)
       ∙ are_given lines atoms premises (rest_same _ _ _ _ e)
 
-  pub head_is : (head : Option AtomUse) (said : Option (ℕ × List Value)) → is_head nodes env head said ≡ true → said ≡ option_map head_of (option_map (ground nodes env) head)
+  pub head_is : (head : Option AtomUse) (said : Option (ℕ × List Value)) → is_head nodes env head said ≡ true → said ≡ option_map line_head (option_map (ground nodes env) head)
   head_is None None h = refl
   head_is None (Some said) h = absurd (cc)
   head_is (Some atom) said h = atom_is atom said h
 
-  pub is_head_by : (head : Option AtomUse) (said : Option (ℕ × List Value)) → said ≡ option_map head_of (option_map (ground nodes env) head) → is_head nodes env head said ≡ true
+  pub is_head_by : (head : Option AtomUse) (said : Option (ℕ × List Value)) → said ≡ option_map line_head (option_map (ground nodes env) head) → is_head nodes env head said ≡ true
   is_head_by None said e = ap (is_head nodes env None) e
   is_head_by (Some atom) said e = ap (is_head nodes env (Some atom)) e ∙ atom_same atom

@@ -27,7 +27,7 @@ abbrev pub AreRightBefore : Script → List Line → ℕ → Type 0
 AreRightBefore script lines place = (i : ℕ) (line : Line) → i < place → slice_get lines i ≡ Some line → IsLine script lines i line
 
 -- the step of that number is this line, and those before it are right
-pub record IsReached (script : Script) (lines : List Line) (number : ℕ) (line : Line) : Type 0 where
+pub record IsLineReached (script : Script) (lines : List Line) (number : ℕ) (line : Line) : Type 0 where
   pub place : ℕ
   pub numbered : number ≡ suc place
   pub there : slice_get lines place ≡ Some line
@@ -40,7 +40,7 @@ pub record IsReached (script : Script) (lines : List Line) (number : ℕ) (line 
 -- that doesn't conclude its body atom, or another conclusion than its head
 pub record IsFirstWrong (script : Script) (lines : List Line) (number : ℕ) : Type 0 where
   pub line : Line
-  pub reached : IsReached script lines number line
+  pub reached : IsLineReached script lines number line
   pub wrong : IsLine script lines reached.place line → ⊥
 
 -- each step is right, this is their number, and the last doesn't conclude false, or there is none
@@ -66,7 +66,7 @@ HasWide nodes env part term = IsSubterm nodes part.term.0 term × IsWideTerm nod
 -- number, the assertion, as many premises as body atoms, each among the steps before, and values of the sorts of the variables
 pub record IsWideAt (script : Script) (lines : List Line) (number term : ℕ) : Type 0 where
   pub line : Line
-  pub reached : IsReached script lines number line
+  pub reached : IsLineReached script lines number line
   pub assertion : ℕ
   pub names : line.assertion ≡ suc assertion
   pub clause : HornClause

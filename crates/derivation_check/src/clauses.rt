@@ -2,7 +2,7 @@
 
 ghost use Rattle.std.specs.Prelude.{◌≡◌, ◌<◌, length, IfOk};
 ghost use Rattle.horn_shape.specs.Clause.{IsClauseOf, IsLegalScript};
-ghost use Rattle.horn_shape.specs.machinery.Flags.{ArePlainFlags};
+ghost use Rattle.horn_shape.specs.Flags.{ArePlainFlags};
 ghost use Rattle.derivation_check.specs.Findings.{IsHornScript};
 ghost use Rattle.derivation_check.specs.machinery.Tests.{AreClausesOf};
 

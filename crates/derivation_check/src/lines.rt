@@ -2,7 +2,7 @@
 
 ghost use Rattle.std.specs.Prelude.{◌≡◌, ℕ, suc, length, IfOk, slice_get, Some};
 ghost use Rattle.horn_shape.specs.Clause.{IsClauseOf, IsLegalScript};
-ghost use Rattle.derivation_check.specs.Findings.{AreRightBefore, Finds, IsHornScript, IsReached};
+ghost use Rattle.derivation_check.specs.Findings.{AreRightBefore, Finds, IsHornScript, IsLineReached};
 ghost use Rattle.derivation_check.specs.machinery.Tests.{AreClausesOf, IsJudged, unless_right};
 
 use crate::clauses::clauses_of;
@@ -35,7 +35,7 @@ fn judged_by(
     clause: &HornClause,
 ) -> Result<Option<Finding>, Memory>
     requires legal { IsLegalScript script.now }
-    requires reached { IsReached script.now lines.now number line.now }
+    requires reached { IsLineReached script.now lines.now number line.now }
     requires clause { (index : ℕ) × (line.now.assertion ≡ suc index) × IsClauseOf script.now index clause.now }
     ensures { IfOk result (IsJudged script.now lines.now number line.now) }
 {
@@ -58,7 +58,7 @@ fn judged(
 ) -> Result<Option<Finding>, Memory>
     requires legal { IsLegalScript script.now }
     requires clauses { AreClausesOf script.now clauses.now }
-    requires reached { IsReached script.now lines.now number line.now }
+    requires reached { IsLineReached script.now lines.now number line.now }
     ensures { IfOk result (IsJudged script.now lines.now number line.now) }
 {
     if line.assertion == 0 {

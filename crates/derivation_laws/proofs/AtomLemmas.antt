@@ -7,7 +7,7 @@ use Rattle.term_tree.specs.declared.scalar.Value.{Value}
 use Rattle.term_tree.specs.declared.script.Pred.{Pred as Declared}
 use Rattle.term_tree.specs.declared.script.Script.{Script}
 use Rattle.term_tree.specs.Arena.{IsArena}
-use Rattle.term_tree.specs.Truth.{HaveSorts}
+use Rattle.term_tree.specs.Truth.{HaveSorts, as_values}
 use Rattle.term_tree.specs.Value.{environment_of}
 use Rattle.horn_shape.specs.declared.clause.AtomUse.{AtomUse}
 use Rattle.horn_shape.specs.declared.clause.HornClause.{HornClause}
@@ -20,7 +20,7 @@ use Rattle.clause_laws.specs.Point.{NumberAtom, at_point, numbers, of_ground}
 use Rattle.clause_laws.proofs.PlainLemmas.{HasPlainArguments}
 use Rattle.clause_laws.proofs.PointLemmas.{IsApplied, parts, plain_parts, tuple_sorted}
 use Rattle.book_rules.specs.Instances.{Ground, atom_at}
-use Rattle.derivation_laws.specs.Steps.{as_atom, as_tuple, as_values}
+use Rattle.derivation_laws.specs.Steps.{as_atom, as_tuple}
 use Rattle.derivation_laws.proofs.SystemLemmas.{IsMadeOf, sorts_there}
 use Rattle.derivation_laws.proofs.ValueLemmas.{values_back}
 

@@ -10,7 +10,7 @@ use Rattle.term_tree.specs.Arena.{IsArena}
 use Rattle.horn_shape.specs.Clause.{IsLegalScript}
 use Rattle.horn_shape.specs.Derivation.{IsDerivableWithin, IsDerivation, Step, height_over, heights_after, heights_of}
 use Rattle.clause_form.specs.System.{Clauses}
-use Rattle.book_rules.specs.Effects.{greatest, height_at}
+use Rattle.book_rules.specs.Effects.{greatest_height, height_at}
 use Rattle.book_rules.specs.Instances.{Ground, body_at}
 use Rattle.book_rules.specs.Kept.{AreRecorded}
 use Rattle.book_rules.specs.State.{Fact}
@@ -29,7 +29,7 @@ one_up k = omega arith
 
 -- the greatest height of the premises
 greatest_is : (facts first : List Fact) (before more : List ℕ) (most : ℕ) (premises : List ℕ) (body : List Ground) → All (Contains before) premises → AreNamed first facts premises body
-    → fold max most (map (λ k. slice_index_or (map (kept_height facts) before) k 0) (map (place_among (before ++ more)) premises)) ≡ max most (greatest first premises)
+    → fold max most (map (λ k. slice_index_or (map (kept_height facts) before) k 0) (map (place_among (before ++ more)) premises)) ≡ max most (greatest_height first premises)
 greatest_is facts first before more most [] [] within all = omega arith
 greatest_is facts first before more most [] (a ∷ body) within all = absurd all
 greatest_is facts first before more most (p ∷ premises) [] within all = absurd all
@@ -41,7 +41,7 @@ greatest_is facts first before more most (p ∷ premises) (a ∷ body) within al
     ∙ ap height_at (all.0.there ∙ sym all.0.first) in
     ap (λ (h : ℕ). fold max (max most h) (map (λ k. slice_index_or (map (kept_height facts) before) k 0) (map (place_among (before ++ more)) premises))) here
     ∙ greatest_is facts first before more (max most (height_at (slice_get first p))) premises body (All-tail (Contains before) p premises within) all.1
-    ∙ grouped most (height_at (slice_get first p)) (greatest first premises)
+    ∙ grouped most (height_at (slice_get first p)) (greatest_height first premises)
   where
     grouped : (a b c : ℕ) → max (max a b) c ≡ max a (max b c)
     grouped a b c = omega arith
@@ -60,7 +60,7 @@ module _ (sys : Clauses) (facts : List Fact) (recorded : AreRecorded sys [] fact
       let known = recorded_at sys facts n f recorded there in
       let body : List Ground = body_at f.point known.clause in
       ap (λ (k : ℕ). 1 + k) (greatest_is facts (take n facts) before more 0 f.premises body within (all_named facts n f.premises body known.premises))
-      ∙ from_none (greatest (take n facts) f.premises) ∙ sym known.height ∙ ap height_at (sym there)
+      ∙ from_none (greatest_height (take n facts) f.premises) ∙ sym known.height ∙ ap height_at (sym there)
     where
       from_none : (k : ℕ) → 1 + max 0 k ≡ suc k
       from_none k = omega arith

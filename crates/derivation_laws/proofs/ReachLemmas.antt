@@ -5,6 +5,7 @@ use Rattle.std.proofs.lemmas.List.{length-append}
 use Rattle.std.proofs.lemmas.Option.{get_or_from_slice_get}
 use Rattle.term_tree.specs.declared.script.Script.{Script}
 use Rattle.term_tree.specs.Arena.{IsArena}
+use Rattle.term_tree.specs.Truth.{as_values}
 use Rattle.horn_shape.specs.Clause.{IsLegalScript}
 use Rattle.horn_shape.specs.Derivation.{IsDerivableWithin, IsDerivation, IsDerivationAfter, IsStep, Step, concluded, height_over, heights_after, heights_of}
 use Rattle.horn_shape.specs.Instance.{GroundAtom}
@@ -12,7 +13,7 @@ use Rattle.clause_form.specs.System.{Clauses}
 use Rattle.book_rules.specs.Walks.{AllOf}
 use Rattle.book_rules.specs.Instances.{Ground, InstanceOf, IsDerivable, instances}
 use Rattle.book_rules.specs.State.{Fact}
-use Rattle.derivation_laws.specs.Steps.{as_atom, as_values, own_sorts}
+use Rattle.derivation_laws.specs.Steps.{as_atom, own_sorts}
 use Rattle.derivation_laws.proofs.PlaceLemmas.{get_end, get_more}
 use Rattle.derivation_laws.proofs.StepLemmas.{of_script}
 use Rattle.derivation_laws.proofs.SystemLemmas.{IsMadeOf}

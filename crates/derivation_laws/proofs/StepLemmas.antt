@@ -8,7 +8,7 @@ use Rattle.term_tree.specs.declared.sort.Sort.{Sort}
 use Rattle.term_tree.specs.declared.scalar.Value.{Value}
 use Rattle.term_tree.specs.declared.script.Script.{Script}
 use Rattle.term_tree.specs.Arena.{IsArena}
-use Rattle.term_tree.specs.Truth.{HaveSorts}
+use Rattle.term_tree.specs.Truth.{HaveSorts, as_values}
 use Rattle.horn_shape.specs.declared.clause.HornClause.{HornClause}
 use Rattle.horn_shape.specs.Clause.{IsClauseOf, IsLegalScript}
 use Rattle.horn_shape.specs.Derivation.{IsDerivation, IsDerivationAfter, IsStep, Step, concluded}
@@ -21,7 +21,7 @@ use Rattle.clause_laws.proofs.PointLemmas.{point_is_instance, same_atoms, same_h
 use Rattle.book_rules.specs.Instances.{Ground, IsInstance as IsPoint, body_at, head_at}
 use Rattle.book_rules.specs.Kept.{AreRecorded}
 use Rattle.book_rules.specs.State.{Fact}
-use Rattle.derivation_laws.specs.Steps.{AreBehind, AreClosed, as_atom, as_tuple, as_values, own_sorts, place_among, script_step, script_steps}
+use Rattle.derivation_laws.specs.Steps.{AreBehind, AreClosed, as_atom, as_tuple, own_sorts, place_among, script_step, script_steps}
 use Rattle.derivation_laws.proofs.AtomLemmas.{atoms_back, body_tuples, conclusion_sorted, head_back, head_tuple, premises_sorted}
 use Rattle.derivation_laws.proofs.FactLemmas.{AreNamed, all_named, recorded_at}
 use Rattle.derivation_laws.proofs.PlaceLemmas.{get_end, get_last, get_more, place_found, some_is}

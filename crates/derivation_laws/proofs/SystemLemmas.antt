@@ -15,7 +15,7 @@ use Rattle.horn_shape.specs.Shape.{Reading}
 use Rattle.clause_form.specs.System.{Clauses}
 use Rattle.clause_form.specs.declared.clause.Clause.{Clause}
 use Rattle.clause_normal.specs.Normal.{first_without_room, is_too_large, normal_clause}
-use Rattle.clause_normal.specs.Reading.{all_clauses, by_room, by_shape, clause_reading, clause_with, one_more, refusal_at, system_reading, unless_stopped}
+use Rattle.clause_normal.specs.Reading.{all_clauses, by_room, by_shape, normal_reading, clause_with, clause_and_others, refusal_at, system_reading, unless_stopped}
 use Rattle.clause_normal.proofs.ReadingLemmas.{reading_is}
 use Rattle.derivation_laws.proofs.PlaceLemmas.{some_is}
 
@@ -53,7 +53,7 @@ pub record IsNormalAt (script : Script) (index : ℕ) (clause : Clause) : Type 0
   pub is : IsClauseOf script index horn
   pub same : normal_clause script horn ≡ clause
 
-read_from : (script : Script) (index : ℕ) (a : Assertion) (clause : Clause) → slice_get script.asserts index ≡ Some a → clause_reading script index a ≡ Ok clause → IsNormalAt script index clause
+read_from : (script : Script) (index : ℕ) (a : Assertion) (clause : Clause) → slice_get script.asserts index ≡ Some a → normal_reading script index a ≡ Ok clause → IsNormalAt script index clause
 read_from script index a clause there h = by_reading (assertion_reading script a) refl h
   where
     by_reading : (read : Reading) → assertion_reading script a ≡ read → by_shape script index a read ≡ Ok clause → IsNormalAt script index clause
@@ -73,7 +73,7 @@ record IsOneMore (one : Result Clause Refusal) (others : Result (List Clause) Re
   are_rest : others ≡ Ok rest
   whole : first ∷ rest ≡ clauses
 
-more_ok : (one : Result Clause Refusal) (others : Result (List Clause) Refusal) (clauses : List Clause) → one_more one others ≡ Ok clauses → IsOneMore one others clauses
+more_ok : (one : Result Clause Refusal) (others : Result (List Clause) Refusal) (clauses : List Clause) → clause_and_others one others ≡ Ok clauses → IsOneMore one others clauses
 more_ok (Err refusal) others clauses h = absurd (cc)
 more_ok (Ok clause) (Err refusal) clauses h = absurd (cc)
 more_ok (Ok clause) (Ok rest) clauses h = record { first = clause; is_first = refl; rest = rest; are_rest = refl; whole = cc }
@@ -92,44 +92,44 @@ one_on base i = omega arith
 record IsReadAt (script : Script) (base : ℕ) (asserts : List Assertion) (i : ℕ) (clause : Clause) : Type 0 where
   assertion : Assertion
   there : slice_get asserts i ≡ Some assertion
-  reading : clause_reading script (base + i) assertion ≡ Ok clause
+  reading : normal_reading script (base + i) assertion ≡ Ok clause
 
 read_at : (script : Script) (base : ℕ) (asserts : List Assertion) (clauses : List Clause) → all_clauses script base asserts ≡ Ok clauses → (i : ℕ) (clause : Clause) → slice_get clauses i ≡ Some clause
     → IsReadAt script base asserts i clause
 read_at script base [] clauses h i clause at = absurd (no_clauses clauses h i clause at)
 read_at script base (a ∷ asserts) clauses h zero clause at =
-    let parts = more_ok (clause_reading script base a) (all_clauses script (base + 1) asserts) clauses h in
+    let parts = more_ok (normal_reading script base a) (all_clauses script (base + 1) asserts) clauses h in
     let same = some_is parts.first clause (ap (λ (cs : List Clause). slice_get cs 0) parts.whole ∙ at) in
-    record { assertion = a; there = refl; reading = ap (λ (n : ℕ). clause_reading script n a) (from_start base 0) ∙ parts.is_first ∙ ap (λ (c : Clause). Ok c) same }
+    record { assertion = a; there = refl; reading = ap (λ (n : ℕ). normal_reading script n a) (from_start base 0) ∙ parts.is_first ∙ ap (λ (c : Clause). Ok c) same }
 read_at script base (a ∷ asserts) clauses h (suc i) clause at =
-    let parts = more_ok (clause_reading script base a) (all_clauses script (base + 1) asserts) clauses h in
+    let parts = more_ok (normal_reading script base a) (all_clauses script (base + 1) asserts) clauses h in
     let later = read_at script (base + 1) asserts parts.rest parts.are_rest i clause (ap (λ (cs : List Clause). slice_get cs (suc i)) parts.whole ∙ at) in
-    record { assertion = later.assertion; there = later.there; reading = ap (λ (n : ℕ). clause_reading script n later.assertion) (sym (one_on base i)) ∙ later.reading }
+    record { assertion = later.assertion; there = later.there; reading = ap (λ (n : ℕ). normal_reading script n later.assertion) (sym (one_on base i)) ∙ later.reading }
 
 -- and each assertion has its clause
 record HasClauseAt (script : Script) (base : ℕ) (clauses : List Clause) (i : ℕ) (a : Assertion) : Type 0 where
   clause : Clause
   there : slice_get clauses i ≡ Some clause
-  reading : clause_reading script (base + i) a ≡ Ok clause
+  reading : normal_reading script (base + i) a ≡ Ok clause
 
 clause_at : (script : Script) (base : ℕ) (asserts : List Assertion) (clauses : List Clause) → all_clauses script base asserts ≡ Ok clauses → (i : ℕ) (a : Assertion) → slice_get asserts i ≡ Some a
     → HasClauseAt script base clauses i a
 clause_at script base [] clauses h i a at = absurd (cc)
 clause_at script base (b ∷ asserts) clauses h zero a at =
-    let parts = more_ok (clause_reading script base b) (all_clauses script (base + 1) asserts) clauses h in
+    let parts = more_ok (normal_reading script base b) (all_clauses script (base + 1) asserts) clauses h in
     let same = some_is b a at in
     record {
       clause = parts.first;
       there = ap (λ (cs : List Clause). slice_get cs 0) (sym parts.whole);
-      reading = ap (λ (n : ℕ). clause_reading script n a) (from_start base 0) ∙ ap (clause_reading script base) (sym same) ∙ parts.is_first;
+      reading = ap (λ (n : ℕ). normal_reading script n a) (from_start base 0) ∙ ap (normal_reading script base) (sym same) ∙ parts.is_first;
     }
 clause_at script base (b ∷ asserts) clauses h (suc i) a at =
-    let parts = more_ok (clause_reading script base b) (all_clauses script (base + 1) asserts) clauses h in
+    let parts = more_ok (normal_reading script base b) (all_clauses script (base + 1) asserts) clauses h in
     let later = clause_at script (base + 1) asserts parts.rest parts.are_rest i a at in
     record {
       clause = later.clause;
       there = ap (λ (cs : List Clause). slice_get cs (suc i)) (sym parts.whole) ∙ later.there;
-      reading = ap (λ (n : ℕ). clause_reading script n a) (sym (one_on base i)) ∙ later.reading;
+      reading = ap (λ (n : ℕ). normal_reading script n a) (sym (one_on base i)) ∙ later.reading;
     }
 
 from_none : (i : ℕ) → 0 + i ≡ i
@@ -139,12 +139,12 @@ module _ (script : Script) (sys : Clauses) (made : IsMadeOf script sys) where
   pub normal_at : (i : ℕ) (clause : Clause) → slice_get sys.clauses i ≡ Some clause → IsNormalAt script i clause
   normal_at i clause at =
       let read = read_at script 0 script.asserts sys.clauses made.clauses i clause at in
-      read_from script i read.assertion clause read.there (ap (λ (n : ℕ). clause_reading script n read.assertion) (sym (from_none i)) ∙ read.reading)
+      read_from script i read.assertion clause read.there (ap (λ (n : ℕ). normal_reading script n read.assertion) (sym (from_none i)) ∙ read.reading)
 
   pub normal_there : (i : ℕ) (horn : HornClause) → IsClauseOf script i horn → slice_get sys.clauses i ≡ Some (normal_clause script horn)
   normal_there i horn is =
       let has = clause_at script 0 script.asserts sys.clauses made.clauses i is.assertion is.there in
-      let read : clause_reading script i is.assertion ≡ Ok has.clause = ap (λ (n : ℕ). clause_reading script n is.assertion) (sym (from_none i)) ∙ has.reading in
+      let read : normal_reading script i is.assertion ≡ Ok has.clause = ap (λ (n : ℕ). normal_reading script n is.assertion) (sym (from_none i)) ∙ has.reading in
       let same = room_ok script is.assertion horn has.clause (first_without_room script horn) (sym (reading_is script i horn is is.assertion is.there) ∙ read) in
       has.there ∙ ap (λ (c : Clause). Some c) (sym same)
 

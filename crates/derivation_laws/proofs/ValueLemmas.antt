@@ -5,9 +5,8 @@ use Rattle.term_tree.specs.declared.sort.Sort.{Sort}
 use Rattle.term_tree.specs.declared.sort.Sort.TheVariants.{Int as IntSort, Bool as BoolSort}
 use Rattle.term_tree.specs.declared.scalar.Value.{Value}
 use Rattle.term_tree.specs.declared.scalar.Value.TheVariants.{Int, Bool as Truth}
-use Rattle.term_tree.specs.Truth.{HaveSorts}
+use Rattle.term_tree.specs.Truth.{HaveSorts, as_value, as_values}
 use Rattle.clause_laws.specs.Point.{numbers}
-use Rattle.derivation_laws.specs.Steps.{as_value, as_values}
 
 pub values_back : (sorts : List Sort) (values : List Value) → HaveSorts sorts values → as_values sorts (numbers values) ≡ values
 values_back [] [] have = refl

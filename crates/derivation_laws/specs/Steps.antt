@@ -1,13 +1,10 @@
 -- Facts of a book over the system of a script as steps of a derivation by the script's clauses: each step is an instance of
 -- an assertion, at values of its variables (Robinson, "Automatic deduction with hyper-resolution"; Komuravelli, Gurfinkel
 -- and Chaki, "SMT-based model checking for recursive programs", section 2).
-use Rattle.std.specs.Prelude.{◌≡◌, ℕ, ◌==◌, ℤ, pos, List, [], ◌∷◌, ◌++◌, map, take, slice_get, slice_index_or, Option, Some, None, option_map}
+use Rattle.std.specs.Prelude.{◌≡◌, ℕ, ◌==◌, List, [], ◌∷◌, ◌++◌, map, take, slice_get, slice_index_or, Option, Some, None, option_map}
 use Rattle.std.specs.List.{All, Contains, filter_map, position_or_len}
-use Rattle.std.specs.Ordering.{int_eq}
 use Rattle.term_tree.specs.declared.sort.Sort.{Sort}
-use Rattle.term_tree.specs.declared.sort.Sort.TheVariants.{Int as IntSort, Bool as BoolSort}
-use Rattle.term_tree.specs.declared.scalar.Value.{Value}
-use Rattle.term_tree.specs.declared.scalar.Value.TheVariants.{Int, Bool as Truth}
+use Rattle.term_tree.specs.Truth.{as_values}
 use Rattle.horn_shape.specs.Derivation.{Step}
 use Rattle.horn_shape.specs.Instance.{GroundAtom}
 use Rattle.clause_form.specs.System.{Clauses}
@@ -17,17 +14,6 @@ use Rattle.book_rules.specs.Instances.{Ground}
 use Rattle.book_rules.specs.State.{Fact}
 
 -- values and atoms
-
--- the value of the sort that an integer stands for: of sort Bool, 1 is true and 0 is false
-abbrev pub as_value : Sort → ℤ → Value
-as_value IntSort n = Int n
-as_value BoolSort n = Truth (int_eq n (pos 1))
-
--- one for each sort
-abbrev pub as_values : List Sort → List ℤ → List Value
-as_values [] point = []
-as_values (sort ∷ sorts) [] = []
-as_values (sort ∷ sorts) (n ∷ point) = as_value sort n ∷ as_values sorts point
 
 -- the tuple by the sorts of its predicate
 abbrev pub as_atom : Clauses → Ground → GroundAtom

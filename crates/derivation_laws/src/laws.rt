@@ -5,7 +5,7 @@ ghost use Rattle.term_tree.specs.declared.refusal.Checked.{Checked};
 ghost use Rattle.term_tree.specs.declared.scalar.Value.{Value};
 ghost use Rattle.term_tree.specs.declared.sort.Sort.{Sort};
 ghost use Rattle.term_tree.specs.Arena.{IsArena};
-ghost use Rattle.term_tree.specs.Truth.{HaveSorts};
+ghost use Rattle.term_tree.specs.Truth.{HaveSorts, as_values};
 ghost use Rattle.horn_shape.specs.Clause.{IsLegalScript};
 ghost use Rattle.horn_shape.specs.Derivation.{IsDerivableWithin, IsDerivation, Step, height_over, heights_of};
 ghost use Rattle.horn_shape.specs.Instance.{GroundAtom};
@@ -16,7 +16,7 @@ ghost use Rattle.book_rules.specs.Effects.{height_at};
 ghost use Rattle.book_rules.specs.Instances.{Ground, IsDerivable, instances};
 ghost use Rattle.book_rules.specs.Kept.{AreRecorded};
 ghost use Rattle.book_rules.specs.State.{Fact};
-ghost use Rattle.derivation_laws.specs.Steps.{AreClosed, as_atom, as_tuple, as_values, script_step, script_steps};
+ghost use Rattle.derivation_laws.specs.Steps.{AreClosed, as_atom, as_tuple, script_step, script_steps};
 
 /// The integers of values stand for these values, by their sorts.
 pub fn numbers_stand_for_values()

@@ -5,14 +5,15 @@ use Rattle.std.specs.List.{cons_option}
 use Rattle.std.proofs.lemmas.List.{length_push}
 use Rattle.std.proofs.lemmas.Option.{slice_get_read}
 use Rattle.term_tree.specs.declared.sort.Sort.{Sort}
+use Rattle.term_tree.specs.Truth.{as_values}
 use Rattle.clause_form.specs.System.{Clauses}
 use Rattle.derivations.specs.Facts.{height_of}
 use Rattle.derivations.specs.declared.fact.Fact.{Fact as KeptFact}
 use Rattle.book_rules.specs.State.{Fact}
-use Rattle.step_rules.specs.Views.{conclusion_of, facts_of}
+use Rattle.step_rules.specs.Views.{ground_conclusion, facts_of}
 use Rattle.step_rules.proofs.Public.{fact_of-at}
 use Rattle.answer_text.specs.declared.answer.Line.{Line}
-use Rattle.derivation_laws.specs.Steps.{as_values, script_step}
+use Rattle.derivation_laws.specs.Steps.{script_step}
 use Rattle.derivation_lines.specs.Lines.{line_of, lines_from}
 use Rattle.derivation_lines.specs.machinery.Adding.{HasAdded, kept_step}
 
@@ -61,7 +62,7 @@ pub added-kept : (sys : Clauses) (facts : List KeptFact) (among : List ℕ) (n :
     → line ≡ line_of number (kept_step sys among f) → number ≡ suc (length old) → new ≡ old ++ line ∷ [] → HasAdded sys (facts_of facts) among n old new
 added-kept sys facts among n f old new number line within is says numbered pushed =
     let there : slice_get facts n ≡ Some f = slice_get_read facts (length facts) n f refl within is in
-    let fact : Fact = record { conclusion = conclusion_of f.pred f.tuple; clause = f.clause; point = f.point; premises = f.premises; height = height_of facts n } in
+    let fact : Fact = record { conclusion = ground_conclusion f.pred f.tuple; clause = f.clause; point = f.point; premises = f.premises; height = height_of facts n } in
     let same : line ≡ line_of (suc (length old)) (kept_step sys among f) = says ∙ ap (λ (k : ℕ). line_of k (kept_step sys among f)) numbered in
     subst (λ (lines : List Line). HasAdded sys (facts_of facts) among n old lines) (sym (pushed ∙ ap (λ (l : Line). old ++ l ∷ []) same))
     (added-some sys (facts_of facts) among n fact old (fact_of-at facts n f there))

@@ -13,7 +13,7 @@ use Rattle.horn_shape.specs.Instance.{GroundAtom, conclusion_of, premises_of}
 use Rattle.answer_text.specs.declared.answer.Line.{Line}
 use Rattle.derivation_laws.proofs.PlaceLemmas.{some_is}
 use Rattle.derivation_lines.specs.Claims.{AreLines, DeriveFalse, IsLine, concluded_in}
-use Rattle.derivation_lines.specs.Lines.{head_of, line_of, lines_from, lines_of}
+use Rattle.derivation_lines.specs.Lines.{line_head, line_of, lines_from, lines_of}
 use Rattle.derivation_lines.proofs.SayLemmas.{line_says}
 
 -- what a line says, with assertions and steps numbered from 0
@@ -29,11 +29,11 @@ step_of line = record { assertion = less line.assertion; values = line.values; p
 
 -- and back
 
-head-back : (head : Option (ℕ × List Value)) → option_map head_of (option_map atom_of head) ≡ head
+head-back : (head : Option (ℕ × List Value)) → option_map line_head (option_map atom_of head) ≡ head
 head-back None = refl
 head-back (Some h) = refl
 
-atom-back : (conclusion : Option GroundAtom) → option_map atom_of (option_map head_of conclusion) ≡ conclusion
+atom-back : (conclusion : Option GroundAtom) → option_map atom_of (option_map line_head conclusion) ≡ conclusion
 atom-back None = refl
 atom-back (Some atom) = refl
 
@@ -81,9 +81,9 @@ line-found lines q x h = by (slice_get lines q) refl h
     by None there e = absurd (cc)
     by (Some line) there e = (line, there, some_is line.head x e)
 
-concluded-back : (lines : List Line) (place q : ℕ) (a : GroundAtom) → q < place → concluded_in lines (suc q) ≡ Some (Some (head_of a)) → concluded (take place (map step_of lines)) q ≡ Some (Some a)
+concluded-back : (lines : List Line) (place q : ℕ) (a : GroundAtom) → q < place → concluded_in lines (suc q) ≡ Some (Some (line_head a)) → concluded (take place (map step_of lines)) q ≡ Some (Some a)
 concluded-back lines place q a low h =
-    let found = line-found lines q (Some (head_of a)) h in
+    let found = line-found lines q (Some (line_head a)) h in
     ap (option_map (λ (s : Step). s.conclusion)) (get-take (map step_of lines) place q low ∙ slice_get-map step_of lines q ∙ ap (option_map step_of) found.1)
     ∙ ap (λ (head : Option (ℕ × List Value)). Some (option_map atom_of head)) found.2
 
@@ -91,13 +91,13 @@ heads_of : (x y : Option (Option (ℕ × List Value))) (xs ys : List (Option (Op
 heads_of x y xs ys e = (cc, cc)
 
 premises-back : (lines : List Line) (place : ℕ) (premises : List ℕ) (atoms : List GroundAtom) → All (λ p. (1 ≤ p) × (p ≤ place)) premises
-    → map (concluded_in lines) premises ≡ map (λ atom. Some (Some (head_of atom))) atoms → map (concluded (take place (map step_of lines))) (map less premises) ≡ map (λ atom. Some (Some atom)) atoms
+    → map (concluded_in lines) premises ≡ map (λ atom. Some (Some (line_head atom))) atoms → map (concluded (take place (map step_of lines))) (map less premises) ≡ map (λ atom. Some (Some atom)) atoms
 premises-back lines place [] [] all h = refl
 premises-back lines place [] (a ∷ atoms) all h = absurd (cc)
 premises-back lines place (p ∷ premises) [] all h = absurd (cc)
 premises-back lines place (zero ∷ premises) (a ∷ atoms) all h = absurd (let low = (All-head (λ p. (1 ≤ p) × (p ≤ place)) zero premises all).0 in omega (arith, low))
 premises-back lines place (suc p ∷ premises) (a ∷ atoms) all h =
-    let both = heads_of (concluded_in lines (suc p)) (Some (Some (head_of a))) (map (concluded_in lines) premises) (map (λ atom. Some (Some (head_of atom))) atoms) h in
+    let both = heads_of (concluded_in lines (suc p)) (Some (Some (line_head a))) (map (concluded_in lines) premises) (map (λ atom. Some (Some (line_head atom))) atoms) h in
     let low = (All-head (λ q. (1 ≤ q) × (q ≤ place)) (suc p) premises all).1 in
     ap (λ (x : Option (Option GroundAtom)). x ∷ map (concluded (take place (map step_of lines))) (map less premises)) (concluded-back lines place p a (omega (arith, low)) both.0)
     ∙ ap (λ (xs : List (Option (Option GroundAtom))). Some (Some a) ∷ xs) (premises-back lines place premises atoms (All-tail (λ q. (1 ≤ q) × (q ≤ place)) (suc p) premises all) both.1)
@@ -165,5 +165,5 @@ derived_lines script lines derive = record {
   before = lines_from 1 derive.steps;
   last = line_of (1 + length derive.steps) derive.last;
   ends = derive.said ∙ lines-last 1 derive.steps derive.last;
-  is_false = ap (option_map head_of) derive.is_false;
+  is_false = ap (option_map line_head) derive.is_false;
 }

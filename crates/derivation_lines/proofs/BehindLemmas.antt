@@ -4,12 +4,12 @@ use Rattle.std.specs.Prelude.{◌⊎◌, Option, option_map, slice_get}
 use Rattle.std.specs.List.{AllPairs, Contains}
 use Rattle.std.proofs.lemmas.List.Elements.{All-contains, Contains-append_cases, Contains-get_or}
 use Rattle.std.proofs.lemmas.Option.{get_or_from_slice_get, slice_get-map}
-use Rattle.derivations.specs.Facts.{AreRecorded, AreSteps, RestsOn, height_of, pred_of, premises_of}
+use Rattle.derivations.specs.Facts.{AreRecorded, AreSteps, RestsOn, height_of, pred_of, fact_premises}
 use Rattle.derivations.specs.Facts.RestsOn.{itself, through}
 use Rattle.derivations.specs.declared.fact.Fact.{Fact as KeptFact}
 use Rattle.derivations.proofs.Public.{steps_closed}
 use Rattle.book_rules.specs.State.{Fact}
-use Rattle.step_rules.specs.Views.{conclusion_of, facts_of}
+use Rattle.step_rules.specs.Views.{ground_conclusion, facts_of}
 use Rattle.step_rules.proofs.Public.{fact_of-at}
 use Rattle.derivation_laws.specs.Steps.{AreBehind, IsBehind}
 use Rattle.derivation_lines.specs.Claims.{EndInFalse}
@@ -19,7 +19,7 @@ at-number [] n within = absurd (omega (arith, within))
 at-number (x ∷ xs) zero within = (x, refl)
 at-number (x ∷ xs) (suc n) within = at-number xs n (omega (arith, within))
 
-premises-are : (facts : List KeptFact) (n : ℕ) (f : KeptFact) → slice_get facts n ≡ Some f → premises_of facts n ≡ f.premises
+premises-are : (facts : List KeptFact) (n : ℕ) (f : KeptFact) → slice_get facts n ≡ Some f → fact_premises facts n ≡ f.premises
 premises-are facts n f there =
     get_or_from_slice_get (map (λ (g : KeptFact). g.premises) facts) n f.premises [] (slice_get-map (λ (g : KeptFact). g.premises) facts n ∙ ap (option_map (λ (g : KeptFact). g.premises)) there)
 
@@ -29,18 +29,18 @@ pred-is facts n f there =
 
 -- a kept fact as one of the book
 abbrev book_fact : List KeptFact → ℕ → KeptFact → Fact
-book_fact facts n f = record { conclusion = conclusion_of f.pred f.tuple; clause = f.clause; point = f.point; premises = f.premises; height = height_of facts n }
+book_fact facts n f = record { conclusion = ground_conclusion f.pred f.tuple; clause = f.clause; point = f.point; premises = f.premises; height = height_of facts n }
 
 -- what a fact rests on comes no later
 rests-below : (facts : List KeptFact) {n m : ℕ} → AreRecorded facts → n < length facts → RestsOn facts n m → m ≤ n
 rests-below facts recorded within itself = omega arith
 rests-below facts {n = n} {m = m} recorded within (through p has_it rest) =
-    let less = All-contains (λ q. q < n) (premises_of facts n) p (recorded.earlier n within) has_it in
+    let less = All-contains (λ q. q < n) (fact_premises facts n) p (recorded.earlier n within) has_it in
     let low = rests-below facts recorded (omega (arith, less, within)) rest in
     omega (arith, less, low)
 
 module _ (facts : List KeptFact) (recorded : AreRecorded facts) where
-  behind : (before rest : List ℕ) (n : ℕ) → n < length facts → AllPairs (λ x y. x < y) (n ∷ rest) → ((q : ℕ) → Contains (premises_of facts n) q → Contains (before ++ n ∷ rest) q)
+  behind : (before rest : List ℕ) (n : ℕ) → n < length facts → AllPairs (λ x y. x < y) (n ∷ rest) → ((q : ℕ) → Contains (fact_premises facts n) q → Contains (before ++ n ∷ rest) q)
       → IsBehind (facts_of facts) before n
   behind before rest n within order closed =
       let at = at-number facts n within in
@@ -58,12 +58,12 @@ module _ (facts : List KeptFact) (recorded : AreRecorded facts) where
           let same : get_or (n ∷ rest) (suc k) p ≡ p = is in
           absurd (omega (arith, less, up, same))
 
-      found : (p : ℕ) → Contains (premises_of facts n) p → Contains before p
+      found : (p : ℕ) → Contains (fact_premises facts n) p → Contains before p
       found p of_n =
-          ahead p (All-contains (λ q. q < n) (premises_of facts n) p (recorded.earlier n within) of_n) (Contains-append_cases before (n ∷ rest) p (closed p of_n))
+          ahead p (All-contains (λ q. q < n) (fact_premises facts n) p (recorded.earlier n within) of_n) (Contains-append_cases before (n ∷ rest) p (closed p of_n))
 
   ascending : (before steps : List ℕ) → AllPairs (λ x y. x < y) steps → ((m : ℕ) → Contains steps m → m < length facts)
-      → ((m q : ℕ) → Contains steps m → Contains (premises_of facts m) q → Contains (before ++ steps) q) → AreBehind (facts_of facts) before steps
+      → ((m q : ℕ) → Contains steps m → Contains (fact_premises facts m) q → Contains (before ++ steps) q) → AreBehind (facts_of facts) before steps
   ascending before [] order there closed = tt
   ascending before (n ∷ steps) order there closed = (behind before steps n (there n (0, omega arith, refl)) order (λ q of_n. closed n q (0, omega arith, refl) of_n), ascending (before ++ n ∷ []) steps below inside among)
     where
@@ -73,7 +73,7 @@ module _ (facts : List KeptFact) (recorded : AreRecorded facts) where
       inside : (m : ℕ) → Contains steps m → m < length facts
       inside m has_it = there m (suc has_it.0, (let l = has_it.1 in omega (arith, l)), has_it.2)
 
-      among : (m q : ℕ) → Contains steps m → Contains (premises_of facts m) q → Contains ((before ++ n ∷ []) ++ steps) q
+      among : (m q : ℕ) → Contains steps m → Contains (fact_premises facts m) q → Contains ((before ++ n ∷ []) ++ steps) q
       among m q has_it of_m =
           subst (λ (xs : List ℕ). Contains xs q) (sym (append_assoc before (n ∷ []) steps)) (closed m q (suc has_it.0, (let l = has_it.1 in omega (arith, l)), has_it.2) of_m)
 
@@ -104,5 +104,5 @@ steps-end facts n steps recorded within is are =
       ends = end.1;
       fact = book_fact facts n at.0;
       there = fact_of-at facts n at.0 at.1;
-      is_false = ap (λ (p : Option ℕ). conclusion_of p (at.0).tuple) (sym (pred-is facts n at.0 at.1) ∙ is);
+      is_false = ap (λ (p : Option ℕ). ground_conclusion p (at.0).tuple) (sym (pred-is facts n at.0 at.1) ∙ is);
     }

@@ -19,12 +19,12 @@ use Rattle.clause_form.specs.System.{Clauses}
 use Rattle.book_rules.specs.State.{Fact}
 use Rattle.answer_text.specs.declared.answer.Answer.TheVariants.{Unsat}
 use Rattle.answer_text.specs.AnswerTexts.{answer_text}
-use Rattle.answer_text.specs.Printable.{IsAnswerText, IsConclusion, IsShort, IsStep}
+use Rattle.answer_text.specs.Printable.{IsAnswerText, IsConclusion, IsShort, IsPrintableStep}
 use Rattle.derivation_laws.specs.Steps.{script_steps}
 use Rattle.derivation_laws.proofs.AtomLemmas.{IsSortedHead, conclusion_sorted}
 use Rattle.derivation_laws.proofs.Public.{all_steps, facts_derive, system_made}
 use Rattle.derivation_lines.specs.Claims.{AreFactsOf, EndInFalse}
-use Rattle.derivation_lines.specs.Lines.{fact_lines, head_of, line_of, lines_from}
+use Rattle.derivation_lines.specs.Lines.{fact_lines, line_head, line_of, lines_from}
 use Rattle.derivation_lines.proofs.LineLemmas.{concluded-at}
 use Rattle.derivation_lines.proofs.ShortLemmas.{IsShortHead, IsShortStep, steps-short}
 
@@ -49,7 +49,7 @@ have-length [] (v ∷ values) have = absurd have
 have-length (s ∷ sorts) [] have = absurd have
 have-length (s ∷ sorts) (v ∷ values) have = ap suc (have-length sorts values have.1)
 
-conclusion-short : (script : Script) (conclusion : Option GroundAtom) → IsSortedHead script conclusion → IsShortHead conclusion → IsConclusion script.preds (option_map head_of conclusion)
+conclusion-short : (script : Script) (conclusion : Option GroundAtom) → IsSortedHead script conclusion → IsShortHead conclusion → IsConclusion script.preds (option_map line_head conclusion)
 conclusion-short script None sorted short = tt
 conclusion-short script (Some atom) sorted short = (
   slice_get_within script.preds atom.pred sorted.declared sorted.there,
@@ -58,7 +58,7 @@ conclusion-short script (Some atom) sorted short = (
 )
 
 module _ (script : Script) (arena : IsArena script.terms.nodes) (legal : IsLegalScript script) where
-  line-printed : (earlier : List Step) (s : Step) (number : ℕ) → number ≡ suc (length earlier) → number < 2 ^ 63 → IsScriptStep script earlier s → IsShortStep s → IsStep script.preds (line_of number s)
+  line-printed : (earlier : List Step) (s : Step) (number : ℕ) → number ≡ suc (length earlier) → number < 2 ^ 63 → IsScriptStep script earlier s → IsShortStep s → IsPrintableStep script.preds (line_of number s)
   line-printed earlier s number is small step short =
       let within : s.assertion < length script.asserts = slice_get_within script.asserts s.assertion step.clause_is.assertion step.clause_is.there in
       let few : length script.asserts ≤ 65536 = legal.few_asserts in
@@ -72,7 +72,7 @@ module _ (script : Script) (arena : IsArena script.terms.nodes) (legal : IsLegal
       }
 
   lines-printed : (earlier steps : List Step) (number : ℕ) → number ≡ suc (length earlier) → length earlier + length steps < 2 ^ 63 → IsDerivationAfter script earlier steps → AllByRecursion IsShortStep steps
-      → AllByRecursion (IsStep script.preds) (lines_from number steps)
+      → AllByRecursion (IsPrintableStep script.preds) (lines_from number steps)
   lines-printed earlier [] number is few are short = tt
   lines-printed earlier (s ∷ steps) number is few are short =
       let long : length (earlier ++ s ∷ []) ≡ length earlier + 1 = length_push earlier s in (

@@ -12,14 +12,14 @@ use Rattle.horn_shape.specs.Instance.{GroundAtom, premises_of}
 use Rattle.answer_text.specs.declared.answer.Line.{Line}
 use Rattle.derivation_laws.proofs.PlaceLemmas.{get_more}
 use Rattle.derivation_lines.specs.Claims.{DeriveFalse, IsLine, concluded_in}
-use Rattle.derivation_lines.specs.Lines.{head_of, lines_of}
+use Rattle.derivation_lines.specs.Lines.{line_head, lines_of}
 use Rattle.derivation_lines.proofs.LineLemmas.{concluded-at, line-at, step-at, step-line}
 use Rattle.derivation_lines.proofs.PrintLemmas.{heads_split}
 
 -- a premise among the first steps
 record IsEarlier (steps : List Step) (place p : ℕ) (a : GroundAtom) : Type 0 where
   within : suc p ≤ place
-  concludes : concluded_in (lines_of steps) (suc p) ≡ Some (Some (head_of a))
+  concludes : concluded_in (lines_of steps) (suc p) ≡ Some (Some (line_head a))
 
 earlier-at : (steps : List Step) (place p : ℕ) (a : GroundAtom) → concluded (take place steps) p ≡ Some (Some a) → IsEarlier steps place p a
 earlier-at steps place p a h =
@@ -29,7 +29,7 @@ earlier-at steps place p a h =
     let there : slice_get steps p ≡ Some at.0 = subst (λ (ss : List Step). slice_get ss p ≡ Some at.0) (take-append-drop place steps) (get_more (take place steps) (drop place steps) p at.0 at.1) in
     record {
       within = omega (arith, less, long);
-      concludes = ap (option_map (λ (l : Line). l.head)) (step-line 1 steps p at.0 there) ∙ ap (λ (c : Option GroundAtom). Some (option_map head_of c)) at.2;
+      concludes = ap (option_map (λ (l : Line). l.head)) (step-line 1 steps p at.0 there) ∙ ap (λ (c : Option GroundAtom). Some (option_map line_head c)) at.2;
     }
 
 all-within : (steps : List Step) (place : ℕ) (premises : List ℕ) (atoms : List GroundAtom) → map (concluded (take place steps)) premises ≡ map (λ atom. Some (Some atom)) atoms
@@ -41,14 +41,14 @@ all-within steps place (p ∷ premises) (a ∷ atoms) h =
     All-cons (λ q. (1 ≤ q) × (q ≤ place)) (suc p) (map (λ q. suc q) premises) (omega arith, (earlier-at steps place p a both.0).within) (all-within steps place premises atoms both.1)
 
 all-concluded : (steps : List Step) (place : ℕ) (premises : List ℕ) (atoms : List GroundAtom) → map (concluded (take place steps)) premises ≡ map (λ atom. Some (Some atom)) atoms
-    → map (concluded_in (lines_of steps)) (map (λ p. suc p) premises) ≡ map (λ atom. Some (Some (head_of atom))) atoms
+    → map (concluded_in (lines_of steps)) (map (λ p. suc p) premises) ≡ map (λ atom. Some (Some (line_head atom))) atoms
 all-concluded steps place [] [] h = refl
 all-concluded steps place [] (a ∷ atoms) h = absurd (cc)
 all-concluded steps place (p ∷ premises) [] h = absurd (cc)
 all-concluded steps place (p ∷ premises) (a ∷ atoms) h =
     let both = heads_split (concluded (take place steps) p) (Some (Some a)) (map (concluded (take place steps)) premises) (map (λ atom. Some (Some atom)) atoms) h in
     ap (λ (x : Option (Option (ℕ × List Value))). x ∷ map (concluded_in (lines_of steps)) (map (λ q. suc q) premises)) (earlier-at steps place p a both.0).concludes
-    ∙ ap (λ (xs : List (Option (Option (ℕ × List Value)))). Some (Some (head_of a)) ∷ xs) (all-concluded steps place premises atoms both.1)
+    ∙ ap (λ (xs : List (Option (Option (ℕ × List Value)))). Some (Some (line_head a)) ∷ xs) (all-concluded steps place premises atoms both.1)
 
 at-place : (place : ℕ) → 1 + place ≡ suc place
 at-place place = omega arith
@@ -67,7 +67,7 @@ says script steps place line are at =
       instance = step.instance;
       earlier = all-within steps place s.premises (premises_of script step.clause s.values) step.premises;
       premises = all-concluded steps place s.premises (premises_of script step.clause s.values) step.premises;
-      conclusion = ap (option_map head_of) step.conclusion;
+      conclusion = ap (option_map line_head) step.conclusion;
     })
 
 pub line_says : (script : Script) (lines : List Line) (place : ℕ) (line : Line) → DeriveFalse script lines → slice_get lines place ≡ Some line → IsLine script lines place line

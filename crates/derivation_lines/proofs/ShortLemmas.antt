@@ -6,6 +6,7 @@ use Rattle.std.proofs.lemmas.Bool.{ltb-true}
 use Rattle.base.specs.Widths.{is_short}
 use Rattle.term_tree.specs.declared.sort.Sort.{Sort}
 use Rattle.term_tree.specs.declared.sort.Sort.TheVariants.{Int as IntSort, Bool as BoolSort}
+use Rattle.term_tree.specs.Truth.{as_values}
 use Rattle.horn_shape.specs.Derivation.{Step}
 use Rattle.horn_shape.specs.Instance.{GroundAtom}
 use Rattle.clause_form.specs.System.{Clauses}
@@ -15,7 +16,7 @@ use Rattle.book_rules.specs.Values.{conclusion_is_short, fact_is_short}
 use Rattle.book_rules.specs.Walks.{AllOf}
 use Rattle.book_rules.proofs.ListLemmas.{both_true}
 use Rattle.answer_text.specs.Printable.{IsShortValue}
-use Rattle.derivation_laws.specs.Steps.{as_atom, as_values, own_sorts, script_step}
+use Rattle.derivation_laws.specs.Steps.{as_atom, own_sorts, script_step}
 use Rattle.derivation_laws.proofs.PlaceLemmas.{some_is}
 use Rattle.derivation_lines.specs.machinery.Adding.{steps_left}
 

@@ -17,7 +17,7 @@ use Rattle.book_rules.specs.Values.{fact_is_short}
 use Rattle.book_rules.specs.Walks.{AllOf}
 use Rattle.answer_text.specs.declared.answer.Line.{Line}
 use Rattle.derivation_laws.specs.Steps.{AreClosed}
-use Rattle.derivation_lines.specs.Lines.{head_of, lines_of}
+use Rattle.derivation_lines.specs.Lines.{line_head, lines_of}
 
 -- they are the lines of a derivation by the script's clauses, of which the last step concludes false
 pub record DeriveFalse (script : Script) (lines : List Line) : Type 0 where
@@ -42,8 +42,8 @@ pub record IsLine (script : Script) (lines : List Line) (place : ℕ) (line : Li
   pub clause_is : IsClauseOf script assertion clause
   pub instance : IsInstance script clause line.values
   pub earlier : All (λ p. (1 ≤ p) × (p ≤ place)) line.premises
-  pub premises : map (concluded_in lines) line.premises ≡ map (λ atom. Some (Some (head_of atom))) (premises_of script clause line.values)
-  pub conclusion : line.head ≡ option_map head_of (conclusion_of script clause line.values)
+  pub premises : map (concluded_in lines) line.premises ≡ map (λ atom. Some (Some (line_head atom))) (premises_of script clause line.values)
+  pub conclusion : line.head ≡ option_map line_head (conclusion_of script clause line.values)
 
 -- each line is right by itself, and the last concludes false
 pub record AreLines (script : Script) (lines : List Line) : Type 0 where

@@ -9,13 +9,13 @@ use Rattle.answer_text.specs.declared.answer.Line.{Line}
 use Rattle.derivation_laws.specs.Steps.{script_steps}
 
 -- a predicate with its values
-abbrev pub head_of : GroundAtom → ℕ × List Value
-head_of atom = (atom.pred, atom.values)
+abbrev pub line_head : GroundAtom → ℕ × List Value
+line_head atom = (atom.pred, atom.values)
 
 -- the step as the line of that number
 abbrev pub line_of : ℕ → Step → Line
 line_of number s =
-    record { number = number; assertion = suc s.assertion; values = s.values; premises = map (λ p. suc p) s.premises; head = option_map head_of s.conclusion }
+    record { number = number; assertion = suc s.assertion; values = s.values; premises = map (λ p. suc p) s.premises; head = option_map line_head s.conclusion }
 
 -- one after another, from that number on
 abbrev pub lines_from : ℕ → List Step → List Line

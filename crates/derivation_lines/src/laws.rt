@@ -1,6 +1,7 @@
 //! Laws of the lines of derivations, as contracts of functions that do nothing.
 
-ghost use Rattle.std.specs.Prelude.{◌≡◌, ◌<◌, ◌^◌, ◌↔◌, ℕ, List, length, None};
+ghost use Rattle.std.specs.Prelude.{◌≡◌, ◌<◌, ◌↔◌, ℕ, List, length, None};
+ghost use Rattle.base.specs.Widths.{short_limit};
 ghost use Rattle.term_tree.specs.declared.definition.Definition.{Definition};
 ghost use Rattle.term_tree.specs.declared.refusal.Checked.{Checked};
 ghost use Rattle.term_tree.specs.declared.script.Script.{Script};
@@ -18,7 +19,7 @@ ghost use Rattle.answer_text.specs.declared.answer.Answer.TheVariants.{Unsat};
 ghost use Rattle.answer_text.specs.AnswerTexts.{answer_text};
 ghost use Rattle.answer_text.specs.Printable.{IsAnswerText};
 ghost use Rattle.answer_text.specs.Read.{Spells};
-ghost use Rattle.answer_text.specs.machinery.ReadBack.{AreNames};
+ghost use Rattle.answer_text.specs.ReadBack.{AreNames};
 ghost use Rattle.derivation_lines.specs.Claims.{AreFactsOf, AreLines, DeriveFalse, EndInFalse};
 ghost use Rattle.derivation_lines.specs.Lines.{fact_lines};
 
@@ -38,13 +39,13 @@ pub fn facts_derive_false()
 /// They may be printed, and their printed text spells these very lines and nothing else.
 pub fn lines_of_facts_are_read_back()
     ensures printed { (checked : Checked) (sys : Clauses) (facts : List Fact) (among : List ℕ) →
-        AreFactsOf checked sys facts → EndInFalse facts among → length among < 2 ^ 63 →
+        AreFactsOf checked sys facts → EndInFalse facts among → length among < short_limit →
         IsAnswerText checked.script.preds (Unsat (fact_lines sys facts among)) (answer_text checked.script.preds (Unsat (fact_lines sys facts among))) }
     ensures spelled { (checked : Checked) (sys : Clauses) (facts : List Fact) (among text : List ℕ) →
-        AreFactsOf checked sys facts → EndInFalse facts among → length among < 2 ^ 63 → AreNames checked.script.preds →
+        AreFactsOf checked sys facts → EndInFalse facts among → length among < short_limit → AreNames checked.script.preds →
         text ≡ answer_text checked.script.preds (Unsat (fact_lines sys facts among)) → Spells checked.script.preds text (Unsat (fact_lines sys facts among)) }
     ensures alone { (checked : Checked) (sys : Clauses) (facts : List Fact) (among text : List ℕ) (answer : Answer) →
-        AreFactsOf checked sys facts → EndInFalse facts among → length among < 2 ^ 63 → AreNames checked.script.preds →
+        AreFactsOf checked sys facts → EndInFalse facts among → length among < short_limit → AreNames checked.script.preds →
         text ≡ answer_text checked.script.preds (Unsat (fact_lines sys facts among)) → Spells checked.script.preds text answer → answer ≡ Unsat (fact_lines sys facts among) }
 {}
 

@@ -1,9 +1,10 @@
 //! The values for which the integers of points and tuples stand.
 
 ghost use Rattle.std.specs.Prelude.{◌≡◌, [], IfOk, slice_get, slice_index_or, option_map};
-ghost use Rattle.derivation_laws.specs.Steps.{as_atom, as_value, as_values, own_sorts};
-ghost use Rattle.step_rules.specs.Views.{conclusion_of};
-ghost use Rattle.derivation_lines.specs.Lines.{head_of};
+ghost use Rattle.term_tree.specs.Truth.{as_value, as_values};
+ghost use Rattle.derivation_laws.specs.Steps.{as_atom, own_sorts};
+ghost use Rattle.step_rules.specs.Views.{ground_conclusion};
+ghost use Rattle.derivation_lines.specs.Lines.{line_head};
 
 use base::{Items, Memory};
 use clause_form::System;
@@ -76,7 +77,7 @@ pub(crate) fn head(
     system: &System,
     fact: &Fact,
 ) -> Result<Option<(u32, Items<Value>)>, Memory>
-    ensures { IfOk result (λ head. head ≡ option_map head_of (option_map (as_atom system.now) (conclusion_of fact.now.pred fact.now.tuple))) }
+    ensures { IfOk result (λ head. head ≡ option_map line_head (option_map (as_atom system.now) (ground_conclusion fact.now.pred fact.now.tuple))) }
 {
     match fact.pred {
         None => Ok(None),

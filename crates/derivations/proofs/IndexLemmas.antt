@@ -8,8 +8,8 @@ use Rattle.std.proofs.lemmas.List.Elements.{Contains-append_left, Contains-get_o
 use Rattle.std.proofs.lemmas.List.Quantifiers.{all_pairs_push}
 use Rattle.derivations.specs.declared.fact.Fact.{Fact}
 use Rattle.derivations.specs.declared.row.Row.{Row}
-use Rattle.derivations.specs.Facts.{pred_of, tuple_of, premises_of, AreRecorded, Concludes, IsBare}
-use Rattle.derivations.specs.machinery.Index.{IsBelow, IsIndexed, IsRank, IsRow, empty}
+use Rattle.derivations.specs.Facts.{pred_of, tuple_of, fact_premises, AreRecorded, AreUnder, Concludes, IsBare}
+use Rattle.derivations.specs.machinery.Index.{Begins, IsBelow, IsIndexed, IsRank, IsRow, empty}
 use Rattle.derivations.proofs.InsertLemmas.{inserted, insert_has, insert_keeps, pairs_weaker}
 use Rattle.derivations.proofs.SearchLemmas.{row_insert}
 
@@ -42,7 +42,7 @@ recorded_push fs f recorded there fresh bare = record {
   more : List Fact
   more = fs ++ f ∷ []
 
-  earlier : (n : ℕ) → (n ≡ length fs) ⊎ (n < length fs) → All (λ p. p < n) (premises_of more n)
+  earlier : (n : ℕ) → (n ≡ length fs) ⊎ (n < length fs) → All (λ p. p < n) (fact_premises more n)
   earlier n (inl e) = subst (λ ps. All (λ p. p < n) ps) (sym (field_new (λ g. g.premises) [] fs f n e)) (λ k d l. (let less = there k d l in omega arith))
   earlier n (inr less) = subst (λ ps. All (λ p. p < n) ps) (field_push (λ g. g.premises) [] fs f n less) (recorded.earlier n less)
 
@@ -197,6 +197,13 @@ pub find_is : (rows : List Row) (fs : List Fact) (pred : ℕ) (row : List ℕ) (
 find_is rows fs pred row tuple r index is same n = (λ found. front ((same n).0 found), λ told. (same n).1 (subst (λ xs. Contains xs n) (sym is) (((index.each pred).exact n).1 (told.0, told.1)), told.2)) where
   front : Contains row n × (tuple_of fs n ≡ tuple) → Concludes fs n (Some pred) tuple
   front both = (let of = ((index.each pred).exact n).0 (subst (λ xs. Contains xs n) is both.0) in (of.0, of.1, both.1))
+
+-- what a part of a row says of the facts
+pub under_is : (rows : List Row) (fs : List Fact) (pred : ℕ) (row : List ℕ) (front : List ℤ) (numbers : List ℕ) → IsIndexed rows fs → row ≡ (get_or rows pred empty).by_tuple
+    → ((n : ℕ) → Contains numbers n ↔ (Contains row n × Begins front (tuple_of fs n))) → AreUnder fs pred front numbers
+under_is rows fs pred row front numbers index is same n = (λ has. there ((same n).0 has), λ told. (same n).1 (subst (λ xs. Contains xs n) (sym is) (((index.each pred).exact n).1 (told.0, told.1)), told.2)) where
+  there : Contains row n × Begins front (tuple_of fs n) → (n < length fs) × (pred_of fs n ≡ Some pred) × Begins front (tuple_of fs n)
+  there both = (let of = ((index.each pred).exact n).0 (subst (λ xs. Contains xs n) is both.0) in (of.0, of.1, both.1))
 
 pub row_is : (ns ms ts us : List ℕ) (at n m : ℕ) → ns ≡ ms → ts ≡ us → n ≡ m → ◌≡◌ {A = Row} (record { by_number = ns ++ n ∷ []; by_tuple = insert ts at n }) (record { by_number = ms ++ m ∷ []; by_tuple = insert us at m })
 row_is ns ms ts us at n m a b c = rw (a, b, c) refl

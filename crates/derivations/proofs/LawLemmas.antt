@@ -6,7 +6,7 @@ use Rattle.std.proofs.lemmas.Bool.{cases_lt}
 use Rattle.std.proofs.lemmas.List.{length-append, get_or_append_left, get_or_default, get_or_push}
 use Rattle.std.proofs.lemmas.List.Elements.{All-contains, Contains-get_or}
 use Rattle.derivations.specs.declared.fact.Fact.{Fact}
-use Rattle.derivations.specs.Facts.{greatest, height_of, pred_of, premises_of, with_height, AreRecorded, AreSteps, RestsOn}
+use Rattle.derivations.specs.Facts.{greatest, height_of, pred_of, fact_premises, with_height, AreRecorded, AreSteps, RestsOn}
 use Rattle.derivations.specs.Facts.RestsOn.{itself, through}
 use Rattle.derivations.proofs.MarkLemmas.{rests_more}
 
@@ -39,13 +39,13 @@ above hs (f ∷ fs) (suc n) m l at earlier =
     let long = length-append hs (h ∷ []) in
     above (with_height hs f) fs n m (omega arith) (omega (arith, long)) earlier
 
-pub height_above : (facts : List Fact) (n : ℕ) → AreRecorded facts → n < length facts → height_of facts n ≡ 1 + greatest (map (height_of facts) (premises_of facts n))
+pub height_above : (facts : List Fact) (n : ℕ) → AreRecorded facts → n < length facts → height_of facts n ≡ 1 + greatest (map (height_of facts) (fact_premises facts n))
 height_above facts n recorded there = above [] facts n n there (omega arith) (recorded.earlier n there)
 
 rests_below : {facts : List Fact} {n m : ℕ} → AreRecorded facts → n < length facts → RestsOn facts n m → m ≤ n
 rests_below recorded there itself = omega arith
 rests_below {facts} {n = n} {m = m} recorded there (through p has rest) =
-    let less = All-contains (λ q. q < n) (premises_of facts n) p (recorded.earlier n there) has in
+    let less = All-contains (λ q. q < n) (fact_premises facts n) p (recorded.earlier n there) has in
     let low = rests_below recorded (omega arith) rest in
     omega arith
 
@@ -64,5 +64,5 @@ steps_last facts n steps recorded there are = by ((are.exact n).1 itself) where
   by : Contains steps n → (0 < length steps) × (get_or steps (length steps - 1) 0 ≡ n)
   by (k, l, is) = (omega arith, at k l is (cases_lt (k + 1) (length steps)))
 
-pub steps_closed : (facts : List Fact) (n m p : ℕ) (steps : List ℕ) → AreSteps facts n steps → Contains steps m → Contains (premises_of facts m) p → Contains steps p
+pub steps_closed : (facts : List Fact) (n m p : ℕ) (steps : List ℕ) → AreSteps facts n steps → Contains steps m → Contains (fact_premises facts m) p → Contains steps p
 steps_closed facts n m p steps are has premise = (are.exact p).1 (rests_more p ((are.exact m).0 has) premise)

@@ -7,11 +7,11 @@ use Rattle.std.proofs.lemmas.List.{get_or_past, get_or_push, get_or_append_left,
 use Rattle.std.proofs.lemmas.List.Elements.{All-contains, Contains-append_left, Contains-get_or, Contains-push, Contains-push_cases}
 use Rattle.std.proofs.lemmas.List.Quantifiers.{all_pairs_push}
 use Rattle.derivations.specs.declared.fact.Fact.{Fact}
-use Rattle.derivations.specs.Facts.{premises_of, AreRecorded, AreSteps, RestsOn}
+use Rattle.derivations.specs.Facts.{fact_premises, AreRecorded, AreSteps, RestsOn}
 use Rattle.derivations.specs.Facts.RestsOn.{itself, through}
 use Rattle.derivations.specs.machinery.Marks.{AreCollected, AreMarked, IsMarked}
 
-pub rests_more : {facts : List Fact} {n p : ℕ} (q : ℕ) → RestsOn facts n p → Contains (premises_of facts p) q → RestsOn facts n q
+pub rests_more : {facts : List Fact} {n p : ℕ} (q : ℕ) → RestsOn facts n p → Contains (fact_premises facts p) q → RestsOn facts n q
 rests_more q itself has = through q has itself
 rests_more q (through r first rest) has = through r first (rests_more q rest has)
 
@@ -26,22 +26,22 @@ past marks m n long marked = by (cases_lt m (n + 1)) where
   by (inr far) = let out : get_or marks m false ≡ false = get_or_past marks m false (omega arith) in absurd (cc)
 
 pub spread_marked : (facts : List Fact) (n p : ℕ) (old new : List Bool) → AreRecorded facts → n < length facts → p ≤ n → AreMarked facts n (p + 1) old → IsMarked old p → length new ≡ length old
-    → ((m : ℕ) → IsMarked new m ↔ (IsMarked old m ⊎ Contains (premises_of facts p) m)) → AreMarked facts n p new
+    → ((m : ℕ) → IsMarked new m ↔ (IsMarked old m ⊎ Contains (fact_premises facts p) m)) → AreMarked facts n p new
 spread_marked facts n p old new recorded there within all marked long same = record {
   long = long ∙ all.long;
   sound = λ m is. sound m ((same m).0 is);
   first = (same n).1 (inl all.first);
   closed = λ a q le is has. closed a q le (cases_eq a p) ((same a).0 is) has;
 } where
-  sound : (m : ℕ) → IsMarked old m ⊎ Contains (premises_of facts p) m → RestsOn facts n m
+  sound : (m : ℕ) → IsMarked old m ⊎ Contains (fact_premises facts p) m → RestsOn facts n m
   sound m (inl is) = all.sound m is
   sound m (inr has) = rests_more m (all.sound p marked) has
 
-  closed : (a q : ℕ) → p ≤ a → (a ≡ p) ⊎ (a ≡ p → ⊥) → IsMarked old a ⊎ Contains (premises_of facts p) a → Contains (premises_of facts a) q → IsMarked new q
-  closed a q le (inl e) is has = (same q).1 (inr (subst (λ b. Contains (premises_of facts b) q) e has))
+  closed : (a q : ℕ) → p ≤ a → (a ≡ p) ⊎ (a ≡ p → ⊥) → IsMarked old a ⊎ Contains (fact_premises facts p) a → Contains (fact_premises facts a) q → IsMarked new q
+  closed a q le (inl e) is has = (same q).1 (inr (subst (λ b. Contains (fact_premises facts b) q) e has))
   closed a q le (inr other) (inl is) has = (same q).1 (inl (all.closed a q (omega (arith, other)) is has))
   closed a q le (inr other) (inr mine) has =
-      let less = All-contains (λ x. x < p) (premises_of facts p) a (recorded.earlier p (omega arith)) mine in
+      let less = All-contains (λ x. x < p) (fact_premises facts p) a (recorded.earlier p (omega arith)) mine in
       absurd (omega arith)
 
 pub spread_unmarked : (facts : List Fact) (n p : ℕ) (marks : List Bool) → AreMarked facts n (p + 1) marks → get_or marks p false ≡ false → AreMarked facts n p marks
@@ -51,11 +51,11 @@ spread_unmarked facts n p marks all not_marked = record {
   first = all.first;
   closed = λ a q le is has. closed a q le (cases_eq a p) is has;
 } where
-  closed : (a q : ℕ) → p ≤ a → (a ≡ p) ⊎ (a ≡ p → ⊥) → IsMarked marks a → Contains (premises_of facts a) q → IsMarked marks q
+  closed : (a q : ℕ) → p ≤ a → (a ≡ p) ⊎ (a ≡ p → ⊥) → IsMarked marks a → Contains (fact_premises facts a) q → IsMarked marks q
   closed a q le (inl e) is has = (let no : get_or marks a false ≡ false = subst (λ b. get_or marks b false ≡ false) (sym e) not_marked in absurd (cc))
   closed a q le (inr other) is has = all.closed a q (omega (arith, other)) is has
 
-pub premises_within : (facts : List Fact) (n p : ℕ) (marks : List Bool) → AreRecorded facts → n < length facts → p ≤ n → AreMarked facts n (p + 1) marks → All (λ q. q < length marks) (premises_of facts p)
+pub premises_within : (facts : List Fact) (n p : ℕ) (marks : List Bool) → AreRecorded facts → n < length facts → p ≤ n → AreMarked facts n (p + 1) marks → All (λ q. q < length marks) (fact_premises facts p)
 premises_within facts n p marks recorded there within all k d l =
     let less = recorded.earlier p (omega arith) k d l in
     let long = all.long in omega arith

@@ -1,6 +1,6 @@
 -- Derivations by hyperresolution (Komuravelli, Gurfinkel and Chaki, "SMT-based model checking for recursive programs",
 -- section 2): each fact is the head of an instance of a clause, and names for each body atom an earlier fact.
-use Rattle.std.specs.Prelude.{ℕ, ℤ, ◌≡◌, ◌<◌, ◌+◌, ◌↔◌, max, List, [], ◌∷◌, ◌++◌, map, length, get_or, Option, Some, None}
+use Rattle.std.specs.Prelude.{ℕ, ℤ, ◌≡◌, ◌<◌, ◌+◌, ◌↔◌, max, List, [], ◌∷◌, ◌++◌, map, length, get_or, take, Option, Some, None}
 use Rattle.std.specs.List.{All, AllPairs, Contains, fold}
 use Rattle.derivations.specs.declared.fact.Fact.{Fact}
 
@@ -11,8 +11,8 @@ pred_of facts n = get_or (map (λ f. f.pred) facts) n None
 abbrev pub tuple_of : List Fact → ℕ → List ℤ
 tuple_of facts n = get_or (map (λ f. f.tuple) facts) n []
 
-abbrev pub premises_of : List Fact → ℕ → List ℕ
-premises_of facts n = get_or (map (λ f. f.premises) facts) n []
+abbrev pub fact_premises : List Fact → ℕ → List ℕ
+fact_premises facts n = get_or (map (λ f. f.premises) facts) n []
 
 -- fact n concludes that the tuple is in the predicate
 abbrev pub Concludes : List Fact → ℕ → Option ℕ → List ℤ → Type 0
@@ -24,7 +24,7 @@ IsBare fact = fact.pred ≡ None → fact.tuple ≡ []
 
 -- premises are earlier facts, nothing is concluded twice, and false has no tuple
 pub record AreRecorded (facts : List Fact) : Type 0 where
-  pub earlier : (n : ℕ) → n < length facts → All (λ p. p < n) (premises_of facts n)
+  pub earlier : (n : ℕ) → n < length facts → All (λ p. p < n) (fact_premises facts n)
   pub distinct : (m n : ℕ) → m < length facts → n < length facts → pred_of facts m ≡ pred_of facts n → tuple_of facts m ≡ tuple_of facts n → m ≡ n
   pub bare : (n : ℕ) → n < length facts → pred_of facts n ≡ None → tuple_of facts n ≡ []
 
@@ -32,6 +32,10 @@ pub record AreRecorded (facts : List Fact) : Type 0 where
 pub record AreOf (facts : List Fact) (pred : ℕ) (numbers : List ℕ) : Type 0 where
   pub order : AllPairs (λ x y. x < y) numbers
   pub exact : (n : ℕ) → Contains numbers n ↔ ((n < length facts) × (pred_of facts n ≡ Some pred))
+
+-- exactly the facts of the predicate whose tuples begin with these values
+abbrev pub AreUnder : List Fact → ℕ → List ℤ → List ℕ → Type 0
+AreUnder facts pred front numbers = (n : ℕ) → Contains numbers n ↔ ((n < length facts) × (pred_of facts n ≡ Some pred) × (take (length front) (tuple_of facts n) ≡ front))
 
 abbrev pub greatest : List ℕ → ℕ
 greatest = fold max 0
@@ -49,7 +53,7 @@ height_of facts n = get_or (heights facts) n 0
 -- fact n rests on itself, and on all on which one of its premises rests
 pub data RestsOn (facts : List Fact) : ℕ → ℕ → Type 0 where
   itself : {n : ℕ} → RestsOn facts n n
-  through : {n m : ℕ} (p : ℕ) → Contains (premises_of facts n) p → RestsOn facts p m → RestsOn facts n m
+  through : {n m : ℕ} (p : ℕ) → Contains (fact_premises facts n) p → RestsOn facts p m → RestsOn facts n m
 
 -- exactly the facts on which fact n rests, in order of number
 pub record AreSteps (facts : List Fact) (n : ℕ) (steps : List ℕ) : Type 0 where

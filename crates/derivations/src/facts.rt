@@ -1,12 +1,12 @@
 ghost use Rattle.std.specs.Prelude.{◌≡◌, ◌↔◌, [], ◌∷◌, ◌++◌, ◌<◌, ◌-◌, ◌^◌, ℕ, Some, length, slice_index_or, IfOk, OnOk, OnErr};
 ghost use Rattle.std.specs.List.{All};
-ghost use Rattle.derivations.specs.Facts.{AreOf, AreRecorded, AreSteps, Concludes, IsBare, height_of};
+ghost use Rattle.derivations.specs.Facts.{AreOf, AreRecorded, AreSteps, AreUnder, Concludes, IsBare, height_of};
 
 use crate::fact::Fact;
 use crate::marks::steps;
 use crate::notes::Notes;
 use crate::rows::{Rows, add_in, by_number, by_tuple};
-use crate::search::found;
+use crate::search::{begun, found};
 use base::Memory;
 use cube_forms::share_all;
 use std::alloc::Global;
@@ -81,6 +81,15 @@ impl Facts {
         ensures { AreOf self.now pred result.now }
     {
         by_number(&self.rows, pred)
+    }
+
+    /// The facts of a predicate whose tuples begin with these values, in order of tuple. They are lent,
+    /// and found in the logarithm of the predicate's facts and their own number.
+    pub fn under(&self, pred: u32, front: &[i64]) -> &[u32]
+        ensures { AreUnder self.now pred front.now result.now }
+    {
+        let row = by_tuple(&self.rows, pred);
+        begun(&self.notes, row, front)
     }
 
     /// Exactly the facts on which a fact rests, itself the last, in order of number.

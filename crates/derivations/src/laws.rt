@@ -2,7 +2,7 @@
 
 ghost use Rattle.std.specs.Prelude.{◌≡◌, ◌<◌, ◌+◌, ◌-◌, ℕ, List, None, length, map, get_or};
 ghost use Rattle.std.specs.List.{Contains};
-ghost use Rattle.derivations.specs.Facts.{AreRecorded, AreSteps, greatest, height_of, pred_of, premises_of};
+ghost use Rattle.derivations.specs.Facts.{AreRecorded, AreSteps, greatest, height_of, pred_of, fact_premises};
 ghost use Rattle.derivations.specs.declared.fact.Fact.{Fact};
 
 /// False is recorded once at most.
@@ -12,7 +12,7 @@ pub fn false_is_recorded_once()
 
 /// A fact's height is 1 plus the greatest height of its premises.
 pub fn a_height_is_one_more()
-    ensures { (facts : List Fact) (n : ℕ) → AreRecorded facts → n < length facts → height_of facts n ≡ 1 + greatest (map (height_of facts) (premises_of facts n)) }
+    ensures { (facts : List Fact) (n : ℕ) → AreRecorded facts → n < length facts → height_of facts n ≡ 1 + greatest (map (height_of facts) (fact_premises facts n)) }
 {}
 
 /// The fact itself is the last of the steps to it.
@@ -22,5 +22,5 @@ pub fn steps_end_in_the_fact()
 
 /// With each step its premises are among the steps.
 pub fn steps_have_their_premises()
-    ensures { (facts : List Fact) (n m p : ℕ) (steps : List ℕ) → AreSteps facts n steps → Contains steps m → Contains (premises_of facts m) p → Contains steps p }
+    ensures { (facts : List Fact) (n m p : ℕ) (steps : List ℕ) → AreSteps facts n steps → Contains steps m → Contains (fact_premises facts m) p → Contains steps p }
 {}

@@ -1,6 +1,6 @@
 ghost use Rattle.std.specs.Prelude.{◌≡◌, [], ◌∷◌, ◌++◌, ◌<◌, ◌+◌, ◌-◌, ◌^◌, ◌≤◌, length, slice_index_or, map, max, IfOk, OnOk, OnErr};
 ghost use Rattle.std.specs.List.{All};
-ghost use Rattle.derivations.specs.Facts.{greatest, height_of, premises_of, tuple_of};
+ghost use Rattle.derivations.specs.Facts.{greatest, height_of, fact_premises, tuple_of};
 
 use crate::fact::Fact;
 use base::Memory;
@@ -77,7 +77,7 @@ impl Notes {
 
     pub(crate) fn premises(&self, id: u32) -> &[u32]
         requires { id < length self.now }
-        ensures { result.now ≡ premises_of self.now id }
+        ensures { result.now ≡ fact_premises self.now id }
     {
         self.fact(id).premises.as_slice()
     }

@@ -1,10 +1,10 @@
-ghost use Rattle.std.specs.Prelude.{◌≡◌, ◌≢◌, ◌↔◌, ◌<◌, ℕ, length, Some, true, false};
+ghost use Rattle.std.specs.Prelude.{◌≡◌, ◌≢◌, ◌↔◌, ◌<◌, ◌≤◌, ℕ, length, Some, true, false};
 ghost use Rattle.std.specs.List.{All, AllPairs, Contains};
 ghost use Rattle.std.specs.Ordering.{int_cmp};
 ghost use Rattle.std.specs.Cmp.Lexicographic.{slice_cmp};
 ghost use Rattle.std.specs.declared.cmp.Ordering.TheVariants.{Less};
 ghost use Rattle.derivations.specs.Facts.{tuple_of};
-ghost use Rattle.derivations.specs.machinery.Index.{IsBelow, IsRank};
+ghost use Rattle.derivations.specs.machinery.Index.{Begins, IsBelow, IsRank, IsRun};
 
 use crate::notes::Notes;
 use std::cmp::Ordering;
@@ -48,4 +48,40 @@ pub(crate) fn found(notes: &Notes, row: &[u32], tuple: &[i64]) -> Option<u32>
         return Some(row[at]);
     }
     None
+}
+
+/// Whether a fact's tuple begins with these values.
+fn begins(notes: &Notes, id: u32, front: &[i64]) -> bool
+    requires { id < length notes.now }
+    ensures yes { result ≡ true → Begins front.now (tuple_of notes.now id) }
+    ensures no { result ≡ false → Begins front.now (tuple_of notes.now id) → ⊥ }
+{
+    notes.tuple(id).starts_with(front)
+}
+
+/// The first place, from one on, whose tuple doesn't begin with these values.
+fn behind(notes: &Notes, row: &[u32], front: &[i64], low: usize) -> usize
+    requires there { All (λ n. n < length notes.now) row.now }
+    requires within { low ≤ length row.now }
+    ensures { IsRun (tuple_of notes.now) row.now front.now low result }
+{
+    let mut high = low;
+    while high < row.len() {
+        if !begins(notes, row[high], front) {
+            return high;
+        }
+        high += 1;
+    }
+    high
+}
+
+/// The numbers in a row whose tuples begin with these values. They stand side by side.
+pub(crate) fn begun<'a>(notes: &Notes, row: &'a [u32], front: &[i64]) -> &'a [u32]
+    requires order { AllPairs (IsBelow (tuple_of notes.now)) row.now }
+    requires there { All (λ n. n < length notes.now) row.now }
+    ensures { (n : ℕ) → Contains result.now n ↔ (Contains row.now n × Begins front.now (tuple_of notes.now n)) }
+{
+    let low = rank(notes, row, front);
+    let high = behind(notes, row, front, low);
+    &row[low..high]
 }

@@ -1,4 +1,5 @@
 ghost use Rattle.std.specs.Prelude.{◌≡◌, ◌+◌, ◌<◌, ◌≤◌, ◌^◌, ◌++◌, [], ◌==◌, ◌+ℤ◌, ◌-ℤ◌, ◌*ℤ◌, ◌<ℤ◌, ℤ, take, drop, length, nat_abs, neg_ℤ, true, false, OnOk, IfOk, IfErr, IfSome, IsSome, IsNone, slice_index_or, pos};
+ghost use Rattle.base.specs.Widths.{long_limit, short_limit};
 ghost use Rattle.lin_atoms.specs.machinery.Accumulator.{Total};
 ghost use Rattle.lin_atoms.specs.Algebra.{added, collected, scaled, scaled_terms, term_on, with_term};
 ghost use Rattle.lin_atoms.specs.Denial.{linear_of};
@@ -60,8 +61,8 @@ fn add_to(total: &mut Accumulator, k: i64, a: i64)
 /// Takes a product away.
 fn add_negated(total: &mut Accumulator, k: i64, a: i128)
     requires room { total.old.added < 2 ^ 32 }
-    requires short { nat_abs k < 2 ^ 63 }
-    requires constant { nat_abs a < 2 ^ 64 }
+    requires short { nat_abs k < short_limit }
+    requires constant { nat_abs a < long_limit }
     ensures value { total.new.value ≡ total.old.value +ℤ neg_ℤ (k *ℤ a) }
     ensures added { total.new.added ≡ total.old.added + 1 }
 {
@@ -228,7 +229,7 @@ impl Sum {
 
     /// Adds a multiple of a form.
     pub(crate) fn add_multiple(&mut self, k: i64, lin: &Lin) -> Result<(), Memory>
-        requires short { nat_abs k < 2 ^ 63 }
+        requires short { nat_abs k < short_limit }
         requires fine { IsSum self.old.terms.items self.old.negated self.old.products }
         ensures value { OnOk result (standing self.new.terms.items self.new.negated ≡ added (scaled k lin.now) (standing self.old.terms.items self.old.negated)) }
         ensures fine { OnOk result (IsSum self.new.terms.items self.new.negated self.new.products) }
@@ -266,7 +267,7 @@ impl Sum {
 /// The form of a literal of that number, if it may be multiplied so.
 pub(crate) fn multiplied(lits: &[Lit], which: u32, k: i64) -> Option<&Lin>
     ensures some { IfSome result (λ lin. (is_multiplier lits.now (which, k) ≡ true) × (lin.now ≡ linear_at lits.now which)) }
-    ensures short { IsSome result → nat_abs k < 2 ^ 63 }
+    ensures short { IsSome result → nat_abs k < short_limit }
     ensures none { IsNone result → is_multiplier lits.now (which, k) ≡ false }
 {
     if k == i64::MIN {

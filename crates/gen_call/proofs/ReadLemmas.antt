@@ -12,23 +12,23 @@ use Rattle.term_tree.specs.declared.refusal.Refusal.{Refusal}
 use Rattle.term_tree.specs.declared.script.Assertion.{Assertion}
 use Rattle.term_tree.specs.declared.script.Script.{Script}
 use Rattle.term_tree.specs.Legal.{IsLegal}
-use Rattle.clause_gen.specs.Generated.{children, generated_asserts, generated_nodes, generated_preds, generated_script, leaves, parent, query, start_of, zeros}
+use Rattle.clause_gen.specs.Generated.{children, generated_asserts, generated_nodes, generated_preds, generated_script, leaves, parent, query, root_number, zeros}
 use Rattle.horn_shape.specs.declared.clause.HornClause.{HornClause}
 use Rattle.horn_shape.specs.Clause.{IsLegalScript, assertion_reading}
 use Rattle.horn_shape.specs.Shape.{Content, Reading}
 use Rattle.clause_form.specs.declared.clause.Clause.{Clause}
 use Rattle.clause_form.specs.System.{Clauses}
 use Rattle.clause_normal.specs.Normal.{first_without_room, is_too_large, normal_clause}
-use Rattle.clause_normal.specs.Reading.{all_clauses, by_room, by_shape, clause_reading, clause_with, one_more, refusal_at, system_reading, unless_stopped}
+use Rattle.clause_normal.specs.Reading.{all_clauses, by_room, by_shape, normal_reading, clause_with, clause_and_others, refusal_at, system_reading, unless_stopped}
 use Rattle.book_answers.specs.Answers.{IsOpened}
 use Rattle.book_answers.specs.declared.opening.Opened.{Opened}
 use Rattle.book_answers.specs.declared.opening.Opened.TheVariants.{Refused}
 use Rattle.gen_call.specs.Summaries.{generated}
 
 pub legal_script : (depth seed : ℕ)
-    → IsLegal generated_preds (generated_nodes depth (start_of seed)) [] Truth 14
-    × IsLegal generated_preds (generated_nodes depth (start_of seed)) [] Truth 34
-    × IsLegal generated_preds (generated_nodes depth (start_of seed)) [] Truth 38
+    → IsLegal generated_preds (generated_nodes depth (root_number seed)) [] Truth 14
+    × IsLegal generated_preds (generated_nodes depth (root_number seed)) [] Truth 34
+    × IsLegal generated_preds (generated_nodes depth (root_number seed)) [] Truth 38
     → IsLegalScript (generated_script depth seed)
 legal_script depth seed (a, b, c) = record {
   asserts = (a, (b, (c, tt)));
@@ -60,7 +60,7 @@ horn script index a = clause_with index (content_or (assertion_reading script a)
 
 read_with : (script : Script) (index : ℕ) (a : Assertion) → assertion_reading script a ≡ Ok (content_or (assertion_reading script a))
     → first_without_room script (horn script index a) ≡ None → is_too_large script (horn script index a) ≡ false
-    → clause_reading script index a ≡ Ok (normal_clause script (horn script index a))
+    → normal_reading script index a ≡ Ok (normal_clause script (horn script index a))
 read_with script index a shape room small =
     ap (by_shape script index a) shape ∙ ap (by_room script a (horn script index a)) room
     ∙ ap (λ (b : Bool). let r : Result Clause Refusal = if b then Err (refusal_at Count a.offset a) else Ok (normal_clause script (horn script index a)) in r) small
@@ -99,21 +99,21 @@ module _ (low high depth start : ℕ) (l : low < 2 ^ 63) (h : high < 2 ^ 63) (d 
   room_2 : first_without_room script (horn script 2 (asserted 38 4)) ≡ None
   room_2 = simp (small_number depth d, small_number start s)
 
-  reading_0 : clause_reading script 0 (asserted 14 2) ≡ Ok (normal_clause script (horn script 0 (asserted 14 2)))
+  reading_0 : normal_reading script 0 (asserted 14 2) ≡ Ok (normal_clause script (horn script 0 (asserted 14 2)))
   reading_0 = read_with script 0 (asserted 14 2) refl room_0 refl
 
-  reading_1 : clause_reading script 1 (asserted 34 3) ≡ Ok (normal_clause script (horn script 1 (asserted 34 3)))
+  reading_1 : normal_reading script 1 (asserted 34 3) ≡ Ok (normal_clause script (horn script 1 (asserted 34 3)))
   reading_1 = read_with script 1 (asserted 34 3) refl room_1 refl
 
-  reading_2 : clause_reading script 2 (asserted 38 4) ≡ Ok (normal_clause script (horn script 2 (asserted 38 4)))
+  reading_2 : normal_reading script 2 (asserted 38 4) ≡ Ok (normal_clause script (horn script 2 (asserted 38 4)))
   reading_2 = read_with script 2 (asserted 38 4) refl room_2 refl
 
   all_read : all_clauses script 0 generated_asserts
       ≡ Ok (normal_clause script (horn script 0 (asserted 14 2)) ∷ normal_clause script (horn script 1 (asserted 34 3)) ∷ normal_clause script (horn script 2 (asserted 38 4)) ∷ [])
   all_read =
-      ap (λ (r : Result Clause Refusal). one_more r (one_more (clause_reading script 1 (asserted 34 3)) (one_more (clause_reading script 2 (asserted 38 4)) (Ok [])))) reading_0
-      ∙ ap (λ (r : Result Clause Refusal). one_more (Ok (normal_clause script (horn script 0 (asserted 14 2)))) (one_more r (one_more (clause_reading script 2 (asserted 38 4)) (Ok [])))) reading_1
-      ∙ ap (λ (r : Result Clause Refusal). one_more (Ok (normal_clause script (horn script 0 (asserted 14 2)))) (one_more (Ok (normal_clause script (horn script 1 (asserted 34 3)))) (one_more r (Ok [])))) reading_2
+      ap (λ (r : Result Clause Refusal). clause_and_others r (clause_and_others (normal_reading script 1 (asserted 34 3)) (clause_and_others (normal_reading script 2 (asserted 38 4)) (Ok [])))) reading_0
+      ∙ ap (λ (r : Result Clause Refusal). clause_and_others (Ok (normal_clause script (horn script 0 (asserted 14 2)))) (clause_and_others r (clause_and_others (normal_reading script 2 (asserted 38 4)) (Ok [])))) reading_1
+      ∙ ap (λ (r : Result Clause Refusal). clause_and_others (Ok (normal_clause script (horn script 0 (asserted 14 2)))) (clause_and_others (Ok (normal_clause script (horn script 1 (asserted 34 3)))) (clause_and_others r (Ok [])))) reading_2
 
   pub read_with_numbers : (sys : Clauses) × (system_reading (record { script = script; stop = None }) ≡ Ok sys)
   read_with_numbers = (
@@ -129,9 +129,9 @@ product_small depth n most h =
 
 pub has_clauses : (depth seed : ℕ) → depth ≤ 12 → (sys : Clauses) × (system_reading (generated depth seed) ≡ Ok sys)
 has_clauses depth seed most =
-    let start_small : start_of seed < 1000 = omega arith in
-    read_with_numbers (start_of seed * 2 ^ depth) ((start_of seed + 1) * 2 ^ depth) depth (start_of seed)
-    (product_small depth (start_of seed) most (omega arith)) (product_small depth (start_of seed + 1) most (omega arith)) (omega arith) (omega arith)
+    let start_small : root_number seed < 1000 = omega arith in
+    read_with_numbers (root_number seed * 2 ^ depth) ((root_number seed + 1) * 2 ^ depth) depth (root_number seed)
+    (product_small depth (root_number seed) most (omega arith)) (product_small depth (root_number seed + 1) most (omega arith)) (omega arith) (omega arith)
 
 -- so no book's opening is refused
 pub never_refused : (checked : Checked) (units : ℕ) (found : Opened) (refusal : Refusal) → IsOpened checked units found → found ≡ Refused refusal

@@ -9,7 +9,7 @@ ghost use Rattle.chc_core.specs.Openings.{most_units};
 ghost use Rattle.chc_core.specs.Views.{standing_of, state_of};
 ghost use Rattle.obligation_turn.specs.Turns.{IsThin};
 ghost use Rattle.gen_call.specs.Summaries.{IsSearchedWith, generated};
-ghost use Rattle.gen_call.specs.machinery.Answers.{IsMadeOf};
+ghost use Rattle.gen_call.specs.Answers.{IsMadeOf};
 
 use crate::laws::generated_scripts_have_clauses;
 use crate::script::checked_of;

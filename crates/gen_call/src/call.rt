@@ -6,7 +6,7 @@ ghost use Rattle.answer_text.specs.Lines.{memory_text};
 ghost use Rattle.solve_words.specs.Words.{default_nodes, default_units};
 ghost use Rattle.solve_call.specs.Headline.{wanting_text};
 ghost use Rattle.gen_call.specs.Summaries.{IsGeneratedBook, IsGeneratedSummary, Summarises, WritesPartOfSummary, generated};
-ghost use Rattle.gen_call.specs.machinery.Answers.{IsMadeOf};
+ghost use Rattle.gen_call.specs.Answers.{IsMadeOf};
 
 use crate::answer::{Generated, answer_for};
 use answer_text::memory_line;

@@ -7,14 +7,15 @@ use Rattle.sexp_read.specs.Trees.{most_open}
 use Rattle.term_tree.specs.declared.sort.Sort.{Sort}
 use Rattle.term_tree.specs.declared.sort.Sort.TheVariants.{Int as IntSort, Bool as BoolSort}
 use Rattle.term_tree.specs.declared.refusal.Kind.TheVariants.{CommandForm, UnknownSort, Redeclared, SortMismatch}
+use Rattle.term_tree.specs.Sorts.{same_sort}
 use Rattle.term_check.specs.declared.part.Part.{Part}
 use Rattle.term_check.specs.declared.part.Fault.{Fault}
 use Rattle.term_check.specs.declared.scope.Bound.TheVariants.{Variable}
 use Rattle.term_check.specs.declared.scope.Named.{Named}
-use Rattle.term_check.specs.Words.{is_among}
-use Rattle.term_check.specs.Rules.{fault, unless, or_else, same_sort}
+use Rattle.term_check.specs.Words.{is_word_among}
+use Rattle.term_check.specs.Rules.{fault, unless, first_fault}
 use Rattle.term_check.specs.machinery.Reading.{any_list, quantifier_list, under_variables}
-use Rattle.term_check.specs.Spelling.{Scope, Spelled, ◌>>=◌, is_some, is_symbol, is_word, items_of, name_in, name_of, name_or_none, name_start, sort_in, sort_named, sort_or_bool, sort_start, read_by, first_in, second_in, start_of, binder_fault, names_fault, variables_fault, sorts_bound, with_variables, quantified, quantifier, spelled, scope_of}
+use Rattle.term_check.specs.Spelling.{SpellingScope, Spelled, ◌>>=◌, is_some, is_symbol, is_word, items_of, first_name, name_of, name_or_none, name_start, sort_in, sort_named, sort_or_bool, sort_start, read_by, first_in, second_in, start_of, binder_fault, names_fault, variables_fault, sorts_bound, with_read_variables, quantified, quantifier, spelled, scope_of}
 use Rattle.term_check.specs.Term.{Term, universal}
 use Rattle.term_check.proofs.Public.{spelled-List}
 use Rattle.clause_gen.specs.Generated.{generated_preds}
@@ -32,7 +33,7 @@ Parts b = FirstAnd (IsNamed (b ∷ [])) (Only (IsNamed (codes "Int")))
 -- a variable of that letter, of the sort of integers
 record IsVariable (b : ℕ) (text : List ℕ) (item : Tree) : Type 0 where
   pub two : length (items_of item) ≡ 2
-  pub name : name_in text item ≡ Some (b ∷ [])
+  pub name : first_name text item ≡ Some (b ∷ [])
   pub sort : sort_in text item ≡ Some IntSort
 
 variable_is : (b : ℕ) (text : List ℕ) (item : Tree) → Within (Parts b) text item → IsVariable b text item
@@ -67,16 +68,16 @@ abbrev pub names : List Named
 names =
     record { name = record { bytes = codes "d" }; bound = Variable 0 IntSort } ∷ record { name = record { bytes = codes "i" }; bound = Variable 1 IntSort } ∷ []
 
-abbrev outer : Scope
+abbrev outer : SpellingScope
 outer = scope_of generated_preds [] true
 
-abbrev inner : Scope
+abbrev inner : SpellingScope
 inner = scope_of generated_preds names true
 
 record IsBinder (text : List ℕ) (binder : Tree) : Type 0 where
   pub form : binder_fault text binder ≡ None
   pub free : variables_fault text [] (items_of binder) ≡ None
-  pub scope : with_variables text outer 0 (items_of binder) ≡ inner
+  pub scope : with_read_variables text outer 0 (items_of binder) ≡ inner
   pub two : length (items_of binder) ≡ 2
   pub sorts : sorts_bound text (items_of binder) ≡ IntSort ∷ IntSort ∷ []
 
@@ -86,19 +87,19 @@ binder_is text binder (items, start, end, at, (p, others, row, d, (q, none, only
     ap items_of at ∙ items_hidden-the_row-Tree-0 items ∙ row ∙ ap (λ (l : List Tree). p ∷ l) (only ∙ ap (λ (l : List Tree). q ∷ l) last) in
     let named : (m n : ℕ) → Option (List ℕ) → Option (List ℕ) → Option Fault =
     λ m n o u. cond (not (nat_eq m 2 && (nat_eq n 2 && true))) (Some (fault CommandForm (start_of binder))) (cond (is_some o) (cond (is_some u) None (Some (fault CommandForm (name_start q)))) (Some (fault CommandForm (name_start p)))) in
-    let repeats : (seen : List (List ℕ)) → Tree → Option (List ℕ) → Option Fault = λ seen item o. cond (is_among seen (name_or_none o)) (Some (fault Redeclared (name_start item))) None in
+    let repeats : (seen : List (List ℕ)) → Tree → Option (List ℕ) → Option Fault = λ seen item o. cond (is_word_among seen (name_or_none o)) (Some (fault Redeclared (name_start item))) None in
     let sorted : Tree → Option Sort → Option Fault = λ item o. cond (is_some o) None (Some (fault UnknownSort (sort_start item))) in
     let frees : Option (List ℕ) → Option (List ℕ) → Option Sort → Option Sort → Option Fault =
-    λ o u s r. or_else (repeats [] p o) (or_else (sorted p s) (or_else (repeats (name_or_none o ∷ []) q u) (or_else (sorted q r) None))) in
-    let bound : Option (List ℕ) → Option (List ℕ) → Option Sort → Option Sort → Scope =
+    λ o u s r. first_fault (repeats [] p o) (first_fault (sorted p s) (first_fault (repeats (name_or_none o ∷ []) q u) (first_fault (sorted q r) None))) in
+    let bound : Option (List ℕ) → Option (List ℕ) → Option Sort → Option Sort → SpellingScope =
     λ o u s r. scope_of generated_preds (record { name = record { bytes = name_or_none o }; bound = Variable 0 (sort_or_bool s) } ∷ record { name = record { bytes = name_or_none u }; bound = Variable 1 (sort_or_bool r) } ∷ []) true in
     record {
       form = ap (λ (l : List Tree). cond (nat_eq (length l) 0 || not (list_all (λ item. nat_eq (length (items_of item)) 2) l)) (Some (fault CommandForm (start_of binder))) (names_fault text l)) both
-          ∙ ap (λ (m : ℕ). named m (length (items_of q)) (name_in text p) (name_in text q)) d.two ∙ ap (λ (n : ℕ). named 2 n (name_in text p) (name_in text q)) i.two
-          ∙ ap (λ o. named 2 2 o (name_in text q)) d.name ∙ ap (named 2 2 (Some (codes "d"))) i.name;
-      free = ap (variables_fault text []) both ∙ ap (λ o. frees o (name_in text q) (sort_in text p) (sort_in text q)) d.name ∙ ap (λ o. frees (Some (codes "d")) o (sort_in text p) (sort_in text q)) i.name
+          ∙ ap (λ (m : ℕ). named m (length (items_of q)) (first_name text p) (first_name text q)) d.two ∙ ap (λ (n : ℕ). named 2 n (first_name text p) (first_name text q)) i.two
+          ∙ ap (λ o. named 2 2 o (first_name text q)) d.name ∙ ap (named 2 2 (Some (codes "d"))) i.name;
+      free = ap (variables_fault text []) both ∙ ap (λ o. frees o (first_name text q) (sort_in text p) (sort_in text q)) d.name ∙ ap (λ o. frees (Some (codes "d")) o (sort_in text p) (sort_in text q)) i.name
           ∙ ap (λ o. frees (Some (codes "d")) (Some (codes "i")) o (sort_in text q)) d.sort ∙ ap (frees (Some (codes "d")) (Some (codes "i")) (Some IntSort)) i.sort;
-      scope = ap (with_variables text outer 0) both ∙ ap (λ o. bound o (name_in text q) (sort_in text p) (sort_in text q)) d.name ∙ ap (λ o. bound (Some (codes "d")) o (sort_in text p) (sort_in text q)) i.name
+      scope = ap (with_read_variables text outer 0) both ∙ ap (λ o. bound o (first_name text q) (sort_in text p) (sort_in text q)) d.name ∙ ap (λ o. bound (Some (codes "d")) o (sort_in text p) (sort_in text q)) i.name
           ∙ ap (λ o. bound (Some (codes "d")) (Some (codes "i")) o (sort_in text q)) d.sort ∙ ap (bound (Some (codes "d")) (Some (codes "i")) (Some IntSort)) i.sort;
       two = ap length both;
       sorts = ap (sorts_bound text) both ∙ ap (λ o. sort_or_bool o ∷ sort_or_bool (sort_in text q) ∷ []) d.sort ∙ ap (λ o. IntSort ∷ sort_or_bool o ∷ []) i.sort;
@@ -140,7 +141,7 @@ universal_is body truth text tree (items, start, end, at, (word, r1, row, leaf, 
     let list : quantifier_list text outer 0 start true (binder ∷ inside ∷ []) ≡ Ok found =
     ap (λ o. unless o (unless (variables_fault text [] (items_of binder)) (under_variables text outer 0 start true (items_of binder) inside))) b.form
     ∙ ap (λ o. unless o (under_variables text outer 0 start true (items_of binder) inside)) b.free
-    ∙ ap (λ (s : Scope). spelled text s (0 + length (items_of binder)) inside >>= λ x. quantified (quantifier true start 0 (sorts_bound text (items_of binder))) start x) b.scope
+    ∙ ap (λ (s : SpellingScope). spelled text s (0 + length (items_of binder)) inside >>= λ x. quantified (quantifier true start 0 (sorts_bound text (items_of binder))) start x) b.scope
     ∙ ap (λ (n : ℕ). spelled text inner (0 + n) inside >>= λ x. quantified (quantifier true start 0 (sorts_bound text (items_of binder))) start x) b.two
     ∙ ap (λ (l : List Sort). spelled text inner 2 inside >>= λ x. quantified (quantifier true start 0 l) start x) b.sorts
     ∙ ap (λ (o : Result Spelled Fault). o >>= closes) r.is

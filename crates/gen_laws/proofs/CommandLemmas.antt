@@ -10,9 +10,10 @@ use Rattle.term_tree.specs.declared.sort.Sort.{Sort}
 use Rattle.term_tree.specs.declared.sort.Sort.TheVariants.{Int as IntSort, Bool as BoolSort}
 use Rattle.term_tree.specs.declared.script.Pred.{Pred}
 use Rattle.term_tree.specs.declared.refusal.Kind.TheVariants.{CommandForm, Logic, SortMismatch, UnknownSort}
+use Rattle.term_tree.specs.Sorts.{same_sort}
 use Rattle.term_check.specs.declared.part.Part.{Part}
 use Rattle.term_check.specs.declared.part.Fault.{Fault}
-use Rattle.term_check.specs.Rules.{fault, unless, or_else, same_sort}
+use Rattle.term_check.specs.Rules.{fault, unless, first_fault}
 use Rattle.term_check.specs.Term.{Term}
 use Rattle.term_check.specs.Spelling.{Spelled, ◌>>=◌, is_some, is_spelled, is_symbol, name_of, name_or_none, sort_named, sort_or_bool, start_of, spelled, scope_of}
 use Rattle.sort_check.specs.Commands.{Command, command, listed, worded, assertion, assert_fault, assert_term, asserted, check_sat, count_fault, declare_constant, declare_function, declare_listed, declaration, declared, exit, form_fault, get_model, inform, is_check_sat, order_fault, set_logic, taken_fault, truth_fault}
@@ -56,7 +57,7 @@ logic_is text tree (items, start, end, at, (word, parts, row, leaf, (name, none,
     let one : parts ≡ name ∷ [] = only ∙ ap (λ (l : List Tree). name ∷ l) last in
     command_is (codes "set-logic") text [] tree items start end word parts at row leaf
     ∙ ap (set_logic text [] start) one
-    ∙ ap (λ (o : Option (List ℕ)). unless (or_else (form_fault name (is_some o)) (or_else (order_fault start true) (cond (is_spelled o (codes "HORN")) None (Some (fault Logic (start_of name)))))) (Ok SetLogic)) n.5
+    ∙ ap (λ (o : Option (List ℕ)). unless (first_fault (form_fault name (is_some o)) (first_fault (order_fault start true) (cond (is_spelled o (codes "HORN")) None (Some (fault Logic (start_of name)))))) (Ok SetLogic)) n.5
 
 pub shows_logic : Shows (Spells [] SetLogic) 0 logic_text
 shows_logic =
@@ -91,10 +92,10 @@ declare_is : (text : List ℕ) (tree : Tree) → Within (FirstAnd (IsLeaf Symbol
 declare_is text tree (items, start, end, at, (word, parts, row, leaf, (name, r1, e1, n, (sorts, r2, e2, (inner, s, e, is, (a, r3, e3, x, (b, r4, e4, y, last2))), (result, r5, e5, z, last))))) =
     let three : parts ≡ name ∷ sorts ∷ result ∷ [] = e1 ∙ ap (λ (l : List Tree). name ∷ l) (e2 ∙ ap (λ (l : List Tree). sorts ∷ l) (e5 ∙ ap (λ (l : List Tree). result ∷ l) last)) in
     let two : inner ≡ a ∷ b ∷ [] = e3 ∙ ap (λ (l : List Tree). a ∷ l) (e4 ∙ ap (λ (l : List Tree). b ∷ l) last2) in
-    let sort_faults : Option Sort → Tree → Option Fault → Option Fault = λ o t rest. or_else (cond (is_some o) None (Some (fault UnknownSort (start_of t)))) rest in
+    let sort_faults : Option Sort → Tree → Option Fault → Option Fault = λ o t rest. first_fault (cond (is_some o) None (Some (fault UnknownSort (start_of t)))) rest in
     let declares : Option (List ℕ) → Option Sort → Option Sort → Option Sort → Result Command Fault =
-    λ o p q r. unless (or_else (form_fault name (is_some o)) (or_else (order_fault start true) (or_else (taken_fault [] (start_of name) (name_or_none o))
-    (or_else (sort_faults p a (sort_faults q b None)) (or_else (count_fault start true) (or_else (truth_fault result r) (count_fault start true)))))))
+    λ o p q r. unless (first_fault (form_fault name (is_some o)) (first_fault (order_fault start true) (first_fault (taken_fault [] (start_of name) (name_or_none o))
+    (first_fault (sort_faults p a (sort_faults q b None)) (first_fault (count_fault start true) (first_fault (truth_fault result r) (count_fault start true)))))))
     (Ok (Declare (record { name = record { bytes = name_or_none o }; args = sort_or_bool p ∷ sort_or_bool q ∷ [] }))) in
     command_is (codes "declare-fun") text (SetLogic ∷ []) tree items start end word parts at row leaf
     ∙ ap (declare_function text (SetLogic ∷ []) start) three
@@ -133,7 +134,7 @@ assert_is P text tree (items, start, end, at, (word, parts, row, leaf, (term, no
         let one : parts ≡ term ∷ [] = only ∙ ap (λ (l : List Tree). term ∷ l) last in
         command_is (codes "assert") text before tree items start end word parts at row leaf
         ∙ ap (assert_term text before start) one
-        ∙ ap (λ t. unless (or_else (order_fault start (not t)) (count_fault start (nat_lt (length (asserted before)) 65536))) (spelled text (scope_of (declared before) [] true) 0 term >>= assertion start)) unasked
+        ∙ ap (λ t. unless (first_fault (order_fault start (not t)) (count_fault start (nat_lt (length (asserted before)) 65536))) (spelled text (scope_of (declared before) [] true) 0 term >>= assertion start)) unasked
         ∙ ap (λ t. unless (count_fault start t) (spelled text (scope_of (declared before) [] true) 0 term >>= assertion start)) few
         ∙ ap (λ (p : List Pred). spelled text (scope_of p [] true) 0 term >>= assertion start) preds
         ∙ ap (λ (o : Result Spelled Fault). o >>= assertion start) r.is

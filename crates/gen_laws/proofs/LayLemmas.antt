@@ -8,7 +8,7 @@ use Rattle.term_tree.specs.declared.script.Script.{Script}
 use Rattle.term_tree.specs.Arena.{Arena}
 use Rattle.term_check.specs.Term.{Term, Terms, IsNodeAt, IsTermAt, AreTermsAt}
 use Rattle.sort_check.specs.Commands.Command.{SetLogic, Declare, Assert, CheckSat}
-use Rattle.clause_gen.specs.Generated.{children, generated_preds, generated_script, ids, leaves, parent, query, start_of}
+use Rattle.clause_gen.specs.Generated.{children, generated_preds, generated_script, ids, leaves, parent, query, root_number}
 use Rattle.gen_text.specs.Texts.{generated_text}
 use Rattle.gen_laws.specs.Spelling.{SpellsScript}
 use Rattle.gen_laws.proofs.ShapeLemmas.{Shape, Shapes, amount, letter, atom, apply, no_shape, one_more, Fits, AllFit}
@@ -101,7 +101,7 @@ module _ (low high depth start : ℕ) (text : List ℕ) (w : IsWritten low high 
 pub spells : (depth seed : ℕ) → depth ≤ 12 → SpellsScript (generated_text depth seed) (generated_script depth seed)
 spells depth seed most =
     let w = written depth seed most in
-    let script = read (low_of depth seed) (high_of depth seed) depth (start_of seed) (generated_text depth seed) w in
+    let script = read (low_of depth seed) (high_of depth seed) depth (root_number seed) (generated_text depth seed) w in
     record {
       commands = SetLogic ∷ Declare node_pred ∷ Assert w.at1 w.leaves ∷ Assert w.at2 w.parents ∷ Assert w.at3 w.root ∷ CheckSat ∷ [];
       read = script;
@@ -114,15 +114,15 @@ spells depth seed most =
           refl,
           refl,
           refl,
-          first (low_of depth seed) (high_of depth seed) depth (start_of seed) (generated_text depth seed) w,
+          first (low_of depth seed) (high_of depth seed) depth (root_number seed) (generated_text depth seed) w,
           (
             _,
             _,
             refl,
             refl,
             refl,
-            second (low_of depth seed) (high_of depth seed) depth (start_of seed) (generated_text depth seed) w,
-            (_, _, refl, refl, refl, third (low_of depth seed) (high_of depth seed) depth (start_of seed) (generated_text depth seed) w, refl),
+            second (low_of depth seed) (high_of depth seed) depth (root_number seed) (generated_text depth seed) w,
+            (_, _, refl, refl, refl, third (low_of depth seed) (high_of depth seed) depth (root_number seed) (generated_text depth seed) w, refl),
           ),
         );
       };

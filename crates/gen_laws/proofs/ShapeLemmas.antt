@@ -20,11 +20,11 @@ use Rattle.term_check.specs.declared.atom.Atom.{Atom}
 use Rattle.term_check.specs.declared.atom.Atom.TheVariants.{Number, BoundVariable}
 use Rattle.term_check.specs.declared.scope.Bound.TheVariants.{Variable}
 use Rattle.term_check.specs.declared.scope.Named.{Named}
-use Rattle.term_check.specs.Words.{is_among, reserved_words}
+use Rattle.term_check.specs.Words.{is_word_among, reserved_words}
 use Rattle.term_check.specs.Operators.{operator_named}
 use Rattle.term_check.specs.Rules.{fault, unless, number_fault, applied, declared_fault}
 use Rattle.term_check.specs.machinery.Reading.{next_spelled, each_spelled, applied_list, any_list}
-use Rattle.term_check.specs.Spelling.{Scope, Spelled, Gathered, ◌>>=◌, is_word, bound_to, bound_symbol, symbol_atom, numeral_if_short, numeral_atom, spelled_atom, operator_or, head_of, head_fault, with_part, application, spells, added, nothing_yet, spelled, scope_of}
+use Rattle.term_check.specs.Spelling.{SpellingScope, Spelled, Gathered, ◌>>=◌, is_word, bound_to, bound_symbol, symbol_atom, numeral_if_short, numeral_atom, spelled_atom, operator_or, spelled_head, head_fault, with_part, application, spells, with_spelled, nothing_yet, spelled, scope_of}
 use Rattle.term_check.specs.Term.{Term, Terms, numeral, variable, predicate, operation, none, more, with_last}
 use Rattle.term_check.proofs.Public.{below_is, spelled-List}
 use Rattle.clause_gen.specs.Generated.{generated_preds}
@@ -110,14 +110,14 @@ no_binder false true c x y z w h k l = absurd (cc)
 no_binder false false true x y z w h k l = absurd (cc)
 
 module _ (names : List Named) (next : ℕ) where
-  abbrev scope : Scope
+  abbrev scope : SpellingScope
   scope = scope_of generated_preds names true
 
   -- shapes whose text is read, inside so many open lists
   abbrev mutual
     pub Fine : ℕ → Shape → Type 0
     Fine depth (amount n) = n < 2 ^ 63
-    Fine depth (letter k b) = (bound_to (b ∷ []) names ≡ Some (Variable k IntSort)) × (is_digit b ≡ false) × (list_all is_symbol_byte (b ∷ []) ≡ true) × (is_among reserved_words (b ∷ []) ≡ false)
+    Fine depth (letter k b) = (bound_to (b ∷ []) names ≡ Some (Variable k IntSort)) × (is_digit b ≡ false) × (list_all is_symbol_byte (b ∷ []) ≡ true) × (is_word_among reserved_words (b ∷ []) ≡ false)
     Fine depth (atom args) =
         (depth < most_open) × (count args ≡ 2) × ((starts : List ℕ) → length starts ≡ length (kinds_of args) → declared_fault (IntSort ∷ IntSort ∷ []) (parts_at starts (kinds_of args)) ≡ None)
         × AllFine (depth + 1) args
@@ -162,7 +162,7 @@ module _ (names : List Named) (next : ℕ) where
       reads text tree leaf = record {
         found = spelled_atom next leaf.0 (BoundVariable k IntSort);
         is = ap (spelled text scope next) leaf.2
-            ∙ ap (λ (bytes : List ℕ). (cond (is_among reserved_words bytes) (Err (fault UnknownSymbol leaf.0)) (symbol_atom generated_preds names leaf.0 bytes)) >>= λ a. Ok (spelled_atom next leaf.0 a)) leaf.3
+            ∙ ap (λ (bytes : List ℕ). (cond (is_word_among reserved_words bytes) (Err (fault UnknownSymbol leaf.0)) (symbol_atom generated_preds names leaf.0 bytes)) >>= λ a. Ok (spelled_atom next leaf.0 a)) leaf.3
             ∙ ap (λ t. (cond t (Err (fault UnknownSymbol leaf.0)) (symbol_atom generated_preds names leaf.0 (b ∷ []))) >>= λ a. Ok (spelled_atom next leaf.0 a)) free
             ∙ ap (λ o. bound_symbol generated_preds leaf.0 (b ∷ []) o >>= λ a. Ok (spelled_atom next leaf.0 a)) bound;
         start = leaf.0;
@@ -209,9 +209,9 @@ module _ (names : List Named) (next : ℕ) where
     where
       by : (g : Gathered) → g.next ≡ next → Gathers (one_more s args) text trees g
       by g now =
-          let h : Gathered = added g r.found in
+          let h : Gathered = with_spelled g r.found in
           let rest = all h r.next_is in
-          let one : next_spelled text scope g first ≡ Ok h = ap (λ (n : ℕ). spelled text scope n first >>= λ x. Ok (added g x)) now ∙ ap (λ (o : Result Spelled Fault). o >>= λ x. Ok (added g x)) r.is in
+          let one : next_spelled text scope g first ≡ Ok h = ap (λ (n : ℕ). spelled text scope n first >>= λ x. Ok (with_spelled g x)) now ∙ ap (λ (o : Result Spelled Fault). o >>= λ x. Ok (with_spelled g x)) r.is in
           record {
             last = rest.last;
             is = ap (each_spelled text scope g) row ∙ ap (λ (o : Result Gathered Fault). o >>= λ x. each_spelled text scope x others) one ∙ rest.is;
@@ -244,9 +244,9 @@ module _ (names : List Named) (next : ℕ) where
   operation_is op args counts takes text tree (items, start, end, at, (first, others, row, leaf, (many, all))) =
       let word = operator_is op in
       let g = all (nothing_yet next) refl in
-      let head : head_of text generated_preds first ≡ Ok (Operator op) =
-      ap (head_of text generated_preds) leaf.2
-      ∙ ap (λ (b : List ℕ). cond (is_among reserved_words b) (Err (fault UnknownSymbol leaf.0)) (operator_or generated_preds leaf.0 b (operator_named b))) leaf.3
+      let head : spelled_head text generated_preds first ≡ Ok (Operator op) =
+      ap (spelled_head text generated_preds) leaf.2
+      ∙ ap (λ (b : List ℕ). cond (is_word_among reserved_words b) (Err (fault UnknownSymbol leaf.0)) (operator_or generated_preds leaf.0 b (operator_named b))) leaf.3
       ∙ ap (λ t. cond t (Err (fault UnknownSymbol leaf.0)) (operator_or generated_preds leaf.0 (operator_word op) (operator_named (operator_word op)))) word.3
       ∙ ap (operator_or generated_preds leaf.0 (operator_word op)) word.4 in
       let fits : number_fault op start (length others) ≡ None = ap (number_fault op start) many ∙ counts start in
@@ -270,9 +270,9 @@ module _ (names : List Named) (next : ℕ) where
       → (text : List ℕ) (tree : Tree) → Within (FirstAnd (IsLeaf Symbol (codes "node")) (AreSpelled args)) text tree → ReadsAs (atom args) text tree
   atom_is args two sorted text tree (items, start, end, at, (first, others, row, leaf, (many, all))) =
       let g = all (nothing_yet next) refl in
-      let head : head_of text generated_preds first ≡ Ok (Declared 0) =
-      ap (head_of text generated_preds) leaf.2
-      ∙ ap (λ (b : List ℕ). cond (is_among reserved_words b) (Err (fault UnknownSymbol leaf.0)) (operator_or generated_preds leaf.0 b (operator_named b))) leaf.3 in
+      let head : spelled_head text generated_preds first ≡ Ok (Declared 0) =
+      ap (spelled_head text generated_preds) leaf.2
+      ∙ ap (λ (b : List ℕ). cond (is_word_among reserved_words b) (Err (fault UnknownSymbol leaf.0)) (operator_or generated_preds leaf.0 b (operator_named b))) leaf.3 in
       let found : Spelled = record { term = predicate start 0 g.last.terms; part = part_at start (BoolSort, None); next = g.last.next } in
       let list : applied_list text scope next start first others ≡ Ok found =
       ap (λ (r : Result Head Fault). r >>= λ h. unless (head_fault generated_preds h start (length others)) (each_spelled text scope (nothing_yet next) others >>= application generated_preds h start)) head

@@ -13,7 +13,7 @@ use Rattle.term_check.specs.Term.{Term}
 use Rattle.sort_check.specs.Commands.{Command, command, is_exit}
 use Rattle.sort_check.specs.Commands.Command.{SetLogic, Declare, Assert, CheckSat}
 use Rattle.sort_check.specs.Scripts.{Outcome, IsScript, after, outcome, stops, end_fault}
-use Rattle.clause_gen.specs.Generated.{start_of}
+use Rattle.clause_gen.specs.Generated.{root_number}
 use Rattle.gen_text.specs.Texts.{generated_text, leaves_text, parents_text, root_text}
 use Rattle.answer_text.specs.Terms.{operator_word}
 use Rattle.answer_text.proofs.OperatorLemmas.{Kind, part_at, parts_at, Takes, takes_add, takes_and, takes_eq, takes_le, takes_mul, takes_not}
@@ -203,23 +203,23 @@ root_line depth start rest =
     ∙ sym (ap (λ (l : List ℕ). codes "(assert (not (node " ++ l) (flat (decimal depth) (codes " ") (decimal start) (codes ")))\n") rest))
 
 abbrev pub low_of : ℕ → ℕ → ℕ
-low_of depth seed = start_of seed * 2 ^ depth
+low_of depth seed = root_number seed * 2 ^ depth
 
 abbrev pub high_of : ℕ → ℕ → ℕ
-high_of depth seed = (start_of seed + 1) * 2 ^ depth
+high_of depth seed = (root_number seed + 1) * 2 ^ depth
 
-pub text_is : (depth seed : ℕ) → lines_text (low_of depth seed) (high_of depth seed) depth (start_of seed) ≡ generated_text depth seed
+pub text_is : (depth seed : ℕ) → lines_text (low_of depth seed) (high_of depth seed) depth (root_number seed) ≡ generated_text depth seed
 text_is depth seed =
     let front : List ℕ → List ℕ = λ l. codes "(set-logic HORN)\n(declare-fun node (Int Int) Bool)\n" ++ l in
     let end : List ℕ = codes "(check-sat)\n" in
-    let root : List ℕ = assert_text (text_of (root_shape depth (start_of seed))) ++ (codes "\n" ++ end) in
+    let root : List ℕ = assert_text (text_of (root_shape depth (root_number seed))) ++ (codes "\n" ++ end) in
     ap front (leaves_line (low_of depth seed) (high_of depth seed) (assert_text (universal_text parents_shape) ++ (codes "\n" ++ root))
-    ∙ ap (λ (l : List ℕ). leaves_text (low_of depth seed) (high_of depth seed) ++ l) (parents_line root ∙ ap (λ (l : List ℕ). parents_text ++ l) (root_line depth (start_of seed) end))
-    ∙ sym (three (leaves_text (low_of depth seed) (high_of depth seed)) parents_text (root_text depth (start_of seed)) end))
+    ∙ ap (λ (l : List ℕ). leaves_text (low_of depth seed) (high_of depth seed) ++ l) (parents_line root ∙ ap (λ (l : List ℕ). parents_text ++ l) (root_line depth (root_number seed) end))
+    ∙ sym (three (leaves_text (low_of depth seed) (high_of depth seed)) parents_text (root_text depth (root_number seed)) end))
 
 -- Its length.
 
-start_small : (seed : ℕ) → start_of seed < 1000
+start_small : (seed : ℕ) → root_number seed < 1000
 start_small seed = omega arith
 
 product_small : (depth n : ℕ) → depth ≤ 12 → n ≤ 1000 → n * 2 ^ depth ≤ 4096000
@@ -233,7 +233,7 @@ five a b c e f = omega (arith, length-append (((a ++ b) ++ c) ++ e) f, length-ap
 
 pub text_short : (depth seed : ℕ) → depth ≤ 12 → length (generated_text depth seed) ≤ 2 ^ 24
 text_short depth seed most =
-    let root = start_of seed in
+    let root = root_number seed in
     let small : root < 1000 = start_small seed in
     let low = low_of depth seed in
     let high = high_of depth seed in
@@ -302,9 +302,9 @@ written_by low high depth start text short trees reading
       };
     }
 
-pub written : (depth seed : ℕ) → depth ≤ 12 → IsWritten (low_of depth seed) (high_of depth seed) depth (start_of seed) (generated_text depth seed)
+pub written : (depth seed : ℕ) → depth ≤ 12 → IsWritten (low_of depth seed) (high_of depth seed) depth (root_number seed) (generated_text depth seed)
 written depth seed most =
-    let root = start_of seed in
+    let root = root_number seed in
     let small : root < 1000 = start_small seed in
     let low_small : low_of depth seed ≤ 4096000 = product_small depth root most (omega (arith, small)) in
     let high_small : high_of depth seed ≤ 4096000 = product_small depth (root + 1) most (omega (arith, small)) in

@@ -1,6 +1,6 @@
 -- The text of a generated script.
 use Rattle.std.specs.Prelude.{ℕ, ◌+◌, ◌*◌, ◌^◌, List, ◌++◌, codes, decimal}
-use Rattle.clause_gen.specs.Generated.{start_of}
+use Rattle.clause_gen.specs.Generated.{root_number}
 
 abbrev pub leaves_text : ℕ → ℕ → List ℕ
 leaves_text low high =
@@ -17,4 +17,4 @@ script_text low high depth start =
     codes "(set-logic HORN)\n(declare-fun node (Int Int) Bool)\n" ++ leaves_text low high ++ parents_text ++ root_text depth start ++ codes "(check-sat)\n"
 
 abbrev pub generated_text : ℕ → ℕ → List ℕ
-generated_text depth seed = script_text (start_of seed * 2 ^ depth) ((start_of seed + 1) * 2 ^ depth) depth (start_of seed)
+generated_text depth seed = script_text (root_number seed * 2 ^ depth) ((root_number seed + 1) * 2 ^ depth) depth (root_number seed)

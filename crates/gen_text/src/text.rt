@@ -1,5 +1,5 @@
 ghost use Rattle.std.specs.Prelude.{◌≡◌, ◌<◌, ◌≤◌, ◌^◌, ◌*◌, ◌+◌, ◌++◌, IfOk, OnOk, codes, decimal};
-ghost use Rattle.clause_gen.specs.Generated.{start_of};
+ghost use Rattle.clause_gen.specs.Generated.{root_number};
 ghost use Rattle.gen_text.specs.Texts.{generated_text, leaves_text, parents_text, root_text, script_text};
 
 use base::Memory;
@@ -8,7 +8,7 @@ use std::alloc::Global;
 
 /// The number of the root, by one step of a linear congruential generator.
 fn start_of(seed: u32) -> u64
-    ensures value { result ≡ start_of seed }
+    ensures value { result ≡ root_number seed }
     ensures small { result < 1000 }
 {
     let step = 1_103_515_245 * u64::from(seed) + 12_345;

@@ -21,7 +21,7 @@ use Rattle.horn_shape.specs.declared.clause.AtomUse.{AtomUse}
 use Rattle.horn_shape.specs.Instance.{is_met, tuple_of}
 use Rattle.horn_shape.specs.Plain.{is_plain_term}
 use Rattle.horn_shape.specs.Shape.{Content, Place, Reading, nothing, beside, both, arguments, atom_of, guard_of, either_head, at, each, bound_over, body_form, node_body, body_reading}
-use Rattle.horn_shape.specs.machinery.Content.{is_true_atom, met}
+use Rattle.horn_shape.specs.Content.{is_true_atom, met}
 use Rattle.horn_shape.specs.machinery.Gathering.{place_of}
 use Rattle.horn_shape.proofs.KnownLemmas.{AreValued, KeepNumbers, determined, keep_args, keep_plain, keep_then, keep_through, one_through, valued_args, valued_plain}
 use Rattle.horn_shape.proofs.ShapeLemmas.{body_plain, body_mixed}

@@ -30,7 +30,7 @@ use Rattle.horn_shape.specs.Breaking.{IsTrueAtom, IsTrueHead, Breaks}
 use Rattle.horn_shape.specs.Clause.{IsClauseOf, assertion_reading, content_of}
 use Rattle.horn_shape.specs.Instance.{IsInstance, conclusion_of, ground, is_met, premises_of}
 use Rattle.horn_shape.specs.Plain.{node_is_plain, is_plain_term}
-use Rattle.horn_shape.specs.machinery.Content.{is_true_atom, HeadHolds}
+use Rattle.horn_shape.specs.Content.{is_true_atom, HeadHolds}
 use Rattle.horn_shape.proofs.BrokenLemmas.{falsified}
 use Rattle.horn_shape.proofs.ClauseLemmas.{sorted_there}
 use Rattle.horn_shape.proofs.FalseLemmas.{breaker}

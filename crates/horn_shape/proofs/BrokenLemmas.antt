@@ -13,7 +13,7 @@ use Rattle.term_tree.specs.declared.node.Node.TheVariants.{Pred, Op, Let, Forall
 use Rattle.term_tree.specs.declared.scalar.Value.{Value}
 use Rattle.term_tree.specs.declared.scalar.Value.TheVariants.{Int, Bool as Truth}
 use Rattle.term_tree.specs.Arena.{IsArena, is_below}
-use Rattle.term_tree.specs.Legal.{Scope, with_variables, with_bound, has_some, is_scoped, numbers_through, next_variable}
+use Rattle.term_tree.specs.Legal.{NamesInScope, with_variables, with_bound, has_some, is_scoped, numbers_through, next_variable}
 use Rattle.term_tree.specs.Operators.{result_of, truth, implied}
 use Rattle.term_tree.specs.Sorts.{has_sort, is_sorted, sort_of}
 use Rattle.term_tree.specs.Truth.{Interpretation, Determines, HasSort, HaveSorts, bound_from, HasValue}
@@ -21,8 +21,8 @@ use Rattle.term_tree.specs.Value.{Environment, value_of}
 use Rattle.term_tree.proofs.Public.{arena_below, below_from, both_true, has_value_at, numbered_at, scoped_at, sort_at, there_is}
 use Rattle.horn_shape.specs.declared.clause.AtomUse.{AtomUse}
 use Rattle.horn_shape.specs.Plain.{is_plain_term}
-use Rattle.horn_shape.specs.Shape.{Content, nothing, beside, both, arguments, application, head_of, guard_of, either_head, at, body_reading, is_application, disjunct_form, disjunct_reading, disjuncts, implication, denial, clause_form, clause_reading}
-use Rattle.horn_shape.specs.machinery.Content.{met, HeadHolds, StandAt}
+use Rattle.horn_shape.specs.Shape.{Content, nothing, beside, both, arguments, application_reading, head_of, guard_of, either_head, at, body_reading, is_application, disjunct_form, disjunct_reading, disjuncts, implication, denial, clause_form, clause_reading}
+use Rattle.horn_shape.specs.Content.{met, HeadHolds, StandAt}
 use Rattle.horn_shape.specs.machinery.Gathering.{place_of}
 use Rattle.horn_shape.proofs.BodyLemmas.{misread, same_read, never_read, chosen_ok, both_ok, bound_ok, met_beside, tuple_is, body_is}
 use Rattle.horn_shape.proofs.HoldsLemmas.{split_sorts, stand_split, quantified_ok}
@@ -57,7 +57,7 @@ not_any true h = absurd (h refl)
 not_any false h = refl
 
 module _ (I : Interpretation) (preds : List Declared) (nodes : List Node) (arena : IsArena nodes) (gives : GivesTruth preds I) where
-  guard_false : (id : TermId) (lets : List TermId) (n : ℕ) (E F : Environment) (scope : Scope) (values : List Value) → is_plain_term nodes id.0 ≡ true → IsScope preds nodes n E scope
+  guard_false : (id : TermId) (lets : List TermId) (n : ℕ) (E F : Environment) (scope : NamesInScope) (values : List Value) → is_plain_term nodes id.0 ≡ true → IsScope preds nodes n E scope
       → is_scoped nodes id.0 scope ≡ true → sort_of preds nodes id.0 ≡ Some BoolSort → Broken I nodes n E F values (guard_of true (place_of id lets)) → HasValue I nodes id.0 E (Truth false)
   guard_false id lets n E F scope values plain is scoped sorted broken =
       let same = plain_local preds nodes arena id.0 n E scope is plain scoped E F broken.agree in
@@ -69,8 +69,8 @@ module _ (I : Interpretation) (preds : List Declared) (nodes : List Node) (arena
       denied true e h = differ (sym h)
       denied false e h = differ (sym e)
 
-  head_false : (id : TermId) (pred : ℕ) (args lets : List TermId) (c : Content) (n : ℕ) (E F : Environment) (scope : Scope) (values : List Value) → slice_get nodes id.0 ≡ Some (Pred pred args)
-      → application (is_plain_term nodes) head_of pred args (place_of id lets) ≡ Ok c → IsScope preds nodes n E scope → is_scoped nodes id.0 scope ≡ true
+  head_false : (id : TermId) (pred : ℕ) (args lets : List TermId) (c : Content) (n : ℕ) (E F : Environment) (scope : NamesInScope) (values : List Value) → slice_get nodes id.0 ≡ Some (Pred pred args)
+      → application_reading (is_plain_term nodes) head_of pred args (place_of id lets) ≡ Ok c → IsScope preds nodes n E scope → is_scoped nodes id.0 scope ≡ true
       → sort_of preds nodes id.0 ≡ Some BoolSort → Broken I nodes n E F values c → HasValue I nodes id.0 E (Truth false)
   head_false id pred args lets c n E F scope values node_is h is scoped sorted broken =
       let below = arena_below nodes id.0 (Pred pred args) arena node_is in
@@ -89,7 +89,7 @@ module _ (I : Interpretation) (preds : List Declared) (nodes : List Node) (arena
   abbrev SameThere : Content → Environment → Environment → Type 0
   SameThere c E F = (met I nodes F c ≡ met I nodes E c) × (HeadHolds I nodes E c.head → HeadHolds I nodes F c.head)
 
-  disjunct_same : (id : TermId) (lets : List TermId) (node : Node) (c : Content) (n : ℕ) (E F : Environment) (scope : Scope) → slice_get nodes id.0 ≡ Some node
+  disjunct_same : (id : TermId) (lets : List TermId) (node : Node) (c : Content) (n : ℕ) (E F : Environment) (scope : NamesInScope) → slice_get nodes id.0 ≡ Some node
       → disjunct_form nodes node (place_of id lets) ≡ Ok c → IsScope preds nodes n E scope → is_scoped nodes id.0 scope ≡ true → AgreeBelow n E F → SameThere c E F
   disjunct_same id lets (Pred pred args) c n E F scope node_is h is scoped agree =
       let below = arena_below nodes id.0 (Pred pred args) arena node_is in
@@ -107,7 +107,7 @@ module _ (I : Interpretation) (preds : List Declared) (nodes : List Node) (arena
       )
   disjunct_same id lets _ c n E F scope node_is h is scoped agree = absurd (cc)
 
-  disjunct_same_by : (p : Bool) (id : TermId) (lets : List TermId) (node : Node) (c : Content) (n : ℕ) (E F : Environment) (scope : Scope) → is_plain_term nodes id.0 ≡ p → slice_get nodes id.0 ≡ Some node
+  disjunct_same_by : (p : Bool) (id : TermId) (lets : List TermId) (node : Node) (c : Content) (n : ℕ) (E F : Environment) (scope : NamesInScope) → is_plain_term nodes id.0 ≡ p → slice_get nodes id.0 ≡ Some node
       → disjunct_reading nodes (Some node) (place_of id lets) ≡ Ok c → IsScope preds nodes n E scope → is_scoped nodes id.0 scope ≡ true → AgreeBelow n E F → SameThere c E F
   disjunct_same_by true id lets node c n E F scope plain node_is h is scoped agree =
       let below = arena_below nodes id.0 node arena node_is in
@@ -123,7 +123,7 @@ module _ (I : Interpretation) (preds : List Declared) (nodes : List Node) (arena
   either_same E F a None f g h = f h
   either_same E F a (Some b) f g h = g h
 
-  disjuncts_same_found : (headed : Bool) (lets : List TermId) (id : TermId) (ids : List TermId) (c : Content) (n : ℕ) (E F : Environment) (scope : Scope) (f : Option Node) → slice_get nodes id.0 ≡ f
+  disjuncts_same_found : (headed : Bool) (lets : List TermId) (id : TermId) (ids : List TermId) (c : Content) (n : ℕ) (E F : Environment) (scope : NamesInScope) (f : Option Node) → slice_get nodes id.0 ≡ f
       → ((b : Bool) (y : Content) → disjuncts nodes b lets ids ≡ Ok y → SameThere y E F) → IsScope preds nodes n E scope → is_scoped nodes id.0 scope ≡ true → AgreeBelow n E F
       → (if headed && is_application f then Err id else both (disjunct_reading nodes f (place_of id lets)) (disjuncts nodes (headed || is_application f) lets ids)) ≡ Ok c → SameThere c E F
   disjuncts_same_found headed lets id ids c n E F scope None e rec is scoped agree k = never_read id c (read_chosen (headed && false) id (misread id) c k).1
@@ -140,7 +140,7 @@ module _ (I : Interpretation) (preds : List Declared) (nodes : List Node) (arena
         either_same E F x.head y.head first.1 rest.1,
       )
 
-  disjuncts_same : (headed : Bool) (lets ids : List TermId) (c : Content) (n : ℕ) (E F : Environment) (scope : Scope) → disjuncts nodes headed lets ids ≡ Ok c → IsScope preds nodes n E scope
+  disjuncts_same : (headed : Bool) (lets ids : List TermId) (c : Content) (n : ℕ) (E F : Environment) (scope : NamesInScope) → disjuncts nodes headed lets ids ≡ Ok c → IsScope preds nodes n E scope
       → list_all (λ a. is_scoped nodes a.0 scope) ids ≡ true → AgreeBelow n E F → SameThere c E F
   disjuncts_same headed lets [] c n E F scope h is scoped agree = subst (λ (x : Content). SameThere x E F) (same_read nothing c h) (refl, λ holds. holds)
   disjuncts_same headed lets (id ∷ ids) c n E F scope h is scoped agree =
@@ -149,7 +149,7 @@ module _ (I : Interpretation) (preds : List Declared) (nodes : List Node) (arena
 
   -- what is known of a clause of smaller number
   abbrev Falsified : ℕ → Type 0
-  Falsified bound = (id : TermId) (lets : List TermId) (c : Content) (n m : ℕ) (E F : Environment) (scope : Scope) (values : List Value) → id.0 < bound
+  Falsified bound = (id : TermId) (lets : List TermId) (c : Content) (n m : ℕ) (E F : Environment) (scope : NamesInScope) (values : List Value) → id.0 < bound
       → clause_reading nodes id.0 (place_of id lets) ≡ Ok c → next_variable nodes id.0 n ≡ Some m → sort_of preds nodes id.0 ≡ Some BoolSort → is_scoped nodes id.0 scope ≡ true
       → IsScope preds nodes n E scope → Broken I nodes n E F values c → HasValue I nodes id.0 E (Truth false)
 
@@ -179,7 +179,7 @@ module _ (I : Interpretation) (preds : List Declared) (nodes : List Node) (arena
       put_head a None h = absurd h
       put_head a (Some b) h = h
 
-  implication_false : (bound : ℕ) (id : TermId) (lets ids : List TermId) (c : Content) (n m : ℕ) (E F : Environment) (scope : Scope) (values : List Value) → Falsified bound
+  implication_false : (bound : ℕ) (id : TermId) (lets ids : List TermId) (c : Content) (n m : ℕ) (E F : Environment) (scope : NamesInScope) (values : List Value) → Falsified bound
       → list_all (is_below bound) ids ≡ true → implication (body_reading nodes) (clause_reading nodes) (place_of id lets) ids ≡ Ok c
       → numbers_through (next_variable nodes) ids n ≡ Some m → list_all (has_sort BoolSort) (map (λ a. sort_of preds nodes a.0) ids) ≡ true
       → list_all (λ a. is_scoped nodes a.0 scope) ids ≡ true → IsScope preds nodes n E scope → Broken I nodes n E F values c → Refuted ids E
@@ -221,14 +221,14 @@ module _ (I : Interpretation) (preds : List Declared) (nodes : List Node) (arena
       }
 
   -- a body whose parts are all true is true
-  body_true : (id : TermId) (lets : List TermId) (c : Content) (n : ℕ) (E F : Environment) (scope : Scope) (values : List Value) → body_reading nodes id.0 (place_of id lets) ≡ Ok c
+  body_true : (id : TermId) (lets : List TermId) (c : Content) (n : ℕ) (E F : Environment) (scope : NamesInScope) (values : List Value) → body_reading nodes id.0 (place_of id lets) ≡ Ok c
       → IsScope preds nodes n E scope → is_scoped nodes id.0 scope ≡ true → sort_of preds nodes id.0 ≡ Some BoolSort → Broken I nodes n E F values c → HasValue I nodes id.0 E (Truth true)
   body_true id lets c n E F scope values h is scoped sorted broken =
       let b = body_is I nodes arena id lets c E h in
       let s = settled I preds nodes arena gives id lets c n E scope h is scoped in
       subst (λ (v : Value). HasValue I nodes id.0 E v) (truth_is_true b.value (b.meets ∙ sym (s.same F broken.agree) ∙ broken.body)) b.has
 
-  denial_false : (id : TermId) (lets : List TermId) (node : Node) (c : Content) (n m : ℕ) (E F : Environment) (scope : Scope) (values : List Value) → slice_get nodes id.0 ≡ Some node
+  denial_false : (id : TermId) (lets : List TermId) (node : Node) (c : Content) (n m : ℕ) (E F : Environment) (scope : NamesInScope) (values : List Value) → slice_get nodes id.0 ≡ Some node
       → denial nodes (Some node) (place_of id lets) ≡ Ok c → next_variable nodes id.0 n ≡ Some m → sort_of preds nodes id.0 ≡ Some BoolSort → is_scoped nodes id.0 scope ≡ true
       → IsScope preds nodes n E scope → Broken I nodes n E F values c → HasValue I nodes id.0 E (Truth true)
   denial_false id lets (Exists first sorts body) c n m E F scope values node_is h numbers sorted scoped is broken =
@@ -260,7 +260,7 @@ module _ (I : Interpretation) (preds : List Declared) (nodes : List Node) (arena
       → Determines (HasValue I nodes) args (result_of Implies) E (Truth false)
   not_implied args E vs h e = subst (λ (b : Bool). Determines (HasValue I nodes) args (result_of Implies) E (Truth b)) e (determined (HasValue I nodes) args E vs (result_of Implies) h)
 
-  false_node : (id : TermId) (lets : List TermId) (node : Node) (c : Content) (n m : ℕ) (E F : Environment) (scope : Scope) (values : List Value) → Falsified id.0
+  false_node : (id : TermId) (lets : List TermId) (node : Node) (c : Content) (n m : ℕ) (E F : Environment) (scope : NamesInScope) (values : List Value) → Falsified id.0
       → slice_get nodes id.0 ≡ Some node → clause_form nodes (clause_reading nodes) node (place_of id lets) ≡ Ok c → next_variable nodes id.0 n ≡ Some m
       → sort_of preds nodes id.0 ≡ Some BoolSort → is_scoped nodes id.0 scope ≡ true → IsScope preds nodes n E scope → Broken I nodes n E F values c → HasValue I nodes id.0 E (Truth false)
   false_node id lets (Pred pred args) c n m E F scope values ih node_is h numbers sorted scoped is broken = head_false id pred args lets c n E F scope values node_is h is scoped sorted broken
@@ -319,7 +319,7 @@ module _ (I : Interpretation) (preds : List Declared) (nodes : List Node) (arena
       (has_value_at I nodes id.0 (Op Not (body ∷ [])) E (Truth false) node_is below).back (determined (HasValue I nodes) (body ∷ []) E (Truth true ∷ []) (result_of Not) (has, tt))
   false_node id lets _ c n m E F scope values ih node_is h numbers sorted scoped is broken = absurd (cc)
 
-  false_by : (p : Bool) (id : TermId) (lets : List TermId) (node : Node) (c : Content) (n m : ℕ) (E F : Environment) (scope : Scope) (values : List Value)
+  false_by : (p : Bool) (id : TermId) (lets : List TermId) (node : Node) (c : Content) (n m : ℕ) (E F : Environment) (scope : NamesInScope) (values : List Value)
       → is_plain_term nodes id.0 ≡ p → Falsified id.0 → slice_get nodes id.0 ≡ Some node → clause_reading nodes id.0 (place_of id lets) ≡ Ok c → next_variable nodes id.0 n ≡ Some m
       → sort_of preds nodes id.0 ≡ Some BoolSort → is_scoped nodes id.0 scope ≡ true → IsScope preds nodes n E scope → Broken I nodes n E F values c → HasValue I nodes id.0 E (Truth false)
   false_by true id lets node c n m E F scope values plain ih node_is h numbers sorted scoped is broken =
@@ -338,7 +338,7 @@ module _ (I : Interpretation) (preds : List Declared) (nodes : List Node) (arena
       (λ k ls x a b G H sc ws lt. false_below bound k ls x a b G H sc ws (omega (arith, lt, less))) found.1 h numbers sorted scoped is broken
 
   -- a clause that an instance breaks is false
-  pub falsified : (id : TermId) (lets : List TermId) (c : Content) (n m : ℕ) (E F : Environment) (scope : Scope) (values : List Value)
+  pub falsified : (id : TermId) (lets : List TermId) (c : Content) (n m : ℕ) (E F : Environment) (scope : NamesInScope) (values : List Value)
       → clause_reading nodes id.0 (place_of id lets) ≡ Ok c → next_variable nodes id.0 n ≡ Some m → sort_of preds nodes id.0 ≡ Some BoolSort → is_scoped nodes id.0 scope ≡ true
       → IsScope preds nodes n E scope → Broken I nodes n E F values c → HasValue I nodes id.0 E (Truth false)
   falsified id lets c n m E F scope values h numbers sorted scoped is broken = false_below (suc id.0) id lets c n m E F scope values (omega arith) h numbers sorted scoped is broken

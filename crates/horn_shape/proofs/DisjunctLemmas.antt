@@ -17,7 +17,7 @@ use Rattle.term_tree.proofs.Public.{arena_below, both_true, has_value_at, told_p
 use Rattle.horn_shape.specs.declared.clause.AtomUse.{AtomUse}
 use Rattle.horn_shape.specs.Plain.{is_plain_term}
 use Rattle.horn_shape.specs.Shape.{Content, Place, Reading, nothing, both, guard_of, either_head, is_application, disjunct_form, disjunct_reading, disjuncts, node_clause, clause_reading}
-use Rattle.horn_shape.specs.machinery.Content.{met, HeadHolds, Holds}
+use Rattle.horn_shape.specs.Content.{met, HeadHolds, Holds}
 use Rattle.horn_shape.specs.machinery.Gathering.{place_of}
 use Rattle.horn_shape.proofs.KnownLemmas.{AreValued, determined, valued_plain}
 use Rattle.horn_shape.proofs.BodyLemmas.{misread, same_read, never_read, both_ok, met_beside, body_is}

@@ -13,7 +13,7 @@ use Rattle.term_tree.specs.declared.node.Node.TheVariants.{Pred, Op, Let, Forall
 use Rattle.term_tree.specs.declared.scalar.Value.{Value}
 use Rattle.term_tree.specs.declared.scalar.Value.TheVariants.{Int, Bool as Truth}
 use Rattle.term_tree.specs.Arena.{IsArena, is_below}
-use Rattle.term_tree.specs.Legal.{Scope, with_variables, with_bound, has_some, is_scoped, numbers_through, next_variable}
+use Rattle.term_tree.specs.Legal.{NamesInScope, with_variables, with_bound, has_some, is_scoped, numbers_through, next_variable}
 use Rattle.term_tree.specs.Operators.{result_of, truth, implied}
 use Rattle.term_tree.specs.Sorts.{has_sort, all_of, operation_sort, is_sorted, sort_of}
 use Rattle.term_tree.specs.Truth.{Interpretation, Completes, AreKnown, HaveSorts, HoldsForAll, HoldsForSome, bound_from, HasValue}
@@ -22,8 +22,8 @@ use Rattle.term_tree.proofs.LawLemmas.{one_value}
 use Rattle.term_tree.proofs.Public.{arena_below, below_from, both_true, has_value_at, numbered_at, scoped_at, sort_at, there_is}
 use Rattle.horn_shape.specs.declared.clause.AtomUse.{AtomUse}
 use Rattle.horn_shape.specs.Plain.{is_plain_term}
-use Rattle.horn_shape.specs.Shape.{Content, arguments, application, head_of, guard_of, either_head, at, body_reading, implication, denial, clause_form, clause_reading}
-use Rattle.horn_shape.specs.machinery.Content.{met, HeadHolds, StandAt}
+use Rattle.horn_shape.specs.Shape.{Content, arguments, application_reading, head_of, guard_of, either_head, at, body_reading, implication, denial, clause_form, clause_reading}
+use Rattle.horn_shape.specs.Content.{met, HeadHolds, StandAt}
 use Rattle.horn_shape.specs.machinery.Gathering.{place_of}
 use Rattle.horn_shape.proofs.BodyLemmas.{same_read, never_read, chosen_ok, both_ok, bound_ok, met_beside, tuple_is, body_is}
 use Rattle.horn_shape.proofs.HoldsLemmas.{stand_split, quantified_ok}
@@ -63,7 +63,7 @@ true_at m first sorts E (Truth true) e h = h
 true_at m first sorts E (Truth false) e h = differ (sym e)
 
 module _ (I : Interpretation) (preds : List Declared) (nodes : List Node) (arena : IsArena nodes) (gives : GivesTruth preds I) where
-  guard_breaks : (id : TermId) (lets : List TermId) (n : ℕ) (E : Environment) (scope : Scope) (w : Value) → is_plain_term nodes id.0 ≡ true → IsScope preds nodes n E scope
+  guard_breaks : (id : TermId) (lets : List TermId) (n : ℕ) (E : Environment) (scope : NamesInScope) (w : Value) → is_plain_term nodes id.0 ≡ true → IsScope preds nodes n E scope
       → is_scoped nodes id.0 scope ≡ true → HasValue I nodes id.0 E w → truth w ≡ false → Breaker I nodes n E (guard_of true (place_of id lets))
   guard_breaks id lets n E scope w plain is scoped has e =
       let known = ap truth (one_value I nodes id.0 E (value_of nodes id.0 E) w (valued_plain nodes arena I id.0 E plain) has) ∙ e in
@@ -71,8 +71,8 @@ module _ (I : Interpretation) (preds : List Declared) (nodes : List Node) (arena
       (λ F agree. ap (λ (v : Value). (not (truth v) && true) && true) (sym (plain_local preds nodes arena id.0 n E scope is plain scoped E F agree)) ∙ ap (λ (b : Bool). (not b && true) && true) known)
       (λ F agree holds. holds)
 
-  head_breaks : (id : TermId) (pred : ℕ) (args lets : List TermId) (c : Content) (n : ℕ) (E : Environment) (scope : Scope) (w : Value) → slice_get nodes id.0 ≡ Some (Pred pred args)
-      → application (is_plain_term nodes) head_of pred args (place_of id lets) ≡ Ok c → IsScope preds nodes n E scope → is_scoped nodes id.0 scope ≡ true
+  head_breaks : (id : TermId) (pred : ℕ) (args lets : List TermId) (c : Content) (n : ℕ) (E : Environment) (scope : NamesInScope) (w : Value) → slice_get nodes id.0 ≡ Some (Pred pred args)
+      → application_reading (is_plain_term nodes) head_of pred args (place_of id lets) ≡ Ok c → IsScope preds nodes n E scope → is_scoped nodes id.0 scope ≡ true
       → HasValue I nodes id.0 E w → truth w ≡ false → Breaker I nodes n E c
   head_breaks id pred args lets c n E scope w node_is h is scoped has e =
       let below = arena_below nodes id.0 (Pred pred args) arena node_is in
@@ -87,7 +87,7 @@ module _ (I : Interpretation) (preds : List Declared) (nodes : List Node) (arena
 
   -- what is known of a clause of smaller number
   abbrev Breakers : ℕ → Type 0
-  Breakers bound = (id : TermId) (lets : List TermId) (c : Content) (n m : ℕ) (E : Environment) (scope : Scope) (w : Value) → id.0 < bound
+  Breakers bound = (id : TermId) (lets : List TermId) (c : Content) (n m : ℕ) (E : Environment) (scope : NamesInScope) (w : Value) → id.0 < bound
       → clause_reading nodes id.0 (place_of id lets) ≡ Ok c → next_variable nodes id.0 n ≡ Some m → is_scoped nodes id.0 scope ≡ true → sort_of preds nodes id.0 ≡ Some BoolSort
       → IsScope preds nodes n E scope → HasValue I nodes id.0 E w → truth w ≡ false → Breaker I nodes n E c
 
@@ -144,7 +144,7 @@ module _ (I : Interpretation) (preds : List Declared) (nodes : List Node) (arena
   right_none F a None e g h = subst (λ (x : Option AtomUse). HeadHolds I nodes F x) e h
   right_none F a (Some b) e g h = g h
 
-  implication_breaks : (bound : ℕ) (id : TermId) (lets ids : List TermId) (c : Content) (n m : ℕ) (E : Environment) (scope : Scope) (known : List (Option Value)) → Breakers bound
+  implication_breaks : (bound : ℕ) (id : TermId) (lets ids : List TermId) (c : Content) (n m : ℕ) (E : Environment) (scope : NamesInScope) (known : List (Option Value)) → Breakers bound
       → list_all (is_below bound) ids ≡ true → implication (body_reading nodes) (clause_reading nodes) (place_of id lets) ids ≡ Ok c
       → numbers_through (next_variable nodes) ids n ≡ Some m → list_all (has_sort BoolSort) (map (λ a. sort_of preds nodes a.0) ids) ≡ true
       → list_all (λ a. is_scoped nodes a.0 scope) ids ≡ true → IsScope preds nodes n E scope → AreKnown (HasValue I nodes) ids E known
@@ -198,7 +198,7 @@ module _ (I : Interpretation) (preds : List Declared) (nodes : List Node) (arena
       within : (F : Environment) → AgreeBelow n E F → StandAt F n (front ++ b.values) → AgreeBelow (n + length sorts) (bound_from n front E) F
       within F agree stand = agree_bound n (n + length sorts) E F front agree (both_stand F stand).0 (omega (arith, long_sorts sorts front have))
 
-  body_breaks : (id : TermId) (lets : List TermId) (c : Content) (n : ℕ) (E : Environment) (scope : Scope) (w : Value) → body_reading nodes id.0 (place_of id lets) ≡ Ok c
+  body_breaks : (id : TermId) (lets : List TermId) (c : Content) (n : ℕ) (E : Environment) (scope : NamesInScope) (w : Value) → body_reading nodes id.0 (place_of id lets) ≡ Ok c
       → IsScope preds nodes n E scope → is_scoped nodes id.0 scope ≡ true → HasValue I nodes id.0 E w → truth w ≡ true → Breaker I nodes n E c
   body_breaks id lets c n E scope w h is scoped has e =
       let b = body_is I nodes arena id lets c E h in
@@ -206,7 +206,7 @@ module _ (I : Interpretation) (preds : List Declared) (nodes : List Node) (arena
       alone I nodes n E c b.vars (λ F agree. s.same F agree ∙ sym b.meets ∙ ap truth (one_value I nodes id.0 E b.value w b.has has) ∙ e)
       (λ F agree holds. subst (λ (x : Option AtomUse). HeadHolds I nodes F x) b.head holds)
 
-  denial_breaks : (id : TermId) (lets : List TermId) (node : Node) (c : Content) (n m : ℕ) (E : Environment) (scope : Scope) (w : Value) → slice_get nodes id.0 ≡ Some node
+  denial_breaks : (id : TermId) (lets : List TermId) (node : Node) (c : Content) (n m : ℕ) (E : Environment) (scope : NamesInScope) (w : Value) → slice_get nodes id.0 ≡ Some node
       → denial nodes (Some node) (place_of id lets) ≡ Ok c → next_variable nodes id.0 n ≡ Some m → is_scoped nodes id.0 scope ≡ true
       → IsScope preds nodes n E scope → HasValue I nodes id.0 E w → truth w ≡ true → Breaker I nodes n E c
   denial_breaks id lets (Exists first sorts body) c n m E scope w node_is h numbers scoped is has e =
@@ -231,7 +231,7 @@ module _ (I : Interpretation) (preds : List Declared) (nodes : List Node) (arena
   from_not true e = refl
   from_not false e = differ e
 
-  breaker_node : (id : TermId) (lets : List TermId) (node : Node) (c : Content) (n m : ℕ) (E : Environment) (scope : Scope) (w : Value) → Breakers id.0 → slice_get nodes id.0 ≡ Some node
+  breaker_node : (id : TermId) (lets : List TermId) (node : Node) (c : Content) (n m : ℕ) (E : Environment) (scope : NamesInScope) (w : Value) → Breakers id.0 → slice_get nodes id.0 ≡ Some node
       → clause_form nodes (clause_reading nodes) node (place_of id lets) ≡ Ok c → next_variable nodes id.0 n ≡ Some m → is_scoped nodes id.0 scope ≡ true
       → sort_of preds nodes id.0 ≡ Some BoolSort → IsScope preds nodes n E scope → HasValue I nodes id.0 E w → truth w ≡ false → Breaker I nodes n E c
   breaker_node id lets (Pred pred args) c n m E scope w ih node_is h numbers scoped sorted is has e = head_breaks id pred args lets c n E scope w node_is h is scoped has e
@@ -298,7 +298,7 @@ module _ (I : Interpretation) (preds : List Declared) (nodes : List Node) (arena
       one_known (Some v ∷ []) are decides = (v, are.0, from_not (truth v) (sym (decides (v ∷ []) (refl, tt))))
   breaker_node id lets _ c n m E scope w ih node_is h numbers scoped sorted is has e = absurd (cc)
 
-  breaker_by : (p : Bool) (id : TermId) (lets : List TermId) (node : Node) (c : Content) (n m : ℕ) (E : Environment) (scope : Scope) (w : Value) → is_plain_term nodes id.0 ≡ p → Breakers id.0
+  breaker_by : (p : Bool) (id : TermId) (lets : List TermId) (node : Node) (c : Content) (n m : ℕ) (E : Environment) (scope : NamesInScope) (w : Value) → is_plain_term nodes id.0 ≡ p → Breakers id.0
       → slice_get nodes id.0 ≡ Some node → clause_reading nodes id.0 (place_of id lets) ≡ Ok c → next_variable nodes id.0 n ≡ Some m → is_scoped nodes id.0 scope ≡ true
       → sort_of preds nodes id.0 ≡ Some BoolSort → IsScope preds nodes n E scope → HasValue I nodes id.0 E w → truth w ≡ false → Breaker I nodes n E c
   breaker_by true id lets node c n m E scope w plain ih node_is h numbers scoped sorted is has e =
@@ -316,7 +316,7 @@ module _ (I : Interpretation) (preds : List Declared) (nodes : List Node) (arena
       breaker_by (is_plain_term nodes id.0) id lets found.0 c n m E scope w refl (λ k ls x a b F sc u lt. breaker_below bound k ls x a b F sc u (omega (arith, lt, less))) found.1 h numbers scoped sorted is has e
 
   -- a clause that is false is broken by an instance
-  pub breaker : (id : TermId) (lets : List TermId) (c : Content) (n m : ℕ) (E : Environment) (scope : Scope) (w : Value) → clause_reading nodes id.0 (place_of id lets) ≡ Ok c
+  pub breaker : (id : TermId) (lets : List TermId) (c : Content) (n m : ℕ) (E : Environment) (scope : NamesInScope) (w : Value) → clause_reading nodes id.0 (place_of id lets) ≡ Ok c
       → next_variable nodes id.0 n ≡ Some m → is_scoped nodes id.0 scope ≡ true → sort_of preds nodes id.0 ≡ Some BoolSort → IsScope preds nodes n E scope → HasValue I nodes id.0 E w
       → truth w ≡ false → Breaker I nodes n E c
   breaker id lets c n m E scope w h numbers scoped sorted is has e = breaker_below (suc id.0) id lets c n m E scope w (omega arith) h numbers scoped sorted is has e

@@ -10,9 +10,9 @@ use Rattle.term_tree.specs.declared.node.Node.TheVariants.{LetVar, Op, Divisible
 use Rattle.term_tree.specs.Arena.{is_below, has_parts_below}
 use Rattle.term_tree.proofs.Public.{below_from, both_true, told_at, told_past}
 use Rattle.horn_shape.specs.Plain.{node_is_plain, is_plain_term}
-use Rattle.horn_shape.specs.Shape.{Content, Place, Reading, application, arguments, bound_over}
+use Rattle.horn_shape.specs.Shape.{Content, Place, Reading, application_reading, arguments, bound_over}
 use Rattle.horn_shape.specs.declared.clause.AtomUse.{AtomUse}
-use Rattle.horn_shape.specs.machinery.Flags.{flag_of, ArePlainFlags}
+use Rattle.horn_shape.specs.Flags.{flag_of, ArePlainFlags}
 
 pub all_same : (p q : ℕ → Bool) (n : ℕ) (ids : List TermId) → ((c : ℕ) → c < n → p c ≡ q c) → list_all (is_below n) ids ≡ true
     → list_all (λ id. p id.0) ids ≡ list_all (λ id. q id.0) ids
@@ -84,7 +84,7 @@ bound_flags nodes flags n ids reading are fits below = sym (bound_same (flag_of 
 -- an application by the flags of its arguments
 pub application_by : (nodes : List Node) (flags : List Bool) (n : ℕ) (give : AtomUse → Content) (pred : ℕ) (args : List TermId) (place : Place) (b : Bool) → ArePlainFlags nodes flags
     → n ≤ 2 ^ 32 → list_all (is_below n) args ≡ true → list_all (λ id. flag_of flags id.0) args ≡ b
-    → application (is_plain_term nodes) give pred args place ≡ (if b then Ok (give (record { pred = pred; args = arguments place.lets args })) else Err place.term)
+    → application_reading (is_plain_term nodes) give pred args place ≡ (if b then Ok (give (record { pred = pred; args = arguments place.lets args })) else Err place.term)
 application_by nodes flags n give pred args place b are fits below known =
     ap (λ (c : Bool). if c then Ok (give (record { pred = pred; args = arguments place.lets args })) else Err place.term) (flags_of nodes flags n args are fits below ∙ known)
 

@@ -10,7 +10,7 @@ use Rattle.horn_shape.specs.declared.clause.AtomUse.{AtomUse}
 use Rattle.horn_shape.specs.declared.clause.HornClause.{HornClause}
 use Rattle.horn_shape.specs.declared.clause.Part.{Part}
 use Rattle.horn_shape.specs.declared.stop.HornStop.{HornStop}
-use Rattle.horn_shape.specs.Shape.{Content, Reading, Place, nothing, beside, both, quantified, either_head, at, each, implication, disjuncts, disjunct_reading, is_application}
+use Rattle.horn_shape.specs.Shape.{Content, Reading, Place, nothing, beside, both, quantified_reading, either_head, at, each, implication, disjuncts, disjunct_reading, is_application}
 use Rattle.horn_shape.specs.machinery.Gathering.{gained, with_vars, onto, IsMisfit}
 
 heads_assoc : (a b c : Option AtomUse) → either_head a (either_head b c) ≡ either_head (either_head a b) c
@@ -72,7 +72,7 @@ misfit_both offsets c (Ok x) b offset h = absurd (absurd_ok h.1)
     absurd_ok : Ok (gained c x) ≡ Err h.0 → ⊥
     absurd_ok e = absurd (cc)
 
-pub onto_quantified : (c : HornClause) (sorts : List Sort) (r : Reading) → onto c (quantified sorts r) ≡ onto (with_vars c sorts) r
+pub onto_quantified : (c : HornClause) (sorts : List Sort) (r : Reading) → onto c (quantified_reading sorts r) ≡ onto (with_vars c sorts) r
 onto_quantified c sorts (Err e) = refl
 onto_quantified c sorts (Ok x) = ap (λ v. Ok (clause_with c.assertion v (c.atoms ++ x.atoms) (c.guards ++ x.guards) (either_head c.head x.head))) (sym (append_assoc c.vars sorts x.vars))
 

@@ -17,8 +17,8 @@ use Rattle.term_tree.proofs.Public.{arena_below, has_value_at}
 use Rattle.horn_shape.specs.declared.clause.AtomUse.{AtomUse}
 use Rattle.horn_shape.specs.Instance.{tuple_of}
 use Rattle.horn_shape.specs.Plain.{is_plain_term}
-use Rattle.horn_shape.specs.Shape.{Content, Reading, quantified, arguments, application, head_of, guard_of, body_reading}
-use Rattle.horn_shape.specs.machinery.Content.{met, Holds, StandAt}
+use Rattle.horn_shape.specs.Shape.{Content, Reading, quantified_reading, arguments, application_reading, head_of, guard_of, body_reading}
+use Rattle.horn_shape.specs.Content.{met, Holds, StandAt}
 use Rattle.horn_shape.specs.machinery.Gathering.{place_of}
 use Rattle.horn_shape.proofs.KnownLemmas.{determined, valued_args, valued_plain}
 use Rattle.horn_shape.proofs.BodyLemmas.{same_read, chosen_ok, tuple_is, body_is}
@@ -43,7 +43,7 @@ split_sorts (s ∷ sorts) more (v ∷ vs) h =
     let r = split_sorts sorts more vs h.1 in
     record { front = v ∷ r.front; rest = r.rest; whole = ap (λ (ws : List Value). v ∷ ws) r.whole; here = (h.0, r.here); there = r.there; long = omega (arith, r.long) }
 
-pub quantified_ok : (sorts : List Sort) (r : Reading) (c : Content) → quantified sorts r ≡ Ok c
+pub quantified_ok : (sorts : List Sort) (r : Reading) (c : Content) → quantified_reading sorts r ≡ Ok c
     → (x : Content) × (r ≡ Ok x) × (record { vars = sorts ++ x.vars; atoms = x.atoms; guards = x.guards; head = x.head } ≡ c)
 quantified_ok sorts (Err e) c h = absurd (cc)
 quantified_ok sorts (Ok x) c h = (x, refl, same_read (record { vars = sorts ++ x.vars; atoms = x.atoms; guards = x.guards; head = x.head }) c h)
@@ -72,7 +72,7 @@ module _ (I : Interpretation) (nodes : List Node) (arena : IsArena nodes) where
       unwrap false e = e
 
   pub head_is : (id : TermId) (pred : ℕ) (args lets : List TermId) (c : Content) (E : Environment) → slice_get nodes id.0 ≡ Some (Pred pred args)
-      → application (is_plain_term nodes) head_of pred args (place_of id lets) ≡ Ok c
+      → application_reading (is_plain_term nodes) head_of pred args (place_of id lets) ≡ Ok c
       → (v : Value) × HasValue I nodes id.0 E v × (v ≡ I pred (tuple_of nodes E (record { pred = pred; args = arguments lets args })))
       × (head_of (record { pred = pred; args = arguments lets args }) ≡ c)
   head_is id pred args lets c E is h =
@@ -88,7 +88,7 @@ module _ (I : Interpretation) (nodes : List Node) (arena : IsArena nodes) where
 
   -- an application that is true as a clause has its head true
   pub head_holds : (id : TermId) (pred : ℕ) (args lets : List TermId) (c : Content) (E : Environment) → slice_get nodes id.0 ≡ Some (Pred pred args)
-      → application (is_plain_term nodes) head_of pred args (place_of id lets) ≡ Ok c → HasValue I nodes id.0 E (Truth true) → Holds I nodes E c
+      → application_reading (is_plain_term nodes) head_of pred args (place_of id lets) ≡ Ok c → HasValue I nodes id.0 E (Truth true) → Holds I nodes E c
   head_holds id pred args lets c E is h has =
       let found = head_is id pred args lets c E is h in
       subst (λ (x : Content). Holds I nodes E x) found.3 (λ m. sym found.2 ∙ one_value I nodes id.0 E found.0 (Truth true) found.1 has)

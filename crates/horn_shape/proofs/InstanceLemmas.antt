@@ -13,7 +13,7 @@ use Rattle.term_tree.specs.Value.{Environment, environment_of}
 use Rattle.horn_shape.specs.declared.clause.AtomUse.{AtomUse}
 use Rattle.horn_shape.specs.Breaking.{IsTrueAtom, IsTrueHead}
 use Rattle.horn_shape.specs.Instance.{ground}
-use Rattle.horn_shape.specs.machinery.Content.{is_true_atom, HeadHolds, StandAt}
+use Rattle.horn_shape.specs.Content.{is_true_atom, HeadHolds, StandAt}
 
 pub there_number : (x : Option ℕ) → is_there x ≡ true → (m : ℕ) × (x ≡ Some m)
 there_number None h = absurd (cc)

@@ -15,7 +15,7 @@ use Rattle.term_tree.specs.declared.node.Node.TheVariants.{Num, True, False, Var
 use Rattle.term_tree.specs.declared.scalar.Value.{Value}
 use Rattle.term_tree.specs.declared.scalar.Value.TheVariants.{Int, Bool as Truth}
 use Rattle.term_tree.specs.Arena.{IsArena, is_below, has_parts_below}
-use Rattle.term_tree.specs.Legal.{Scope, with_variables, with_bound, has_some, node_is_scoped, is_scoped}
+use Rattle.term_tree.specs.Legal.{NamesInScope, with_variables, with_bound, has_some, node_is_scoped, is_scoped}
 use Rattle.term_tree.specs.Operators.{result_of, divides, integer, truth, choice_of}
 use Rattle.term_tree.specs.Sorts.{same_sort, has_sort, is_sorted, sort_if, choice_sort, operation_sort, node_sort, sort_of}
 use Rattle.term_tree.specs.Subterms.{is_among}
@@ -35,7 +35,7 @@ abbrev pub IsLocal : List Node → ℕ → ℕ → Type 0
 IsLocal nodes n id = (E F : Environment) → AgreeBelow n E F → value_of nodes id E ≡ value_of nodes id F
 
 -- a scope of variables below n and of terms that rest on them, whose values have their sorts
-pub record IsScope (preds : List Declared) (nodes : List Node) (n : ℕ) (E : Environment) (scope : Scope) : Type 0 where
+pub record IsScope (preds : List Declared) (nodes : List Node) (n : ℕ) (E : Environment) (scope : NamesInScope) : Type 0 where
   pub low : (k : ℕ) (s : Sort) → scope.variables k ≡ Some s → k < n
   pub local : (id : ℕ) → is_among id scope.bound ≡ true → IsLocal nodes n id
   pub sorted : (k : ℕ) (s : Sort) → scope.variables k ≡ Some s → HasSort s (E k)
@@ -68,7 +68,7 @@ chosen_sort false x s h = absurd (cc)
 
 module _ (preds : List Declared) (nodes : List Node) where
   -- more terms are bound
-  pub scope_with_bound : (n : ℕ) (E : Environment) (scope : Scope) (ids : List TermId) → IsScope preds nodes n E scope
+  pub scope_with_bound : (n : ℕ) (E : Environment) (scope : NamesInScope) (ids : List TermId) → IsScope preds nodes n E scope
       → ((id : ℕ) → is_among id ids ≡ true → IsLocal nodes n id)
       → ((id : ℕ) (s : Sort) → is_among id ids ≡ true → sort_of preds nodes id ≡ Some s → HasSort s (value_of nodes id E))
       → IsScope preds nodes n E (with_bound ids scope)
@@ -89,7 +89,7 @@ module _ (preds : List Declared) (nodes : List Node) where
   get_sorted (t ∷ sorts) (v ∷ values) (suc k) s d have h = get_sorted sorts values k s d have.1 h
 
   -- the quantified variables come next
-  pub scope_with_variables : (n : ℕ) (E : Environment) (scope : Scope) (sorts : List Sort) (values : List Value) → IsScope preds nodes n E scope → HaveSorts sorts values
+  pub scope_with_variables : (n : ℕ) (E : Environment) (scope : NamesInScope) (sorts : List Sort) (values : List Value) → IsScope preds nodes n E scope → HaveSorts sorts values
       → IsScope preds nodes (n + length sorts) (bound_from n values E) (with_variables n sorts scope)
   scope_with_variables n E scope sorts values is have = record {
     low = λ k s h. low_by k s (nat_lt k n) (nat_lt (k - n) (length sorts)) refl refl h;
@@ -214,25 +214,25 @@ module _ (preds : List Declared) (nodes : List Node) where
   module _ (arena : IsArena nodes) where
     -- what is shown of terms of smaller number
     abbrev Locals : ℕ → Type 0
-    Locals bound = (k n : ℕ) (E : Environment) (scope : Scope) → k < bound → IsScope preds nodes n E scope → is_plain_term nodes k ≡ true → is_scoped nodes k scope ≡ true
+    Locals bound = (k n : ℕ) (E : Environment) (scope : NamesInScope) → k < bound → IsScope preds nodes n E scope → is_plain_term nodes k ≡ true → is_scoped nodes k scope ≡ true
         → IsLocal nodes n k
 
     abbrev Sorteds : ℕ → Type 0
-    Sorteds bound = (k n : ℕ) (E : Environment) (scope : Scope) (s : Sort) → k < bound → IsScope preds nodes n E scope → is_plain_term nodes k ≡ true → is_scoped nodes k scope ≡ true
+    Sorteds bound = (k n : ℕ) (E : Environment) (scope : NamesInScope) (s : Sort) → k < bound → IsScope preds nodes n E scope → is_plain_term nodes k ≡ true → is_scoped nodes k scope ≡ true
         → sort_of preds nodes k ≡ Some s → HasSort s (value_of nodes k E)
 
-    each_local : (id n : ℕ) (E : Environment) (scope : Scope) (ids : List TermId) → Locals id → IsScope preds nodes n E scope → list_all (is_below id) ids ≡ true
+    each_local : (id n : ℕ) (E : Environment) (scope : NamesInScope) (ids : List TermId) → Locals id → IsScope preds nodes n E scope → list_all (is_below id) ids ≡ true
         → list_all (λ a. is_plain_term nodes a.0) ids ≡ true → list_all (λ a. is_scoped nodes a.0 scope) ids ≡ true → (k : ℕ) → is_among k ids ≡ true → IsLocal nodes n k
     each_local id n E scope ids ih is below plain scoped k h =
         ih k n E scope (below_from k id (among_plain (λ j. nat_lt j id) k ids below h)) is (among_plain (is_plain_term nodes) k ids plain h) (among_plain (λ j. is_scoped nodes j scope) k ids scoped h)
 
-    each_sorted : (id n : ℕ) (E : Environment) (scope : Scope) (ids : List TermId) → Sorteds id → IsScope preds nodes n E scope → list_all (is_below id) ids ≡ true
+    each_sorted : (id n : ℕ) (E : Environment) (scope : NamesInScope) (ids : List TermId) → Sorteds id → IsScope preds nodes n E scope → list_all (is_below id) ids ≡ true
         → list_all (λ a. is_plain_term nodes a.0) ids ≡ true → list_all (λ a. is_scoped nodes a.0 scope) ids ≡ true → (k : ℕ) (s : Sort) → is_among k ids ≡ true
         → sort_of preds nodes k ≡ Some s → HasSort s (value_of nodes k E)
     each_sorted id n E scope ids ih is below plain scoped k s h e =
         ih k n E scope s (below_from k id (among_plain (λ j. nat_lt j id) k ids below h)) is (among_plain (is_plain_term nodes) k ids plain h) (among_plain (λ j. is_scoped nodes j scope) k ids scoped h) e
 
-    local_node : (id n : ℕ) (E : Environment) (scope : Scope) (node : Node) → Locals id → Sorteds id → has_parts_below id node ≡ true → IsScope preds nodes n E scope
+    local_node : (id n : ℕ) (E : Environment) (scope : NamesInScope) (node : Node) → Locals id → Sorteds id → has_parts_below id node ≡ true → IsScope preds nodes n E scope
         → node_is_plain (is_plain_term nodes) node ≡ true → node_is_scoped (is_scoped nodes) node scope ≡ true → (F G : Environment) → AgreeBelow n F G
         → node_worth (value_of nodes) node F ≡ node_worth (value_of nodes) node G
     local_node id n E scope (Num m) ih sh below is plain scoped F G agree = refl
@@ -255,7 +255,7 @@ module _ (preds : List Declared) (nodes : List Node) where
     local_node id n E scope (Forall first sorts body) ih sh below is plain scoped F G agree = absurd (cc)
     local_node id n E scope (Exists first sorts body) ih sh below is plain scoped F G agree = absurd (cc)
 
-    sorted_node : (id n : ℕ) (E : Environment) (scope : Scope) (node : Node) (s : Sort) → Locals id → Sorteds id → has_parts_below id node ≡ true → IsScope preds nodes n E scope
+    sorted_node : (id n : ℕ) (E : Environment) (scope : NamesInScope) (node : Node) (s : Sort) → Locals id → Sorteds id → has_parts_below id node ≡ true → IsScope preds nodes n E scope
         → node_is_plain (is_plain_term nodes) node ≡ true → node_is_scoped (is_scoped nodes) node scope ≡ true → node_sort preds (sort_of preds nodes) node ≡ Some s
         → HasSort s (node_worth (value_of nodes) node E)
     sorted_node id n E scope (Num m) s ih sh below is plain scoped e = subst (λ (t : Sort). HasSort t (Int m)) (some_same IntSort s e) tt
@@ -307,16 +307,16 @@ module _ (preds : List Declared) (nodes : List Node) where
     both_below (suc bound) = one_more bound (both_below bound)
 
     -- its value rests on the variables in scope
-    pub plain_local : (id n : ℕ) (E : Environment) (scope : Scope) → IsScope preds nodes n E scope → is_plain_term nodes id ≡ true → is_scoped nodes id scope ≡ true → IsLocal nodes n id
+    pub plain_local : (id n : ℕ) (E : Environment) (scope : NamesInScope) → IsScope preds nodes n E scope → is_plain_term nodes id ≡ true → is_scoped nodes id scope ≡ true → IsLocal nodes n id
     plain_local id n E scope is plain scoped = (both_below (suc id)).0 id n E scope (omega arith) is plain scoped
 
     -- its value has its sort
-    pub plain_sorted : (id n : ℕ) (E : Environment) (scope : Scope) (s : Sort) → IsScope preds nodes n E scope → is_plain_term nodes id ≡ true → is_scoped nodes id scope ≡ true
+    pub plain_sorted : (id n : ℕ) (E : Environment) (scope : NamesInScope) (s : Sort) → IsScope preds nodes n E scope → is_plain_term nodes id ≡ true → is_scoped nodes id scope ≡ true
         → sort_of preds nodes id ≡ Some s → HasSort s (value_of nodes id E)
     plain_sorted id n E scope s is plain scoped e = (both_below (suc id)).1 id n E scope s (omega arith) is plain scoped e
 
     -- the terms that a `let` binds
-    pub bound_scope : (n : ℕ) (E : Environment) (scope : Scope) (ids : List TermId) → IsScope preds nodes n E scope → list_all (λ a. is_plain_term nodes a.0) ids ≡ true
+    pub bound_scope : (n : ℕ) (E : Environment) (scope : NamesInScope) (ids : List TermId) → IsScope preds nodes n E scope → list_all (λ a. is_plain_term nodes a.0) ids ≡ true
         → list_all (λ a. is_scoped nodes a.0 scope) ids ≡ true → IsScope preds nodes n E (with_bound ids scope)
     bound_scope n E scope ids is plain scoped =
         scope_with_bound n E scope ids is

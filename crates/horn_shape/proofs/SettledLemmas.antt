@@ -13,7 +13,7 @@ use Rattle.term_tree.specs.declared.node.Node.TheVariants.{Pred, Op, Let}
 use Rattle.term_tree.specs.declared.scalar.Value.{Value}
 use Rattle.term_tree.specs.declared.scalar.Value.TheVariants.{Bool as Truth}
 use Rattle.term_tree.specs.Arena.{IsArena, is_below}
-use Rattle.term_tree.specs.Legal.{Scope, with_bound, has_some, is_scoped}
+use Rattle.term_tree.specs.Legal.{NamesInScope, with_bound, has_some, is_scoped}
 use Rattle.term_tree.specs.Operators.{truth}
 use Rattle.term_tree.specs.Sorts.{has_sort, have_sorts, is_sorted, predicate_sort, sort_of}
 use Rattle.term_tree.specs.Subterms.{is_among}
@@ -25,7 +25,7 @@ use Rattle.horn_shape.specs.declared.clause.AtomUse.{AtomUse}
 use Rattle.horn_shape.specs.Instance.{tuple_of}
 use Rattle.horn_shape.specs.Plain.{is_plain_term}
 use Rattle.horn_shape.specs.Shape.{Content, nothing, arguments, atom_of, guard_of, at, each, body_form, body_reading}
-use Rattle.horn_shape.specs.machinery.Content.{met}
+use Rattle.horn_shape.specs.Content.{met}
 use Rattle.horn_shape.specs.machinery.Gathering.{place_of}
 use Rattle.horn_shape.proofs.BodyLemmas.{same_read, chosen_ok, both_ok, bound_ok, met_beside, tuple_is, body_there}
 use Rattle.horn_shape.proofs.KnownLemmas.{among_plain, determined, valued_args, valued_plain}
@@ -52,7 +52,7 @@ pub record IsSettled (I : Interpretation) (preds : List Declared) (nodes : List 
 
 module _ (I : Interpretation) (preds : List Declared) (nodes : List Node) (arena : IsArena nodes) where
   -- the tuple of an application
-  pub tuple_same : (n : ℕ) (E : Environment) (scope : Scope) (pred : ℕ) (args lets : List TermId) → IsScope preds nodes n E scope → list_all (λ a. is_plain_term nodes a.0) args ≡ true
+  pub tuple_same : (n : ℕ) (E : Environment) (scope : NamesInScope) (pred : ℕ) (args lets : List TermId) → IsScope preds nodes n E scope → list_all (λ a. is_plain_term nodes a.0) args ≡ true
       → list_all (λ a. is_scoped nodes a.0 scope) args ≡ true → (F : Environment) → AgreeBelow n E F
       → tuple_of nodes F (record { pred = pred; args = arguments lets args }) ≡ tuple_of nodes E (record { pred = pred; args = arguments lets args })
   tuple_same n E scope pred args lets is plain scoped F agree =
@@ -82,7 +82,7 @@ module _ (I : Interpretation) (preds : List Declared) (nodes : List Node) (arena
   declared (Some q) given s h = (q, refl, (sort_chosen (have_sorts q.args given) BoolSort s h).0)
 
   -- an application has a truth value
-  pub applied_truth : GivesTruth preds I → (n : ℕ) (E : Environment) (scope : Scope) (pred : ℕ) (args : List TermId) (s : Sort) → IsScope preds nodes n E scope
+  pub applied_truth : GivesTruth preds I → (n : ℕ) (E : Environment) (scope : NamesInScope) (pred : ℕ) (args : List TermId) (s : Sort) → IsScope preds nodes n E scope
       → list_all (λ a. is_plain_term nodes a.0) args ≡ true → list_all (λ a. is_scoped nodes a.0 scope) args ≡ true
       → predicate_sort (slice_get preds pred) (map (λ a. sort_of preds nodes a.0) args) ≡ Some s → HasSort BoolSort (I pred (map (λ a. value_of nodes a.0 E) args))
   applied_truth gives n E scope pred args s is plain scoped h =
@@ -93,10 +93,10 @@ module _ (I : Interpretation) (preds : List Declared) (nodes : List Node) (arena
 
   module _ (gives : GivesTruth preds I) where
     abbrev Settleds : ℕ → Type 0
-    Settleds bound = (k : TermId) (lets : List TermId) (x : Content) (n : ℕ) (E : Environment) (scope : Scope) → k.0 < bound → body_reading nodes k.0 (place_of k lets) ≡ Ok x
+    Settleds bound = (k : TermId) (lets : List TermId) (x : Content) (n : ℕ) (E : Environment) (scope : NamesInScope) → k.0 < bound → body_reading nodes k.0 (place_of k lets) ≡ Ok x
         → IsScope preds nodes n E scope → is_scoped nodes k.0 scope ≡ true → IsSettled I preds nodes k x n E
 
-    each_settled : (bound : ℕ) (lets ids : List TermId) (c : Content) (n : ℕ) (E : Environment) (scope : Scope) → Settleds bound → list_all (is_below bound) ids ≡ true
+    each_settled : (bound : ℕ) (lets ids : List TermId) (c : Content) (n : ℕ) (E : Environment) (scope : NamesInScope) → Settleds bound → list_all (is_below bound) ids ≡ true
         → each (body_reading nodes) lets ids ≡ Ok c → IsScope preds nodes n E scope → list_all (λ a. is_scoped nodes a.0 scope) ids ≡ true → (F : Environment) → AgreeBelow n E F
         → met I nodes F c ≡ met I nodes E c
     each_settled bound lets [] c n E scope ih below h is scoped F agree = subst (λ (x : Content). met I nodes F x ≡ met I nodes E x) (same_read nothing c h) refl
@@ -110,7 +110,7 @@ module _ (I : Interpretation) (preds : List Declared) (nodes : List Node) (arena
         (met_beside I nodes F x y ∙ ap (λ (b : Bool). b && met I nodes F y) ((ih k lets x n E scope (below_from k.0 bound low.0) parts.2 is inner.0).same F agree)
         ∙ ap (λ (b : Bool). met I nodes E x && b) (each_settled bound lets ids y n E scope ih low.1 parts.3 is inner.1 F agree) ∙ sym (met_beside I nodes E x y))
 
-    settled_node : (id : TermId) (lets : List TermId) (node : Node) (c : Content) (n : ℕ) (E : Environment) (scope : Scope) → Settleds id.0 → slice_get nodes id.0 ≡ Some node
+    settled_node : (id : TermId) (lets : List TermId) (node : Node) (c : Content) (n : ℕ) (E : Environment) (scope : NamesInScope) → Settleds id.0 → slice_get nodes id.0 ≡ Some node
         → body_form (is_plain_term nodes) (body_reading nodes) node (place_of id lets) ≡ Ok c → IsScope preds nodes n E scope → is_scoped nodes id.0 scope ≡ true
         → IsSettled I preds nodes id c n E
     settled_node id lets (Pred pred args) c n E scope ih node_is h is scoped =
@@ -150,7 +150,7 @@ module _ (I : Interpretation) (preds : List Declared) (nodes : List Node) (arena
         }
     settled_node id lets _ c n E scope ih node_is h is scoped = absurd (cc)
 
-    settled_by : (p : Bool) (id : TermId) (lets : List TermId) (node : Node) (c : Content) (n : ℕ) (E : Environment) (scope : Scope) → is_plain_term nodes id.0 ≡ p → Settleds id.0
+    settled_by : (p : Bool) (id : TermId) (lets : List TermId) (node : Node) (c : Content) (n : ℕ) (E : Environment) (scope : NamesInScope) → is_plain_term nodes id.0 ≡ p → Settleds id.0
         → slice_get nodes id.0 ≡ Some node → body_reading nodes id.0 (place_of id lets) ≡ Ok c → IsScope preds nodes n E scope → is_scoped nodes id.0 scope ≡ true
         → IsSettled I preds nodes id c n E
     settled_by true id lets node c n E scope plain ih node_is h is scoped =
@@ -173,6 +173,6 @@ module _ (I : Interpretation) (preds : List Declared) (nodes : List Node) (arena
         (λ j ls y m F sc lt r s q. settled_below bound j ls y m F sc (omega (arith, lt, less)) r s q) found.1 h is scoped
 
     -- a body in a scope
-    pub settled : (id : TermId) (lets : List TermId) (c : Content) (n : ℕ) (E : Environment) (scope : Scope) → body_reading nodes id.0 (place_of id lets) ≡ Ok c
+    pub settled : (id : TermId) (lets : List TermId) (c : Content) (n : ℕ) (E : Environment) (scope : NamesInScope) → body_reading nodes id.0 (place_of id lets) ≡ Ok c
         → IsScope preds nodes n E scope → is_scoped nodes id.0 scope ≡ true → IsSettled I preds nodes id c n E
     settled id lets c n E scope h is scoped = settled_below (suc id.0) id lets c n E scope (omega arith) h is scoped

@@ -9,7 +9,7 @@ use Rattle.term_tree.specs.declared.node.Node.TheVariants.{Op, Let, Forall}
 use Rattle.term_tree.specs.Arena.{is_below, has_parts_below}
 use Rattle.term_tree.proofs.Public.{below_from, both_true, told_at_each as told_at}
 use Rattle.horn_shape.specs.Plain.{node_is_plain, is_plain_term}
-use Rattle.horn_shape.specs.Shape.{Place, Reading, at, both, bound_over, quantified, guard_of, each, implication, body_form, node_body, body_reading, clause_form, node_clause, clause_reading, disjunct_form, disjunct_reading}
+use Rattle.horn_shape.specs.Shape.{Place, Reading, at, both, bound_over, quantified_reading, guard_of, each, implication, body_form, node_body, body_reading, clause_form, node_clause, clause_reading, disjunct_form, disjunct_reading}
 use Rattle.horn_shape.proofs.FlagLemmas.{plain_at}
 
 -- the two tell the same below n
@@ -47,7 +47,7 @@ implication_rest body p q n place (id ∷ next ∷ ids) same below =
 clause_form_rest : (nodes : List Node) (p q : ℕ → Place → Reading) (n : ℕ) (node : Node) (place : Place) → Agree Place Reading p q n → has_parts_below n node ≡ true
     → clause_form nodes p node place ≡ clause_form nodes q node place
 clause_form_rest nodes p q n (Op Implies args) place same below = implication_rest (body_reading nodes) p q n place args same below
-clause_form_rest nodes p q n (Forall first sorts body) place same below = ap (quantified sorts) (same body.0 (below_from body.0 n below) (record { term = body; lets = place.lets }))
+clause_form_rest nodes p q n (Forall first sorts body) place same below = ap (quantified_reading sorts) (same body.0 (below_from body.0 n below) (record { term = body; lets = place.lets }))
 clause_form_rest nodes p q n (Let bound body) place same below =
     let both_below = both_true (list_all (is_below n) bound) (nat_lt body.0 n) below in
     ap (bound_over (is_plain_term nodes) bound) (same body.0 (below_from body.0 n both_below.1) (record { term = body; lets = place.lets ++ place.term ∷ [] }))

@@ -14,7 +14,7 @@ use Rattle.term_tree.specs.declared.node.Node.TheVariants.{Pred, Op, Let, Forall
 use Rattle.term_tree.specs.declared.scalar.Value.{Value}
 use Rattle.term_tree.specs.declared.scalar.Value.TheVariants.{Int, Bool as Truth}
 use Rattle.term_tree.specs.Arena.{IsArena, is_below}
-use Rattle.term_tree.specs.Legal.{Scope, with_variables, with_bound, has_some, is_scoped, numbers_through, next_variable}
+use Rattle.term_tree.specs.Legal.{NamesInScope, with_variables, with_bound, has_some, is_scoped, numbers_through, next_variable}
 use Rattle.term_tree.specs.Operators.{result_of, truth, implied}
 use Rattle.term_tree.specs.Sorts.{has_sort, all_of, operation_sort, is_sorted, sort_of}
 use Rattle.term_tree.specs.Truth.{Interpretation, Completes, AreKnown, Determines, HasSort, HaveSorts, bound_from, HasValue}
@@ -23,8 +23,8 @@ use Rattle.term_tree.proofs.HeadLemmas.{nothing_known}
 use Rattle.term_tree.proofs.Public.{arena_below, below_from, both_true, has_value_at, numbered_at, scoped_at, sort_at, there_is}
 use Rattle.horn_shape.specs.declared.clause.AtomUse.{AtomUse}
 use Rattle.horn_shape.specs.Plain.{is_plain_term}
-use Rattle.horn_shape.specs.Shape.{Content, nothing, beside, both, arguments, application, head_of, guard_of, either_head, at, body_reading, is_application, disjunct_form, disjunct_reading, disjuncts, implication, denial, clause_form, clause_reading}
-use Rattle.horn_shape.specs.machinery.Content.{met, HeadHolds, Holds, StandAt}
+use Rattle.horn_shape.specs.Shape.{Content, nothing, beside, both, arguments, application_reading, head_of, guard_of, either_head, at, body_reading, is_application, disjunct_form, disjunct_reading, disjuncts, implication, denial, clause_form, clause_reading}
+use Rattle.horn_shape.specs.Content.{met, HeadHolds, Holds, StandAt}
 use Rattle.horn_shape.specs.machinery.Gathering.{place_of}
 use Rattle.horn_shape.proofs.BodyLemmas.{misread, same_read, never_read, chosen_ok, both_ok, bound_ok, met_beside, tuple_is, body_is}
 use Rattle.horn_shape.proofs.HoldsLemmas.{stand_split, quantified_ok}
@@ -89,7 +89,7 @@ agree_bound n m E F vs agree stand e k less = by_place (nat_lt k n) refl
     by_place false h = ap worth h ∙ stood F n (k - n) k vs (E k) (omega (arith, past_is h)) (omega (arith, past_is h, less, e)) stand
 
 module _ (I : Interpretation) (preds : List Declared) (nodes : List Node) (arena : IsArena nodes) (gives : GivesTruth preds I) where
-  guard_true : (id : TermId) (lets : List TermId) (n : ℕ) (E : Environment) (scope : Scope) (G : List Value → Environment) → is_plain_term nodes id.0 ≡ true → IsScope preds nodes n E scope
+  guard_true : (id : TermId) (lets : List TermId) (n : ℕ) (E : Environment) (scope : NamesInScope) (G : List Value → Environment) → is_plain_term nodes id.0 ≡ true → IsScope preds nodes n E scope
       → is_scoped nodes id.0 scope ≡ true → AllMeet I nodes n E (guard_of true (place_of id lets)) G → HasValue I nodes id.0 E (Truth true)
   guard_true id lets n E scope G plain is scoped all =
       let m = all [] tt in
@@ -97,8 +97,8 @@ module _ (I : Interpretation) (preds : List Declared) (nodes : List Node) (arena
       let is_true = false_or (truth (value_of nodes id.0 E)) (λ e. absurd (m.holds (ap (λ (v : Value). (not (truth v) && true) && true) (sym same) ∙ ap (λ (b : Bool). (not b && true) && true) e))) in
       subst (λ (v : Value). HasValue I nodes id.0 E v) (truth_is_true (value_of nodes id.0 E) is_true) (valued_plain nodes arena I id.0 E plain)
 
-  head_true : (id : TermId) (pred : ℕ) (args lets : List TermId) (c : Content) (n : ℕ) (E : Environment) (scope : Scope) (G : List Value → Environment) → slice_get nodes id.0 ≡ Some (Pred pred args)
-      → application (is_plain_term nodes) head_of pred args (place_of id lets) ≡ Ok c → IsScope preds nodes n E scope → is_scoped nodes id.0 scope ≡ true → AllMeet I nodes n E c G
+  head_true : (id : TermId) (pred : ℕ) (args lets : List TermId) (c : Content) (n : ℕ) (E : Environment) (scope : NamesInScope) (G : List Value → Environment) → slice_get nodes id.0 ≡ Some (Pred pred args)
+      → application_reading (is_plain_term nodes) head_of pred args (place_of id lets) ≡ Ok c → IsScope preds nodes n E scope → is_scoped nodes id.0 scope ≡ true → AllMeet I nodes n E c G
       → HasValue I nodes id.0 E (Truth true)
   head_true id pred args lets c n E scope G node_is h is scoped all =
       let below = arena_below nodes id.0 (Pred pred args) arena node_is in
@@ -118,7 +118,7 @@ module _ (I : Interpretation) (preds : List Declared) (nodes : List Node) (arena
   not_both : (v : Value) → truth v ≡ false → v ≡ Truth true → ⊥
   not_both v e h = differ (sym (ap truth h) ∙ e)
 
-  disjunct_node : (id : TermId) (lets : List TermId) (node : Node) (c : Content) (n : ℕ) (E F : Environment) (scope : Scope) → slice_get nodes id.0 ≡ Some node
+  disjunct_node : (id : TermId) (lets : List TermId) (node : Node) (c : Content) (n : ℕ) (E F : Environment) (scope : NamesInScope) → slice_get nodes id.0 ≡ Some node
       → disjunct_form nodes node (place_of id lets) ≡ Ok c → IsScope preds nodes n E scope → is_scoped nodes id.0 scope ≡ true → AgreeBelow n E F → IsDisjunct id c E F
   disjunct_node id lets (Pred pred args) c n E F scope node_is h is scoped agree =
       let below = arena_below nodes id.0 (Pred pred args) arena node_is in
@@ -146,7 +146,7 @@ module _ (I : Interpretation) (preds : List Declared) (nodes : List Node) (arena
       from_not false e = differ e
   disjunct_node id lets _ c n E F scope node_is h is scoped agree = absurd (cc)
 
-  disjunct_by : (p : Bool) (id : TermId) (lets : List TermId) (node : Node) (c : Content) (n : ℕ) (E F : Environment) (scope : Scope) → is_plain_term nodes id.0 ≡ p → slice_get nodes id.0 ≡ Some node
+  disjunct_by : (p : Bool) (id : TermId) (lets : List TermId) (node : Node) (c : Content) (n : ℕ) (E F : Environment) (scope : NamesInScope) → is_plain_term nodes id.0 ≡ p → slice_get nodes id.0 ≡ Some node
       → disjunct_reading nodes (Some node) (place_of id lets) ≡ Ok c → IsScope preds nodes n E scope → is_scoped nodes id.0 scope ≡ true → AgreeBelow n E F → IsDisjunct id c E F
   disjunct_by true id lets node c n E F scope plain node_is h is scoped agree =
       let below = arena_below nodes id.0 node arena node_is in
@@ -176,7 +176,7 @@ module _ (I : Interpretation) (preds : List Declared) (nodes : List Node) (arena
   no_head F a None f g h = f h
   no_head F a (Some b) f g h = g h
 
-  disjuncts_step : (headed : Bool) (lets : List TermId) (id : TermId) (ids : List TermId) (c : Content) (n : ℕ) (E F : Environment) (scope : Scope) (node : Node) → slice_get nodes id.0 ≡ Some node
+  disjuncts_step : (headed : Bool) (lets : List TermId) (id : TermId) (ids : List TermId) (c : Content) (n : ℕ) (E F : Environment) (scope : NamesInScope) (node : Node) → slice_get nodes id.0 ≡ Some node
       → ((b : Bool) (y : Content) → disjuncts nodes b lets ids ≡ Ok y → AreDisjuncts ids y E F) → IsScope preds nodes n E scope → is_scoped nodes id.0 scope ≡ true → AgreeBelow n E F
       → both (disjunct_reading nodes (Some node) (place_of id lets)) (disjuncts nodes (headed || is_application (Some node)) lets ids) ≡ Ok c → AreDisjuncts (id ∷ ids) c E F
   disjuncts_step headed lets id ids c n E F scope node node_is rec is scoped agree k =
@@ -194,7 +194,7 @@ module _ (I : Interpretation) (preds : List Declared) (nodes : List Node) (arena
         ap (λ (ss : List Sort). ss ++ y.vars) first.4 ∙ rest.4,
       )
 
-  disjuncts_found : (headed : Bool) (lets : List TermId) (id : TermId) (ids : List TermId) (c : Content) (n : ℕ) (E F : Environment) (scope : Scope) (f : Option Node) → slice_get nodes id.0 ≡ f
+  disjuncts_found : (headed : Bool) (lets : List TermId) (id : TermId) (ids : List TermId) (c : Content) (n : ℕ) (E F : Environment) (scope : NamesInScope) (f : Option Node) → slice_get nodes id.0 ≡ f
       → ((b : Bool) (y : Content) → disjuncts nodes b lets ids ≡ Ok y → AreDisjuncts ids y E F) → IsScope preds nodes n E scope → is_scoped nodes id.0 scope ≡ true → AgreeBelow n E F
       → (if headed && is_application f then Err id else both (disjunct_reading nodes f (place_of id lets)) (disjuncts nodes (headed || is_application f) lets ids)) ≡ Ok c
       → AreDisjuncts (id ∷ ids) c E F
@@ -204,7 +204,7 @@ module _ (I : Interpretation) (preds : List Declared) (nodes : List Node) (arena
       (both (disjunct_reading nodes (Some node) (place_of id lets)) (disjuncts nodes (headed || is_application (Some node)) lets ids)) c k in
       disjuncts_step headed lets id ids c n E F scope node e rec is scoped agree chosen.1
 
-  pub disjuncts_are : (headed : Bool) (lets ids : List TermId) (c : Content) (n : ℕ) (E F : Environment) (scope : Scope) → disjuncts nodes headed lets ids ≡ Ok c → IsScope preds nodes n E scope
+  pub disjuncts_are : (headed : Bool) (lets ids : List TermId) (c : Content) (n : ℕ) (E F : Environment) (scope : NamesInScope) → disjuncts nodes headed lets ids ≡ Ok c → IsScope preds nodes n E scope
       → list_all (λ a. is_scoped nodes a.0 scope) ids ≡ true → AgreeBelow n E F → AreDisjuncts ids c E F
   disjuncts_are headed lets [] c n E F scope h is scoped agree =
       subst (λ (x : Content). AreDisjuncts [] x E F) (same_read nothing c h) ([], tt, (λ e. refl), (λ e holds. holds), refl)
@@ -214,7 +214,7 @@ module _ (I : Interpretation) (preds : List Declared) (nodes : List Node) (arena
 
   -- what is known of a clause of smaller number
   abbrev Backward : ℕ → Type 0
-  Backward bound = (id : TermId) (lets : List TermId) (c : Content) (n m : ℕ) (E : Environment) (scope : Scope) (G : List Value → Environment) → id.0 < bound
+  Backward bound = (id : TermId) (lets : List TermId) (c : Content) (n m : ℕ) (E : Environment) (scope : NamesInScope) (G : List Value → Environment) → id.0 < bound
       → clause_reading nodes id.0 (place_of id lets) ≡ Ok c → next_variable nodes id.0 n ≡ Some m → sort_of preds nodes id.0 ≡ Some BoolSort → is_scoped nodes id.0 scope ≡ true
       → IsScope preds nodes n E scope → AllMeet I nodes n E c G → HasValue I nodes id.0 E (Truth true)
 
@@ -272,7 +272,7 @@ module _ (I : Interpretation) (preds : List Declared) (nodes : List Node) (arena
   implication_by true a next ids E v e h rest = true_decides a next ids E v h e (rest e)
   implication_by false a next ids E v e h rest = false_decides a next ids E v h e
 
-  implication_true : (bound : ℕ) (id : TermId) (lets ids : List TermId) (c : Content) (n m : ℕ) (E : Environment) (scope : Scope) (G : List Value → Environment) → Backward bound
+  implication_true : (bound : ℕ) (id : TermId) (lets ids : List TermId) (c : Content) (n m : ℕ) (E : Environment) (scope : NamesInScope) (G : List Value → Environment) → Backward bound
       → list_all (is_below bound) ids ≡ true → implication (body_reading nodes) (clause_reading nodes) (place_of id lets) ids ≡ Ok c
       → numbers_through (next_variable nodes) ids n ≡ Some m → list_all (has_sort BoolSort) (map (λ a. sort_of preds nodes a.0) ids) ≡ true
       → list_all (λ a. is_scoped nodes a.0 scope) ids ≡ true → IsScope preds nodes n E scope → AllMeet I nodes n E c G → Decided ids E
@@ -319,7 +319,7 @@ module _ (I : Interpretation) (preds : List Declared) (nodes : List Node) (arena
       none q = absurd (cc)
 
   -- a body that is said to be false
-  denied : (id : TermId) (lets : List TermId) (c : Content) (n : ℕ) (E : Environment) (scope : Scope) (G : List Value → Environment) → body_reading nodes id.0 (place_of id lets) ≡ Ok c
+  denied : (id : TermId) (lets : List TermId) (c : Content) (n : ℕ) (E : Environment) (scope : NamesInScope) (G : List Value → Environment) → body_reading nodes id.0 (place_of id lets) ≡ Ok c
       → IsScope preds nodes n E scope → is_scoped nodes id.0 scope ≡ true → AllMeet I nodes n E c G → (w : Value) × HasValue I nodes id.0 E w × (truth w ≡ false)
   denied id lets c n E scope G h is scoped all =
       let b = body_is I nodes arena id lets c E h in
@@ -334,7 +334,7 @@ module _ (I : Interpretation) (preds : List Declared) (nodes : List Node) (arena
       no_head_there : (F : Environment) (a : Option AtomUse) → a ≡ None → HeadHolds I nodes F a → ⊥
       no_head_there F a e h = subst (λ (x : Option AtomUse). HeadHolds I nodes F x) e h
 
-  denial_true : (id : TermId) (lets : List TermId) (node : Node) (c : Content) (n m : ℕ) (E : Environment) (scope : Scope) (G : List Value → Environment) → slice_get nodes id.0 ≡ Some node
+  denial_true : (id : TermId) (lets : List TermId) (node : Node) (c : Content) (n m : ℕ) (E : Environment) (scope : NamesInScope) (G : List Value → Environment) → slice_get nodes id.0 ≡ Some node
       → denial nodes (Some node) (place_of id lets) ≡ Ok c → next_variable nodes id.0 n ≡ Some m → sort_of preds nodes id.0 ≡ Some BoolSort → is_scoped nodes id.0 scope ≡ true
       → IsScope preds nodes n E scope → AllMeet I nodes n E c G → (w : Value) × HasValue I nodes id.0 E w × (truth w ≡ false)
   denial_true id lets (Exists first sorts body) c n m E scope G node_is h numbers sorted scoped is all =
@@ -381,7 +381,7 @@ module _ (I : Interpretation) (preds : List Declared) (nodes : List Node) (arena
       let given : List (Option Sort) = map (λ (a : TermId). sort_of preds nodes a.0) args in
       (both_true (nat_le 2 (length given)) (list_all (has_sort BoolSort) given) (sort_chosen (all_of BoolSort 2 given) BoolSort s e).0).1
 
-  backward_node : (id : TermId) (lets : List TermId) (node : Node) (c : Content) (n m : ℕ) (E : Environment) (scope : Scope) (G : List Value → Environment) → Backward id.0
+  backward_node : (id : TermId) (lets : List TermId) (node : Node) (c : Content) (n m : ℕ) (E : Environment) (scope : NamesInScope) (G : List Value → Environment) → Backward id.0
       → slice_get nodes id.0 ≡ Some node → clause_form nodes (clause_reading nodes) node (place_of id lets) ≡ Ok c → next_variable nodes id.0 n ≡ Some m
       → sort_of preds nodes id.0 ≡ Some BoolSort → is_scoped nodes id.0 scope ≡ true → IsScope preds nodes n E scope → AllMeet I nodes n E c G → HasValue I nodes id.0 E (Truth true)
   backward_node id lets (Pred pred args) c n m E scope G ih node_is h numbers sorted scoped is all = head_true id pred args lets c n E scope G node_is h is scoped all
@@ -436,7 +436,7 @@ module _ (I : Interpretation) (preds : List Declared) (nodes : List Node) (arena
       (has_value_at I nodes id.0 (Op Not (body ∷ [])) E (Truth true) node_is below).back (not_true body E w.0 w.1 w.2)
   backward_node id lets _ c n m E scope G ih node_is h numbers sorted scoped is all = absurd (cc)
 
-  backward_by : (p : Bool) (id : TermId) (lets : List TermId) (node : Node) (c : Content) (n m : ℕ) (E : Environment) (scope : Scope) (G : List Value → Environment)
+  backward_by : (p : Bool) (id : TermId) (lets : List TermId) (node : Node) (c : Content) (n m : ℕ) (E : Environment) (scope : NamesInScope) (G : List Value → Environment)
       → is_plain_term nodes id.0 ≡ p → Backward id.0 → slice_get nodes id.0 ≡ Some node → clause_reading nodes id.0 (place_of id lets) ≡ Ok c → next_variable nodes id.0 n ≡ Some m
       → sort_of preds nodes id.0 ≡ Some BoolSort → is_scoped nodes id.0 scope ≡ true → IsScope preds nodes n E scope → AllMeet I nodes n E c G → HasValue I nodes id.0 E (Truth true)
   backward_by true id lets node c n m E scope G plain ih node_is h numbers sorted scoped is all =
@@ -455,7 +455,7 @@ module _ (I : Interpretation) (preds : List Declared) (nodes : List Node) (arena
       (λ k ls x a b F sc H lt. backward_below bound k ls x a b F sc H (omega (arith, lt, less))) found.1 h numbers sorted scoped is all
 
   -- a clause that no instance breaks is true
-  pub unbroken : (id : TermId) (lets : List TermId) (c : Content) (n m : ℕ) (E : Environment) (scope : Scope) (G : List Value → Environment)
+  pub unbroken : (id : TermId) (lets : List TermId) (c : Content) (n m : ℕ) (E : Environment) (scope : NamesInScope) (G : List Value → Environment)
       → clause_reading nodes id.0 (place_of id lets) ≡ Ok c → next_variable nodes id.0 n ≡ Some m → sort_of preds nodes id.0 ≡ Some BoolSort → is_scoped nodes id.0 scope ≡ true
       → IsScope preds nodes n E scope → AllMeet I nodes n E c G → HasValue I nodes id.0 E (Truth true)
   unbroken id lets c n m E scope G h numbers sorted scoped is all = backward_below (suc id.0) id lets c n m E scope G (omega arith) h numbers sorted scoped is all

@@ -1,6 +1,8 @@
 pub mod Breaking
 pub mod Clause
+pub mod Content
 pub mod Derivation
+pub mod Flags
 pub mod Instance
 pub mod machinery
 pub mod Plain

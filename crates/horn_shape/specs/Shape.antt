@@ -56,9 +56,9 @@ both (Ok x) (Err misfit) = Err misfit
 both (Ok x) (Ok y) = Ok (beside x y)
 
 -- under a quantifier, whose variables come first
-abbrev pub quantified : List Sort → Reading → Reading
-quantified sorts (Err misfit) = Err misfit
-quantified sorts (Ok x) = Ok (record { vars = sorts ++ x.vars; atoms = x.atoms; guards = x.guards; head = x.head })
+abbrev pub quantified_reading : List Sort → Reading → Reading
+quantified_reading sorts (Err misfit) = Err misfit
+quantified_reading sorts (Ok x) = Ok (record { vars = sorts ++ x.vars; atoms = x.atoms; guards = x.guards; head = x.head })
 
 abbrev pub part_at : Bool → Place → Part
 part_at negated place = record { lets = place.lets; term = place.term; negated = negated }
@@ -76,8 +76,8 @@ abbrev pub arguments : List TermId → List TermId → List Part
 arguments lets args = map (λ arg. part_at false (record { term = arg; lets = lets })) args
 
 -- an application, where its arguments have neither predicates nor quantifiers
-abbrev pub application : (ℕ → Bool) → (AtomUse → Content) → ℕ → List TermId → Place → Reading
-application plain give pred args place =
+abbrev pub application_reading : (ℕ → Bool) → (AtomUse → Content) → ℕ → List TermId → Place → Reading
+application_reading plain give pred args place =
     if list_all (λ arg. plain arg.0) args
     then Ok (give (record { pred = pred; args = arguments place.lets args }))
     else Err place.term
@@ -96,7 +96,7 @@ each read lets [] = Ok nothing
 each read lets (id ∷ ids) = both (at read lets id) (each read lets ids)
 
 abbrev pub body_form : (ℕ → Bool) → (ℕ → Place → Reading) → Node → Place → Reading
-body_form plain part (Pred pred args) place = application plain atom_of pred args place
+body_form plain part (Pred pred args) place = application_reading plain atom_of pred args place
 body_form plain part (Op And args) place = each part place.lets args
 body_form plain part (Let bound body) place = bound_over plain bound (at part (place.lets ++ place.term ∷ []) body)
 body_form plain part _ place = Err place.term
@@ -113,7 +113,7 @@ is_application (Some (Pred pred args)) = true
 is_application _ = false
 
 abbrev pub disjunct_form : List Node → Node → Place → Reading
-disjunct_form nodes (Pred pred args) place = application (is_plain_term nodes) head_of pred args place
+disjunct_form nodes (Pred pred args) place = application_reading (is_plain_term nodes) head_of pred args place
 disjunct_form nodes (Op Not (body ∷ [])) place = at (body_reading nodes) place.lets body
 disjunct_form nodes _ place = Err place.term
 
@@ -139,12 +139,12 @@ implication body clause place (id ∷ next ∷ ids) = both (at body place.lets i
 
 -- a body that is said to be false, or an `exists` over one
 abbrev pub denial : List Node → Option Node → Place → Reading
-denial nodes (Some (Exists first sorts body)) place = quantified sorts (at (body_reading nodes) place.lets body)
+denial nodes (Some (Exists first sorts body)) place = quantified_reading sorts (at (body_reading nodes) place.lets body)
 denial nodes _ place = body_reading nodes place.term.0 place
 
 abbrev pub clause_form : List Node → (ℕ → Place → Reading) → Node → Place → Reading
-clause_form nodes part (Pred pred args) place = application (is_plain_term nodes) head_of pred args place
-clause_form nodes part (Forall first sorts body) place = quantified sorts (at part place.lets body)
+clause_form nodes part (Pred pred args) place = application_reading (is_plain_term nodes) head_of pred args place
+clause_form nodes part (Forall first sorts body) place = quantified_reading sorts (at part place.lets body)
 clause_form nodes part (Let bound body) place = bound_over (is_plain_term nodes) bound (at part (place.lets ++ place.term ∷ []) body)
 clause_form nodes part (Op Implies args) place = implication (body_reading nodes) part place args
 clause_form nodes part (Op Or args) place = disjuncts nodes false place.lets args

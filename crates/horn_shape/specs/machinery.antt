@@ -1,3 +1,1 @@
-pub mod Content
-pub mod Flags
 pub mod Gathering

@@ -5,7 +5,7 @@ ghost use Rattle.std.specs.List.{list_all};
 ghost use Rattle.term_tree.specs.Arena.{has_parts_below, is_below};
 ghost use Rattle.horn_shape.specs.Plain.{is_plain_term};
 ghost use Rattle.horn_shape.specs.Shape.{body_form, body_reading, each};
-ghost use Rattle.horn_shape.specs.machinery.Flags.{ArePlainFlags};
+ghost use Rattle.horn_shape.specs.Flags.{ArePlainFlags};
 ghost use Rattle.horn_shape.specs.machinery.Gathering.{IsMisfit, is_conjunction, onto, place_of};
 
 use crate::clause::HornClause;

@@ -5,7 +5,7 @@ ghost use Rattle.std.specs.List.{list_all};
 ghost use Rattle.term_tree.specs.Arena.{has_parts_below, is_below};
 ghost use Rattle.term_tree.specs.declared.node.Node.TheVariants.{Op};
 ghost use Rattle.horn_shape.specs.Shape.{disjunct_form, disjunct_reading, disjuncts};
-ghost use Rattle.horn_shape.specs.machinery.Flags.{ArePlainFlags};
+ghost use Rattle.horn_shape.specs.Flags.{ArePlainFlags};
 ghost use Rattle.horn_shape.specs.machinery.Gathering.{IsMisfit, is_negation, onto, place_of};
 
 use crate::body::read_body;

@@ -4,7 +4,7 @@ ghost use Rattle.std.specs.Prelude.{◌≡◌, ◌<◌, ◌++◌, [], ◌∷◌,
 ghost use Rattle.term_tree.specs.Arena.{is_below};
 ghost use Rattle.std.specs.List.{list_all};
 ghost use Rattle.horn_shape.specs.Shape.{arguments, atom_of, bound_over, guard_of, head_of, is_application, part_at, Reading};
-ghost use Rattle.horn_shape.specs.machinery.Flags.{flag_of};
+ghost use Rattle.horn_shape.specs.Flags.{flag_of};
 ghost use Rattle.horn_shape.specs.machinery.Gathering.{gained, place_of, with_vars};
 
 use crate::clause::{AtomUse, HornClause, Part};

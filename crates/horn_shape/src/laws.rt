@@ -17,7 +17,7 @@ ghost use Rattle.horn_shape.specs.Clause.{IsClauseOf, IsLegalScript};
 ghost use Rattle.horn_shape.specs.Derivation.{IsDerivableWithin};
 ghost use Rattle.horn_shape.specs.Plain.{is_plain_term};
 ghost use Rattle.horn_shape.specs.Shape.{Content, body_reading};
-ghost use Rattle.horn_shape.specs.machinery.Content.{met};
+ghost use Rattle.horn_shape.specs.Content.{met};
 
 /// The test of terms without predicates and quantifiers is right: no subterm has any.
 pub fn plain_terms_are_plain()

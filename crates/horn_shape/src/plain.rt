@@ -3,7 +3,7 @@
 ghost use Rattle.std.specs.Prelude.{◌≡◌, IfOk, ℕ, ◌<◌, ◌^◌};
 ghost use Rattle.std.specs.List.{list_all};
 ghost use Rattle.horn_shape.specs.Plain.{is_plain_term, node_is_plain};
-ghost use Rattle.horn_shape.specs.machinery.Flags.{flag_of, ArePlainFlags};
+ghost use Rattle.horn_shape.specs.Flags.{flag_of, ArePlainFlags};
 
 use base::Memory;
 use std::alloc::Global;

@@ -2,7 +2,7 @@
 
 ghost use Rattle.std.specs.Prelude.{◌≡◌, ℕ, IfOk, IsErrOf, IsTrue};
 ghost use Rattle.horn_shape.specs.Clause.{IsClauseOf, IsNotHornAt, has_assertion};
-ghost use Rattle.horn_shape.specs.machinery.Flags.{ArePlainFlags};
+ghost use Rattle.horn_shape.specs.Flags.{ArePlainFlags};
 
 use crate::clause::HornClause;
 use crate::plain::PlainTerms;

@@ -6,7 +6,7 @@ ghost use Rattle.term_tree.specs.Arena.{has_parts_below, is_below};
 ghost use Rattle.term_tree.specs.declared.node.Node.TheVariants.{Op};
 ghost use Rattle.term_tree.specs.declared.node.OpKind.TheVariants.{Not};
 ghost use Rattle.horn_shape.specs.Shape.{body_reading, clause_form, clause_reading, denial, implication};
-ghost use Rattle.horn_shape.specs.machinery.Flags.{ArePlainFlags};
+ghost use Rattle.horn_shape.specs.Flags.{ArePlainFlags};
 ghost use Rattle.horn_shape.specs.machinery.Gathering.{IsMisfit, onto, place_of};
 
 use crate::body::{read_bodies, read_body};

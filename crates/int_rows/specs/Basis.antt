@@ -1,8 +1,8 @@
 -- Bases and basic points of homogeneous equations with bounds on their columns (Dantzig, Linear Programming and Extensions, chapter 5; with bounds on slacks: Dutertre and de Moura, A Fast Linear-Arithmetic Solver for DPLL(T), section 3).
-use Rattle.std.specs.Prelude.{◌≡◌, ℕ, ◌+◌, ◌^◌, ◌<◌, ◌≤◌, List, [], ◌∷◌, ℤ, pos, ◌*ℤ◌, ◌<ℤ◌, ◌≤ℤ◌, nat_abs, nat_le, nat_lt, Bool, true, not, ◌&&◌, ◌==◌, length, slice_index_or, Option, Some, None, ◌⊎◌}
+use Rattle.std.specs.Prelude.{◌≡◌, ℕ, ◌+◌, ◌<◌, ◌≤◌, List, [], ◌∷◌, ℤ, pos, ◌*ℤ◌, ◌<ℤ◌, ◌≤ℤ◌, nat_abs, nat_le, nat_lt, Bool, true, not, ◌&&◌, ◌==◌, length, slice_index_or, Option, Some, None, ◌⊎◌}
 use Rattle.std.specs.Int.{int_div_euclid}
 use Rattle.std.specs.List.{Contains, filter, list_all, list_any, range_with_len}
-use Rattle.base.specs.Widths.{numerator_limit}
+use Rattle.base.specs.Widths.{numerator_limit, short_limit}
 use Rattle.lin_atoms.specs.Ratio.{IsNumerator}
 use Rattle.int_rows.specs.Rows.{Follows, SolvesAll, entry, is_primitive}
 
@@ -43,7 +43,7 @@ pub record IsWideRow (columns : ℕ) (equations : List (List ℤ)) (basis : List
   pub is_row : IsBasicRow columns equations basis column row
   pub place : ℕ
   pub is_entry : entry row place ≡ wide
-  pub is_wide : 2 ^ 63 ≤ nat_abs wide
+  pub is_wide : short_limit ≤ nat_abs wide
 
 -- whether the column is one of the list
 abbrev pub is_in : List ℕ → ℕ → Bool
@@ -97,7 +97,7 @@ pub record IsWideNumerator (point : Point) (c : ℕ) : Type 0 where
 pub record IsWideFloor (system : System) (point : Point) (c : ℕ) : Type 0 where
   pub variable : c < system.variables
   pub vertex : MeetsBounds system point
-  pub is_wide : 2 ^ 63 ≤ nat_abs (int_div_euclid (entry point.nums c) (pos point.den))
+  pub is_wide : short_limit ≤ nat_abs (int_div_euclid (entry point.nums c) (pos point.den))
 
 -- a basic point with a coordinate without room in the code
 pub record IsWideCoordinate (system : System) (basis : List ℕ) (values : List ℤ) (c : ℕ) : Type 0 where

@@ -1,7 +1,8 @@
 -- A simplex tableau: a row for each equation, solved for its basic variable (Dantzig, Linear Programming and Extensions, chapter 5).
-use Rattle.std.specs.Prelude.{◌≡◌, ℕ, ◌+◌, ◌^◌, ◌<◌, ◌≤◌, List, [], map, ℤ, pos, neg_ℤ, nat_abs, ◌<ℤ◌, int_lt, true, length, Option, Some, None, replicate, slice_index_or, slice_set, if◌then◌else◌}
+use Rattle.std.specs.Prelude.{◌≡◌, ℕ, ◌+◌, ◌<◌, ◌≤◌, List, [], map, ℤ, pos, neg_ℤ, nat_abs, ◌<ℤ◌, int_lt, true, length, Option, Some, None, replicate, slice_index_or, slice_set, if◌then◌else◌}
 use Rattle.std.specs.List.{Contains, range_with_len}
 use Rattle.base.specs.Limits.{most_rows}
+use Rattle.base.specs.Widths.{long_limit, short_limit}
 use Rattle.lin_atoms.specs.Linear.{Linear}
 use Rattle.int_rows.specs.Basis.{bound}
 use Rattle.int_rows.specs.Node.{equations}
@@ -41,8 +42,8 @@ pub record IsTable (t : Table) : Type 0 where
   pub lowers : length t.lower ≡ width t
   pub uppers : length t.upper ≡ width t
   pub few : length t.rows ≤ most_rows
-  pub long_lower : (v : ℕ) (b : ℤ) → bound t.lower v ≡ Some b → nat_abs b < 2 ^ 64
-  pub long_upper : (v : ℕ) (b : ℤ) → bound t.upper v ≡ Some b → nat_abs b < 2 ^ 64
+  pub long_lower : (v : ℕ) (b : ℤ) → bound t.lower v ≡ Some b → nat_abs b < long_limit
+  pub long_upper : (v : ℕ) (b : ℤ) → bound t.upper v ≡ Some b → nat_abs b < long_limit
 
 -- before the first pivot: each slack is basic in its own row, and there are no bounds
 abbrev pub first_table : ℕ → List Linear → Table
@@ -73,4 +74,4 @@ pub record CanPivot (i column : ℕ) (rows : List (List ℤ)) : Type 0 where
 pub record HasWide (rows : List (List ℤ)) (i : ℕ) (wide : ℤ) : Type 0 where
   pub within : i < length rows
   pub contains : Contains (row_at rows i) wide
-  pub is_wide : 2 ^ 63 ≤ nat_abs wide
+  pub is_wide : short_limit ≤ nat_abs wide

@@ -17,8 +17,10 @@ ghost use Rattle.int_rows.specs.Space.{SameSpace};
 pub fn ready_keeps_points()
     ensures at_most { (q : ℕ) (point : List ℤ) (lin : Linear) → are_ordered 0 lin.terms ≡ true → ready_truth point (ready q (Le lin)) ≡ lit_truth point (Le lin) }
     ensures equal { (q : ℕ) (point : List ℤ) (lin : Linear) → are_ordered 0 lin.terms ≡ true → ready_truth point (ready q (Eq lin)) ≡ lit_truth point (Eq lin) }
-    ensures divides { (q n : ℕ) (point : List ℤ) (lin : Linear) → 0 < n → length point ≡ q → lin_is_below q lin ≡ true → (lit_truth point (Div n lin) ≡ true) ↔ ((x : ℤ) × (ready_truth (point ++ x ∷ []) (ready q (Div n lin)) ≡ true)) }
-    ensures leaves_rest { (q n : ℕ) (point : List ℤ) (lin : Linear) → 0 < n → length point ≡ q → lin_is_below q lin ≡ true → (lit_truth point (NDiv n lin) ≡ true) ↔ ((x : ℤ) × (ready_truth (point ++ x ∷ []) (ready q (NDiv n lin)) ≡ true)) }
+    ensures divides { (q n : ℕ) (point : List ℤ) (lin : Linear) → 0 < n → length point ≡ q → lin_is_below q lin ≡ true →
+        (lit_truth point (Div n lin) ≡ true) ↔ ((x : ℤ) × (ready_truth (point ++ x ∷ []) (ready q (Div n lin)) ≡ true)) }
+    ensures leaves_rest { (q n : ℕ) (point : List ℤ) (lin : Linear) → 0 < n → length point ≡ q → lin_is_below q lin ≡ true →
+        (lit_truth point (NDiv n lin) ≡ true) ↔ ((x : ℤ) × (ready_truth (point ++ x ∷ []) (ready q (NDiv n lin)) ≡ true)) }
 {}
 
 /// Each solution of the rows solves a row that follows from them.
@@ -36,16 +38,20 @@ pub fn following_is_a_preorder()
 /// became and the other.
 pub fn elimination_keeps_what_follows()
     ensures made { (column : ℕ) (other row : List ℤ) → length row ≡ length other → 0 < content (crossed column row other) → Follows (row ∷ other ∷ []) (eliminated column other row) }
-    ensures back { (column : ℕ) (other row : List ℤ) → length row ≡ length other → (entry other column ≡ pos 0 → ⊥) → 0 < content (crossed column row other) → Follows (eliminated column other row ∷ other ∷ []) row }
+    ensures back { (column : ℕ) (other row : List ℤ) → length row ≡ length other → (entry other column ≡ pos 0 → ⊥) →
+        0 < content (crossed column row other) → Follows (eliminated column other row ∷ other ∷ []) row }
 {}
 
 /// A row without a column has the same solutions as the row, among those of the other row. It is 0
 /// in the column, primitive as the row is, and keeps a positive entry where the other row is 0.
 pub fn elimination_keeps_solutions()
-    ensures solutions { (column : ℕ) (other row point : List ℤ) → length row ≡ length other → (entry other column ≡ pos 0 → ⊥) → 0 < content (crossed column row other) → Solves point other → (Solves point (eliminated column other row) ↔ Solves point row) }
+    ensures solutions { (column : ℕ) (other row point : List ℤ) → length row ≡ length other → (entry other column ≡ pos 0 → ⊥) →
+        0 < content (crossed column row other) → Solves point other → (Solves point (eliminated column other row) ↔ Solves point row) }
     ensures gone { (column : ℕ) (other row : List ℤ) → length row ≡ length other → column < length row → 0 < content (crossed column row other) → entry (eliminated column other row) column ≡ pos 0 }
     ensures primitive { (column : ℕ) (other row : List ℤ) → is_primitive row ≡ true → 0 < content (crossed column row other) → is_primitive (eliminated column other row) ≡ true }
-    ensures positive { (column v : ℕ) (other row : List ℤ) → length row ≡ length other → v < length row → (entry other column ≡ pos 0 → ⊥) → 0 < content (crossed column row other) → entry other v ≡ pos 0 → pos 0 <ℤ entry row v → pos 0 <ℤ entry (eliminated column other row) v }
+    ensures positive { (column v : ℕ) (other row : List ℤ) → length row ≡ length other → v < length row → (entry other column ≡ pos 0 → ⊥) →
+        0 < content (crossed column row other) → entry other v ≡ pos 0 → pos 0 <ℤ entry row v →
+        pos 0 <ℤ entry (eliminated column other row) v }
 {}
 
 /// The rows of a tableau are those of its basis: each follows from the rows, is primitive, positive
@@ -66,9 +72,11 @@ pub fn same_space_is_an_equivalence()
 pub fn same_space_keeps_solutions_and_bases()
     ensures solutions { (rows others : List (List ℤ)) (point : List ℤ) → SameSpace rows others → (SolvesAll point rows ↔ SolvesAll point others) }
     ensures follows { (rows others : List (List ℤ)) (row : List ℤ) → SameSpace rows others → Follows rows row → Follows others row }
-    ensures basic_row { (columns : ℕ) (rows others : List (List ℤ)) (basis : List ℕ) (column : ℕ) (row : List ℤ) → SameSpace rows others → IsBasicRow columns rows basis column row → IsBasicRow columns others basis column row }
+    ensures basic_row { (columns : ℕ) (rows others : List (List ℤ)) (basis : List ℕ) (column : ℕ) (row : List ℤ) → SameSpace rows others →
+        IsBasicRow columns rows basis column row → IsBasicRow columns others basis column row }
     ensures basis { (columns : ℕ) (rows others : List (List ℤ)) (basis : List ℕ) → length rows ≡ length others → SameSpace rows others → IsBasis columns rows basis → IsBasis columns others basis }
-    ensures wide_row { (columns : ℕ) (rows others : List (List ℤ)) (basis : List ℕ) (wide : ℤ) → length rows ≡ length others → SameSpace rows others → IsWideRow columns rows basis wide → IsWideRow columns others basis wide }
+    ensures wide_row { (columns : ℕ) (rows others : List (List ℤ)) (basis : List ℕ) (wide : ℤ) → length rows ≡ length others →
+        SameSpace rows others → IsWideRow columns rows basis wide → IsWideRow columns others basis wide }
 {}
 
 /// A pivot of a tableau keeps the space that its rows span.
@@ -80,10 +88,13 @@ pub fn pivot_keeps_the_row_space()
 /// one that has no room.
 pub fn tableaux_have_bases()
     ensures before { (t : Table) → IsTable t → IsBasis (width t) t.rows (in_order (width t) t.basic) }
-    ensures after { (t : Table) → IsTable t → (i column : ℕ) → i < length t.rows → column < width t → (entry (row_at t.rows i) column ≡ pos 0 → ⊥) → IsBasis (width t) t.rows (in_order (width t) (slice_set t.basic i column)) }
+    ensures after { (t : Table) → IsTable t → (i column : ℕ) → i < length t.rows → column < width t →
+        (entry (row_at t.rows i) column ≡ pos 0 → ⊥) → IsBasis (width t) t.rows (in_order (width t) (slice_set t.basic i column)) }
 {}
 
 /// An entry without room after a pivot is one of the new basis: evidence of a wide row.
 pub fn pivots_without_room_are_wide_rows()
-    ensures { (t : Table) → IsTable t → (i column j : ℕ) (wide : ℤ) → i < length t.rows → column < width t → (entry (row_at t.rows i) column ≡ pos 0 → ⊥) → HasWide (pivoted i column t.rows) j wide → IsWideRow (width t) t.rows (in_order (width t) (slice_set t.basic i column)) wide }
+    ensures { (t : Table) → IsTable t → (i column j : ℕ) (wide : ℤ) → i < length t.rows → column < width t →
+        (entry (row_at t.rows i) column ≡ pos 0 → ⊥) → HasWide (pivoted i column t.rows) j wide →
+        IsWideRow (width t) t.rows (in_order (width t) (slice_set t.basic i column)) wide }
 {}

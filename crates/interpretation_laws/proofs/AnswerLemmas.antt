@@ -11,7 +11,7 @@ use Rattle.lemma_frames.specs.declared.framed.Framed.{Framed}
 use Rattle.answer_text.specs.declared.answer.Answer.TheVariants.{Sat}
 use Rattle.answer_text.specs.AnswerTexts.{answer_text}
 use Rattle.answer_text.specs.Printable.{IsAnswerText, IsPrintable}
-use Rattle.answer_text.specs.machinery.ReadBack.{AreNames, IsReadAs, IsStored}
+use Rattle.answer_text.specs.ReadBack.{AreNames, IsReadAs, IsStored}
 use Rattle.answer_text.proofs.Public.{read_as}
 use Rattle.interpretations.specs.Definitions.{AreDefinitionsOf}
 use Rattle.interpretations.proofs.PrintLemmas.{all-made-of-lemmas, defines-each}

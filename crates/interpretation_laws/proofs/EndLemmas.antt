@@ -15,7 +15,7 @@ use Rattle.book_rules.specs.Frames.{Framed}
 use Rattle.book_rules.specs.Frames.{IsSolution as IsSolutionOver}
 use Rattle.book_rules.specs.Instances.{instances}
 use Rattle.book_rules.specs.Kept.{IsSound}
-use Rattle.book_rules.specs.Legal.{all_stalled_from, bare_from, end, is_bare}
+use Rattle.book_rules.specs.Legal.{all_stalled_from, bare_from, end, is_level_empty}
 use Rattle.book_rules.specs.State.{Fact, State}
 use Rattle.book_rules.specs.Walks.{first_number, or_else}
 use Rattle.book_rules.proofs.Public.{sat_is_solution}
@@ -25,7 +25,7 @@ use Rattle.interpretation_laws.proofs.SolutionLemmas.{frame-solves}
 
 bare-least : (es : List Framed) (from count level : ℕ) → bare_from es from count ≡ Some level → from ≤ level
 bare-least es from zero level h = absurd (cc)
-bare-least es from (suc count) level h = here (is_bare es from) h (bare-least es (from + 1) count level)
+bare-least es from (suc count) level h = here (is_level_empty es from) h (bare-least es (from + 1) count level)
   where
     here : (b : Bool) → cond {A = Option ℕ} b (Some from) (bare_from es (from + 1) count) ≡ Some level → (bare_from es (from + 1) count ≡ Some level → from + 1 ≤ level) → from ≤ level
     here true found rest = let same : from ≡ level = cc in omega (arith, same)

@@ -19,7 +19,7 @@ use Rattle.horn_shape.proofs.Public.{unbroken_solution}
 use Rattle.clause_form.specs.System.{Clauses}
 use Rattle.clause_form.specs.declared.clause.Clause.{Clause}
 use Rattle.clause_normal.specs.Normal.{normal_clause}
-use Rattle.clause_normal.specs.Reading.{all_clauses, clause_reading, one_more, system_reading}
+use Rattle.clause_normal.specs.Reading.{all_clauses, normal_reading, clause_and_others, system_reading}
 use Rattle.clause_laws.specs.Point.{numbers}
 use Rattle.clause_laws.proofs.PointLemmas.{instance_extends, point_of, same_atoms, same_head}
 use Rattle.lemma_frames.specs.declared.framed.Framed.{Framed}
@@ -39,7 +39,7 @@ use Rattle.interpretation_laws.proofs.FrameLemmas.{in-frame as holds-in-frame}
 
 -- each assertion has a clause
 
-one-more-is : (one : Result Clause Refusal) (others : Result (List Clause) Refusal) (clauses : List Clause) → one_more one others ≡ Ok clauses
+one-more-is : (one : Result Clause Refusal) (others : Result (List Clause) Refusal) (clauses : List Clause) → clause_and_others one others ≡ Ok clauses
     → (rest : List Clause) × (clause : Clause) × (others ≡ Ok rest) × (clauses ≡ clause ∷ rest)
 one-more-is (Err refusal) others clauses h = absurd (cc)
 one-more-is (Ok clause) (Err refusal) clauses h = absurd (cc)
@@ -49,9 +49,9 @@ some-clause : (script : Script) (base : ℕ) (asserts : List Assertion) (clauses
     → (clause : Clause) × (slice_get clauses i ≡ Some clause)
 some-clause script base [] clauses h i a at = absurd (cc)
 some-clause script base (b ∷ asserts) clauses h zero a at =
-    let parts = one-more-is (clause_reading script base b) (all_clauses script (base + 1) asserts) clauses h in (parts.1, ap (λ (cs : List Clause). slice_get cs 0) parts.3)
+    let parts = one-more-is (normal_reading script base b) (all_clauses script (base + 1) asserts) clauses h in (parts.1, ap (λ (cs : List Clause). slice_get cs 0) parts.3)
 some-clause script base (b ∷ asserts) clauses h (suc i) a at =
-    let parts = one-more-is (clause_reading script base b) (all_clauses script (base + 1) asserts) clauses h in
+    let parts = one-more-is (normal_reading script base b) (all_clauses script (base + 1) asserts) clauses h in
     let later = some-clause script (base + 1) asserts parts.0 parts.2 i a at in (later.0, ap (λ (cs : List Clause). slice_get cs (suc i)) parts.3 ∙ later.1)
 
 -- the definition of a predicate

@@ -9,7 +9,7 @@ ghost use Rattle.lemma_frames.specs.declared.framed.Framed.{Framed};
 ghost use Rattle.answer_text.specs.declared.answer.Answer.TheVariants.{Sat};
 ghost use Rattle.answer_text.specs.AnswerTexts.{answer_text};
 ghost use Rattle.answer_text.specs.Printable.{IsAnswerText, IsPrintable};
-ghost use Rattle.answer_text.specs.machinery.ReadBack.{AreNames, IsReadAs};
+ghost use Rattle.answer_text.specs.ReadBack.{AreNames, IsReadAs};
 ghost use Rattle.interpretations.specs.Definitions.{AreDefinitionsOf};
 
 /// Definitions by the lemmas of a frame are a model that can be printed: what is written of them is the

@@ -12,7 +12,7 @@ use Rattle.term_tree.specs.declared.node.OpKind.TheVariants.{Not, And, Add, Ite,
 use Rattle.term_tree.specs.declared.node.Node.{Node}
 use Rattle.term_tree.specs.declared.node.Node.TheVariants.{Num, True, False, Var, Op, Divisible}
 use Rattle.term_tree.specs.Arena.{IsArena}
-use Rattle.term_tree.specs.Constants.{all_constant, applied, constant_of, constants_among, has_short_constants, is_linear, is_short, is_short_constant, node_constant}
+use Rattle.term_tree.specs.Constants.{all_constant, integer_result, constant_of, constants_among, has_short_constants, is_linear, is_short, is_short_constant, node_constant}
 use Rattle.term_tree.specs.Width.{prefix_results}
 use Rattle.term_tree.specs.Legal.{carried, is_scoped, is_there, next_variable, node_is_scoped, node_numbers, numbers_through, parameters}
 use Rattle.term_tree.specs.Solution.{IsFormula, has_short_divisor}
@@ -74,10 +74,10 @@ some-sorted s id ids =
 
 -- the constants among the factors decide
 abbrev negation-of : List (Option ℤ) → Option ℤ
-negation-of given = option_map (applied Sub) (all_constant given)
+negation-of given = option_map (integer_result Sub) (all_constant given)
 
 abbrev factors : List (Option ℤ) → Option ℤ
-factors given = option_map (applied Mul) (all_constant given)
+factors given = option_map (integer_result Mul) (all_constant given)
 
 abbrev product-passes : List (Option ℤ) → Bool
 product-passes given =
@@ -280,7 +280,7 @@ module _ (nodes : List Node) (arena : IsArena nodes) (sorts : List Sort) where
   sum-fine (x ∷ y ∷ ids) id fine first is =
       op-fine Add (x ∷ y ∷ ids) IntSort id is (some-parts IntSort (x ∷ y ∷ ids) fine)
       (ap (operation_sort Add) (sorts-parts IntSort (x ∷ y ∷ ids) fine) ∙ ap (λ (b : Bool). sort_if b IntSort) (some-sorted IntSort x (y ∷ ids)))
-      (ap (λ (c : Option ℤ). is_short_constant (option_map (applied Add) (all_constant (c ∷ constant_of nodes y.0 ∷ map (λ (arg : TermId). constant_of nodes arg.0) ids))) && true) first)
+      (ap (λ (c : Option ℤ). is_short_constant (option_map (integer_result Add) (all_constant (c ∷ constant_of nodes y.0 ∷ map (λ (arg : TermId). constant_of nodes arg.0) ids))) && true) first)
 
   linear-fine : (ts : List (ℕ × ℤ)) (items : List TermId) (id : TermId) → AreTerms 0 ts → AreProducts nodes sorts ts items → IsSum nodes items id → IsFine nodes sorts IntSort id
   linear-fine ts items id ordered are is = sum-fine items id (products-fine 0 ts items ordered are) (products-no-constant ts items are) is

@@ -1,6 +1,7 @@
 -- The terms of lemmas: each literal of a cube over a predicate's parameters, the cube that is their conjunction, the lemma that
 -- is its negation, and the conjunction of lemmas that defines a predicate.
-use Rattle.std.specs.Prelude.{◌≡◌, ℕ, ◌^◌, ◌<◌, ◌⊎◌, List, [], ◌∷◌, ◌++◌, ℤ, pos, neg_ℤ, nat_abs}
+use Rattle.std.specs.Prelude.{◌≡◌, ℕ, ◌<◌, ◌⊎◌, List, [], ◌∷◌, ◌++◌, ℤ, pos, neg_ℤ, nat_abs}
+use Rattle.base.specs.Widths.{short_limit}
 use Rattle.lin_atoms.specs.Linear.{Linear}
 use Rattle.lin_atoms.specs.declared.lit.Lit.{Lit}
 use Rattle.lin_atoms.specs.declared.lit.Lit.TheVariants.{Le as AtMost, Eq as Equal, Div, NDiv}
@@ -29,7 +30,7 @@ pub record IsLinearOf (nodes : List Node) (sorts : List Sort) (terms : List (ℕ
 -- the sum of the terms, with the constant as its last item where it isn't 0
 pub record IsShiftedOf (nodes : List Node) (sorts : List Sort) (lin : Linear) (id : TermId) : Type 0 where
   pub items : List TermId
-  pub short : nat_abs lin.constant < 2 ^ 63
+  pub short : nat_abs lin.constant < short_limit
   pub ordered : AreTerms 0 lin.terms
   pub products : AreProducts nodes sorts lin.terms items
   pub sum : ((lin.constant ≡ pos 0) × IsSum nodes items id)
@@ -39,7 +40,7 @@ pub record IsShiftedOf (nodes : List Node) (sorts : List Sort) (lin : Linear) (i
 pub record IsComparisonOf (nodes : List Node) (sorts : List Sort) (op : OpKind) (lin : Linear) (id : TermId) : Type 0 where
   pub left : TermId
   pub right : TermId
-  pub short : nat_abs (neg_ℤ lin.constant) < 2 ^ 63
+  pub short : nat_abs (neg_ℤ lin.constant) < short_limit
   pub linear : IsLinearOf nodes sorts lin.terms left
   pub constant : IsNumber nodes (neg_ℤ lin.constant) right
   pub node : IsNode nodes id (Op op (left ∷ right ∷ []))
@@ -48,7 +49,7 @@ pub record IsComparisonOf (nodes : List Node) (sorts : List Sort) (op : OpKind) 
 pub record IsDivisibilityOf (nodes : List Node) (sorts : List Sort) (divisor : ℕ) (lin : Linear) (id : TermId) : Type 0 where
   pub sum : TermId
   pub positive : 0 < divisor
-  pub short : divisor < 2 ^ 63
+  pub short : divisor < short_limit
   pub shifted : IsShiftedOf nodes sorts lin sum
   pub node : IsNode nodes id (Divisible (pos divisor) sum)
 

@@ -2,7 +2,7 @@
 
 ghost use Rattle.std.specs.Prelude.{◌≡◌, ◌++◌, [], ◌∷◌, ◌+◌, ◌*◌, ◌<◌, ◌^◌, length, nat_abs, nat_lt, pos, slice_get, Some, true, IfOk, IsErrOf};
 ghost use Rattle.std.specs.List.{list_all};
-ghost use Rattle.base.specs.Widths.{is_short};
+ghost use Rattle.base.specs.Widths.{is_short, short_limit};
 ghost use Rattle.lin_atoms.specs.Linear.{are_short, lin_is_below};
 ghost use Rattle.term_tree.specs.Arena.{is_below};
 ghost use Rattle.answer_text.specs.Lemmas.{IsArgument, IsNumber, IsProduct, IsSum};
@@ -18,7 +18,7 @@ use term_tree::{Node, OpKind, Sort, TermId, Terms};
 
 /// A numeral, or the negation of one.
 pub(crate) fn number(alloc: Global, terms: &mut Terms, n: i128) -> Result<TermId, DefinitionStop>
-    requires { nat_abs n < 2 ^ 63 }
+    requires { nat_abs n < short_limit }
     ensures added { IfOk result (λ id. IsAdded (λ nodes k. IsNumber nodes n k) 2 terms.old.nodes terms.new.nodes id) }
     ensures full { IsErrOf result DefinitionStop.Full → 2 ^ 32 < length terms.old.nodes + 2 }
 {
@@ -72,7 +72,7 @@ fn argument(
 
 /// A coefficient as a number.
 fn factor(alloc: Global, terms: &mut Terms, coefficient: i64) -> Result<TermId, DefinitionStop>
-    requires { nat_abs coefficient < 2 ^ 63 }
+    requires { nat_abs coefficient < short_limit }
     ensures added { IfOk result (λ id. IsAdded (λ nodes k. IsNumber nodes coefficient k) 2 terms.old.nodes terms.new.nodes id) }
     ensures full { IsErrOf result DefinitionStop.Full → 2 ^ 32 < length terms.old.nodes + 2 }
 {
@@ -88,7 +88,7 @@ fn scaled(
     sort: Sort,
     coefficient: i64,
 ) -> Result<TermId, DefinitionStop>
-    requires { nat_abs coefficient < 2 ^ 63 }
+    requires { nat_abs coefficient < short_limit }
     ensures added { IfOk result (λ id. IsAdded (λ nodes k. IsScaled nodes binder sort coefficient k) 7 terms.old.nodes terms.new.nodes id) }
     ensures full { IsErrOf result DefinitionStop.Full → 2 ^ 32 < length terms.old.nodes + 7 }
 {
@@ -108,7 +108,7 @@ fn product(
     term: &(u32, i64),
 ) -> Result<TermId, DefinitionStop>
     requires there { term.now.0 < length sorts.now }
-    requires short { nat_abs term.now.1 < 2 ^ 63 }
+    requires short { nat_abs term.now.1 < short_limit }
     ensures added { IfOk result (λ id. IsAdded (λ nodes k. IsProduct nodes sorts.now term.now k) 7 terms.old.nodes terms.new.nodes id) }
     ensures full { IsErrOf result DefinitionStop.Full → 2 ^ 32 < length terms.old.nodes + 7 }
 {

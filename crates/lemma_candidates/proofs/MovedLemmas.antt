@@ -5,7 +5,8 @@ use Rattle.std.specs.List.{list_all}
 use Rattle.lin_atoms.specs.Truth.{lit_truth}
 use Rattle.lin_atoms.specs.declared.lit.Lit.{Lit}
 use Rattle.cube_rules.proofs.Public.{both_true, from_both, plus-one}
-use Rattle.lemma_candidates.specs.Candidates.{IsLooser, IsWiderCube}
+use Rattle.lemma_candidates.specs.Candidates.{IsLooser}
+use Rattle.lemma_general.specs.Tries.{IsWiderCube}
 
 wider-gone : (lits : List Lit) (at : ℕ) (y lit : Lit) → at < length lits → y ≡ get_or lits at y → IsLooser y lit → IsWiderCube lits (take at lits ++ lit ∷ drop (suc at) lits)
 wider-gone [] at y lit less is looser tuple h = absurd (omega (arith, less))

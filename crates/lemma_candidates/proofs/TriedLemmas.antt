@@ -5,9 +5,9 @@ use Rattle.lin_atoms.specs.declared.lit.Lit.{Lit}
 use Rattle.step_rules.specs.Standing.{Standing}
 use Rattle.step_rules.specs.declared.lemma_part.LemmaPart.{LemmaPart}
 use Rattle.lemma_general.specs.Generals.{IsForSame}
-use Rattle.lemma_general.specs.Tries.{IsTried, IsTrying, part_of}
+use Rattle.lemma_general.specs.Tries.{IsTried, IsTrying, part_of, IsWiderCube}
 use Rattle.lemma_general.specs.declared.trying.Tries.{Tries}
-use Rattle.lemma_candidates.specs.Candidates.{IsWidened, IsWiderCube}
+use Rattle.lemma_candidates.specs.Candidates.{IsWidened}
 use Rattle.lemma_candidates.specs.machinery.Tried.{IsTriedOn, IsWidenedOn}
 
 self-same : (part : LemmaPart) → IsForSame part part

@@ -2,7 +2,8 @@
 
 ghost use Rattle.std.specs.Prelude.{◌≡◌, ◌++◌, ◌∷◌, ◌+◌, ◌<◌, length, take, drop, OnOk, IfOk, IfSome};
 ghost use Rattle.lin_atoms.specs.declared.lit.Lit.TheVariants.{Le};
-ghost use Rattle.lemma_candidates.specs.Candidates.{IsLooser, IsWiderCube};
+ghost use Rattle.lemma_candidates.specs.Candidates.{IsLooser};
+ghost use Rattle.lemma_general.specs.Tries.{IsWiderCube};
 
 use crate::bounds::cube_of;
 use base::{Copied, Memory};

@@ -16,7 +16,7 @@ use Rattle.lin_atoms.proofs.Public.{value_at-negated}
 use Rattle.cube_forms.specs.Cubes.{cube_is_short, lit_is_short}
 use Rattle.cube_rules.proofs.Public.{both_true, from_both, negated-short}
 use Rattle.lemma_general.specs.Generals.{bounds_of}
-use Rattle.lemma_general.specs.machinery.Passes.{IsWithin}
+use Rattle.lemma_general.specs.Tries.{IsWiderCube}
 
 abs-neg : (n : ℤ) → nat_abs (neg_ℤ n) ≡ nat_abs n
 abs-neg (pos zero) = refl
@@ -38,7 +38,7 @@ negated-true : (tuple : List ℤ) (l : Linear) → (nat_abs (value_at tuple l) =
 negated-true tuple l h = ap (λ v. int_le v (pos 0)) (value_at-negated tuple l) ∙ zero-above (value_at tuple l) h
 
 -- a tuple in the cube is in its bounds
-pub bounds-within : (cube : List Lit) → IsWithin cube (bounds_of cube)
+pub bounds-within : (cube : List Lit) → IsWiderCube cube (bounds_of cube)
 bounds-within [] tuple h = refl
 bounds-within (Le l ∷ cube) tuple h = let both = both_true (lit_truth tuple (Le l)) _ h in from_both (lit_truth tuple (Le l)) _ both.0 (bounds-within cube tuple both.1)
 bounds-within (Eq l ∷ cube) tuple h =

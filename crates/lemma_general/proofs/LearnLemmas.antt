@@ -18,7 +18,7 @@ use Rattle.book_rules.specs.Walks.{on}
 use Rattle.book_rules.specs.declared.by.By.{By}
 use Rattle.book_rules.specs.declared.by.By.TheVariants.{Level as ByLevel, Obligation as ByObligation, Step as ByStep}
 use Rattle.cube_rules.proofs.Public.{both_true, from_both}
-use Rattle.step_rules.specs.Standing.{Standing, state_of}
+use Rattle.step_rules.specs.Standing.{Standing, standing_state}
 use Rattle.step_rules.specs.Taken.{learn_of}
 use Rattle.step_rules.specs.Tokens.{all_shown}
 use Rattle.step_rules.specs.Views.{obligation_of, obligations_of}
@@ -27,8 +27,8 @@ use Rattle.step_rules.proofs.Public.{obligation_of-at}
 use Rattle.obligation_turn.specs.Turns.{GoesOn}
 use Rattle.obligation_turn.proofs.RuleLemmas.{kept, passed, told-of}
 use Rattle.lemma_general.specs.Generals.{IsLearnt}
-use Rattle.lemma_general.specs.Tries.{point_of}
-use Rattle.lemma_general.specs.machinery.Passes.{AreShownOf, IsCubeOf, IsWithin}
+use Rattle.lemma_general.specs.Tries.{point_of, IsWiderCube}
+use Rattle.lemma_general.specs.machinery.Passes.{AreShownOf, IsCubeOf}
 use Rattle.lemma_general.proofs.OwnLemmas.{shown-proved}
 
 -- rules that aren't broken
@@ -67,14 +67,14 @@ target_of b target = obligation_of (node_at b.tree.nodes target)
 pub record IsPlaced (b : Standing) (part : LemmaPart) : Type 0 where
   pub low : nat_le 1 part.level ≡ true
   pub high : nat_le part.level b.level ≡ true
-  pub live : rule_13 (state_of b) (learn_of part) ≡ None
+  pub live : rule_13 (standing_state b) (learn_of part) ≡ None
   pub there : part.target < length b.tree.nodes
   pub closing : closes (record { pred = part.pred; cube = part.lemma }) part.level (target_of b part.target) ≡ true
   pub over : is_over b.system.preds part.pred part.lemma ≡ true
 
 pub placed : (b : Standing) (part : LemmaPart) → IsLearnt b part → IsPlaced b part
 placed b part learnt =
-    let s = state_of b in
+    let s = standing_state b in
     let l = learn_of part in
     let first = both-none 10 (rule_10 s l) _ learnt.unbroken in
     let second = both-none 11 (rule_11 b.system l) _ first.1 in
@@ -95,7 +95,7 @@ placed b part learnt =
     }
 
 -- its cube holds the point of its obligation, and so does each cube that holds as much
-pub held-at : (b : Standing) (part : LemmaPart) (cube : List Lit) → IsLearnt b part → IsWithin part.lemma cube → cube_holds (point_of b part.target) cube ≡ true
+pub held-at : (b : Standing) (part : LemmaPart) (cube : List Lit) → IsLearnt b part → IsWiderCube part.lemma cube → cube_holds (point_of b part.target) cube ≡ true
 held-at b part cube learnt within =
     let o = target_of b part.target in
     within (point_of b part.target) (both_true (is_of part.pred o.pred && nat_le o.level part.level) (cube_holds o.point part.lemma) (placed b part learnt).closing).1
@@ -104,7 +104,7 @@ held-at b part cube learnt within =
 pub relearnt : (b : Standing) (part : LemmaPart) (level : ℕ) (cube : List Lit) (proofs : List Shown) → GoesOn b → IsLearnt b part → part.level ≤ level → level ≤ b.level → IsCubeOf b part.pred cube → cube_holds (point_of b part.target) cube ≡ true
     → AreShownOf b part.pred cube (level - 1) proofs → IsLearnt b (record { target = part.target; pred = part.pred; lemma = cube; level = level; proofs = proofs })
 relearnt b part level cube proofs goes learnt from to is held are =
-    let s = state_of b in
+    let s = standing_state b in
     let lemma : Lemma = record { pred = part.pred; cube = cube } in
     let made : LemmaPart = record { target = part.target; pred = part.pred; lemma = cube; level = level; proofs = proofs } in
     let l : PlainLemma = learn_of made in

@@ -7,7 +7,7 @@ use Rattle.lin_atoms.specs.Truth.{lit_truth}
 use Rattle.cube_forms.specs.Cubes.{cube_is_short, lit_is_short}
 use Rattle.cube_rules.proofs.Public.{both_true, from_both, plus-one}
 use Rattle.lemma_general.specs.Generals.{IsPart, without}
-use Rattle.lemma_general.specs.machinery.Passes.{IsWithin}
+use Rattle.lemma_general.specs.Tries.{IsWiderCube}
 
 pub part-self : (lits : List Lit) → IsPart lits lits
 part-self [] = tt
@@ -69,7 +69,7 @@ part-none p (x ∷ part) [] h none = absurd h
 part-none p (x ∷ part) (y ∷ whole) (inl h) none = let both = none-of (p y) (list_any p whole) none in ap (λ b. b || list_any p part) (ap p h.0 ∙ both.0) ∙ part-none p part whole h.1 both.1
 part-none p (x ∷ part) (y ∷ whole) (inr h) none = let both = none-of (p y) (list_any p whole) none in part-none p (x ∷ part) whole h both.1
 
-pub part-holds : (part whole : List Lit) → IsPart part whole → IsWithin whole part
+pub part-holds : (part whole : List Lit) → IsPart part whole → IsWiderCube whole part
 part-holds part whole h = λ tuple held. part-all (lit_truth tuple) part whole h held
 
 pub short-without : (at : ℕ) (lits : List Lit) → at < length lits → cube_is_short lits ≡ true → cube_is_short (without at lits) ≡ true

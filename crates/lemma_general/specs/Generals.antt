@@ -12,7 +12,7 @@ use Rattle.book_rules.specs.Places.{has_places}
 use Rattle.book_rules.specs.Rules.{broken}
 use Rattle.clause_queries.specs.Answers.{IsHit, IsLost}
 use Rattle.clause_queries.specs.declared.lost.Lost.{Lost}
-use Rattle.step_rules.specs.Standing.{Standing, state_of}
+use Rattle.step_rules.specs.Standing.{Standing, standing_state}
 use Rattle.step_rules.specs.Taken.{IsMadeFor, step_of}
 use Rattle.step_rules.specs.declared.lemma_part.LemmaPart.{LemmaPart}
 use Rattle.step_rules.specs.declared.lift_part.LiftPart.{LiftPart}
@@ -21,7 +21,7 @@ use Rattle.step_rules.specs.declared.step.Step.TheVariants.{LemmaStep, LiftStep}
 -- a Lemma that breaks no rule of the book; its tokens were made for the book's system, and its cube is over its predicate, with
 -- coefficients below 2 ^ 54 in magnitude
 pub record IsLearnt (b : Standing) (part : LemmaPart) : Type 0 where
-  pub unbroken : broken b.system (state_of b) (step_of (LemmaStep part)) ≡ None
+  pub unbroken : broken b.system (standing_state b) (step_of (LemmaStep part)) ≡ None
   pub made : IsMadeFor b.system (LemmaStep part)
   pub places : has_places b.system (step_of (LemmaStep part)) ≡ true
   pub thin : is_wide part.lemma ≡ false
@@ -78,7 +78,7 @@ pub record IsRaised (b : Standing) (nodes : ℕ) (given made : LemmaPart) : Type
 
 -- a Lift of the lemma of a number, which breaks no rule
 pub record IsLiftOf (b : Standing) (id : ℕ) (part : LiftPart) : Type 0 where
-  pub unbroken : broken b.system (state_of b) (step_of (LiftStep part)) ≡ None
+  pub unbroken : broken b.system (standing_state b) (step_of (LiftStep part)) ≡ None
   pub made : IsMadeFor b.system (LiftStep part)
   pub places : has_places b.system (step_of (LiftStep part)) ≡ true
   pub lemma : part.lemma ≡ id

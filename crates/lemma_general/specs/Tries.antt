@@ -49,3 +49,7 @@ part_of tries = tries.part
 pub record IsTrying (b : Standing) (tries : Tries) : Type 0 where
   pub learnt : IsLearnt b tries.part
   pub met : AllOf (IsMet b (tries.part).pred ((tries.part).level - 1)) tries.met
+
+-- a cube that holds each tuple of another one
+abbrev pub IsWiderCube : List Lit → List Lit → Type 0
+IsWiderCube cube wider = (tuple : List ℤ) → cube_holds tuple cube ≡ true → cube_holds tuple wider ≡ true

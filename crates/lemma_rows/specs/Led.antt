@@ -8,7 +8,7 @@ use Rattle.book_rules.specs.Legal.{end}
 use Rattle.book_rules.specs.Places.{has_places}
 use Rattle.book_rules.specs.Rules.{broken}
 use Rattle.book_rules.specs.Walks.{AllOf}
-use Rattle.step_rules.specs.Standing.{Standing, state_of as state_at}
+use Rattle.step_rules.specs.Standing.{Standing, standing_state as state_at}
 use Rattle.step_rules.specs.Taken.{IsMadeFor, step_of}
 use Rattle.step_rules.specs.declared.step.Step.{Step}
 use Rattle.chc_core.specs.Contents.{Contents}

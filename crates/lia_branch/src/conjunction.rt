@@ -2,6 +2,7 @@
 
 ghost use Rattle.std.specs.Prelude.{◌≡◌, ◌<◌, ◌≤◌, IfOk, true};
 ghost use Rattle.std.specs.List.{list_all};
+ghost use Rattle.base.specs.Limits.{most_variables};
 ghost use Rattle.lin_atoms.specs.Truth.{lit_is_below};
 ghost use Rattle.node_rows.specs.Known.{has_short_constant};
 ghost use Rattle.lia_search.specs.Decides.{Decides};
@@ -32,7 +33,7 @@ fn conjunction(alloc: Global, lits: &[Lit]) -> Result<Form, Memory>
 pub fn decide_all(alloc: Global, lits: &[Lit], vars: u32, nodes: u32) -> Result<Decision, Memory>
     requires below { list_all (lit_is_below vars) lits.now ≡ true }
     requires short { list_all has_short_constant lits.now ≡ true }
-    requires few { vars ≤ 2048 }
+    requires few { vars ≤ most_variables }
     requires some { 0 < nodes }
     ensures { IfOk result (λ decision. Decides (conjunction lits.now) vars nodes decision) }
 {

@@ -2,6 +2,7 @@
 
 ghost use Rattle.std.specs.Prelude.{◌≡◌, ◌∷◌, ◌<◌, ◌≤◌, IfOk, true};
 ghost use Rattle.std.specs.List.{list_all};
+ghost use Rattle.base.specs.Limits.{most_variables};
 ghost use Rattle.lin_atoms.specs.Truth.{is_below};
 ghost use Rattle.lin_atoms.specs.declared.form.Form.TheViews.{And};
 ghost use Rattle.lia_search.specs.Decides.{Decides, has_short_multiples};
@@ -34,7 +35,7 @@ pub fn decide_owned(
     requires lemmas_below { list_all (is_below vars) lemmas ≡ true }
     requires short { has_short_multiples form ≡ true }
     requires lemmas_short { list_all has_short_multiples lemmas ≡ true }
-    requires few { vars ≤ 2048 }
+    requires few { vars ≤ most_variables }
     requires some { 0 < nodes }
     ensures { IfOk result (λ decision. Decides (And (form ∷ lemmas)) vars nodes decision) }
 {
@@ -72,7 +73,7 @@ pub fn decide(
     requires lemmas_below { list_all (is_below vars) lemmas.now ≡ true }
     requires short { has_short_multiples form.now ≡ true }
     requires lemmas_short { list_all has_short_multiples lemmas.now ≡ true }
-    requires few { vars ≤ 2048 }
+    requires few { vars ≤ most_variables }
     requires some { 0 < nodes }
     ensures { IfOk result (λ decision. Decides (And (form.now ∷ lemmas.now)) vars nodes decision) }
 {

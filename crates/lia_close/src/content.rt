@@ -1,13 +1,14 @@
 //! The greatest common divisor of a form's coefficients.
 
-ghost use Rattle.std.specs.Prelude.{◌≡◌, ◌<◌, ◌^◌, length, nat_abs, pos};
+ghost use Rattle.std.specs.Prelude.{◌≡◌, ◌<◌, length, nat_abs, pos};
+ghost use Rattle.base.specs.Widths.{short_limit};
 ghost use Rattle.int_rows.specs.Ready.{lin_content};
 
 use lin_atoms::{Lin, gcd};
 
 /// A number that has room.
 fn signed(n: u128) -> i64
-    requires { n < 2 ^ 63 }
+    requires { n < short_limit }
     ensures { result ≡ pos n }
 {
     n as i64

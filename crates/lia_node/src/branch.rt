@@ -1,6 +1,7 @@
 //! The two sides of a branch.
 
-ghost use Rattle.std.specs.Prelude.{◌≡◌, ◌+ℤ◌, ◌∷◌, [], neg_ℤ, pos, nat_abs, ◌≤◌, ◌^◌, IfOk};
+ghost use Rattle.std.specs.Prelude.{◌≡◌, ◌+ℤ◌, ◌∷◌, [], neg_ℤ, pos, nat_abs, ◌≤◌, IfOk};
+ghost use Rattle.base.specs.Widths.{short_limit};
 ghost use Rattle.lin_atoms.specs.declared.lit.Lit.TheVariants.{Le};
 ghost use Rattle.farkas_proof.specs.Split.{at_least, at_most};
 
@@ -11,7 +12,7 @@ use std::alloc::Global;
 /// A variable with a coefficient that isn't 0, and a constant, is at most 0.
 fn bounded(alloc: Global, variable: u32, coefficient: i64, constant: i128) -> Result<Lit, Memory>
     requires unit { nat_abs coefficient ≡ 1 }
-    requires small { nat_abs constant ≤ 2 ^ 63 }
+    requires small { nat_abs constant ≤ short_limit }
     ensures { IfOk result (λ lit. lit ≡ Le (record { terms = (variable, coefficient) ∷ []; constant = constant })) }
 {
     let terms = vec![in alloc; (variable, coefficient)]?;

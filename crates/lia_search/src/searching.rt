@@ -1,6 +1,7 @@
 //! A search from its start to what is decided.
 
 ghost use Rattle.std.specs.Prelude.{◌≡◌, ◌<◌, ◌≤◌, ◌^◌, drop, IfOk, true};
+ghost use Rattle.base.specs.Limits.{most_variables};
 ghost use Rattle.lin_atoms.specs.Truth.{is_below};
 ghost use Rattle.farkas_proof.specs.Refutation.{form_end};
 ghost use Rattle.lia_search.specs.Decides.{Decides, has_short_multiples};
@@ -102,7 +103,7 @@ pub fn search(
 ) -> Result<Decision, Memory>
     requires below { is_below vars form ≡ true }
     requires short { has_short_multiples form ≡ true }
-    requires few { vars ≤ 2048 }
+    requires few { vars ≤ most_variables }
     requires some { 0 < nodes }
     ensures { IfOk result (λ decision. Decides form vars nodes decision) }
 {

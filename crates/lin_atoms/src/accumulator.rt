@@ -2,7 +2,7 @@ ghost use Rattle.std.specs.Prelude.{◌≡◌, ◌+◌, ◌^◌, ◌<◌, ◌≤
 ghost use Rattle.std.specs.Int.{int_signum, int_rem_euclid, int_div_euclid, IsGcd, w128};
 ghost use Rattle.std.specs.Option.{SomeIff};
 ghost use Rattle.std.specs.Ordering.{int_cmp};
-ghost use Rattle.base.specs.Widths.{numerator_limit};
+ghost use Rattle.base.specs.Widths.{numerator_limit, long_limit};
 ghost use Rattle.lin_atoms.specs.Multiples.{is_multiple};
 ghost use Rattle.lin_atoms.specs.Ratio.{IsLowest, IsNumerator};
 
@@ -35,7 +35,7 @@ impl Model for Accumulator {
 
 /// The exact product.
 pub(crate) fn product(a: i64, b: i128) -> i128
-    requires { nat_abs b < 2 ^ 64 }
+    requires { nat_abs b < long_limit }
     ensures { result ≡ a *ℤ b }
 {
     i128::from(a) * b
@@ -66,7 +66,7 @@ impl Accumulator {
     /// Adds a product.
     pub fn add(&mut self, a: i64, b: i128)
         requires room { self.old.added < 2 ^ 32 }
-        requires long { nat_abs b < 2 ^ 64 }
+        requires long { nat_abs b < long_limit }
         ensures value { self.new.value ≡ self.old.value +ℤ a *ℤ b }
         ensures added { self.new.added ≡ self.old.added + 1 }
     {

@@ -1,4 +1,5 @@
-ghost use Rattle.std.specs.Prelude.{◌≡◌, ◌↔◌, ◌<◌, ◌^◌, ◌≤ℤ◌, pos, IfSome, IsNone};
+ghost use Rattle.std.specs.Prelude.{◌≡◌, ◌↔◌, ◌<◌, ◌≤ℤ◌, pos, IfSome, IsNone};
+ghost use Rattle.base.specs.Widths.{short_limit};
 
 use base::{Copied, Memory, Same};
 use std::alloc::Global;
@@ -39,7 +40,7 @@ impl Divisor {
     pub fn get(self) -> i64
         ensures value { result ≡ pos self }
         ensures positive { 0 < self }
-        ensures short { self < 2 ^ 63 }
+        ensures short { self < short_limit }
     {
         self.value
     }

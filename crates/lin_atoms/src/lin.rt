@@ -1,4 +1,5 @@
-ghost use Rattle.std.specs.Prelude.{◌≡◌, ◌<◌, ◌^◌, IsTrue, IfOk, OnOk, IsErrOf, IfSome, IsNone, ◌↔◌, nat_abs, true, false};
+ghost use Rattle.std.specs.Prelude.{◌≡◌, ◌<◌, IsTrue, IfOk, OnOk, IsErrOf, IfSome, IsNone, ◌↔◌, nat_abs, true, false};
+ghost use Rattle.base.specs.Widths.{long_limit};
 ghost use Rattle.lin_atoms.specs.Linear.{Linear, are_ordered, fits, is_linear, lin_is_below, of_constant};
 ghost use Rattle.lin_atoms.specs.Algebra.{negated, plus};
 
@@ -75,7 +76,7 @@ impl Lin {
 
     /// The form without a variable.
     pub fn of_constant(alloc: Global, constant: i128) -> Lin
-        requires { nat_abs constant < 2 ^ 64 }
+        requires { nat_abs constant < long_limit }
         ensures { result ≡ of_constant constant }
     {
         Lin {
@@ -94,7 +95,7 @@ impl Lin {
 
     pub fn constant(&self) -> i128
         ensures is { result ≡ self.now.constant }
-        ensures long { nat_abs self.now.constant < 2 ^ 64 }
+        ensures long { nat_abs self.now.constant < long_limit }
         ensures legal { is_linear self.now ≡ true }
     {
         self.constant

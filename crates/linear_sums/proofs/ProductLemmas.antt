@@ -11,7 +11,7 @@ use Rattle.term_tree.specs.Operators.{product_of}
 use Rattle.lin_atoms.specs.Linear.{Linear, is_short, are_short, are_ordered}
 use Rattle.lin_atoms.specs.Algebra.{scaled, scaled_terms, term_on}
 use Rattle.lin_atoms.proofs.Public.{both_true}
-use Rattle.linear_terms.specs.Linear.{is_narrow, varying}
+use Rattle.linear_terms.specs.Linear.{is_narrow, varying_form}
 use Rattle.linear_sums.specs.Short.{has_zero, is_nothing, short_or_none, is_zero_form, has_no_terms, times}
 
 pub abs_product : (a b : ℤ) → nat_abs (a *ℤ b) ≡ nat_abs a * nat_abs b
@@ -123,27 +123,27 @@ pub zero_scaled : (k : ℤ) (terms : List (ℕ × ℤ)) (constant : ℤ) → is_
 zero_scaled k [] constant h = ap (λ (c : ℤ). record { terms = []; constant = c }) (sym (ap (λ (c : ℤ). k *ℤ c) (none_of constant h) ∙ *ℤ-zero k))
 zero_scaled k (t ∷ ts) constant h = absurd (cc)
 
-pub varying_nothing : (cs : List (Option ℤ)) → varying cs [] ≡ None
+pub varying_nothing : (cs : List (Option ℤ)) → varying_form cs [] ≡ None
 varying_nothing [] = refl
 varying_nothing (c ∷ cs) = refl
 
-varying_on : (c : Option ℤ) (cs : List (Option ℤ)) (f : Linear) (fs : List Linear) → (b : Bool) → is_nothing c ≡ b → varying (c ∷ cs) (f ∷ fs) ≡ (if b then Some f else varying cs fs)
+varying_on : (c : Option ℤ) (cs : List (Option ℤ)) (f : Linear) (fs : List Linear) → (b : Bool) → is_nothing c ≡ b → varying_form (c ∷ cs) (f ∷ fs) ≡ (if b then Some f else varying_form cs fs)
 varying_on None cs f fs true is = refl
 varying_on None cs f fs false is = absurd (cc)
 varying_on (Some k) cs f fs true is = absurd (cc)
 varying_on (Some k) cs f fs false is = refl
 
 pub varying_at : (cs : List (Option ℤ)) (fs : List Linear) (i : ℕ) (d : Option ℤ) (e : Linear) → i < length cs → i < length fs → (b : Bool) → is_nothing (get_or cs i d) ≡ b
-    → varying (drop i cs) (drop i fs) ≡ (if b then Some (get_or fs i e) else varying (drop (i + 1) cs) (drop (i + 1) fs))
+    → varying_form (drop i cs) (drop i fs) ≡ (if b then Some (get_or fs i e) else varying_form (drop (i + 1) cs) (drop (i + 1) fs))
 varying_at cs fs i d e h g b is =
-    ap (λ (xs : List (Option ℤ)). varying xs (drop i fs)) (drop_more cs i d h) ∙ ap (λ (ys : List Linear). varying (get_or cs i d ∷ drop (i + 1) cs) ys) (drop_more fs i e g)
+    ap (λ (xs : List (Option ℤ)). varying_form xs (drop i fs)) (drop_more cs i d h) ∙ ap (λ (ys : List Linear). varying_form (get_or cs i d ∷ drop (i + 1) cs) ys) (drop_more fs i e g)
     ∙ varying_on (get_or cs i d) (drop (i + 1) cs) (get_or fs i e) (drop (i + 1) fs) b is
 
-pub varying_past : (cs : List (Option ℤ)) (fs : List Linear) (i : ℕ) → length fs ≤ i → varying (drop i cs) (drop i fs) ≡ None
-varying_past cs fs i h = ap (λ (ys : List Linear). varying (drop i cs) ys) (drop_all i fs h) ∙ varying_nothing (drop i cs)
+pub varying_past : (cs : List (Option ℤ)) (fs : List Linear) (i : ℕ) → length fs ≤ i → varying_form (drop i cs) (drop i fs) ≡ None
+varying_past cs fs i h = ap (λ (ys : List Linear). varying_form (drop i cs) ys) (drop_all i fs h) ∙ varying_nothing (drop i cs)
 
-pub varying_end : (cs : List (Option ℤ)) (fs : List Linear) (i : ℕ) → length cs ≤ i → varying (drop i cs) (drop i fs) ≡ None
-varying_end cs fs i h = ap (λ (xs : List (Option ℤ)). varying xs (drop i fs)) (drop_all i cs h)
+pub varying_end : (cs : List (Option ℤ)) (fs : List Linear) (i : ℕ) → length cs ≤ i → varying_form (drop i cs) (drop i fs) ≡ None
+varying_end cs fs i h = ap (λ (xs : List (Option ℤ)). varying_form xs (drop i fs)) (drop_all i cs h)
 
 -- once a product is wide, and no factor is 0, it stays so
 pub product_wide : (a : ℤ) (cs : List (Option ℤ)) (i : ℕ) (d : Option ℤ) (whole : ℤ) → i < length cs → fold (λ x n. x *ℤ n) a (constants_among (drop i cs)) ≡ whole

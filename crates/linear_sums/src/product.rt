@@ -5,7 +5,7 @@ ghost use Rattle.term_tree.specs.Operators.{product_of};
 ghost use Rattle.term_tree.specs.Constants.{constants_among};
 ghost use Rattle.lin_atoms.specs.Algebra.{scaled};
 ghost use Rattle.lin_atoms.specs.Linear.{are_ordered};
-ghost use Rattle.linear_terms.specs.Linear.{is_narrow, product_form, varying};
+ghost use Rattle.linear_terms.specs.Linear.{is_narrow, product_form, varying_form};
 ghost use Rattle.linear_sums.specs.Short.{has_zero, short_or_none, is_nothing, is_zero_constant, is_zero_form, times};
 
 use crate::judge::{judged, narrow};
@@ -106,8 +106,8 @@ fn varies(constant: Option<i64>) -> bool
 /// Which factor is the first that isn't constant.
 fn varying(constants: &[Option<i64>], forms: &[Lin]) -> Option<usize>
     ensures there { IfSome result (λ i. i < length forms.now) }
-    ensures some { IfSome result (λ i. varying constants.now forms.now ≡ slice_get forms.now i) }
-    ensures none { IfNone result (varying constants.now forms.now ≡ None) }
+    ensures some { IfSome result (λ i. varying_form constants.now forms.now ≡ slice_get forms.now i) }
+    ensures none { IfNone result (varying_form constants.now forms.now ≡ None) }
 {
     for i in 0..constants.len() {
         if i >= forms.len() {

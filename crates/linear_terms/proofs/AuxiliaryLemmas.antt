@@ -17,7 +17,7 @@ use Rattle.term_tree.specs.declared.scalar.Value.{Value}
 use Rattle.term_tree.specs.declared.scalar.Value.TheVariants.{Int}
 use Rattle.term_tree.specs.Arena.{has_parts_below}
 use Rattle.term_tree.specs.Constants.{constant_of, is_linear, is_divisor}
-use Rattle.term_tree.specs.Operators.{result_of, integer}
+use Rattle.term_tree.specs.Operators.{result_of, integer, same_truth}
 use Rattle.term_tree.specs.Operators.{truth as truth_of}
 use Rattle.term_tree.specs.Sorts.{operation_sort, has_sort, node_sort, have_sorts, sort_of}
 use Rattle.term_tree.specs.Subterms.{is_among, is_part, IsSubterm, inside}
@@ -35,7 +35,7 @@ use Rattle.linear_terms.specs.Text.{is_unit}
 use Rattle.linear_terms.specs.Linear.{Naming, variable_form, linear_of, told_linear, bit_of}
 use Rattle.linear_terms.specs.Formula.{formula}
 use Rattle.linear_terms.specs.Place.{integer_place, place_form, constant_value, quotient_place, remainder_place, truth_place}
-use Rattle.linear_terms.specs.Meeting.{number, asks, signed, IsWritten, MeetsVariables, MeetsBelow, HoldsEverywhere}
+use Rattle.linear_terms.specs.Meeting.{number, asks, IsWritten, MeetsVariables, MeetsBelow, HoldsEverywhere}
 use Rattle.linear_terms.proofs.PartLemmas.{linear_at, first_among, later_among}
 use Rattle.linear_terms.proofs.SortLemmas.{sort_if_is, has_sort_is, AreSorted, three_sorts, one_sort, two_sorts, four_sorts, value_sort}
 use Rattle.linear_terms.proofs.ConstantLemmas.{AreConstant, constant_is}
@@ -180,7 +180,7 @@ module _ (preds : List Declared) (nodes : List Node) (top : ℕ) (env : Environm
       linear_value preds nodes written.arena top written.plain written.linear env written.typed naming written.units point variables n meets id (sorted_there preds nodes id IntSort sorted) sub within sorted
 
   pub formula_is : (n : ℕ) → MeetsBelow nodes top n env naming point → (id : ℕ) → IsSubterm nodes top id → nat_lt id (n + 1) ≡ true → sort_of preds nodes id ≡ Some BoolSort → (sign : Bool)
-      → truth point (formula (sort_of preds nodes) naming nodes id sign) ≡ signed sign (truth_of (value_of nodes id env))
+      → truth point (formula (sort_of preds nodes) naming nodes id sign) ≡ same_truth sign (truth_of (value_of nodes id env))
   formula_is n meets id sub within sorted sign =
       formula_value preds nodes written.arena top written.plain written.linear env written.typed naming written.units written.bits point variables n meets id (sorted_there preds nodes id BoolSort sorted) sub within sorted sign
 

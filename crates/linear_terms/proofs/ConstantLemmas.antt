@@ -9,7 +9,7 @@ use Rattle.term_tree.specs.declared.node.OpKind.TheVariants.{Not, And, Or, Xor, 
 use Rattle.term_tree.specs.declared.scalar.Value.{Value}
 use Rattle.term_tree.specs.declared.scalar.Value.TheVariants.{Int}
 use Rattle.term_tree.specs.Arena.{IsArena}
-use Rattle.term_tree.specs.Constants.{constant_of, node_constant, is_arithmetic, applied, all_constant}
+use Rattle.term_tree.specs.Constants.{constant_of, node_constant, is_arithmetic, integer_result, all_constant}
 use Rattle.term_tree.specs.Operators.{result_of, integer}
 use Rattle.term_tree.specs.Subterms.{is_among, is_part, IsSubterm}
 use Rattle.term_tree.specs.Value.{Environment, Worth, node_worth, value_of}
@@ -62,8 +62,8 @@ is_integer Lt h vs = absurd (cc)
 is_integer Ge h vs = absurd (cc)
 is_integer Gt h vs = absurd (cc)
 
-applied_is : (op : OpKind) (all : Option (List ℤ)) (k : ℤ) → (b : Bool) → (if b then option_map (applied op) all else None) ≡ Some k
-    → (b ≡ true) × ((ns : List ℤ) × (all ≡ Some ns) × (applied op ns ≡ k))
+applied_is : (op : OpKind) (all : Option (List ℤ)) (k : ℤ) → (b : Bool) → (if b then option_map (integer_result op) all else None) ≡ Some k
+    → (b ≡ true) × ((ns : List ℤ) × (all ≡ Some ns) × (integer_result op ns ≡ k))
 applied_is op None k true h = absurd (cc)
 applied_is op (Some ns) k true h = (refl, (ns, refl, cc))
 applied_is op all k false h = absurd (cc)

@@ -16,7 +16,7 @@ use Rattle.term_tree.specs.declared.scalar.Value.{Value}
 use Rattle.term_tree.specs.declared.scalar.Value.TheVariants.{Int, Bool as Truth}
 use Rattle.term_tree.specs.Arena.{IsArena}
 use Rattle.term_tree.specs.Constants.{constant_of, is_linear}
-use Rattle.term_tree.specs.Operators.{result_of, integer, divides, exclusive, sum_of}
+use Rattle.term_tree.specs.Operators.{result_of, integer, divides, exclusive, sum_of, same_truth}
 use Rattle.term_tree.specs.Operators.{truth as truth_of, implied as is_implied}
 use Rattle.term_tree.specs.Sorts.{sort_if, operation_sort, has_sort, all_of, node_sort, sort_of, is_sorted, have_sorts, are_alike}
 use Rattle.term_tree.specs.Subterms.{is_among, is_part, is_plain, IsSubterm, IsPlain, EverySubterm, inside}
@@ -37,8 +37,8 @@ use Rattle.lin_atoms.specs.declared.form.Form.TheViews.{And, Or}
 use Rattle.lin_atoms.proofs.Public.{truth-And, truth-Or}
 use Rattle.linear_terms.specs.Text.{are_truths}
 use Rattle.linear_terms.specs.Linear.{Naming, variable_form, sum_form}
-use Rattle.linear_terms.specs.Formula.{Reading, le, complement_of, implied, choice, denied, comparison, operation, node_formula, told_formula, formula, reading_of, odd}
-use Rattle.linear_terms.specs.Meeting.{number, truth_number, signed, asks, IsTyped, MeetsVariables, MeetsBelow, NamesUnits, NamesBits}
+use Rattle.linear_terms.specs.Formula.{TermForms, le, complement_of, implication_forms, choice, denied, comparison, operation, node_formula, told_formula, formula, reading_of, odd}
+use Rattle.linear_terms.specs.Meeting.{number, truth_number, asks, IsTyped, MeetsVariables, MeetsBelow, NamesUnits, NamesBits}
 use Rattle.linear_terms.proofs.PartLemmas.{by_parts, formula_at, first_among, later_among, body_among}
 use Rattle.linear_terms.proofs.SortLemmas.{sort_if_is, has_sort_is, let_sort, AreSorted, value_sort, three_sorts, one_sort, two_sorts, four_sorts}
 use Rattle.linear_terms.proofs.LinearLemmas.{linear_value, sum_value, variable_value, length_map, number_is}
@@ -56,7 +56,7 @@ bit_is (Truth b) h = refl
 
 -- of each Bool term among these the formula holds as it should
 abbrev AreFormulas : List ℤ → (ℕ → Option Sort) → (ℕ → Value) → (ℕ → Bool → Form) → List TermId → Type 0
-AreFormulas point S W F args = (part : ℕ) → is_among part args ≡ true → S part ≡ Some BoolSort → (sign : Bool) → truth point (F part sign) ≡ signed sign (truth_of (W part))
+AreFormulas point S W F args = (part : ℕ) → is_among part args ≡ true → S part ≡ Some BoolSort → (sign : Bool) → truth point (F part sign) ≡ same_truth sign (truth_of (W part))
 
 -- of each term of the sort among these the form has the value
 abbrev AreForms : List ℤ → Sort → (ℕ → Option Sort) → (ℕ → Value) → (ℕ → Linear) → List TermId → Type 0
@@ -80,12 +80,12 @@ linked point s S W X (id ∷ ids) sorted forms all =
 
 formula_list : (point : List ℤ) (S : ℕ → Option Sort) (W : ℕ → Value) (F : ℕ → Bool → Form) (sign : Bool) (args : List TermId) → AreFormulas point S W F args
     → list_all (has_sort BoolSort) (sorts_of S args) ≡ true
-    → map (truth point) (map (λ (arg : TermId). F arg.0 sign) args) ≡ map (signed sign) (map truth_of (values_of W args))
+    → map (truth point) (map (λ (arg : TermId). F arg.0 sign) args) ≡ map (same_truth sign) (map truth_of (values_of W args))
 formula_list point S W F sign [] formulas all = refl
 formula_list point S W F sign (id ∷ ids) formulas all =
     let both = both_true (has_sort BoolSort (S id.0)) (list_all (has_sort BoolSort) (sorts_of S ids)) all in
     ap (λ (b : Bool). b ∷ map (truth point) (map (λ (arg : TermId). F arg.0 sign) ids)) (formulas id.0 (first_among id ids) (has_sort_is BoolSort (S id.0) both.0) sign)
-    ∙ ap (λ (bs : List Bool). signed sign (truth_of (W id.0)) ∷ bs) (formula_list point S W F sign ids (λ part has. formulas part (later_among part id ids has)) both.1)
+    ∙ ap (λ (bs : List Bool). same_truth sign (truth_of (W id.0)) ∷ bs) (formula_list point S W F sign ids (λ part has. formulas part (later_among part id ids has)) both.1)
 
 implied_any : (a b : Bool) → (not a || b) ≡ (not a || b)
 implied_any a b = refl
@@ -108,16 +108,16 @@ implied_is (b ∷ c ∷ bs) h = ap (λ (x : Bool). not b || x) (implied_is (c �
 
 implied_list : (point : List ℤ) (S : ℕ → Option Sort) (W : ℕ → Value) (F : ℕ → Bool → Form) (sign : Bool) (args : List TermId) → AreFormulas point S W F args
     → list_all (has_sort BoolSort) (sorts_of S args) ≡ true
-    → map (truth point) (implied F sign args) ≡ map (signed sign) (implied_bools (map truth_of (values_of W args)))
+    → map (truth point) (implication_forms F sign args) ≡ map (same_truth sign) (implied_bools (map truth_of (values_of W args)))
 unfolding implied_bools
 implied_list point S W F sign [] formulas all = refl
 implied_list point S W F sign (id ∷ []) formulas all =
     ap (λ (b : Bool). b ∷ []) (formulas id.0 (first_among id []) (has_sort_is BoolSort (S id.0) (both_true (has_sort BoolSort (S id.0)) true all).0) sign)
 implied_list point S W F sign (id ∷ next ∷ ids) formulas all =
     let both = both_true (has_sort BoolSort (S id.0)) (list_all (has_sort BoolSort) (sorts_of S (next ∷ ids))) all in
-    ap (λ (b : Bool). b ∷ map (truth point) (implied F sign (next ∷ ids)))
+    ap (λ (b : Bool). b ∷ map (truth point) (implication_forms F sign (next ∷ ids)))
     (formulas id.0 (first_among id (next ∷ ids)) (has_sort_is BoolSort (S id.0) both.0) (not sign) ∙ signed_not sign (truth_of (W id.0)))
-    ∙ ap (λ (bs : List Bool). signed sign (not (truth_of (W id.0))) ∷ bs)
+    ∙ ap (λ (bs : List Bool). same_truth sign (not (truth_of (W id.0))) ∷ bs)
     (implied_list point S W F sign (next ∷ ids) (λ part has. formulas part (later_among part id (next ∷ ids) has)) both.1)
 
 bit_list : (point : List ℤ) (S : ℕ → Option Sort) (W : ℕ → Value) (B : ℕ → Linear) (args : List TermId) → AreSorted S W args → AreForms point BoolSort S W B args
@@ -135,7 +135,7 @@ not_not : (b : Bool) → not (not b) ≡ b
 not_not true = refl
 not_not false = refl
 
-odd_truth : (point : List ℤ) (sign : Bool) (sum : Linear) (b : Bool) → not (is_multiple (pos 2) (worth_at point sum)) ≡ b → truth point (odd sign sum) ≡ signed sign b
+odd_truth : (point : List ℤ) (sign : Bool) (sum : Linear) (b : Bool) → not (is_multiple (pos 2) (worth_at point sum)) ≡ b → truth point (odd sign sum) ≡ same_truth sign b
 odd_truth point true sum b is = truth-Lit point (NDiv 2 sum) ∙ is
 odd_truth point false sum b is = truth-Lit point (Div 2 sum) ∙ sym (not_not (is_multiple (pos 2) (worth_at point sum))) ∙ ap not is
 
@@ -153,7 +153,7 @@ pick true false r = refl
 pick false s true = refl
 pick false s false = refl
 
-pick_signed : (sign c s r : Bool) → (if c then signed sign s else signed sign r) ≡ signed sign (if c then s else r)
+pick_signed : (sign c s r : Bool) → (if c then same_truth sign s else same_truth sign r) ≡ same_truth sign (if c then s else r)
 pick_signed sign true s r = refl
 pick_signed sign false s r = refl
 
@@ -162,8 +162,8 @@ pick_value true v w = refl
 pick_value false v w = refl
 
 choice_truth : (point : List ℤ) (sign : Bool) (bit : Linear) (yes_form no_form : Form) (c : Bool) (v w : Value) → worth_at point bit ≡ truth_number c
-    → truth point yes_form ≡ signed sign (truth_of v) → truth point no_form ≡ signed sign (truth_of w)
-    → truth point (And (Or (le bit ∷ yes_form ∷ []) ∷ Or (le (complement_of bit) ∷ no_form ∷ []) ∷ [])) ≡ signed sign (truth_of (if c then v else w))
+    → truth point yes_form ≡ same_truth sign (truth_of v) → truth point no_form ≡ same_truth sign (truth_of w)
+    → truth point (And (Or (le bit ∷ yes_form ∷ []) ∷ Or (le (complement_of bit) ∷ no_form ∷ []) ∷ [])) ≡ same_truth sign (truth_of (if c then v else w))
 choice_truth point sign bit yes_form no_form c v w is first second =
     truth-And point (Or (le bit ∷ yes_form ∷ []) ∷ Or (le (complement_of bit) ∷ no_form ∷ []) ∷ [])
     ∙ ap (λ (b : Bool). b && (truth point (Or (le (complement_of bit) ∷ no_form ∷ [])) && true)) (truth-Or point (le bit ∷ yes_form ∷ []))
@@ -171,10 +171,10 @@ choice_truth point sign bit yes_form no_form c v w is first second =
     ∙ ap (λ (b : Bool). (b || (truth point yes_form || false)) && ((truth point (le (complement_of bit)) || (truth point no_form || false)) && true)) (one_truth point false bit c is)
     ∙ ap (λ (b : Bool). (not c || (truth point yes_form || false)) && ((b || (truth point no_form || false)) && true)) (one_truth point true bit c is)
     ∙ ap (λ (b : Bool). (not c || (b || false)) && ((c || (truth point no_form || false)) && true)) first
-    ∙ ap (λ (b : Bool). (not c || (signed sign (truth_of v) || false)) && ((c || (b || false)) && true)) second
-    ∙ pick c (signed sign (truth_of v)) (signed sign (truth_of w))
+    ∙ ap (λ (b : Bool). (not c || (same_truth sign (truth_of v) || false)) && ((c || (b || false)) && true)) second
+    ∙ pick c (same_truth sign (truth_of v)) (same_truth sign (truth_of w))
     ∙ pick_signed sign c (truth_of v) (truth_of w)
-    ∙ ap (signed sign) (pick_value c v w)
+    ∙ ap (same_truth sign) (pick_value c v w)
 
 -- arguments of one sort
 alike_is : (o : Option Sort) (rest : List (Option Sort)) → are_alike (o ∷ rest) ≡ true → (s : Sort) × (o ≡ Some s) × (list_all (has_sort s) (o ∷ rest) ≡ true)
@@ -185,14 +185,14 @@ alike_is (Some BoolSort) rest h = (BoolSort, refl, h)
 equal_truth : (point : List ℤ) (sign : Bool) (s : Sort) (S : ℕ → Option Sort) (W : ℕ → Value) (B L : ℕ → Linear) (args : List TermId) → AreSorted S W args
     → AreForms point BoolSort S W B args → AreForms point IntSort S W L args → list_all (has_sort s) (sorts_of S args) ≡ true
     → truth point (comparison Equal (has_sort BoolSort (Some s)) sign (map (λ (arg : TermId). B arg.0) args) (map (λ (arg : TermId). L arg.0) args))
-    ≡ signed sign (truth_of (result_of Equal (values_of W args)))
+    ≡ same_truth sign (truth_of (result_of Equal (values_of W args)))
 equal_truth point sign IntSort S W B L args sorted bits linear all = integers_truth point sign Equal tt _ _ (linked point IntSort S W L args sorted linear all)
 equal_truth point sign BoolSort S W B L args sorted bits linear all = equal_bits_truth point sign _ _ (linked point BoolSort S W B args sorted bits all)
 
 distinct_truth : (point : List ℤ) (sign : Bool) (s : Sort) (S : ℕ → Option Sort) (W : ℕ → Value) (B L : ℕ → Linear) (args : List TermId) → AreSorted S W args
     → AreForms point BoolSort S W B args → AreForms point IntSort S W L args → list_all (has_sort s) (sorts_of S args) ≡ true
     → truth point (comparison Distinct (has_sort BoolSort (Some s)) sign (map (λ (arg : TermId). B arg.0) args) (map (λ (arg : TermId). L arg.0) args))
-    ≡ signed sign (truth_of (result_of Distinct (values_of W args)))
+    ≡ same_truth sign (truth_of (result_of Distinct (values_of W args)))
 distinct_truth point sign IntSort S W B L args sorted bits linear all = integers_truth point sign Distinct tt _ _ (linked point IntSort S W L args sorted linear all)
 distinct_truth point sign BoolSort S W B L args sorted bits linear all = distinct_bits_truth point sign _ _ (linked point BoolSort S W B args sorted bits all)
 
@@ -203,7 +203,7 @@ no_truths S (id ∷ ids) all =
 
 ordered_truth : (point : List ℤ) (sign : Bool) (op : OpKind) → IsRelation op → (S : ℕ → Option Sort) (W : ℕ → Value) (B L : ℕ → Linear) (args : List TermId) → AreSorted S W args
     → AreForms point IntSort S W L args → all_of IntSort 2 (sorts_of S args) ≡ true
-    → truth point (comparison op (are_truths S args) sign (map (λ (arg : TermId). B arg.0) args) (map (λ (arg : TermId). L arg.0) args)) ≡ signed sign (truth_of (result_of op (values_of W args)))
+    → truth point (comparison op (are_truths S args) sign (map (λ (arg : TermId). B arg.0) args) (map (λ (arg : TermId). L arg.0) args)) ≡ same_truth sign (truth_of (result_of op (values_of W args)))
 ordered_truth point sign op is S W B L args sorted linear h =
     let all = (both_true (nat_le 2 (length (sorts_of S args))) (list_all (has_sort IntSort) (sorts_of S args)) h).1 in
     ap (λ (t : Bool). truth point (comparison op t sign (map (λ (arg : TermId). B arg.0) args) (map (λ (arg : TermId). L arg.0) args))) (no_truths S args all)
@@ -213,7 +213,7 @@ abbrev AreBits : List ℤ → (ℕ → Option Sort) → (ℕ → Value) → (ℕ
 AreBits point S W B op args = (part : ℕ) → asks (Op op args) part ≡ true → S part ≡ Some BoolSort → worth_at point (B part) ≡ number (W part)
 
 not_truth : (point : List ℤ) (S : ℕ → Option Sort) (W : ℕ → Value) (F : ℕ → Bool → Form) (args : List TermId) → AreFormulas point S W F args
-    → have_sorts (BoolSort ∷ []) (sorts_of S args) ≡ true → (sign : Bool) → truth point (denied F sign args) ≡ signed sign (truth_of (result_of Not (values_of W args)))
+    → have_sorts (BoolSort ∷ []) (sorts_of S args) ≡ true → (sign : Bool) → truth point (denied F sign args) ≡ same_truth sign (truth_of (result_of Not (values_of W args)))
 not_truth point S W F [] formulas h sign = absurd (cc)
 not_truth point S W F (a ∷ []) formulas h sign =
     formulas a.0 (first_among a []) (has_sort_is BoolSort (S a.0) (both_true (has_sort BoolSort (S a.0)) true h).0) (not sign) ∙ signed_not sign (truth_of (W a.0))
@@ -221,7 +221,7 @@ not_truth point S W F (a ∷ b ∷ rest) formulas h sign = let e : false ≡ tru
 
 ite_truth : (point : List ℤ) (S : ℕ → Option Sort) (W : ℕ → Value) (B : ℕ → Linear) (F : ℕ → Bool → Form) (args : List TermId) → AreSorted S W args → AreFormulas point S W F args
     → AreBits point S W B Ite args → operation_sort Ite (sorts_of S args) ≡ Some BoolSort → (sign : Bool)
-    → truth point (choice F B sign args) ≡ signed sign (truth_of (result_of Ite (values_of W args)))
+    → truth point (choice F B sign args) ≡ same_truth sign (truth_of (result_of Ite (values_of W args)))
 ite_truth point S W B F [] sorted formulas bits h sign = absurd (cc)
 ite_truth point S W B F (a ∷ []) sorted formulas bits h sign = absurd (one_sort (S a.0) BoolSort h)
 ite_truth point S W B F (a ∷ b ∷ []) sorted formulas bits h sign = absurd (two_sorts (S a.0) (S b.0) BoolSort h)
@@ -235,7 +235,7 @@ ite_truth point S W B F (a ∷ b ∷ c ∷ d ∷ rest) sorted formulas bits h si
 
 eq_truth : (point : List ℤ) (S : ℕ → Option Sort) (W : ℕ → Value) (B L : ℕ → Linear) (args : List TermId) → AreSorted S W args
     → AreBits point S W B Equal args → AreForms point IntSort S W L args → operation_sort Equal (sorts_of S args) ≡ Some BoolSort → (sign : Bool)
-    → truth point (comparison Equal (are_truths S args) sign (map (λ (arg : TermId). B arg.0) args) (map (λ (arg : TermId). L arg.0) args)) ≡ signed sign (truth_of (result_of Equal (values_of W args)))
+    → truth point (comparison Equal (are_truths S args) sign (map (λ (arg : TermId). B arg.0) args) (map (λ (arg : TermId). L arg.0) args)) ≡ same_truth sign (truth_of (result_of Equal (values_of W args)))
 eq_truth point S W B L [] sorted bits linear h sign = absurd (cc)
 eq_truth point S W B L (a ∷ ids) sorted bits linear h sign =
     let given : List (Option Sort) = sorts_of S (a ∷ ids) in
@@ -245,7 +245,7 @@ eq_truth point S W B L (a ∷ ids) sorted bits linear h sign =
 
 ne_truth : (point : List ℤ) (S : ℕ → Option Sort) (W : ℕ → Value) (B L : ℕ → Linear) (args : List TermId) → AreSorted S W args
     → AreBits point S W B Distinct args → AreForms point IntSort S W L args → operation_sort Distinct (sorts_of S args) ≡ Some BoolSort → (sign : Bool)
-    → truth point (comparison Distinct (are_truths S args) sign (map (λ (arg : TermId). B arg.0) args) (map (λ (arg : TermId). L arg.0) args)) ≡ signed sign (truth_of (result_of Distinct (values_of W args)))
+    → truth point (comparison Distinct (are_truths S args) sign (map (λ (arg : TermId). B arg.0) args) (map (λ (arg : TermId). L arg.0) args)) ≡ same_truth sign (truth_of (result_of Distinct (values_of W args)))
 ne_truth point S W B L [] sorted bits linear h sign = absurd (cc)
 ne_truth point S W B L (a ∷ ids) sorted bits linear h sign =
     let given : List (Option Sort) = sorts_of S (a ∷ ids) in
@@ -273,20 +273,20 @@ many S W args h =
 orders_of : (S : ℕ → Option Sort) (args : List TermId) → sort_if (all_of IntSort 2 (sorts_of S args)) BoolSort ≡ Some BoolSort → all_of IntSort 2 (sorts_of S args) ≡ true
 orders_of S args h = (sort_if_is (all_of IntSort 2 (sorts_of S args)) BoolSort BoolSort h).0
 
-operation_truth : (point : List ℤ) (reading : Reading) (W : ℕ → Value) (F : ℕ → Bool → Form) (args : List TermId) → AreSorted reading.sorts W args → AreFormulas point reading.sorts W F args
+operation_truth : (point : List ℤ) (reading : TermForms) (W : ℕ → Value) (F : ℕ → Bool → Form) (args : List TermId) → AreSorted reading.sorts W args → AreFormulas point reading.sorts W F args
     → AreForms point IntSort reading.sorts W reading.linear args → (sign : Bool) → (op : OpKind) → AreBits point reading.sorts W reading.bit op args
-    → operation_sort op (sorts_of reading.sorts args) ≡ Some BoolSort → truth point (operation reading F op args sign) ≡ signed sign (truth_of (result_of op (values_of W args)))
+    → operation_sort op (sorts_of reading.sorts args) ≡ Some BoolSort → truth point (operation reading F op args sign) ≡ same_truth sign (truth_of (result_of op (values_of W args)))
 operation_truth point reading W F args sorted formulas linear sign Not bits h =
     not_truth point reading.sorts W F args formulas (sort_if_is (have_sorts (BoolSort ∷ []) (sorts_of reading.sorts args)) BoolSort BoolSort h).0 sign
 operation_truth point reading W F args sorted formulas linear sign AndOp bits h =
     joined_all point sign _ (map truth_of (values_of W args)) (formula_list point reading.sorts W F sign args formulas (truths_of reading.sorts 1 args h))
-    ∙ ap (signed sign) (sym (all_of-map truth_of (values_of W args)))
+    ∙ ap (same_truth sign) (sym (all_of-map truth_of (values_of W args)))
 operation_truth point reading W F args sorted formulas linear sign OrOp bits h =
     joined_any point sign _ (map truth_of (values_of W args)) (formula_list point reading.sorts W F sign args formulas (truths_of reading.sorts 1 args h))
-    ∙ ap (signed sign) (sym (any_of-map truth_of (values_of W args)))
+    ∙ ap (same_truth sign) (sym (any_of-map truth_of (values_of W args)))
 operation_truth point reading W F args sorted formulas linear sign Implies bits h =
     joined_any point sign _ (implied_bools (map truth_of (values_of W args))) (implied_list point reading.sorts W F sign args formulas (truths_of reading.sorts 2 args h))
-    ∙ ap (signed sign) (implied_is (map truth_of (values_of W args)) (many reading.sorts W args h))
+    ∙ ap (same_truth sign) (implied_is (map truth_of (values_of W args)) (many reading.sorts W args h))
 operation_truth point reading W F args sorted formulas linear sign Xor bits h =
     odd_truth point sign _ _ (xor_sum point reading.sorts W reading.bit args sorted bits (truths_of reading.sorts 2 args h))
 operation_truth point reading W F args sorted formulas linear sign Ite bits h = ite_truth point reading.sorts W reading.bit F args sorted formulas bits h sign
@@ -304,26 +304,26 @@ operation_truth point reading W F args sorted formulas linear sign Quotient bits
 operation_truth point reading W F args sorted formulas linear sign Remainder bits h = absurd (not_integer _ h)
 
 divisible_truth : (point : List ℤ) (by : ℤ) (lin : Linear) (n : ℤ) → int_lt (pos 0) by ≡ true → worth_at point lin ≡ n → (sign : Bool)
-    → truth point (if sign then Lit (Div (nat_abs by) lin) else Lit (NDiv (nat_abs by) lin)) ≡ signed sign (divides by n)
+    → truth point (if sign then Lit (Div (nat_abs by) lin) else Lit (NDiv (nat_abs by) lin)) ≡ same_truth sign (divides by n)
 divisible_truth point by lin n above is true = truth-Lit point (Div (nat_abs by) lin) ∙ ap (is_multiple (pos (nat_abs by))) is ∙ divides_is by n above
 divisible_truth point by lin n above is false = truth-Lit point (NDiv (nat_abs by) lin) ∙ ap (λ (x : ℤ). not (is_multiple (pos (nat_abs by)) x)) is ∙ ap not (divides_is by n above)
 
-sign_true : (point : List ℤ) (sign : Bool) → truth point (if sign then True else False) ≡ signed sign true
+sign_true : (point : List ℤ) (sign : Bool) → truth point (if sign then True else False) ≡ same_truth sign true
 sign_true point true = truth-True point
 sign_true point false = truth-False point
 
-sign_false : (point : List ℤ) (sign : Bool) → truth point (if sign then False else True) ≡ signed sign false
+sign_false : (point : List ℤ) (sign : Bool) → truth point (if sign then False else True) ≡ same_truth sign false
 sign_false point true = truth-False point
 sign_false point false = truth-True point
 
-node_truth : (preds : List Declared) (point : List ℤ) (reading : Reading) (naming : Naming) (C : ℕ → Option ℤ) (W : ℕ → Worth) (F : ℕ → Bool → Form) (env : Environment) (node : Node)
+node_truth : (preds : List Declared) (point : List ℤ) (reading : TermForms) (naming : Naming) (C : ℕ → Option ℤ) (W : ℕ → Worth) (F : ℕ → Bool → Form) (env : Environment) (node : Node)
     → is_plain node ≡ true → is_linear C node ≡ true
     → ((part : ℕ) → is_part part node ≡ true → (s : Sort) → reading.sorts part ≡ Some s → HasSort s (W part env))
-    → ((part : ℕ) → is_part part node ≡ true → reading.sorts part ≡ Some BoolSort → (sign : Bool) → truth point (F part sign) ≡ signed sign (truth_of (W part env)))
+    → ((part : ℕ) → is_part part node ≡ true → reading.sorts part ≡ Some BoolSort → (sign : Bool) → truth point (F part sign) ≡ same_truth sign (truth_of (W part env)))
     → ((part : ℕ) → is_part part node ≡ true → reading.sorts part ≡ Some IntSort → worth_at point (reading.linear part) ≡ number (W part env))
     → ((part : ℕ) → asks node part ≡ true → reading.sorts part ≡ Some BoolSort → worth_at point (reading.bit part) ≡ number (W part env))
     → ((binder : ℕ) (sort : Sort) → node ≡ Var binder sort → HasSort sort (env binder) × (variable_at point (naming.own binder) ≡ number (env binder)))
-    → node_sort preds reading.sorts node ≡ Some BoolSort → (sign : Bool) → truth point (node_formula reading naming F node sign) ≡ signed sign (truth_of (node_worth W node env))
+    → node_sort preds reading.sorts node ≡ Some BoolSort → (sign : Bool) → truth point (node_formula reading naming F node sign) ≡ same_truth sign (truth_of (node_worth W node env))
 node_truth preds point reading naming C W F env (Num n) plain is sorted formulas linear bits variables h sign = absurd (cc)
 node_truth preds point reading naming C W F env TrueTerm plain is sorted formulas linear bits variables h sign = sign_true point sign
 node_truth preds point reading naming C W F env FalseTerm plain is sorted formulas linear bits variables h sign = sign_false point sign
@@ -366,12 +366,12 @@ pub formula_value : (preds : List Declared) (nodes : List Node) → IsArena node
     → (env : Environment) → IsTyped nodes top env → (naming : Naming) → NamesUnits (sort_of preds nodes) nodes top naming → NamesBits (sort_of preds nodes) nodes top naming
     → (point : List ℤ) → MeetsVariables nodes top env naming point → (n : ℕ) → MeetsBelow nodes top n env naming point
     → (id : ℕ) → id < length nodes → IsSubterm nodes top id → nat_lt id (n + 1) ≡ true → sort_of preds nodes id ≡ Some BoolSort → (sign : Bool)
-    → truth point (formula (sort_of preds nodes) naming nodes id sign) ≡ signed sign (truth_of (value_of nodes id env))
+    → truth point (formula (sort_of preds nodes) naming nodes id sign) ≡ same_truth sign (truth_of (value_of nodes id env))
 formula_value preds nodes arena top plain linear env typed naming units named point variables n meets =
     by_parts nodes arena top (λ id. nat_lt id (n + 1) ≡ true → sort_of preds nodes id ≡ Some BoolSort → (sign : Bool)
-    → truth point (formula (sort_of preds nodes) naming nodes id sign) ≡ signed sign (truth_of (value_of nodes id env)))
+    → truth point (formula (sort_of preds nodes) naming nodes id sign) ≡ same_truth sign (truth_of (value_of nodes id env)))
     (λ id node sub is below parts within sorted sign.
-    let reading : Reading = reading_of (sort_of preds nodes) naming nodes in
+    let reading : TermForms = reading_of (sort_of preds nodes) naming nodes in
     let there : (part : ℕ) → is_part part node ≡ true → part < id = λ part has. part_below part id node below has in
     let here : id < length nodes = slice_get_within nodes id node is in
     let below_n : (part : ℕ) → is_part part node ≡ true → nat_lt part n ≡ true = λ part has. lt_of part n (omega (arith, there part has, from_lt id (n + 1) within)) in
@@ -387,4 +387,4 @@ formula_value preds nodes arena top plain linear env typed naming units named po
     (λ partner found open_bit. named id part node partner sub is found asked at open_bit))
     (λ binder sort same. (typed id binder sort sub (is ∙ ap (λ (m : Node). Some m) same), variables id binder sort sub (is ∙ ap (λ (m : Node). Some m) same)))
     (sym (sort_at preds nodes id node is below) ∙ sorted) sign
-    ∙ ap (λ (v : Value). signed sign (truth_of v)) (sym (value_at nodes id node env is below)))
+    ∙ ap (λ (v : Value). same_truth sign (truth_of v)) (sym (value_at nodes id node env is below)))

@@ -19,8 +19,8 @@ use Rattle.lin_atoms.specs.declared.form.Form.TheViews.{roll-Form}
 use Rattle.lin_atoms.specs.declared.form.Form.TheFolds.{fold-roll-Form}
 use Rattle.lin_atoms.proofs.Public.{truth-And, truth-Or}
 use Rattle.lin_atoms.proofs.Public.{value_at-negated}
-use Rattle.linear_terms.specs.Formula.{le, eq, one_more, complement_of, all_of, any_of, joined, neighbours, pairs, is_one}
-use Rattle.linear_terms.specs.Meeting.{signed, truth_number}
+use Rattle.linear_terms.specs.Formula.{le, eq, one_more, complement_of, conjunction_of, disjunction_of, joined, neighbours, pairs, is_one}
+use Rattle.linear_terms.specs.Meeting.{truth_number}
 
 pub truth-Lit : (point : List ℤ) (lit : Literal) → truth point (Lit lit) ≡ lit_truth point lit
 unfolding roll-Form roll
@@ -42,12 +42,12 @@ one_any : (b : Bool) → b ≡ (b || false)
 one_any true = refl
 one_any false = refl
 
-pub truth-all : (point : List ℤ) (forms : List Form) → truth point (all_of forms) ≡ list_all (truth point) forms
+pub truth-all : (point : List ℤ) (forms : List Form) → truth point (conjunction_of forms) ≡ list_all (truth point) forms
 truth-all point [] = truth-And point []
 truth-all point (form ∷ []) = one_all (truth point form)
 truth-all point (form ∷ next ∷ forms) = truth-And point (form ∷ next ∷ forms)
 
-pub truth-any : (point : List ℤ) (forms : List Form) → truth point (any_of forms) ≡ list_any (truth point) forms
+pub truth-any : (point : List ℤ) (forms : List Form) → truth point (disjunction_of forms) ≡ list_any (truth point) forms
 truth-any point [] = truth-Or point []
 truth-any point (form ∷ []) = one_any (truth point form)
 truth-any point (form ∷ next ∷ forms) = truth-Or point (form ∷ next ∷ forms)
@@ -70,7 +70,7 @@ unfolding any_true
 any_of-map f [] = refl
 any_of-map f (x ∷ xs) = ap (λ (b : Bool). f x || b) (any_of-map f xs)
 
-pub same_bools : (bs : List Bool) → map (signed true) bs ≡ bs
+pub same_bools : (bs : List Bool) → map (same_truth true) bs ≡ bs
 same_bools [] = refl
 same_bools (b ∷ bs) = ap (λ (xs : List Bool). b ∷ xs) (same_bools bs)
 
@@ -82,29 +82,29 @@ not_or : (b c : Bool) → (not b && not c) ≡ not (b || c)
 not_or true c = refl
 not_or false c = refl
 
-any_not : (bs : List Bool) → any_true (map (signed false) bs) ≡ not (all_true bs)
+any_not : (bs : List Bool) → any_true (map (same_truth false) bs) ≡ not (all_true bs)
 unfolding any_true all_true
 any_not [] = refl
 any_not (b ∷ bs) = ap (λ (x : Bool). not b || x) (any_not bs) ∙ not_and b (all_true bs)
 
-all_not : (bs : List Bool) → all_true (map (signed false) bs) ≡ not (any_true bs)
+all_not : (bs : List Bool) → all_true (map (same_truth false) bs) ≡ not (any_true bs)
 unfolding any_true all_true
 all_not [] = refl
 all_not (b ∷ bs) = ap (λ (x : Bool). not b && x) (all_not bs) ∙ not_or b (any_true bs)
 
 -- a conjunction, or the disjunction of the denials
-pub joined_all : (point : List ℤ) (sign : Bool) (forms : List Form) (bs : List Bool) → map (truth point) forms ≡ map (signed sign) bs
-    → truth point (joined sign forms) ≡ signed sign (all_true bs)
+pub joined_all : (point : List ℤ) (sign : Bool) (forms : List Form) (bs : List Bool) → map (truth point) forms ≡ map (same_truth sign) bs
+    → truth point (joined sign forms) ≡ same_truth sign (all_true bs)
 joined_all point true forms bs each = truth-all point forms ∙ all_of-map (truth point) forms ∙ ap all_true (each ∙ same_bools bs)
 joined_all point false forms bs each = truth-any point forms ∙ any_of-map (truth point) forms ∙ ap any_true each ∙ any_not bs
 
 -- a disjunction, or the conjunction of the denials
-pub joined_any : (point : List ℤ) (sign : Bool) (forms : List Form) (bs : List Bool) → map (truth point) forms ≡ map (signed sign) bs
-    → truth point (joined (not sign) forms) ≡ signed sign (any_true bs)
+pub joined_any : (point : List ℤ) (sign : Bool) (forms : List Form) (bs : List Bool) → map (truth point) forms ≡ map (same_truth sign) bs
+    → truth point (joined (not sign) forms) ≡ same_truth sign (any_true bs)
 joined_any point true forms bs each = truth-any point forms ∙ any_of-map (truth point) forms ∙ ap any_true (each ∙ same_bools bs)
 joined_any point false forms bs each = truth-all point forms ∙ all_of-map (truth point) forms ∙ ap all_true each ∙ all_not bs
 
-pub signed_not : (sign b : Bool) → signed (not sign) b ≡ signed sign (not b)
+pub signed_not : (sign b : Bool) → same_truth (not sign) b ≡ same_truth sign (not b)
 signed_not true b = refl
 signed_not false true = refl
 signed_not false false = refl
@@ -149,9 +149,9 @@ Linked R [] (v ∷ vs) = ⊥
 Linked R (f ∷ fs) [] = ⊥
 
 module _ (point : List ℤ) (sign : Bool) (R : Linear → Value → Type 0) (G : Linear → Linear → Form) (r : Value → Value → Bool)
-    (related_is : (f g : Linear) (v w : Value) → R f v → R g w → truth point (G f g) ≡ signed sign (r v w)) where
+    (related_is : (f g : Linear) (v w : Value) → R f v → R g w → truth point (G f g) ≡ same_truth sign (r v w)) where
   pub neighbours_truth : (fs : List Linear) (vs : List Value) → Linked R fs vs
-      → map (truth point) (map (λ (p : Linear × Linear). G p.0 p.1) (neighbours fs)) ≡ map (signed sign) (map (λ (p : Value × Value). r p.0 p.1) (neighbours vs))
+      → map (truth point) (map (λ (p : Linear × Linear). G p.0 p.1) (neighbours fs)) ≡ map (same_truth sign) (map (λ (p : Value × Value). r p.0 p.1) (neighbours vs))
   neighbours_truth [] [] linked = refl
   neighbours_truth [] (v ∷ vs) linked = absurd linked
   neighbours_truth (f ∷ []) [] linked = absurd linked
@@ -161,19 +161,19 @@ module _ (point : List ℤ) (sign : Bool) (R : Linear → Value → Type 0) (G :
   neighbours_truth (f ∷ g ∷ fs) (v ∷ []) linked = absurd linked.1
   neighbours_truth (f ∷ g ∷ fs) (v ∷ w ∷ vs) linked =
       ap (λ (b : Bool). b ∷ map (truth point) (map (λ (p : Linear × Linear). G p.0 p.1) (neighbours (g ∷ fs)))) (related_is f g v w linked.0 linked.1.0)
-      ∙ ap (λ (bs : List Bool). signed sign (r v w) ∷ bs) (neighbours_truth (g ∷ fs) (w ∷ vs) linked.1)
+      ∙ ap (λ (bs : List Bool). same_truth sign (r v w) ∷ bs) (neighbours_truth (g ∷ fs) (w ∷ vs) linked.1)
 
   with_first : (f : Linear) (v : Value) → R f v → (fs : List Linear) (vs : List Value) → Linked R fs vs
-      → map (truth point) (map (λ (p : Linear × Linear). G p.0 p.1) (map (λ g. (f, g)) fs)) ≡ map (signed sign) (map (λ (p : Value × Value). r p.0 p.1) (map (λ w. (v, w)) vs))
+      → map (truth point) (map (λ (p : Linear × Linear). G p.0 p.1) (map (λ g. (f, g)) fs)) ≡ map (same_truth sign) (map (λ (p : Value × Value). r p.0 p.1) (map (λ w. (v, w)) vs))
   with_first f v is [] [] linked = refl
   with_first f v is [] (w ∷ vs) linked = absurd linked
   with_first f v is (g ∷ fs) [] linked = absurd linked
   with_first f v is (g ∷ fs) (w ∷ vs) linked =
       ap (λ (b : Bool). b ∷ map (truth point) (map (λ (p : Linear × Linear). G p.0 p.1) (map (λ h. (f, h)) fs))) (related_is f g v w is linked.0)
-      ∙ ap (λ (bs : List Bool). signed sign (r v w) ∷ bs) (with_first f v is fs vs linked.1)
+      ∙ ap (λ (bs : List Bool). same_truth sign (r v w) ∷ bs) (with_first f v is fs vs linked.1)
 
   pub pairs_truth : (fs : List Linear) (vs : List Value) → Linked R fs vs
-      → map (truth point) (map (λ (p : Linear × Linear). G p.0 p.1) (pairs fs)) ≡ map (signed sign) (map (λ (p : Value × Value). r p.0 p.1) (pairs vs))
+      → map (truth point) (map (λ (p : Linear × Linear). G p.0 p.1) (pairs fs)) ≡ map (same_truth sign) (map (λ (p : Value × Value). r p.0 p.1) (pairs vs))
   pairs_truth [] [] linked = refl
   pairs_truth [] (v ∷ vs) linked = absurd linked
   pairs_truth (f ∷ fs) [] linked = absurd linked
@@ -183,9 +183,9 @@ module _ (point : List ℤ) (sign : Bool) (R : Linear → Value → Type 0) (G :
       ap (map (truth point)) (map-append F (map (λ g. (f, g)) fs) (pairs fs))
       ∙ map-append (truth point) (map F (map (λ g. (f, g)) fs)) (map F (pairs fs))
       ∙ ap (λ (bs : List Bool). bs ++ map (truth point) (map F (pairs fs))) (with_first f v linked.0 fs vs linked.1)
-      ∙ ap (λ (bs : List Bool). map (signed sign) (map q (map (λ w. (v, w)) vs)) ++ bs) (pairs_truth fs vs linked.1)
-      ∙ sym (map-append (signed sign) (map q (map (λ w. (v, w)) vs)) (map q (pairs vs)))
-      ∙ ap (map (signed sign)) (sym (map-append q (map (λ w. (v, w)) vs) (pairs vs)))
+      ∙ ap (λ (bs : List Bool). map (same_truth sign) (map q (map (λ w. (v, w)) vs)) ++ bs) (pairs_truth fs vs linked.1)
+      ∙ sym (map-append (same_truth sign) (map q (map (λ w. (v, w)) vs)) (map q (pairs vs)))
+      ∙ ap (map (same_truth sign)) (sym (map-append q (map (λ w. (v, w)) vs) (pairs vs)))
 
 -- literals over one form
 pub one_minus_value : (point : List ℤ) (lin : Linear) → worth_at point (complement_of lin) ≡ pos 1 -ℤ worth_at point lin
@@ -207,7 +207,7 @@ pub more_truth : (point : List ℤ) (lin : Linear) (n : ℤ) → worth_at point 
 more_truth point lin n is = le_truth point (one_more lin) (n +ℤ pos 1) (one_more_value point lin ∙ ap (λ (x : ℤ). x +ℤ pos 1) is)
 
 -- a bit is 1, or 0
-pub one_truth : (point : List ℤ) (sign : Bool) (lin : Linear) (b : Bool) → worth_at point lin ≡ truth_number b → truth point (is_one sign lin) ≡ signed sign b
+pub one_truth : (point : List ℤ) (sign : Bool) (lin : Linear) (b : Bool) → worth_at point lin ≡ truth_number b → truth point (is_one sign lin) ≡ same_truth sign b
 one_truth point true lin true is = minus_truth point lin (pos 1) is
 one_truth point true lin false is = minus_truth point lin (pos 0) is
 one_truth point false lin true is = le_truth point lin (pos 1) is

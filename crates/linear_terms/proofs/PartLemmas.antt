@@ -16,7 +16,7 @@ use Rattle.lin_atoms.specs.Linear.{Linear}
 use Rattle.lin_atoms.specs.declared.form.Form.{Form}
 use Rattle.lin_atoms.specs.declared.form.Form.TheVariants.{False as Wrong}
 use Rattle.linear_terms.specs.Linear.{Naming, zero_form, auxiliary_form, operation_form, node_linear, node_bit, bit_form, told_linear, told_bit}
-use Rattle.linear_terms.specs.Formula.{Reading, node_formula, operation, joined, implied, choice, denied, told_formula}
+use Rattle.linear_terms.specs.Formula.{TermForms, node_formula, operation, joined, implication_forms, choice, denied, told_formula}
 
 -- the two tell the same below n
 abbrev Agree : (A X : Type 0) → (ℕ → A → X) → (ℕ → A → X) → ℕ → Type 0
@@ -101,13 +101,13 @@ same_sign p q n (id ∷ ids) sign same below =
     ∙ ap (λ (xs : List Form). q id.0 sign ∷ xs) (same_sign p q n ids sign same both.1)
 
 same_implied : (p q : ℕ → Bool → Form) (n : ℕ) (ids : List TermId) (sign : Bool) → Agree Bool Form p q n → list_all (is_below n) ids ≡ true
-    → implied p sign ids ≡ implied q sign ids
+    → implication_forms p sign ids ≡ implication_forms q sign ids
 same_implied p q n [] sign same below = refl
 same_implied p q n (id ∷ []) sign same below =
     ap (λ (x : Form). x ∷ []) (same id.0 (below_from id.0 n (both_true (nat_lt id.0 n) true below).0) sign)
 same_implied p q n (id ∷ next ∷ ids) sign same below =
     let both = both_true (nat_lt id.0 n) (list_all (is_below n) (next ∷ ids)) below in
-    ap (λ (x : Form). x ∷ implied p sign (next ∷ ids)) (same id.0 (below_from id.0 n both.0) (not sign))
+    ap (λ (x : Form). x ∷ implication_forms p sign (next ∷ ids)) (same id.0 (below_from id.0 n both.0) (not sign))
     ∙ ap (λ (xs : List Form). q id.0 (not sign) ∷ xs) (same_implied p q n (next ∷ ids) sign same both.1)
 
 same_denied : (p q : ℕ → Bool → Form) (n : ℕ) (ids : List TermId) (sign : Bool) → Agree Bool Form p q n → list_all (is_below n) ids ≡ true
@@ -128,7 +128,7 @@ same_choice p q bit n (c ∷ s ∷ r ∷ []) sign same below =
     cc
 same_choice p q bit n (c ∷ s ∷ r ∷ x ∷ ids) sign same below = refl
 
-operations_rest : (reading : Reading) (p q : ℕ → Bool → Form) (n : ℕ) → Agree Bool Form p q n → (args : List TermId) (sign : Bool) → list_all (is_below n) args ≡ true
+operations_rest : (reading : TermForms) (p q : ℕ → Bool → Form) (n : ℕ) → Agree Bool Form p q n → (args : List TermId) (sign : Bool) → list_all (is_below n) args ≡ true
     → (op : _) → operation reading p op args sign ≡ operation reading q op args sign
 operations_rest reading p q n same args sign below Not = same_denied p q n args sign same below
 operations_rest reading p q n same args sign below AndOp = ap (joined sign) (same_sign p q n args sign same below)
@@ -137,7 +137,7 @@ operations_rest reading p q n same args sign below Implies = ap (joined (not sig
 operations_rest reading p q n same args sign below Ite = same_choice p q reading.bit n args sign same below
 operations_rest reading p q n same args sign below _ = refl
 
-formulas_rest : (reading : Reading) (naming : Naming) → RestsOnParts Bool Form (node_formula reading naming)
+formulas_rest : (reading : TermForms) (naming : Naming) → RestsOnParts Bool Form (node_formula reading naming)
 formulas_rest reading naming p q n (Op op args) sign same below = operations_rest reading p q n same args sign below op
 formulas_rest reading naming p q n (Let bound body) sign same below =
     let both = both_true (list_all (is_below n) bound) (nat_lt body.0 n) below in same body.0 (below_from body.0 n both.1) sign
@@ -160,6 +160,6 @@ pub bit_at : (naming : Naming) (nodes : List Node) (id own : ℕ) (node : Node) 
     → told_bit naming nodes id own ≡ node_bit naming (told_bit naming nodes) node own
 bit_at naming nodes id own node is below = told_at_each ℕ Linear (λ own. zero_form) (node_bit naming) (bits_rest naming) nodes id node own is below
 
-pub formula_at : (reading : Reading) (naming : Naming) (nodes : List Node) (id : ℕ) (sign : Bool) (node : Node) → slice_get nodes id ≡ Some node → has_parts_below id node ≡ true
+pub formula_at : (reading : TermForms) (naming : Naming) (nodes : List Node) (id : ℕ) (sign : Bool) (node : Node) → slice_get nodes id ≡ Some node → has_parts_below id node ≡ true
     → told_formula reading naming nodes id sign ≡ node_formula reading naming (told_formula reading naming nodes) node sign
 formula_at reading naming nodes id sign node is below = told_at_each Bool Form (λ sign. Wrong) (node_formula reading naming) (formulas_rest reading naming) nodes id node sign is below

@@ -8,7 +8,7 @@ use Rattle.term_tree.specs.Constants.{constants_among}
 use Rattle.term_tree.specs.Operators.{product_of}
 use Rattle.lin_atoms.specs.Linear.{Linear, value_at}
 use Rattle.lin_atoms.proofs.Public.{value_at-scaled}
-use Rattle.linear_terms.specs.Linear.{varying, multiple_of, product_form}
+use Rattle.linear_terms.specs.Linear.{varying_form, multiple_of, product_form}
 
 prod : List ℤ → ℤ
 prod [] = pos 1
@@ -52,7 +52,7 @@ all_constant_prod point (Some k ∷ ks) (f ∷ fs) (n ∷ ns) h all =
     ap (λ (x : ℤ). x *ℤ prod (constants_among ks)) (sym h.1) ∙ ap (λ (x : ℤ). n *ℤ x) (all_constant_prod point ks fs ns h.2 (omega arith))
 
 varied_prod : (point : List ℤ) (ks : List (Option ℤ)) (fs : List Linear) (ns : List ℤ) (f : Linear) → HaveValues point ks fs ns → length ks ≤ length (constants_among ks) + 1
-    → varying ks fs ≡ Some f → prod (constants_among ks) *ℤ value_at point f ≡ prod ns
+    → varying_form ks fs ≡ Some f → prod (constants_among ks) *ℤ value_at point f ≡ prod ns
 unfolding prod
 varied_prod point [] fs ns f h one is = absurd (cc)
 varied_prod point (k ∷ ks) [] ns f h one is = absurd (cc)
@@ -66,7 +66,7 @@ varied_prod point (Some k ∷ ks) (g ∷ fs) (n ∷ ns) f h one is =
     *ℤ_assoc k (prod (constants_among ks)) (value_at point f) ∙ ap (λ (x : ℤ). x *ℤ (prod (constants_among ks) *ℤ value_at point f)) (sym h.1)
     ∙ ap (λ (x : ℤ). n *ℤ x) (varied_prod point ks fs ns f h.2 (omega arith) is)
 
-none_varied : (point : List ℤ) (ks : List (Option ℤ)) (fs : List Linear) (ns : List ℤ) → HaveValues point ks fs ns → varying ks fs ≡ None → length ks ≤ length (constants_among ks)
+none_varied : (point : List ℤ) (ks : List (Option ℤ)) (fs : List Linear) (ns : List ℤ) → HaveValues point ks fs ns → varying_form ks fs ≡ None → length ks ≤ length (constants_among ks)
 none_varied point [] fs ns h is = omega arith
 none_varied point (None ∷ ks) [] ns h is = absurd h
 none_varied point (None ∷ ks) (f ∷ fs) ns h is = absurd (cc)
@@ -75,7 +75,7 @@ none_varied point (Some k ∷ ks) (f ∷ fs) [] h is = absurd h
 none_varied point (Some k ∷ ks) (f ∷ fs) (n ∷ ns) h is = omega (arith, none_varied point ks fs ns h.2 is)
 
 multiple_value : (point : List ℤ) (ks : List (Option ℤ)) (fs : List Linear) (ns : List ℤ) → HaveValues point ks fs ns → 1 ≤ length ks
-    → length ks ≤ length (constants_among ks) + 1 → (found : Option Linear) → varying ks fs ≡ found → value_at point (multiple_of found ks fs) ≡ prod ns
+    → length ks ≤ length (constants_among ks) + 1 → (found : Option Linear) → varying_form ks fs ≡ found → value_at point (multiple_of found ks fs) ≡ prod ns
 unfolding prod
 multiple_value point ks fs ns h some one (Some f) is =
     value_at-scaled point (product_of (constants_among ks)) f ∙ ap (λ (x : ℤ). x *ℤ value_at point f) (is_prod (constants_among ks)) ∙ varied_prod point ks fs ns f h one is
@@ -93,4 +93,4 @@ multiple_value point (Some k ∷ ks) (f ∷ fs) (n ∷ ns) h some one None is =
 -- the product has the product of the values
 pub product_value : (point : List ℤ) (ks : List (Option ℤ)) (fs : List Linear) (ns : List ℤ) → HaveValues point ks fs ns → 1 ≤ length ks
     → length ks ≤ length (constants_among ks) + 1 → value_at point (product_form ks fs) ≡ product_of ns
-product_value point ks fs ns h some one = multiple_value point ks fs ns h some one (varying ks fs) refl ∙ sym (is_prod ns)
+product_value point ks fs ns h some one = multiple_value point ks fs ns h some one (varying_form ks fs) refl ∙ sym (is_prod ns)

@@ -8,6 +8,7 @@ use Rattle.term_tree.specs.declared.node.OpKind.TheVariants.{Not, And as AndOp, 
 use Rattle.term_tree.specs.declared.node.Node.{Node}
 use Rattle.term_tree.specs.declared.node.Node.TheVariants.{True as TrueTerm, False as FalseTerm, Var, LetVar, Op, Divisible, Let}
 use Rattle.term_tree.specs.Fold.{told_of}
+use Rattle.term_tree.specs.Operators.{is_distinct}
 use Rattle.lin_atoms.specs.Linear.{Linear}
 use Rattle.lin_atoms.specs.Algebra.{added, negated, plus}
 use Rattle.lin_atoms.specs.declared.lit.Lit.TheVariants.{Le, Eq, Div, NDiv}
@@ -31,19 +32,19 @@ abbrev pub complement_of : Linear → Linear
 complement_of lin = plus (negated lin) (pos 1)
 
 -- a conjunction or a disjunction of one part is that part
-abbrev pub all_of : List Form → Form
-all_of [] = And []
-all_of (form ∷ []) = form
-all_of (form ∷ next ∷ forms) = And (form ∷ next ∷ forms)
+abbrev pub conjunction_of : List Form → Form
+conjunction_of [] = And []
+conjunction_of (form ∷ []) = form
+conjunction_of (form ∷ next ∷ forms) = And (form ∷ next ∷ forms)
 
-abbrev pub any_of : List Form → Form
-any_of [] = Or []
-any_of (form ∷ []) = form
-any_of (form ∷ next ∷ forms) = Or (form ∷ next ∷ forms)
+abbrev pub disjunction_of : List Form → Form
+disjunction_of [] = Or []
+disjunction_of (form ∷ []) = form
+disjunction_of (form ∷ next ∷ forms) = Or (form ∷ next ∷ forms)
 
 abbrev pub joined : Bool → List Form → Form
-joined true forms = all_of forms
-joined false forms = any_of forms
+joined true forms = conjunction_of forms
+joined false forms = disjunction_of forms
 
 abbrev pub neighbours : {X : Type 0} → List X → List (X × X)
 neighbours [] = []
@@ -84,20 +85,16 @@ abbrev pub sides : {X : Type 0} → OpKind → List X → List (X × X)
 sides Distinct xs = pairs xs
 sides _ xs = neighbours xs
 
-abbrev pub is_pairwise : OpKind → Bool
-is_pairwise Distinct = true
-is_pairwise _ = false
-
 -- a relation of Bool terms by their bits, or of integer terms by their differences
 abbrev pub comparison : OpKind → Bool → Bool → List Linear → List Linear → Form
-comparison op true sign bits forms = joined sign (map (λ p. same_bits (if is_pairwise op then not sign else sign) p.0 p.1) (sides op bits))
+comparison op true sign bits forms = joined sign (map (λ p. same_bits (if is_distinct op then not sign else sign) p.0 p.1) (sides op bits))
 comparison op false sign bits forms = joined sign (map (λ p. related op sign (less p.0 p.1)) (sides op forms))
 
 -- an implication: not the parts before the last, or the last
-abbrev pub implied : (ℕ → Bool → Form) → Bool → List TermId → List Form
-implied part sign [] = []
-implied part sign (id ∷ []) = part id.0 sign ∷ []
-implied part sign (id ∷ next ∷ ids) = part id.0 (not sign) ∷ implied part sign (next ∷ ids)
+abbrev pub implication_forms : (ℕ → Bool → Form) → Bool → List TermId → List Form
+implication_forms part sign [] = []
+implication_forms part sign (id ∷ []) = part id.0 sign ∷ []
+implication_forms part sign (id ∷ next ∷ ids) = part id.0 (not sign) ∷ implication_forms part sign (next ∷ ids)
 
 abbrev pub denied : (ℕ → Bool → Form) → Bool → List TermId → Form
 denied part sign [] = False
@@ -120,22 +117,22 @@ is_one true bit = le (complement_of bit)
 is_one false bit = le bit
 
 -- what the bits, the linear forms and the sorts of terms are
-pub record Reading : Type 0 where
+pub record TermForms : Type 0 where
   pub sorts : Sorting
   pub bit : ℕ → Linear
   pub linear : ℕ → Linear
 
-abbrev pub operation : Reading → (ℕ → Bool → Form) → OpKind → List TermId → Bool → Form
+abbrev pub operation : TermForms → (ℕ → Bool → Form) → OpKind → List TermId → Bool → Form
 operation reading part Not args sign = denied part sign args
 operation reading part AndOp args sign = joined sign (map (λ arg. part arg.0 sign) args)
 operation reading part OrOp args sign = joined (not sign) (map (λ arg. part arg.0 sign) args)
-operation reading part Implies args sign = joined (not sign) (implied part sign args)
+operation reading part Implies args sign = joined (not sign) (implication_forms part sign args)
 operation reading part Xor args sign = odd sign (sum_form (map (λ arg. reading.bit arg.0) args))
 operation reading part Ite args sign = choice part reading.bit sign args
 operation reading part op args sign =
     comparison op (are_truths reading.sorts args) sign (map (λ arg. reading.bit arg.0) args) (map (λ arg. reading.linear arg.0) args)
 
-abbrev pub node_formula : Reading → Naming → (ℕ → Bool → Form) → Node → Bool → Form
+abbrev pub node_formula : TermForms → Naming → (ℕ → Bool → Form) → Node → Bool → Form
 node_formula reading naming part TrueTerm sign = if sign then True else False
 node_formula reading naming part FalseTerm sign = if sign then False else True
 node_formula reading naming part (Var binder sort) sign = is_one sign (variable_form (naming.own binder))
@@ -145,10 +142,10 @@ node_formula reading naming part (Divisible by arg) sign = if sign then Lit (Div
 node_formula reading naming part (Let bound body) sign = part body.0 sign
 node_formula reading naming part _ sign = False
 
-abbrev pub reading_of : Sorting → Naming → List Node → Reading
+abbrev pub reading_of : Sorting → Naming → List Node → TermForms
 reading_of sorts naming nodes = record { sorts = sorts; bit = bit_of naming nodes; linear = linear_of naming nodes }
 
-abbrev pub told_formula : Reading → Naming → List Node → ℕ → Bool → Form
+abbrev pub told_formula : TermForms → Naming → List Node → ℕ → Bool → Form
 told_formula reading naming = told_of (λ sign. False) (node_formula reading naming)
 
 -- where the Bool term is true, or where it is false

@@ -52,11 +52,11 @@ difference_form (a ∷ []) = negated a
 difference_form (a ∷ b ∷ forms) = sum_form (a ∷ map negated (b ∷ forms))
 
 -- the form of the first factor that isn't constant
-abbrev pub varying : List (Option ℤ) → List Linear → Option Linear
-varying [] forms = None
-varying (constant ∷ constants) [] = None
-varying (None ∷ constants) (form ∷ forms) = Some form
-varying (Some n ∷ constants) (form ∷ forms) = varying constants forms
+abbrev pub varying_form : List (Option ℤ) → List Linear → Option Linear
+varying_form [] forms = None
+varying_form (constant ∷ constants) [] = None
+varying_form (None ∷ constants) (form ∷ forms) = Some form
+varying_form (Some n ∷ constants) (form ∷ forms) = varying_form constants forms
 
 -- this form, or that of the first factor, times the values of the others
 abbrev pub multiple_of : Option Linear → List (Option ℤ) → List Linear → Linear
@@ -65,7 +65,7 @@ multiple_of None constants [] = zero_form
 multiple_of None constants (form ∷ forms) = scaled (product_of (constants_among (drop 1 constants))) form
 
 abbrev pub product_form : List (Option ℤ) → List Linear → Linear
-product_form constants forms = multiple_of (varying constants forms) constants forms
+product_form constants forms = multiple_of (varying_form constants forms) constants forms
 
 abbrev pub operation_form : OpKind → Linear → List (Option ℤ) → List Linear → Linear
 operation_form Add unit constants forms = sum_form forms

@@ -1,5 +1,5 @@
 -- When a point gives the variables of a naming the values of what they stand for in an environment.
-use Rattle.std.specs.Prelude.{◌≡◌, ℕ, ◌==◌, List, [], ◌∷◌, slice_get, Some, Bool, true, false, not, nat_lt, ℤ, pos}
+use Rattle.std.specs.Prelude.{◌≡◌, ℕ, ◌==◌, List, [], ◌∷◌, slice_get, Some, Bool, true, false, nat_lt, ℤ, pos}
 use Rattle.term_tree.specs.declared.sort.Sort.{Sort}
 use Rattle.term_tree.specs.declared.sort.Sort.TheVariants.{Bool as BoolSort}
 use Rattle.term_tree.specs.declared.node.Node.{Node}
@@ -67,11 +67,6 @@ abbrev pub NamesBits : Sorting → List Node → ℕ → Naming → Type 0
 NamesBits sorts nodes top naming =
     (id part : ℕ) (node partner : Node) → IsSubterm nodes top id → slice_get nodes id ≡ Some node → slice_get nodes part ≡ Some partner → asks node part ≡ true
     → sorts part ≡ Some BoolSort → is_ready partner ≡ false → (v : ℕ) × (naming.auxiliary part ≡ Some v)
-
--- true as it is, or the other way round
-abbrev pub signed : Bool → Bool → Bool
-signed true b = b
-signed false b = not b
 
 -- a term that a linear formula can be made of: without predicates and quantifiers, linear, with values for its variables,
 -- and with auxiliary variables where they are asked for

@@ -46,17 +46,17 @@ operands sorts Ite args = chosen args
 operands sorts _ args = map (spot_as Plain) args
 
 -- the parts of a node in the order of the text
-abbrev pub inner : Sorting → Node → List Spot
-inner sorts (Pred pred args) = map (spot_as Argument) args
-inner sorts (Op op args) = operands sorts op args
-inner sorts (Divisible by arg) = spot_as Plain arg ∷ []
-inner sorts (Let bound body) = map (spot_as Bit) bound ++ spot_as Plain body ∷ []
-inner sorts (Forall first kinds body) = spot_as Plain body ∷ []
-inner sorts (Exists first kinds body) = spot_as Plain body ∷ []
-inner sorts _ = []
+abbrev pub inner_spots : Sorting → Node → List Spot
+inner_spots sorts (Pred pred args) = map (spot_as Argument) args
+inner_spots sorts (Op op args) = operands sorts op args
+inner_spots sorts (Divisible by arg) = spot_as Plain arg ∷ []
+inner_spots sorts (Let bound body) = map (spot_as Bit) bound ++ spot_as Plain body ∷ []
+inner_spots sorts (Forall first kinds body) = spot_as Plain body ∷ []
+inner_spots sorts (Exists first kinds body) = spot_as Plain body ∷ []
+inner_spots sorts _ = []
 
 abbrev pub node_spots : Sorting → (ℕ → Spot → List Spot) → Node → Spot → List Spot
-node_spots sorts part node spot = spot ∷ flat_map (λ s. part s.id s) (inner sorts node)
+node_spots sorts part node spot = spot ∷ flat_map (λ s. part s.id s) (inner_spots sorts node)
 
 -- the term's text, a term before its parts
 abbrev pub spots : Sorting → List Node → ℕ → Spot → List Spot

@@ -7,7 +7,7 @@ ghost use Rattle.term_tree.specs.declared.node.OpKind.TheVariants.{Div, Mod};
 ghost use Rattle.term_tree.specs.declared.script.Pred.{Pred as Declared};
 ghost use Rattle.term_tree.specs.declared.sort.Sort.{Sort};
 ghost use Rattle.term_tree.specs.declared.sort.Sort.TheVariants.{Int as IntSort, Bool as BoolSort};
-ghost use Rattle.term_tree.specs.Operators.{truth as truth_of};
+ghost use Rattle.term_tree.specs.Operators.{truth as truth_of, same_truth};
 ghost use Rattle.term_tree.specs.Sorts.{sort_of};
 ghost use Rattle.term_tree.specs.Subterms.{IsSubterm};
 ghost use Rattle.term_tree.specs.Value.{Environment, value_of};
@@ -16,7 +16,7 @@ ghost use Rattle.lin_atoms.specs.Truth.{truth};
 ghost use Rattle.linear_terms.specs.Examples.{both_forms, sample_forms, sample_place, sample_places, seven_by_two};
 ghost use Rattle.linear_terms.specs.Formula.{formula};
 ghost use Rattle.linear_terms.specs.Linear.{Naming, linear_of, naming_of};
-ghost use Rattle.linear_terms.specs.Meeting.{HoldsEverywhere, IsWritten, MeetsBelow, MeetsVariables, number, signed};
+ghost use Rattle.linear_terms.specs.Meeting.{HoldsEverywhere, IsWritten, MeetsBelow, MeetsVariables, number};
 ghost use Rattle.linear_terms.specs.Place.{place_form};
 
 /// The linear form of an integer term has the term's value at each point that has the values of the
@@ -33,7 +33,7 @@ pub fn formulas_hold_where_terms_are_true()
     ensures { (preds : List Declared) (nodes : List Node) (top : ℕ) (env : Environment) (naming : Naming) (point : List ℤ) (n id : ℕ) (sign : Bool) →
         IsWritten preds nodes top env naming → MeetsVariables nodes top env naming point → MeetsBelow nodes top n env naming point →
         IsSubterm nodes top id → nat_lt id (n + 1) ≡ true → sort_of preds nodes id ≡ Some BoolSort →
-        truth point (formula (sort_of preds nodes) naming nodes id sign) ≡ signed sign (truth_of (value_of nodes id env)) }
+        truth point (formula (sort_of preds nodes) naming nodes id sign) ≡ same_truth sign (truth_of (value_of nodes id env)) }
 {}
 
 /// Where a point has the values of the variables, the forms of all auxiliary variables hold exactly

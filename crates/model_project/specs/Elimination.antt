@@ -1,7 +1,8 @@
 -- Elimination of variables from a conjunction of literals over the integers at a model of it (Cooper 1972): the model chooses one bound in place of a disjunction over all of them (Loos and Weispfenning 1993; Bjørner and Janota 2015, Playing with quantified satisfaction; Komuravelli, Gurfinkel and Chaki 2014).
-use Rattle.std.specs.Prelude.{ℕ, zero, suc, ◌*◌, ◌/◌, ◌%◌, ◌^◌, List, [], ◌∷◌, length, Option, None, Some, ℤ, pos, neg_ℤ, nat_abs, nat_lt, int_lt, ◌==◌, ◌&&◌, ◌||◌, Bool, true, false, not, if◌then◌else◌}
+use Rattle.std.specs.Prelude.{ℕ, zero, suc, ◌*◌, ◌/◌, ◌%◌, List, [], ◌∷◌, length, Option, None, Some, ℤ, pos, neg_ℤ, nat_abs, nat_lt, int_lt, ◌==◌, ◌&&◌, ◌||◌, Bool, true, false, not, if◌then◌else◌}
 use Rattle.std.specs.Int.{int_rem_euclid}
 use Rattle.std.specs.List.{list_all, list_any, filter}
+use Rattle.base.specs.Widths.{short_limit}
 use Rattle.lin_atoms.specs.Linear.{Linear, is_short, value_at, variable_at}
 use Rattle.lin_atoms.specs.Algebra.{plus}
 use Rattle.lin_atoms.specs.Denial.{linear_of}
@@ -35,7 +36,7 @@ period v (lit ∷ lits) = if occurs v lit then least_multiple (period v lits) (d
 
 -- whether each number of a literal is short
 abbrev pub has_short_numbers : Lit → Bool
-has_short_numbers lit = list_all (λ t. is_short t.1) (linear_of lit).terms && (is_short (linear_of lit).constant && nat_lt (divisor lit) (2 ^ 63))
+has_short_numbers lit = list_all (λ t. is_short t.1) (linear_of lit).terms && (is_short (linear_of lit).constant && nat_lt (divisor lit) short_limit)
 
 abbrev pub has_variable : Lit → Bool
 has_variable lit = nat_lt 0 (length (linear_of lit).terms)
@@ -76,7 +77,7 @@ nearest model below v [] = None
 nearest model below v (lit ∷ lits) = if is_bound below v lit then nearer model v (linear_of lit) (nearest model below v lits) else nearest model below v lits
 
 abbrev pub gaps_are_short : List ℤ → Bool → ℕ → List Lit → Bool
-gaps_are_short model below v lits = list_all (λ lit. not (is_bound below v lit) || nat_lt (gap model (linear_of lit)) (2 ^ 63)) lits
+gaps_are_short model below v lits = list_all (λ lit. not (is_bound below v lit) || nat_lt (gap model (linear_of lit)) short_limit) lits
 
 -- an equation is put before the literals, and removes v
 abbrev pub put_before : ℕ → Linear → List Lit → Option (List Lit)
@@ -85,7 +86,7 @@ put_before v equation lits = if has_short_numbers (Eq equation) then tidied (sol
 -- v is put as near to a bound as the divisors allow: l + r = 0, where r is its gap modulo a * D
 abbrev pub by_bound : List ℤ → ℕ → List Lit → ℕ → Linear → Option (List Lit)
 by_bound model v lits d lin =
-    if nat_lt d (2 ^ 63) && nat_lt (nat_abs (coefficient v lin) * d) (2 ^ 63) then put_before v (plus lin (pos (gap model lin % (nat_abs (coefficient v lin) * d)))) lits else None
+    if nat_lt d short_limit && nat_lt (nat_abs (coefficient v lin) * d) short_limit then put_before v (plus lin (pos (gap model lin % (nat_abs (coefficient v lin) * d)))) lits else None
 
 abbrev pub by_nearest : List ℤ → ℕ → List Lit → Option Linear → Option (List Lit)
 by_nearest model v lits None = None
@@ -99,7 +100,7 @@ abbrev pub rest_equation : ℕ → ℤ → Linear
 rest_equation v r = record { terms = (v, pos 1) ∷ []; constant = neg_ℤ r }
 
 abbrev pub by_rest : List ℤ → ℕ → List Lit → Option (List Lit)
-by_rest model v lits = if nat_lt (period v lits) (2 ^ 63) then put_before v (rest_equation v (int_rem_euclid (variable_at model v) (pos (period v lits)))) lits else None
+by_rest model v lits = if nat_lt (period v lits) short_limit then put_before v (rest_equation v (int_rem_euclid (variable_at model v) (pos (period v lits)))) lits else None
 
 -- the first rule that fits removes a variable
 abbrev pub removed : List ℤ → ℕ → List Lit → Option (List Lit)

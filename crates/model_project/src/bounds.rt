@@ -1,7 +1,8 @@
 //! The bounds of a variable, and the one that the model is nearest to.
 
-ghost use Rattle.std.specs.Prelude.{Some, ◌≡◌, ◌<◌, ◌≤◌, ◌^◌, ◌*◌, nat_abs, None, true, false, IfOk, IfSome, IsErr, IsNone, IsSome, OnOk};
+ghost use Rattle.std.specs.Prelude.{Some, ◌≡◌, ◌<◌, ◌≤◌, ◌*◌, nat_abs, None, true, false, IfOk, IfSome, IsErr, IsNone, IsSome, OnOk};
 ghost use Rattle.std.specs.Option.{option_map};
+ghost use Rattle.base.specs.Widths.{short_limit};
 ghost use Rattle.lin_atoms.specs.Linear.{value_at, variable_at};
 ghost use Rattle.model_project.specs.Elimination.{gap, gaps_are_short, is_bound, is_nearer, nearer, nearest};
 ghost use Rattle.model_project.specs.Substitution.{coefficient};
@@ -36,8 +37,8 @@ fn total_at(lin: &Lin, point: &[i64]) -> Accumulator
 /// The gap of a bound, unless it is wide.
 fn gap(lin: &Lin, model: &[i64]) -> Option<u64>
     ensures some { IfSome result (λ n. n ≡ gap model.now lin.now) }
-    ensures short { IfSome result (λ n. gap model.now lin.now < 2 ^ 63) }
-    ensures none { IsNone result → 2 ^ 63 ≤ gap model.now lin.now }
+    ensures short { IfSome result (λ n. gap model.now lin.now < short_limit) }
+    ensures none { IsNone result → short_limit ≤ gap model.now lin.now }
 {
     match total_at(lin, model).to_i128() {
         Some(value) => short(value.unsigned_abs()),
@@ -48,7 +49,7 @@ fn gap(lin: &Lin, model: &[i64]) -> Option<u64>
 /// The magnitude of a coefficient.
 pub(crate) fn size(lin: &Lin, variable: usize) -> u64
     ensures is { result ≡ nat_abs (coefficient variable lin.now) }
-    ensures short { result < 2 ^ 63 }
+    ensures short { result < short_limit }
 {
     reading::coefficient(lin, variable).unsigned_abs()
 }

@@ -1,7 +1,8 @@
 //! A literal crossed with an equation, judged by its width.
 
-ghost use Rattle.std.specs.Prelude.{◌≡◌, ◌<◌, ◌≤◌, ◌^◌, ◌*◌, ◌∷◌, [], ◌+ℤ◌, ◌*ℤ◌, ◌<ℤ◌, nat_abs, neg_ℤ, pos, Some, None, true, false, IfOk, IfSome, IsErrOf, IsNone, OnOk};
+ghost use Rattle.std.specs.Prelude.{◌≡◌, ◌<◌, ◌≤◌, ◌*◌, ◌∷◌, [], ◌+ℤ◌, ◌*ℤ◌, ◌<ℤ◌, nat_abs, neg_ℤ, pos, Some, None, true, false, IfOk, IfSome, IsErrOf, IsNone, OnOk};
 ghost use Rattle.std.specs.List.{filter};
+ghost use Rattle.base.specs.Widths.{short_limit};
 ghost use Rattle.lin_atoms.specs.Linear.{are_ordered, is_short, of_constant};
 ghost use Rattle.lin_atoms.specs.declared.lit.Lit.TheVariants.{Eq};
 ghost use Rattle.model_project.specs.Elimination.{has_variable, has_short_numbers, tidied};
@@ -17,7 +18,7 @@ use std::alloc::Global;
 
 /// A number with the other sign.
 fn minus(a: i64) -> i64
-    requires { nat_abs a < 2 ^ 63 }
+    requires { nat_abs a < short_limit }
     ensures { result ≡ neg_ℤ a }
 {
     -a
@@ -71,8 +72,8 @@ fn multiple(d: Divisor, a: i64) -> u128
 fn times(d: Divisor, a: i64) -> Option<Divisor>
     requires { pos 0 <ℤ a }
     ensures some { IfSome result (λ n. n ≡ nat_abs a * d) }
-    ensures narrow { IfSome result (λ n. nat_abs a * d < 2 ^ 63) }
-    ensures none { IsNone result → 2 ^ 63 ≤ nat_abs a * d }
+    ensures narrow { IfSome result (λ n. nat_abs a * d < short_limit) }
+    ensures none { IsNone result → short_limit ≤ nat_abs a * d }
 {
     match short(multiple(d, a)) {
         Some(n) => Divisor::new(n as i64),

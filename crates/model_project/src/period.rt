@@ -1,17 +1,18 @@
 //! The least common multiple of the divisors of the literals in which a variable occurs.
 
-ghost use Rattle.std.specs.Prelude.{◌≡◌, ◌<◌, ◌≤◌, ◌^◌, ◌*◌, IfSome, IsNone};
+ghost use Rattle.std.specs.Prelude.{◌≡◌, ◌<◌, ◌≤◌, ◌*◌, IfSome, IsNone};
 ghost use Rattle.model_project.specs.Elimination.{least_multiple, period};
 ghost use Rattle.model_project.specs.machinery.Steps.{have_divisors};
 ghost use Rattle.std.specs.Prelude.{true};
+ghost use Rattle.base.specs.Widths.{short_limit};
 
 use crate::reading;
 use lin_atoms::{Lit, gcd};
 
 /// The exact least common multiple.
 fn exact(a: u64, b: u64) -> u128
-    requires a { a < 2 ^ 63 }
-    requires b { b < 2 ^ 63 }
+    requires a { a < short_limit }
+    requires b { b < short_limit }
     requires some { 0 < b }
     ensures { result ≡ least_multiple a b }
 {
@@ -22,8 +23,8 @@ fn exact(a: u64, b: u64) -> u128
 /// The number with 64 bits, unless it is wide.
 pub(crate) fn short(n: u128) -> Option<u64>
     ensures some { IfSome result (λ short. short ≡ n) }
-    ensures short { IfSome result (λ short. n < 2 ^ 63) }
-    ensures none { IsNone result → 2 ^ 63 ≤ n }
+    ensures short { IfSome result (λ short. n < short_limit) }
+    ensures none { IsNone result → short_limit ≤ n }
 {
     if n < 1 << 63 { Some(n as u64) } else { None }
 }
@@ -32,9 +33,9 @@ pub(crate) fn short(n: u128) -> Option<u64>
 pub(crate) fn period(lits: &[Lit], variable: usize) -> Option<u64>
     requires { have_divisors lits.now ≡ true }
     ensures some { IfSome result (λ n. n ≡ period variable lits.now) }
-    ensures short { IfSome result (λ n. n < 2 ^ 63) }
+    ensures short { IfSome result (λ n. n < short_limit) }
     ensures above { IfSome result (λ n. 0 < n) }
-    ensures none { IsNone result → 2 ^ 63 ≤ period variable lits.now }
+    ensures none { IsNone result → short_limit ≤ period variable lits.now }
 {
     let mut period: u64 = 1;
     let mut left = lits.len();

@@ -2,6 +2,7 @@
 
 ghost use Rattle.std.specs.Prelude.{◌≡◌, ◌<◌, ◌^◌, nat_abs, IsTrue};
 ghost use Rattle.std.specs.List.{list_any};
+ghost use Rattle.base.specs.Widths.{short_limit};
 ghost use Rattle.lin_atoms.specs.Denial.{linear_of};
 ghost use Rattle.model_project.specs.Elimination.{divisor, has_variable, is_bound, has_short_numbers, on_side};
 ghost use Rattle.model_project.specs.Substitution.{coefficient, is_equation, lin_has, occurs};
@@ -11,7 +12,7 @@ use lin_atoms::{Lin, Lit};
 /// The coefficient of a variable, 0 where it doesn't occur.
 pub(crate) fn coefficient(lin: &Lin, variable: usize) -> i64
     ensures is { result ≡ coefficient variable lin.now }
-    ensures short { nat_abs result < 2 ^ 63 }
+    ensures short { nat_abs result < short_limit }
     ensures named { 0 < nat_abs result → variable < 2 ^ 32 }
 {
     for (v, a) in lin.terms() {
@@ -113,7 +114,7 @@ pub(crate) fn has_bound(lits: &[Lit], below: bool, variable: usize) -> bool
 pub(crate) fn divisor(lit: &Lit) -> u64
     ensures is { result ≡ divisor lit.now }
     ensures some { 0 < result }
-    ensures short { result < 2 ^ 63 }
+    ensures short { result < short_limit }
 {
     match lit {
         Lit::Le(_) => 1,

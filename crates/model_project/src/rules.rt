@@ -3,6 +3,7 @@
 
 ghost use Rattle.std.specs.Prelude.{◌≡◌, ◌<◌, ◌%◌, ◌*◌, ◌^◌, ◌∷◌, ◌++◌, pos, nat_abs, Some, None, true, false, IfOk, IfSome, IsErrOf, IsNone, OnOk};
 ghost use Rattle.std.specs.Int.{int_rem_euclid};
+ghost use Rattle.base.specs.Widths.{short_limit};
 ghost use Rattle.lin_atoms.specs.Algebra.{plus};
 ghost use Rattle.lin_atoms.specs.Linear.{fits, variable_at};
 ghost use Rattle.lin_atoms.specs.declared.lit.Lit.TheVariants.{Eq};
@@ -56,10 +57,10 @@ fn put_first(lits: &mut Vec<Lit>, lit: Lit) -> Result<(), Memory>
 fn shifted(alloc: Global, variable: usize, bound: Bound<'_>, period: u64) -> Result<Lin, WideStop>
     requires has { 0 < nat_abs (coefficient variable bound.lin.now) }
     requires above { 0 < period }
-    requires short { period < 2 ^ 63 }
+    requires short { period < short_limit }
     ensures made { IfOk result (λ made. made ≡ plus bound.entry.lin.now (pos (bound.entry.gap % (nat_abs (coefficient variable bound.entry.lin.now) * period)))) }
-    ensures narrow { OnOk result (nat_abs (coefficient variable bound.entry.lin.now) * period < 2 ^ 63) }
-    ensures wide { IsErrOf result WideStop.Wide → (nat_abs (coefficient variable bound.entry.lin.now) * period < 2 ^ 63)
+    ensures narrow { OnOk result (nat_abs (coefficient variable bound.entry.lin.now) * period < short_limit) }
+    ensures wide { IsErrOf result WideStop.Wide → (nat_abs (coefficient variable bound.entry.lin.now) * period < short_limit)
         → fits (plus bound.entry.lin.now (pos (bound.entry.gap % (nat_abs (coefficient variable bound.entry.lin.now) * period)))) ≡ false }
 {
     let size = bounds::size(bound.lin, variable);
@@ -120,7 +121,7 @@ fn by_bounds(
 /// The equation that the variable is a number.
 fn rest_equation(alloc: Global, variable: usize, rest: i64) -> Result<Lin, Memory>
     requires named { variable < 2 ^ 32 }
-    requires short { nat_abs rest < 2 ^ 63 }
+    requires short { nat_abs rest < short_limit }
     ensures { IfOk result (λ made. made ≡ rest_equation variable rest) }
 {
     terms::one_variable(alloc, variable as u32, i128::from(-rest))
@@ -129,9 +130,9 @@ fn rest_equation(alloc: Global, variable: usize, rest: i64) -> Result<Lin, Memor
 /// What a number leaves modulo another.
 fn rest_of(a: i64, period: u64) -> i64
     requires above { 0 < period }
-    requires short { period < 2 ^ 63 }
+    requires short { period < short_limit }
     ensures is { result ≡ int_rem_euclid a (pos period) }
-    ensures bound { nat_abs result < 2 ^ 63 }
+    ensures bound { nat_abs result < short_limit }
 {
     a.rem_euclid(period as i64)
 }

@@ -3,6 +3,7 @@
 
 ghost use Rattle.std.specs.Prelude.{◌≡◌, ℕ, ◌+◌, ◌<◌, ◌≤◌, ◌^◌, ◌+ℤ◌, ◌*ℤ◌, ◌++◌, ◌==◌, ◌∷◌, [], drop, length, nat_abs, not, pos, true, false, IsErrOf, IsNone, IfOk, IfSome, OnOk, ◌↔◌};
 ghost use Rattle.std.specs.List.{filter};
+ghost use Rattle.base.specs.Widths.{long_limit, short_limit};
 ghost use Rattle.lin_atoms.specs.Linear.{are_ordered, are_short, is_short};
 ghost use Rattle.lin_atoms.specs.Algebra.{collected, scaled_terms, term_on};
 
@@ -12,7 +13,7 @@ use std::alloc::Global;
 
 /// The exact product.
 fn product(k: i64, a: i64) -> i128
-    requires { nat_abs k < 2 ^ 63 }
+    requires { nat_abs k < short_limit }
     ensures value { result ≡ k *ℤ a }
     ensures bound { nat_abs result < 2 ^ 126 }
 {
@@ -21,8 +22,8 @@ fn product(k: i64, a: i64) -> i128
 
 /// The sum of two products.
 fn products(k: i64, a: i64, m: i64, b: i64) -> i128
-    requires k { nat_abs k < 2 ^ 63 }
-    requires m { nat_abs m < 2 ^ 63 }
+    requires k { nat_abs k < short_limit }
+    requires m { nat_abs m < short_limit }
     ensures { result ≡ k *ℤ a +ℤ m *ℤ b }
 {
     product(k, a) + product(m, b)
@@ -48,8 +49,8 @@ fn first(
     theirs: &[(u32, i64)],
     j: usize,
 ) -> (u32, i128, usize, usize)
-    requires k { nat_abs k < 2 ^ 63 }
-    requires m { nat_abs m < 2 ^ 63 }
+    requires k { nat_abs k < short_limit }
+    requires m { nat_abs m < short_limit }
     requires k_some { 0 < nat_abs k }
     requires m_some { 0 < nat_abs m }
     requires ours { are_ordered 0 ours.now ≡ true }
@@ -80,7 +81,7 @@ fn push_rest(
     terms: &[(u32, i64)],
     from: usize,
 ) -> Result<(), Memory>
-    requires k { nat_abs k < 2 ^ 63 }
+    requires k { nat_abs k < short_limit }
     requires some { 0 < nat_abs k }
     requires rising { are_ordered 0 terms.now ≡ true }
     requires from { from ≤ length terms.now }
@@ -102,8 +103,8 @@ pub(crate) fn combined(
     m: i64,
     theirs: &[(u32, i64)],
 ) -> Result<Vec<(u32, i128)>, Memory>
-    requires k { nat_abs k < 2 ^ 63 }
-    requires m { nat_abs m < 2 ^ 63 }
+    requires k { nat_abs k < short_limit }
+    requires m { nat_abs m < short_limit }
     requires k_some { 0 < nat_abs k }
     requires m_some { 0 < nat_abs m }
     requires ours { are_ordered 0 ours.now ≡ true }
@@ -153,8 +154,8 @@ pub(crate) fn narrowed(alloc: Global, terms: &[(u32, i128)]) -> Result<Vec<(u32,
 
 /// The exact sum of two products.
 fn total(k: i64, a: i128, m: i64, b: i128) -> Accumulator
-    requires a { nat_abs a < 2 ^ 64 }
-    requires b { nat_abs b < 2 ^ 64 }
+    requires a { nat_abs a < long_limit }
+    requires b { nat_abs b < long_limit }
     ensures { result.value ≡ k *ℤ a +ℤ m *ℤ b }
 {
     let mut total = Accumulator::new(0);
@@ -165,8 +166,8 @@ fn total(k: i64, a: i128, m: i64, b: i128) -> Accumulator
 
 /// The sum of two products with 64 bits, unless it is wide.
 pub(crate) fn constant(k: i64, a: i128, m: i64, b: i128) -> Option<i64>
-    requires a { nat_abs a < 2 ^ 64 }
-    requires b { nat_abs b < 2 ^ 64 }
+    requires a { nat_abs a < long_limit }
+    requires b { nat_abs b < long_limit }
     ensures some { IfSome result (λ n. n ≡ k *ℤ a +ℤ m *ℤ b) }
     ensures none { IsNone result ↔ (is_short (k *ℤ a +ℤ m *ℤ b) ≡ false) }
 {
@@ -198,7 +199,7 @@ pub(crate) fn without(
 pub(crate) fn form_of(terms: Vec<(u32, i64)>, constant: i128) -> Lin
     requires ordered { are_ordered 0 terms.items ≡ true }
     requires short { are_short terms.items ≡ true }
-    requires long { nat_abs constant < 2 ^ 64 }
+    requires long { nat_abs constant < long_limit }
     ensures { result ≡ record { terms = terms.items; constant = constant } }
 {
     match Lin::new(terms, constant) {
@@ -210,7 +211,7 @@ pub(crate) fn form_of(terms: Vec<(u32, i64)>, constant: i128) -> Lin
 
 /// The form of one variable, with the coefficient 1.
 pub(crate) fn one_variable(alloc: Global, variable: u32, constant: i128) -> Result<Lin, Memory>
-    requires { nat_abs constant < 2 ^ 64 }
+    requires { nat_abs constant < long_limit }
     ensures { IfOk result (λ made. made ≡ record { terms = (variable, pos 1) ∷ []; constant = constant }) }
 {
     let mut terms = Vec::with_capacity(alloc, 1)?;

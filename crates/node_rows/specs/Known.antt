@@ -1,5 +1,6 @@
 -- Which literals a node of a split tree may have.
-use Rattle.std.specs.Prelude.{ℕ, ◌+◌, ◌^◌, List, [], ◌∷◌, Bool, true, ◌&&◌, nat_lt}
+use Rattle.std.specs.Prelude.{ℕ, ◌+◌, List, [], ◌∷◌, Bool, true, ◌&&◌, nat_lt}
+use Rattle.base.specs.Widths.{short_limit}
 use Rattle.lin_atoms.specs.Linear.{is_linear, is_short}
 use Rattle.lin_atoms.specs.Truth.{lit_is_below}
 use Rattle.lin_atoms.specs.declared.lit.Lit.{Lit}
@@ -22,5 +23,5 @@ has_short_constant (NDiv n lin) = is_short lin.constant
 abbrev pub is_legal : Lit → Bool
 is_legal (Le lin) = is_linear lin
 is_legal (Eq lin) = is_linear lin
-is_legal (Div n lin) = nat_lt 0 n && (nat_lt n (2 ^ 63) && is_linear lin)
-is_legal (NDiv n lin) = nat_lt 0 n && (nat_lt n (2 ^ 63) && is_linear lin)
+is_legal (Div n lin) = nat_lt 0 n && (nat_lt n short_limit && is_linear lin)
+is_legal (NDiv n lin) = nat_lt 0 n && (nat_lt n short_limit && is_linear lin)

@@ -17,5 +17,7 @@ pub fn whole_solutions_are_points()
 
 /// A point at which all literals are true is such a solution, with values for the quotients.
 pub fn points_are_whole_solutions()
-    ensures { (q : ℕ) (lits : List Lit) (point : List ℤ) → list_all is_legal lits ≡ true → list_all (lit_is_below q) lits ≡ true → length point ≡ q → list_all (lit_truth point) lits ≡ true → (whole : List ℤ) × (p : Point) × Extends (end_of_quotients q lits) point whole × IsWholeSolution q lits p whole }
+    ensures { (q : ℕ) (lits : List Lit) (point : List ℤ) → list_all is_legal lits ≡ true → list_all (lit_is_below q) lits ≡ true →
+        length point ≡ q → list_all (lit_truth point) lits ≡ true →
+        (whole : List ℤ) × (p : Point) × Extends (end_of_quotients q lits) point whole × IsWholeSolution q lits p whole }
 {}

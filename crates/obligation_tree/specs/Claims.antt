@@ -1,10 +1,7 @@
 -- Claims: what each worker holds, in order of the workers, who are numbered from 1.
 use Rattle.std.specs.Prelude.{ℕ, ◌-◌, List, set, Bool, false, ◌==◌, Option, Some, None}
 use Rattle.std.specs.List.{list_any}
-
--- how many workers there may be
-abbrev pub most_workers : ℕ
-most_workers = 64
+pub use Rattle.base.specs.Limits.{most_workers}
 
 abbrev pub is_claim_of : ℕ → Option ℕ → Bool
 is_claim_of number None = false

@@ -2,13 +2,13 @@
 -- reachability", 2012, section 3; Komuravelli, Gurfinkel and Chaki, "SMT-based model checking for recursive programs",
 -- 2014, section 4), as a list in order of number. A node is an obligation, the journal entry that closed it, if there is
 -- one, and whether it is stalled.
-use Rattle.std.specs.Prelude.{ℕ, List, [], length, get_or, set, filter, Bool, true, false, not, ◌&&◌, ◌==◌, nat_lt, Option, Some, None, is_none}
+use Rattle.std.specs.Prelude.{ℕ, List, [], length, get_or, set, filter, Bool, true, false, not, ◌&&◌, ◌==◌, nat_lt, Option, Some, None, is_none, ◌≡◌, ◌<◌}
 use Rattle.std.specs.List.{range_with_len, list_any}
 use Rattle.obligation_tree.specs.declared.obligation.Obligation.{Obligation}
 use Rattle.obligation_tree.specs.declared.node.Node.{Node}
 
 -- all obligations, in order of number, and what each worker holds, in order of the workers
-pub record State : Type 0 where
+pub record TreeState : Type 0 where
   pub nodes : List Node
   pub claims : List (Option ℕ)
 
@@ -67,3 +67,9 @@ leaf_numbers nodes = filter (λ number. not (has_live_child nodes number)) (live
 -- all obligations, that one stalled
 abbrev pub marked_at : ℕ → List Node → List Node
 marked_at number nodes = set nodes number (record (node_at nodes number) { stalled = true })
+
+-- a live obligation without live children
+pub record IsLiveLeaf (nodes : List Node) (n : ℕ) : Type 0 where
+  pub there : n < length nodes
+  pub live : is_live_at nodes n ≡ true
+  pub leaf : has_live_child nodes n ≡ false

@@ -31,10 +31,10 @@ pub struct Tree {
 }
 
 impl Model for Tree {
-    ghost use Rattle.obligation_tree.specs.Nodes.{State};
+    ghost use Rattle.obligation_tree.specs.Nodes.{TreeState};
     ghost use Rattle.obligation_tree.specs.machinery.Passes.{IsKept};
 
-    ghost Value = { State };
+    ghost Value = { TreeState };
 
     ghost view = { λ t. record { nodes = t.nodes; claims = t.claims } };
 

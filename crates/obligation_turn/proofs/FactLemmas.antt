@@ -18,7 +18,7 @@ use Rattle.book_rules.specs.declared.by.By.TheVariants.{Fact as ByFact, Obligati
 use Rattle.book_rules.specs.declared.end.End.TheVariants.{Unsat}
 use Rattle.book_rules.proofs.ListLemmas.{neither, untold_passes}
 use Rattle.cube_rules.proofs.Public.{both_true}
-use Rattle.step_rules.specs.Standing.{Standing, state_of}
+use Rattle.step_rules.specs.Standing.{Standing, standing_state}
 use Rattle.step_rules.specs.Taken.{record_of}
 use Rattle.step_rules.specs.declared.fact_part.FactPart.{FactPart}
 use Rattle.step_rules.specs.declared.step.Step.TheVariants.{FactStep}
@@ -32,23 +32,23 @@ held-false : (cube : List Lit) (c : Option Ground) → holds_of None cube c ≡ 
 held-false cube None h = refl
 held-false cube (Some a) h = absurd (true≢false (sym h))
 
-factless-of : (b : Standing) (job : ℕ) (pred : Option ℕ) → GoesOn b → IsOpenLeaf b job → (job_of b job).pred ≡ pred → list_any (λ (f : Fact). holds (asked_at b job) f.conclusion) (state_of b).facts ≡ false
+factless-of : (b : Standing) (job : ℕ) (pred : Option ℕ) → GoesOn b → IsOpenLeaf b job → (job_of b job).pred ≡ pred → list_any (λ (f : Fact). holds (asked_at b job) f.conclusion) (standing_state b).facts ≡ false
 factless-of b job (Some pred) goes leaf is = (job-placed b job pred goes leaf is).without_fact
 factless-of b job None goes leaf is =
-    let s = state_of b in
+    let s = standing_state b in
     let none = (neither (unsat s) (or_else (sat s) (or_else (spent s) (stuck s))) goes.goes_on).0 in
     none-so (λ (f : Fact). holds (asked_at b job) f.conclusion) (λ (f : Fact). is_none f.conclusion)
     (λ f h. held-false (job_of b job).cube f.conclusion (ap (λ (p : Option ℕ). holds_of p (job_of b job).cube f.conclusion) (sym is) ∙ h)) s.facts
     (untold_passes Unsat (λ (f : Fact). is_none f.conclusion) s.facts none)
 
 -- no recorded fact is what the obligation asks for
-pub factless : (b : Standing) (job : ℕ) → GoesOn b → IsOpenLeaf b job → list_any (λ (f : Fact). holds (asked_at b job) f.conclusion) (state_of b).facts ≡ false
+pub factless : (b : Standing) (job : ℕ) → GoesOn b → IsOpenLeaf b job → list_any (λ (f : Fact). holds (asked_at b job) f.conclusion) (standing_state b).facts ≡ false
 factless b job goes leaf = factless-of b job (job_of b job).pred goes leaf refl
 
-pub recorded : (b : Standing) (job nodes : ℕ) (seen : Seen) (premises : List ℕ) → GoesOn b → IsOpenLeaf b job → (hit : IsJobHit b job seen) → are_facts_of (state_of b).facts premises (body_at (seen_point seen) hit.at.clause) ≡ true
+pub recorded : (b : Standing) (job nodes : ℕ) (seen : Seen) (premises : List ℕ) → GoesOn b → IsOpenLeaf b job → (hit : IsJobHit b job seen) → are_facts_of (standing_state b).facts premises (body_at (seen_point seen) hit.at.clause) ≡ true
     → IsTurn b job nodes (FactStep (record { target = Some job; seen = seen; premises = premises }))
 recorded b job nodes seen premises goes leaf hit are =
-    let s = state_of b in
+    let s = standing_state b in
     let o = asked_at b job in
     let part : FactPart = record { target = Some job; seen = seen; premises = premises } in
     let f : PlainFact = record_of part in

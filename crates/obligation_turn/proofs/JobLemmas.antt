@@ -25,7 +25,7 @@ use Rattle.book_rules.specs.declared.by.By.TheVariants.{Entry}
 use Rattle.book_rules.proofs.ListLemmas.{all_of-at}
 use Rattle.book_rules.proofs.Public.{levels_are_between, placed}
 use Rattle.cube_rules.proofs.Public.{both_true, from_both}
-use Rattle.step_rules.specs.Standing.{Standing, state_of}
+use Rattle.step_rules.specs.Standing.{Standing, standing_state}
 use Rattle.step_rules.specs.Views.{obligation_of}
 use Rattle.step_rules.proofs.Public.{obligation_of-at}
 use Rattle.step_rules.proofs.RootLemmas.{bare-asked}
@@ -37,7 +37,7 @@ use Rattle.obligation_turn.proofs.LiveLemmas.{live-child, pred-there}
 abbrev pub asked_at : Standing → ℕ → Obligation
 asked_at b job = obligation_of (node_at b.tree.nodes job)
 
-pub job-there : (b : Standing) (job : ℕ) → IsOpenLeaf b job → slice_get (state_of b).obligations job ≡ Some (asked_at b job)
+pub job-there : (b : Standing) (job : ℕ) → IsOpenLeaf b job → slice_get (standing_state b).obligations job ≡ Some (asked_at b job)
 job-there b job leaf = obligation_of-at b.tree.nodes job leaf.there
 
 none-closed : (closed : Option ℕ) → is_none closed ≡ true → option_map Entry closed ≡ None
@@ -45,38 +45,38 @@ none-closed None h = refl
 none-closed (Some n) h = absurd (true≢false (sym h))
 
 -- it is live
-pub job-live : (b : Standing) (job : ℕ) → IsOpenLeaf b job → unless_live (slice_get (state_of b).obligations job) ≡ None
+pub job-live : (b : Standing) (job : ℕ) → IsOpenLeaf b job → unless_live (slice_get (standing_state b).obligations job) ≡ None
 job-live b job leaf = ap unless_live (job-there b job leaf) ∙ none-closed (closed_in (node_at b.tree.nodes job)) leaf.live
 
 -- nothing hangs under it
-pub job-childless : (b : Standing) (job : ℕ) → GoesOn b → IsOpenLeaf b job → list_any (is_live_child job) (state_of b).obligations ≡ false
-job-childless b job goes leaf = sym (live-child (b.level + 1) (state_of b).facts b.tree.nodes (goes.standing).rooted job) ∙ leaf.leaf
+pub job-childless : (b : Standing) (job : ℕ) → GoesOn b → IsOpenLeaf b job → list_any (is_live_child job) (standing_state b).obligations ≡ false
+job-childless b job goes leaf = sym (live-child (b.level + 1) (standing_state b).facts b.tree.nodes (goes.standing).rooted job) ∙ leaf.leaf
 
 -- the root asks for no cube
 pub job-bare : (b : Standing) (job : ℕ) → GoesOn b → IsOpenLeaf b job → (job_of b job).pred ≡ None → (job_of b job).cube ≡ []
-job-bare b job goes leaf none = bare-asked (b.level + 1) (state_of b).facts b.tree.nodes (goes.standing).rooted job leaf.there (job_of b job) refl none
+job-bare b job goes leaf none = bare-asked (b.level + 1) (standing_state b).facts b.tree.nodes (goes.standing).rooted job leaf.there (job_of b job) refl none
 
 -- one that isn't the root has a number above 0
 pub job-above : (b : Standing) (job pred : ℕ) → GoesOn b → IsOpenLeaf b job → (job_of b job).pred ≡ Some pred → 0 < job
 job-above b job pred goes leaf some =
-    let is : nat_lt 0 job ≡ true = sym (pred-there (b.level + 1) (state_of b).facts b.tree.nodes (goes.standing).rooted job leaf.there) ∙ ap is_some some in
+    let is : nat_lt 0 job ≡ true = sym (pred-there (b.level + 1) (standing_state b).facts b.tree.nodes (goes.standing).rooted job leaf.there) ∙ ap is_some some in
     grind (arith, nat_tests, is)
 
-pub job-placed : (b : Standing) (job pred : ℕ) → GoesOn b → IsOpenLeaf b job → (job_of b job).pred ≡ Some pred → IsPlaced (state_of b).lemmas (state_of b).facts (state_of b).obligations (asked_at b job)
-job-placed b job pred goes leaf some = placed (state_of b) goes.ordered job (asked_at b job) (job-there b job leaf) (job-above b job pred goes leaf some) leaf.live
+pub job-placed : (b : Standing) (job pred : ℕ) → GoesOn b → IsOpenLeaf b job → (job_of b job).pred ≡ Some pred → IsPlaced (standing_state b).lemmas (standing_state b).facts (standing_state b).obligations (asked_at b job)
+job-placed b job pred goes leaf some = placed (standing_state b) goes.ordered job (asked_at b job) (job-there b job leaf) (job-above b job pred goes leaf some) leaf.live
 
 pub job-level : (b : Standing) (job pred : ℕ) → GoesOn b → IsOpenLeaf b job → (job_of b job).pred ≡ Some pred → (1 ≤ (job_of b job).level) × ((job_of b job).level ≤ b.level)
-job-level b job pred goes leaf some = levels_are_between (state_of b) goes.ordered (goes.standing).rooted job (asked_at b job) (job-there b job leaf) (job-above b job pred goes leaf some) leaf.live
+job-level b job pred goes leaf some = levels_are_between (standing_state b) goes.ordered (goes.standing).rooted job (asked_at b job) (job-there b job leaf) (job-above b job pred goes leaf some) leaf.live
 
 -- the root stands one above the closed level
-root-level-of : (b : Standing) (job : ℕ) (o : Obligation) → GoesOn b → job < length b.tree.nodes → slice_get (state_of b).obligations job ≡ Some o → o.pred ≡ None → o.level ≡ b.level + 1
+root-level-of : (b : Standing) (job : ℕ) (o : Obligation) → GoesOn b → job < length b.tree.nodes → slice_get (standing_state b).obligations job ≡ Some o → o.pred ≡ None → o.level ≡ b.level + 1
 root-level-of b job o goes within there none =
     let rooted = (goes.standing).rooted in
-    let is : is_some (job_of b job).pred ≡ nat_lt 0 job = pred-there (b.level + 1) (state_of b).facts b.tree.nodes rooted job within in
+    let is : is_some (job_of b job).pred ≡ nat_lt 0 job = pred-there (b.level + 1) (standing_state b).facts b.tree.nodes rooted job within in
     let same : obligation_of (node_at b.tree.nodes job) ≡ o = (let both = sym (obligation_of-at b.tree.nodes job within) ∙ there in cc) in
     let low : nat_lt 0 job ≡ false = sym is ∙ ap is_some (ap (λ (x : Obligation). x.pred) same ∙ none) in
     let first : job ≡ 0 = grind (arith, nat_tests, low) in
-    let at : slice_get (rooted.root ∷ rooted.rest) 0 ≡ Some o = ap (λ (os : List Obligation). slice_get os 0) (sym rooted.first) ∙ ap (slice_get (state_of b).obligations) (sym first) ∙ there in
+    let at : slice_get (rooted.root ∷ rooted.rest) 0 ≡ Some o = ap (λ (os : List Obligation). slice_get os 0) (sym rooted.first) ∙ ap (slice_get (standing_state b).obligations) (sym first) ∙ there in
     let root : rooted.root ≡ o = cc in
     ap (λ (x : Obligation). x.level) (sym root) ∙ sym (ap (λ (x : Obligation). x.level) rooted.is_root)
 
@@ -95,7 +95,7 @@ fits-over preds pred p cube point is h = by (places_of preds (Some p)) (ap (λ (
 pub job-over : (b : Standing) (job pred : ℕ) → GoesOn b → IsOpenLeaf b job → (job_of b job).pred ≡ Some pred → is_over b.system.preds pred (job_of b job).cube ≡ true
 job-over b job pred goes leaf some =
     fits-over b.system.preds (job_of b job).pred pred (job_of b job).cube (job_of b job).point some
-    (all_of-at (λ (o : Obligation). obligation_fits b.system.preds o ≡ true) (state_of b).obligations job (asked_at b job) (job-there b job leaf) ((goes.standing).over).obligations)
+    (all_of-at (λ (o : Obligation). obligation_fits b.system.preds o ≡ true) (standing_state b).obligations job (asked_at b job) (job-there b job leaf) ((goes.standing).over).obligations)
 
 nodes-at : (P : Node → Type 0) (nodes : List Node) (n : ℕ) → n < length nodes → AllOf P nodes → P (node_at nodes n)
 nodes-at P [] n within all = absurd (omega arith)

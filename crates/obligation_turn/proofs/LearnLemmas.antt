@@ -16,7 +16,7 @@ use Rattle.book_rules.specs.declared.by.By.TheVariants.{Level as ByLevel, Obliga
 use Rattle.cube_rules.proofs.Public.{from_both}
 use Rattle.clause_queries.specs.Answers.{AreProofs}
 use Rattle.clause_queries.proofs.Public.{own_number}
-use Rattle.step_rules.specs.Standing.{Standing, state_of}
+use Rattle.step_rules.specs.Standing.{Standing, standing_state}
 use Rattle.step_rules.specs.Taken.{learn_of}
 use Rattle.step_rules.specs.Tokens.{all_shown}
 use Rattle.step_rules.specs.declared.lemma_part.LemmaPart.{LemmaPart}
@@ -33,7 +33,7 @@ le-test m n h = grind (arith, nat_tests, h)
 pub learnt : (b : Standing) (job nodes pred : ℕ) (proofs : List Shown) → GoesOn b → IsOpenLeaf b job → (job_of b job).pred ≡ Some pred → AreJobProofs b job proofs
     → IsTurn b job nodes (LemmaStep (record { target = job; pred = pred; lemma = (job_of b job).cube; level = (job_of b job).level; proofs = proofs }))
 learnt b job nodes pred proofs goes leaf some are =
-    let s = state_of b in
+    let s = standing_state b in
     let o = asked_at b job in
     let lemma : Lemma = record { pred = pred; cube = o.cube } in
     let part : LemmaPart = record { target = job; pred = pred; lemma = o.cube; level = o.level; proofs = proofs } in

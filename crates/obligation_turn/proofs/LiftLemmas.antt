@@ -20,7 +20,6 @@ use Rattle.chc_tokens.specs.declared.goal.Goal.TheVariants.{Holds}
 use Rattle.chc_tokens.specs.declared.keeping.NoLift.{NoLift as NoLiftToken}
 use Rattle.chc_tokens.specs.declared.refuting.Shown.{Shown}
 use Rattle.chc_tokens.specs.declared.seeing.Seen.{Seen}
-use Rattle.chc_tokens.specs.declared.used.Used.{Used as UsedLemma}
 use Rattle.chc_tokens.specs.declared.why.Why.{Why as WhyKept}
 use Rattle.chc_tokens.specs.declared.why.Why.TheVariants.{Broken as BrokenBy, Unknown as UnknownBy}
 use Rattle.book_rules.specs.Frames.{Framed}
@@ -43,7 +42,7 @@ use Rattle.clause_queries.specs.Answers.{AreProofs, IsHit, IsLost}
 use Rattle.clause_queries.specs.Uses.{uses}
 use Rattle.clause_queries.specs.declared.lost.Lost.{Lost}
 use Rattle.clause_queries.proofs.Public.{number_is, own_number}
-use Rattle.step_rules.specs.Standing.{Standing, state_of}
+use Rattle.step_rules.specs.Standing.{Standing, standing_state}
 use Rattle.step_rules.specs.Taken.{lift_of}
 use Rattle.step_rules.specs.Tokens.{all_no_lifts, all_used, left_of, no_lift_of, seen_of, why_of}
 use Rattle.step_rules.specs.declared.lift_part.LiftPart.{LiftPart}
@@ -73,7 +72,7 @@ hit-keeps sys fs pred lemma k seen hit =
     )
 
 pub lost-keeps : (sys : Clauses) (fs : List KeptLemma) (pred : Option ℕ) (lemma : List Lit) (k nodes : ℕ) (lost : Lost) → IsLost sys fs pred (Holds lemma) k nodes lost → IsKept sys lemma (UnknownBy lost.clause lost.used lost.evidence)
-lost-keeps sys fs pred lemma k nodes lost is = ap (λ (us : List UsedLemma). query_at sys lost.clause (Holds lemma) us) (is.given_up).used_is ∙ (is.given_up).form
+lost-keeps sys fs pred lemma k nodes lost is = (is.given_up).form
 
 -- the lemma of a number is over its predicate, and stands at its level
 
@@ -96,7 +95,7 @@ pub kept-broken : (b : Standing) (nodes id : ℕ) (seen : Seen) (token : NoLiftT
 kept-broken b nodes id seen token goes within hit cube_is why_is no_lift =
     let sys = b.system in
     let fs = b.frames.lemmas in
-    let s = state_of b in
+    let s = standing_state b in
     let e = framed_at fs id in
     let cube = lemma_of fs id in
     let k = level_of fs id in
@@ -127,7 +126,7 @@ pub kept-unknown : (b : Standing) (nodes id : ℕ) (lost : Lost) (token : NoLift
 kept-unknown b nodes id lost token goes within is cube_is why_is no_lift =
     let sys = b.system in
     let fs = b.frames.lemmas in
-    let s = state_of b in
+    let s = standing_state b in
     let e = framed_at fs id in
     let cube = lemma_of fs id in
     let k = level_of fs id in
@@ -141,10 +140,8 @@ kept-unknown b nodes id lost token goes within is cube_is why_is no_lift =
     let is_plain : plain ≡ no_lift_of token = ap₂ (λ (c : List Lit) (w : WhyKept). record { cube = c; why = why_of w }) (sym cube_is) (sym why_is) in
     let of_lemma : is_no_lift_of sys e.lemma plain ≡ true =
     from_both (same_cube cube cube) _ ((cubes_equal cube cube).1 refl) (has-of (slice_get sys.clauses n) clause (λ (c : Clause). is_head (Some e.lemma.pred) c.head) there headed) in
-    let may : all_may_use sys (lemmas_of fs) k None n (all_used lost.used) ≡ true =
-    ap (λ (us : List UsedLemma). all_may_use sys (lemmas_of fs) k None n (all_used us)) up.used_is ∙ uses-may sys k fs None n clause over there in
-    let uses_over : list_all (used_has_places sys n) (all_used lost.used) ≡ true =
-    ap (λ (us : List UsedLemma). list_all (used_has_places sys n) (all_used us)) up.used_is ∙ uses-over sys k fs n clause over there in
+    let may : all_may_use sys (lemmas_of fs) k None n (all_used lost.used) ≡ true = uses-may sys k fs None n clause lost.used is.under over there in
+    let uses_over : list_all (used_has_places sys n) (all_used lost.used) ≡ true = uses-over sys k fs n clause lost.used is.under over there in
     let places : no_lift_has_places sys plain ≡ true = from_both (is_over_atom sys.preds (head_of sys n) cube) _ (head-over sys e.lemma.pred cube n clause there headed (over-of b id goes within)) uses_over in
     record {
       no_lift = no_lift;
@@ -164,7 +161,7 @@ pub lifts : (b : Standing) (id : ℕ) (proofs : List Shown) → GoesOn b → id 
 lifts b id proofs goes within below are =
     let sys = b.system in
     let fs = b.frames.lemmas in
-    let s = state_of b in
+    let s = standing_state b in
     let e = framed_at fs id in
     let k = level_of fs id in
     let part : LiftPart = record { lemma = id; from = k; proofs = proofs } in
@@ -235,7 +232,7 @@ none-kept b nodes kept is = subst (AreKept b nodes 0) (sym is) (record { no_lift
 pub kept-above : (b : Standing) (nodes id : ℕ) (kept : List NoLiftToken) → id < length b.frames.lemmas → nat_lt (level_of b.frames.lemmas id) b.level ≡ false → AreKept b nodes id kept → AreKept b nodes (id + 1) kept
 kept-above b nodes id kept within high are = record {
   no_lifts = are.no_lifts;
-  pairs = subst (λ (es : List (ℕ × Framed)). ArePairs b.system (state_of b) es (all_no_lifts kept)) (sym (below-next b id false within high ∙ append-none (below_from b.level 0 (take id (lemmas_of b.frames.lemmas))))) are.pairs;
+  pairs = subst (λ (es : List (ℕ × Framed)). ArePairs b.system (standing_state b) es (all_no_lifts kept)) (sym (below-next b id false within high ∙ append-none (below_from b.level 0 (take id (lemmas_of b.frames.lemmas))))) are.pairs;
   places = are.places;
   counts = are.counts;
 }
@@ -245,9 +242,9 @@ kept-below b nodes id kept token new within low is one are =
     let more : all_no_lifts (kept ++ token ∷ []) ≡ all_no_lifts kept ++ no_lift_of token ∷ [] = map-append no_lift_of kept (token ∷ []) in
     let pushed : AreKept b nodes (id + 1) (kept ++ token ∷ []) = record {
       no_lifts = all_of-push (IsNoLift b.system) kept token are.no_lifts one.no_lift;
-      pairs = subst (λ (es : List (ℕ × Framed)). ArePairs b.system (state_of b) es (all_no_lifts (kept ++ token ∷ []))) (sym (below-next b id true within low))
-          (subst (ArePairs b.system (state_of b) (below_from b.level 0 (take id (lemmas_of b.frames.lemmas)) ++ (id, framed_at b.frames.lemmas id) ∷ [])) (sym more)
-          (pairs-push b.system (state_of b) (below_from b.level 0 (take id (lemmas_of b.frames.lemmas))) (all_no_lifts kept) (id, framed_at b.frames.lemmas id) (no_lift_of token) are.pairs one.pair));
+      pairs = subst (λ (es : List (ℕ × Framed)). ArePairs b.system (standing_state b) es (all_no_lifts (kept ++ token ∷ []))) (sym (below-next b id true within low))
+          (subst (ArePairs b.system (standing_state b) (below_from b.level 0 (take id (lemmas_of b.frames.lemmas)) ++ (id, framed_at b.frames.lemmas id) ∷ [])) (sym more)
+          (pairs-push b.system (standing_state b) (below_from b.level 0 (take id (lemmas_of b.frames.lemmas))) (all_no_lifts kept) (id, framed_at b.frames.lemmas id) (no_lift_of token) are.pairs one.pair));
       places = ap (list_all (no_lift_has_places b.system)) more ∙ list_all-append (no_lift_has_places b.system) (all_no_lifts kept) (no_lift_of token ∷ [])
           ∙ from_both _ _ are.places (from_both (no_lift_has_places b.system (no_lift_of token)) true one.places refl);
       counts = all_of-push (λ (k : NoLiftToken). WhyCounts nodes (kept_why k)) kept token are.counts one.counts;

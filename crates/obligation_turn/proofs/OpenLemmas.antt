@@ -41,7 +41,7 @@ use Rattle.cube_rules.proofs.Public.{both_true, from_both}
 use Rattle.area_literals.specs.Areas.{IsAreaOf, all_known_on, is_known_on, is_on}
 use Rattle.clause_queries.specs.Uses.{uses}
 use Rattle.clause_queries.proofs.Public.{either_left, either_right, own_number, same_some}
-use Rattle.step_rules.specs.Standing.{Standing, state_of}
+use Rattle.step_rules.specs.Standing.{Standing, standing_state}
 use Rattle.step_rules.specs.Taken.{open_of}
 use Rattle.step_rules.specs.declared.open_part.OpenPart.{OpenPart}
 use Rattle.step_rules.specs.declared.step.Step.TheVariants.{OpenStep}
@@ -206,12 +206,12 @@ high level false h none =
     le-not m n k = grind (arith, nat_tests, k)
 
 pub opens : (b : Standing) (job nodes number : ℕ) (seen : Seen) (atom : Atom) (cube : List Lit) (area : Kept) → GoesOn b → IsOpenLeaf b job → is_system b.system ≡ true → (hit : IsJobHit b job seen)
-    → slice_get hit.at.clause.atoms number ≡ Some atom → is_recorded (state_of b).facts (atom_at (seen_point seen) atom) ≡ false
-    → IsAreaOf hit.at.clause (job_of b job).cube (state_of b).lemmas ((job_of b job).level - 1) (seen_point seen) area.lits → area.model ≡ seen_point seen → same_variables area.keep atom.args ≡ true → IsProjected area
-    → IsCubeOf (state_of b).facts atom area (seen_point seen) cube → IsTurn b job nodes (OpenStep (record { parent = job; atom = number; seen = seen; cube = cube; area = area }))
+    → slice_get hit.at.clause.atoms number ≡ Some atom → is_recorded (standing_state b).facts (atom_at (seen_point seen) atom) ≡ false
+    → IsAreaOf hit.at.clause (job_of b job).cube (standing_state b).lemmas ((job_of b job).level - 1) (seen_point seen) area.lits → area.model ≡ seen_point seen → same_variables area.keep atom.args ≡ true → IsProjected area
+    → IsCubeOf (standing_state b).facts atom area (seen_point seen) cube → IsTurn b job nodes (OpenStep (record { parent = job; atom = number; seen = seen; cube = cube; area = area }))
 opens b job nodes number seen atom cube area goes leaf system hit at missing covers model variables projected cube_of =
     let sys = b.system in
-    let s = state_of b in
+    let s = standing_state b in
     let p = asked_at b job in
     let k = p.level - 1 in
     let point = seen_point seen in
@@ -279,14 +279,14 @@ opens b job nodes number seen atom cube area goes leaf system hit at missing cov
     }
 
 -- the same of what the code has in hand
-pub opens-of : (b : Standing) (job nodes number : ℕ) (seen : Seen) (atom : Atom) (cube : List Lit) (area : Kept) → GoesOn b → IsOpenLeaf b job → is_system b.system ≡ true → IsJobHit b job seen → (missing : IsMissing b.system (state_of b).facts seen number)
+pub opens-of : (b : Standing) (job nodes number : ℕ) (seen : Seen) (atom : Atom) (cube : List Lit) (area : Kept) → GoesOn b → IsOpenLeaf b job → is_system b.system ≡ true → IsJobHit b job seen → (missing : IsMissing b.system (standing_state b).facts seen number)
     → atom ≡ missing.atom
-    → ((clause : Clause) → slice_get b.system.clauses (seen_clause seen) ≡ Some clause → IsAreaOf clause (job_of b job).cube (state_of b).lemmas ((job_of b job).level - 1) (seen_point seen) area.lits)
-    → area.model ≡ seen_point seen → same_variables area.keep atom.args ≡ true → IsProjected area → IsCubeOf (state_of b).facts atom area (seen_point seen) cube
+    → ((clause : Clause) → slice_get b.system.clauses (seen_clause seen) ≡ Some clause → IsAreaOf clause (job_of b job).cube (standing_state b).lemmas ((job_of b job).level - 1) (seen_point seen) area.lits)
+    → area.model ≡ seen_point seen → same_variables area.keep atom.args ≡ true → IsProjected area → IsCubeOf (standing_state b).facts atom area (seen_point seen) cube
     → IsTurn b job nodes (OpenStep (record { parent = job; atom = number; seen = seen; cube = cube; area = area }))
 opens-of b job nodes number seen atom cube area goes leaf system hit missing is covers model variables projected cube_of =
     let clause = (hit.at).clause in
     let there = (hit.at).there in
     let first : missing.clause ≡ clause = (let both = sym missing.there ∙ there in cc) in
     let at : slice_get clause.atoms number ≡ Some atom = ap (λ (c : Clause). slice_get c.atoms number) (sym first) ∙ missing.at ∙ ap (λ (a : Atom). Some a) (sym is) in
-    opens b job nodes number seen atom cube area goes leaf system hit at (ap (λ (a : Atom). is_recorded (state_of b).facts (atom_at (seen_point seen) a)) is ∙ missing.missing) (covers clause there) model variables projected cube_of
+    opens b job nodes number seen atom cube area goes leaf system hit at (ap (λ (a : Atom). is_recorded (standing_state b).facts (atom_at (seen_point seen) a)) is ∙ missing.missing) (covers clause there) model variables projected cube_of

@@ -21,7 +21,7 @@ use Rattle.book_rules.specs.Instances.{atom_at}
 use Rattle.book_rules.specs.State.{Fact}
 use Rattle.book_rules.specs.Steps.{IsProjected}
 use Rattle.area_literals.specs.Areas.{IsAreaOf}
-use Rattle.step_rules.specs.Standing.{Standing, state_of}
+use Rattle.step_rules.specs.Standing.{Standing, standing_state}
 use Rattle.step_rules.specs.Views.{facts_of, lemmas_of}
 use Rattle.step_rules.specs.declared.step.Step.TheVariants.{FactStep, OpenStep}
 use Rattle.obligation_turn.specs.Turns.{GoesOn, IsOpenLeaf, IsTurn}
@@ -68,13 +68,13 @@ point-is-short b job seen point hit at = ap (list_all is_short) at ∙ (seen-is 
 -- the body is recorded, or an atom of it isn't
 
 recorded-of : (b : Standing) (job nodes n : ℕ) (seen : Seen) (clause : Clause) (point : List ℤ) (atoms : List Atom) (premises : List ℕ) → GoesOn b → IsOpenLeaf b job → IsJobHit b job seen → n ≡ seen_clause seen → slice_get b.system.clauses n ≡ Some clause
-    → point ≡ seen_point seen → atoms ≡ clause.atoms → ArePremises (state_of b).facts atoms point (Recorded premises) → IsTurn b job nodes (FactStep (record { target = Some job; seen = seen; premises = premises }))
+    → point ≡ seen_point seen → atoms ≡ clause.atoms → ArePremises (standing_state b).facts atoms point (Recorded premises) → IsTurn b job nodes (FactStep (record { target = Some job; seen = seen; premises = premises }))
 recorded-of b job nodes n seen clause point atoms premises goes leaf hit is there at same are =
     let first : clause ≡ hit.at.clause = (let both = sym there ∙ ap (slice_get b.system.clauses) is ∙ hit.at.there in cc) in
     recorded b job nodes seen premises goes leaf hit
-    (subst (λ (c : Clause). are_facts_of (state_of b).facts premises (map (atom_at (seen_point seen)) c.atoms) ≡ true) first
-    (subst (λ (list : List Atom). are_facts_of (state_of b).facts premises (map (atom_at (seen_point seen)) list) ≡ true) same
-    (subst (λ (p : List ℤ). are_facts_of (state_of b).facts premises (map (atom_at p) atoms) ≡ true) at are)))
+    (subst (λ (c : Clause). are_facts_of (standing_state b).facts premises (map (atom_at (seen_point seen)) c.atoms) ≡ true) first
+    (subst (λ (list : List Atom). are_facts_of (standing_state b).facts premises (map (atom_at (seen_point seen)) list) ≡ true) same
+    (subst (λ (p : List ℤ). are_facts_of (standing_state b).facts premises (map (atom_at p) atoms) ≡ true) at are)))
 
 missing-of : (b : Standing) (facts : List Fact) (n : ℕ) (seen : Seen) (clause : Clause) (point : List ℤ) (atoms : List Atom) (number : ℕ) → n ≡ seen_clause seen → slice_get b.system.clauses n ≡ Some clause
     → point ≡ seen_point seen → atoms ≡ clause.atoms → ArePremises facts atoms point (Missing number) → IsMissing b.system facts seen number
@@ -110,13 +110,13 @@ lits-below a k clause cube point lits one is area =
     ap (λ (n : ℕ). list_all (lit_is_below n) lits) is.long ∙ area-below a.system.preds clause cube (lemmas_of a.frames.lemmas) k point lits one is.head_below is.room area
 
 -- the step, over what is lent
-pub opens-lent : (a b : Standing) (job nodes number n : ℕ) (seen : Seen) (clause : Clause) (atom : Atom) (point : List ℤ) (cube : List Lit) (area : Kept) → a ≡ b → GoesOn b → IsOpenLeaf b job → is_system a.system ≡ true → IsJobHit b job seen → IsMissing b.system (state_of b).facts seen number
+pub opens-lent : (a b : Standing) (job nodes number n : ℕ) (seen : Seen) (clause : Clause) (atom : Atom) (point : List ℤ) (cube : List Lit) (area : Kept) → a ≡ b → GoesOn b → IsOpenLeaf b job → is_system a.system ≡ true → IsJobHit b job seen → IsMissing b.system (standing_state b).facts seen number
     → n ≡ seen_clause seen → slice_get a.system.clauses n ≡ Some clause → slice_get clause.atoms number ≡ Some atom → point ≡ seen_point seen
-    → ((c : Clause) → slice_get b.system.clauses (seen_clause seen) ≡ Some c → IsAreaOf c (job_of b job).cube (state_of b).lemmas ((job_of b job).level - 1) (seen_point seen) area.lits)
+    → ((c : Clause) → slice_get b.system.clauses (seen_clause seen) ≡ Some c → IsAreaOf c (job_of b job).cube (standing_state b).lemmas ((job_of b job).level - 1) (seen_point seen) area.lits)
     → area.model ≡ point → same_variables area.keep atom.args ≡ true → IsProjected area → IsCubeOf (facts_of a.facts) atom area point cube
     → IsTurn b job nodes (OpenStep (record { parent = job; atom = number; seen = seen; cube = cube; area = area }))
 opens-lent a b job nodes number n seen clause atom point cube area same goes leaf system hit missing is there at points covers model variables projected cube_of =
     let here : slice_get b.system.clauses n ≡ Some clause = ap (λ (x : Standing). slice_get x.system.clauses n) (sym same) ∙ there in
-    let one : atom ≡ missing.atom = (let both = sym at ∙ atom-in b (state_of b).facts seen number n clause missing is here in cc) in
+    let one : atom ≡ missing.atom = (let both = sym at ∙ atom-in b (standing_state b).facts seen number n clause missing is here in cc) in
     opens-of b job nodes number seen atom cube area goes leaf (ap (λ (x : Standing). is_system x.system) (sym same) ∙ system) hit missing one covers (model ∙ points) variables projected
-    (subst (λ (p : List ℤ). IsCubeOf (state_of b).facts atom area p cube) points (subst (λ (x : Standing). IsCubeOf (facts_of x.facts) atom area point cube) same cube_of))
+    (subst (λ (p : List ℤ). IsCubeOf (standing_state b).facts atom area p cube) points (subst (λ (x : Standing). IsCubeOf (facts_of x.facts) atom area point cube) same cube_of))

@@ -25,8 +25,8 @@ use Rattle.book_rules.proofs.Public.{cubes_equal}
 use Rattle.cube_rules.specs.Views.{framed_of, lemmas_of}
 use Rattle.cube_rules.proofs.Public.{both_true, from_both}
 use Rattle.clause_queries.specs.Answers.{AreProofs, IsProof, is_through}
-use Rattle.clause_queries.specs.Uses.{use_of, uses}
-use Rattle.clause_queries.proofs.Public.{either_left, either_right, number_is, own_number, uses-all, uses_on-all}
+use Rattle.clause_queries.specs.Uses.{AreUses, use_of, uses}
+use Rattle.clause_queries.proofs.Public.{either_left, either_right, number_is, of-uses, own_number, uses-all, uses_on-all}
 use Rattle.step_rules.specs.Tokens.{all_shown, all_used, goal_of, shown_of, used_of}
 use Rattle.obligation_turn.proofs.ListLemmas.{all_of-from, all_of-so, all-map, all-of-map, any-of-map, none-told}
 
@@ -75,19 +75,21 @@ use-over sys n i clause atom f there at same over =
     ∙ ap (λ (o : Option Atom). is_over_atom sys.preds o f.lemma) at
     ∙ ap (λ (p : ℕ). is_over sys.preds p f.lemma) (sym (number_is f.pred atom.pred same)) ∙ over
 
-pub uses-may : (sys : Clauses) (k : ℕ) (fs : List KeptLemma) (own : Option Lemma) (n : ℕ) (clause : Clause) → AllOf (λ (e : Framed). is_over sys.preds e.lemma.pred e.lemma.cube ≡ true) (lemmas_of fs) → slice_get sys.clauses n ≡ Some clause
-    → all_may_use sys (lemmas_of fs) k own n (all_used (uses k fs clause)) ≡ true
-uses-may sys k fs own n clause over there =
+pub uses-may : (sys : Clauses) (k : ℕ) (fs : List KeptLemma) (own : Option Lemma) (n : ℕ) (clause : Clause) (used : List UsedLemma) → AreUses k fs clause used → AllOf (λ (e : Framed). is_over sys.preds e.lemma.pred e.lemma.cube ≡ true) (lemmas_of fs) → slice_get sys.clauses n ≡ Some clause
+    → all_may_use sys (lemmas_of fs) k own n (all_used used) ≡ true
+uses-may sys k fs own n clause used are over there =
     let test : UsedLemma → Bool = λ u. may_use sys (lemmas_of fs) k own n (used_of u) in
-    all-map used_of (may_use sys (lemmas_of fs) k own n) (uses k fs clause)
-    ∙ uses-all test k fs clause.atoms (λ i atom at. uses_on-all test (IsMember sys.preds k fs) k i atom.pred (λ f is level same. use-may sys (lemmas_of fs) k own n i clause atom f there at same (is.inside level)) fs (members sys.preds k fs over))
+    all-map used_of (may_use sys (lemmas_of fs) k own n) used
+    ∙ of-uses k fs clause used test are
+    (uses-all test k fs clause.atoms (λ i atom at. uses_on-all test (IsMember sys.preds k fs) k i atom.pred (λ f is level same. use-may sys (lemmas_of fs) k own n i clause atom f there at same (is.inside level)) fs (members sys.preds k fs over)))
 
-pub uses-over : (sys : Clauses) (k : ℕ) (fs : List KeptLemma) (n : ℕ) (clause : Clause) → AllOf (λ (e : Framed). is_over sys.preds e.lemma.pred e.lemma.cube ≡ true) (lemmas_of fs) → slice_get sys.clauses n ≡ Some clause
-    → list_all (used_has_places sys n) (all_used (uses k fs clause)) ≡ true
-uses-over sys k fs n clause over there =
+pub uses-over : (sys : Clauses) (k : ℕ) (fs : List KeptLemma) (n : ℕ) (clause : Clause) (used : List UsedLemma) → AreUses k fs clause used → AllOf (λ (e : Framed). is_over sys.preds e.lemma.pred e.lemma.cube ≡ true) (lemmas_of fs) → slice_get sys.clauses n ≡ Some clause
+    → list_all (used_has_places sys n) (all_used used) ≡ true
+uses-over sys k fs n clause used are over there =
     let test : UsedLemma → Bool = λ u. used_has_places sys n (used_of u) in
-    all-map used_of (used_has_places sys n) (uses k fs clause)
-    ∙ uses-all test k fs clause.atoms (λ i atom at. uses_on-all test (IsMember sys.preds k fs) k i atom.pred (λ f is level same. use-over sys n i clause atom f there at same is.over) fs (members sys.preds k fs over))
+    all-map used_of (used_has_places sys n) used
+    ∙ of-uses k fs clause used test are
+    (uses-all test k fs clause.atoms (λ i atom at. uses_on-all test (IsMember sys.preds k fs) k i atom.pred (λ f is level same. use-over sys n i clause atom f there at same is.over) fs (members sys.preds k fs over)))
 
 -- a claim and its goal
 
@@ -129,9 +131,9 @@ good sys fs k claim own over claimed shown proof =
     record {
       shown_is = refuted.shown_is;
       goal_is = ap (λ (g : Goal). same_goal (goal_of g) claim) refuted.goal_is ∙ goal-same claim;
-      may = ap (λ (us : List UsedLemma). all_may_use sys (lemmas_of fs) k own n (all_used us)) refuted.used_is ∙ uses-may sys k fs own n clause over proof.at.there;
+      may = uses-may sys k fs own n clause (shown_used shown) proof.under over proof.at.there;
       places = from_both (goal_has_places sys n (goal_of (shown_goal shown))) _ (ap (λ (g : Goal). goal_has_places sys n (goal_of g)) refuted.goal_is ∙ goal-over sys claim n clause proof.at.there headed claimed)
-          (ap (λ (us : List UsedLemma). list_all (used_has_places sys n) (all_used us)) refuted.used_is ∙ uses-over sys k fs n clause over proof.at.there);
+          (uses-over sys k fs n clause (shown_used shown) proof.under over proof.at.there);
     }
 
 -- what the rules want of all of them

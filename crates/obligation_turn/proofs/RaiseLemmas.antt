@@ -21,7 +21,7 @@ use Rattle.book_rules.proofs.ProofLemmas.{are_refuted}
 use Rattle.cube_rules.specs.Views.{lemmas_of}
 use Rattle.cube_rules.proofs.Public.{from_both, length-lemmas}
 use Rattle.clause_queries.specs.Answers.{AreProofs}
-use Rattle.step_rules.specs.Standing.{Standing, state_of}
+use Rattle.step_rules.specs.Standing.{Standing, standing_state}
 use Rattle.step_rules.specs.Taken.{raise_of}
 use Rattle.step_rules.specs.Tokens.{all_no_lifts, all_shown}
 use Rattle.step_rules.specs.declared.lift_part.LiftPart.{LiftPart}
@@ -95,7 +95,7 @@ pub raised : (b : Standing) (job nodes n : ℕ) (closed : List Shown) (tokens : 
     → IsTurn b job nodes (RaiseStep (record { closed = closed; kept = tokens }))
 raised b job nodes n closed tokens goes leaf none are past keeps =
     let sys = b.system in
-    let s = state_of b in
+    let s = standing_state b in
     let part : RaisePart = record { closed = closed; kept = tokens } in
     let r : PlainRaise = raise_of part in
     let is = root-proved b job closed goes leaf none are in

@@ -22,9 +22,8 @@ use Rattle.book_rules.specs.declared.by.By.TheVariants.{Clause as ByClause, Obli
 use Rattle.book_rules.proofs.Public.{forms_equal}
 use Rattle.cube_rules.proofs.Public.{both_true, from_both}
 use Rattle.clause_queries.specs.Answers.{IsLost}
-use Rattle.clause_queries.specs.Uses.{uses}
 use Rattle.clause_queries.specs.declared.lost.Lost.{Lost}
-use Rattle.step_rules.specs.Standing.{Standing, state_of}
+use Rattle.step_rules.specs.Standing.{Standing, standing_state}
 use Rattle.step_rules.specs.Taken.{stall_of}
 use Rattle.step_rules.specs.Tokens.{all_used}
 use Rattle.step_rules.specs.declared.stall_part.StallPart.{StallPart}
@@ -55,7 +54,7 @@ query-alike clause goal cube used is =
 pub stalled : (b : Standing) (job nodes : ℕ) (lost : Lost) → GoesOn b → IsOpenLeaf b job → IsLost b.system b.frames.lemmas (job_of b job).pred (goal_for (job_of b job)) ((job_of b job).level - 1) nodes lost
     → IsTurn b job nodes (StallStep (record { target = job; clause = lost.clause; used = lost.used; evidence = lost.evidence }))
 stalled b job nodes lost goes leaf is =
-    let s = state_of b in
+    let s = standing_state b in
     let o = asked_at b job in
     let part : StallPart = record { target = job; clause = lost.clause; used = lost.used; evidence = lost.evidence } in
     let t : PlainStall = stall_of part in
@@ -67,8 +66,7 @@ stalled b job nodes lost goes leaf is =
     let over = ((goes.standing).over).lemmas in
     let asked = both_true (is_head o.pred clause.head) _ is.at.asked in
     let form = given_form lost.evidence in
-    let uses_there : query_in (Some clause) goal lost.used ≡ Some form =
-    ap (λ (us : List UsedLemma). query_in (Some clause) goal us) up.used_is ∙ ap (λ (found : Option Clause). query_in found goal (uses k b.frames.lemmas clause)) (sym there) ∙ up.form in
+    let uses_there : query_in (Some clause) goal lost.used ≡ Some form = ap (λ (found : Option Clause). query_in found goal lost.used) (sym there) ∙ up.form in
     let parts = query-there clause goal lost.used form uses_there in
     let same : form ≡ query clause o.cube (all_used lost.used) = sym parts.1 ∙ query-alike clause goal o.cube lost.used (goal-cube o.pred o.cube (job-bare b job goes leaf)) in
     let fits : query_fits t o clause ≡ true =
@@ -78,7 +76,7 @@ stalled b job nodes lost goes leaf is =
     ((forms_equal form (query clause o.cube (all_used lost.used))).1 same))
     (low-empty o.level (is_empty clause.atoms) asked.1) in
     let may : all_may_use b.system s.lemmas k None lost.clause (all_used lost.used) ≡ true =
-    ap (λ (us : List UsedLemma). all_may_use b.system s.lemmas k None lost.clause (all_used us)) up.used_is ∙ uses-may b.system k b.frames.lemmas None lost.clause clause over there in
+    uses-may b.system k b.frames.lemmas None lost.clause clause lost.used is.under over there in
     let found = job-there b job leaf in
     let r50 = job-live b job leaf in
     let r51 = none-mapped ByObligation (is_live_child job) s.obligations (job-childless b job goes leaf) in
@@ -92,7 +90,7 @@ stalled b job nodes lost goes leaf is =
     record {
       unbroken = kept 50 (rule_50 s t) _ r50 (kept 51 (rule_51 s t) _ r51 (kept 52 (rule_52 b.system s t) _ r52 (kept 53 (rule_53 b.system s t) _ r53 (kept 54 (rule_54 s t) None r54 refl))));
       made = tt;
-      places = ap (λ (us : List UsedLemma). list_all (used_has_places b.system lost.clause) (all_used us)) up.used_is ∙ uses-over b.system k b.frames.lemmas lost.clause clause over there;
+      places = uses-over b.system k b.frames.lemmas lost.clause clause lost.used is.under over there;
       projected = tt;
       counts = up.counts;
       thin = tt;

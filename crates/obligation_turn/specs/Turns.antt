@@ -17,7 +17,7 @@ use Rattle.book_rules.specs.Walks.{AllOf}
 use Rattle.area_literals.specs.Areas.{IsAreaOf}
 use Rattle.clause_queries.specs.Answers.{AreFew}
 pub use Rattle.obligation_turn.specs.Counts.{StepCounts, WhyCounts}
-use Rattle.step_rules.specs.Standing.{IsStanding, Standing, state_of}
+use Rattle.step_rules.specs.Standing.{IsStanding, Standing, standing_state}
 use Rattle.step_rules.specs.Taken.{AreProjected, IsMadeFor, step_of}
 use Rattle.step_rules.specs.Views.{facts_of, lemmas_of}
 use Rattle.step_rules.specs.declared.step.Step.{Step}
@@ -32,9 +32,9 @@ pub record IsThin (b : Standing) : Type 0 where
 pub record GoesOn (b : Standing) : Type 0 where
   pub few : AreFew b.system
   pub standing : IsStanding b
-  pub ordered : IsOrdered (state_of b)
+  pub ordered : IsOrdered (standing_state b)
   pub recorded : AreRecorded b.system [] (facts_of b.facts)
-  pub goes_on : end (state_of b) ≡ None
+  pub goes_on : end (standing_state b) ≡ None
   pub thin : IsThin b
 
 -- a live obligation without live children that isn't stalled
@@ -67,7 +67,7 @@ Serves b job (StallStep t) = t.target ≡ job
 
 -- a step that the book takes: it breaks no rule, its tokens were made for the book's system, and its cubes are over their predicates
 pub record IsTurn (b : Standing) (job nodes : ℕ) (step : Step) : Type 0 where
-  pub unbroken : broken b.system (state_of b) (step_of step) ≡ None
+  pub unbroken : broken b.system (standing_state b) (step_of step) ≡ None
   pub made : IsMadeFor b.system step
   pub places : has_places b.system (step_of step) ≡ true
   pub projected : AreProjected step

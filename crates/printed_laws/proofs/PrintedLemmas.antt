@@ -23,7 +23,7 @@ use Rattle.answer_text.specs.declared.answer.UnknownCause.TheVariants.{Units, St
 use Rattle.answer_text.specs.AnswerTexts.{answer_text, definition_text, step_text}
 use Rattle.answer_text.specs.Printable.{IsAnswerText}
 use Rattle.answer_text.specs.Read.{IsBad, Spells}
-use Rattle.answer_text.specs.machinery.ReadBack.{IsSameModel}
+use Rattle.answer_text.specs.ReadBack.{IsSameModel}
 use Rattle.answer_laws.specs.Texts.{IsSatAnswer}
 use Rattle.book_answers.specs.Answers.{IsAnswerAt}
 use Rattle.solve_words.specs.declared.limits.Limits.{Limits}

@@ -1,6 +1,7 @@
 -- What a leaf says.
-use Rattle.std.specs.Prelude.{ℕ, ◌+◌, ◌-◌, ◌^◌, nat_lt, if◌then◌else◌, List, take, drop, Option, None, Some}
+use Rattle.std.specs.Prelude.{ℕ, ◌+◌, ◌-◌, nat_lt, if◌then◌else◌, List, take, drop, Option, None, Some}
 use Rattle.base.specs.Numeral.{number_of}
+use Rattle.base.specs.Widths.{short_limit}
 use Rattle.sexp_read.specs.declared.tree.LeafKind.{LeafKind}
 use Rattle.sexp_read.specs.declared.tree.LeafKind.TheVariants.{Symbol, Quoted, Numeral, Text}
 use Rattle.sexp_read.specs.declared.tree.Tree.{Tree}
@@ -41,7 +42,7 @@ word_bytes text _ = None
 
 -- a number that is short, as widths have it
 abbrev pub short_number : ℕ → Option ℕ
-short_number n = if nat_lt n (2 ^ 63) then Some n else None
+short_number n = if nat_lt n short_limit then Some n else None
 
 abbrev pub numeral_of : List ℕ → LeafKind → ℕ → ℕ → Option ℕ
 numeral_of text Numeral start end = short_number (number_of (inner text Numeral start end))

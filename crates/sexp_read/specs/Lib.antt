@@ -1,4 +1,5 @@
 pub mod Leaves
 pub mod Lexicon
+pub mod Next
 pub mod Trees
 pub mod machinery

@@ -3,7 +3,7 @@
 ghost use Rattle.std.specs.Prelude.{◌≡◌, [], ◌+◌, ◌-◌, ◌^◌, ◌<◌, ◌≤◌, take, drop, length, vec_len, IfOk};
 ghost use Rattle.sexp_read.specs.declared.tree.Tree.TheViews.{List as ListTree};
 ghost use Rattle.sexp_read.specs.machinery.Opened.{outermost_start, stop_at_end};
-ghost use Rattle.sexp_read.specs.machinery.Next.{IsNext};
+ghost use Rattle.sexp_read.specs.Next.{IsNext};
 
 use crate::lexer::next_token;
 use crate::token::Token;

@@ -6,7 +6,7 @@ use Rattle.std.specs.List.{list_all, list_any, range_with_len}
 use Rattle.std.proofs.lemmas.List.{at_drop_more, at_drop_all, set-set}
 use Rattle.std.proofs.lemmas.List.Elements.{All-filter}
 use Rattle.obligation_tree.specs.Claims.{claimed, is_claim_of, is_held_by_another}
-use Rattle.obligation_tree.specs.Nodes.{has_live_child, is_live_at, is_stalled_in, leaf_numbers, live_numbers, node_at}
+use Rattle.obligation_tree.specs.Nodes.{has_live_child, is_live_at, is_stalled_in, leaf_numbers, live_numbers, node_at, IsLiveLeaf}
 use Rattle.obligation_tree.specs.declared.node.Node.{Node}
 use Rattle.book_rules.proofs.ListLemmas.{not_true}
 use Rattle.chc_core.specs.Contents.{Contents}
@@ -15,7 +15,7 @@ use Rattle.chc_core.proofs.EndLemmas.{leaves-there}
 use Rattle.obligation_turn.specs.Turns.{IsOpenLeaf}
 use Rattle.shared_book.specs.Jobs.{AreHeld}
 use Rattle.shared_book.specs.Locks.{claimed_by, with_claims}
-use Rattle.shared_book.specs.machinery.Choices.{IsChosen, IsLiveLeaf, is_out}
+use Rattle.shared_book.specs.machinery.Choices.{IsChosen, is_out}
 
 -- a worker's own claim tells nothing of what others hold, and gives way to the next
 

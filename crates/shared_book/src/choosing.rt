@@ -3,13 +3,13 @@
 ghost use Rattle.std.specs.Prelude.{◌≡◌, ◌<◌, ◌≤◌, None, true, length, IfOk, IfSome, OnErr, OnOk};
 ghost use Rattle.book_rules.specs.Legal.{end};
 ghost use Rattle.obligation_tree.specs.Claims.{most_workers};
-ghost use Rattle.obligation_tree.specs.Nodes.{is_stalled_in, leaf_numbers, node_at};
+ghost use Rattle.obligation_tree.specs.Nodes.{is_stalled_in, leaf_numbers, node_at, IsLiveLeaf};
 ghost use Rattle.chc_core.specs.Views.{standing_of, state_of};
 ghost use Rattle.clause_queries.specs.Answers.{AreFew};
 ghost use Rattle.obligation_turn.specs.Turns.{IsOpenLeaf, IsThin};
 ghost use Rattle.shared_book.specs.Jobs.{AreHeld, IsFree};
 ghost use Rattle.shared_book.specs.Locks.{claimed_by, with_claims};
-ghost use Rattle.shared_book.specs.machinery.Choices.{IsChosen, IsLiveLeaf, LeavesNone};
+ghost use Rattle.shared_book.specs.machinery.Choices.{IsChosen, LeavesNone};
 
 use crate::job::Job;
 use crate::run::Run;

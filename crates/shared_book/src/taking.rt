@@ -13,18 +13,16 @@ ghost use Rattle.obligation_tree.specs.Claims.{most_workers};
 ghost use Rattle.step_rules.specs.Taken.{IsMadeFor, step_of};
 ghost use Rattle.shared_book.specs.Locks.{AreReleased, released_by, with_claims};
 
+use base::MOST_WORKERS;
 use chc_core::{Book, Refused};
 use step_rules::Step;
-
-/// How many workers hold claims.
-const WORKERS: u32 = 64;
 
 /// Takes all claims on the book away.
 pub(crate) fn release_all(book: &mut Book)
     ensures is { book.new ≡ with_claims book.new.tree.claims book.old }
     ensures free { AreReleased book.new.tree.claims }
 {
-    for worker in 0..WORKERS {
+    for worker in 0..MOST_WORKERS {
         book.release(worker + 1);
     }
 }

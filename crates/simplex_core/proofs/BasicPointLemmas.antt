@@ -7,7 +7,7 @@ use Rattle.int_rows.specs.Rows.{entry}
 use Rattle.int_rows.specs.Table.{IsTable, Table, width}
 use Rattle.int_rows.proofs.Public.{table-basis}
 use Rattle.simplex_core.specs.Answer.{basis, is_outside_at, outer}
-use Rattle.simplex_core.specs.machinery.Kept.{AreStandings}
+use Rattle.simplex_core.specs.Standings.{AreStandings}
 use Rattle.simplex_core.specs.Meaning.{system_of}
 use Rattle.simplex_core.specs.Run.{columns, coordinates, moment, standing_at, stood_at}
 use Rattle.simplex_core.specs.declared.standing.Standing.{Standing}

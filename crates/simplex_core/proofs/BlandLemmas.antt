@@ -5,7 +5,7 @@ use Rattle.std.proofs.lemmas.Int.{ints}
 use Rattle.int_rows.specs.Basis.{bound}
 use Rattle.int_rows.specs.Rows.{entry}
 use Rattle.int_rows.specs.Table.{IsTable, width}
-use Rattle.simplex_core.specs.machinery.Kept.{AreStandings}
+use Rattle.simplex_core.specs.Standings.{AreStandings}
 use Rattle.simplex_core.specs.Run.{Moment, broken_at, coordinate_at, crossed, is_basic, may_leave, standing_at, stood_at}
 use Rattle.simplex_core.specs.declared.turn.Side.{Side}
 use Rattle.simplex_core.specs.declared.turn.Side.TheVariants.{Lower, Upper}

@@ -12,7 +12,7 @@ use Rattle.int_rows.specs.Rows.{entry}
 use Rattle.int_rows.specs.Space.{SameSpace}
 use Rattle.int_rows.specs.Table.{IsTable, basic_at, row_at, width}
 use Rattle.int_rows.proofs.Public.{same-solutions}
-use Rattle.simplex_core.specs.machinery.Kept.{AreStandings}
+use Rattle.simplex_core.specs.Standings.{AreStandings}
 use Rattle.simplex_core.specs.Run.{Moment, broken_at, crossed, is_basic, may_enter, may_leave, seen_from, settled, standing_at, stood, stood_at}
 use Rattle.simplex_core.specs.declared.standing.Standing.TheVariants.{AtLower, AtUpper}
 use Rattle.simplex_core.specs.declared.turn.Side.{Side}

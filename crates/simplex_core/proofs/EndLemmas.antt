@@ -15,7 +15,7 @@ use Rattle.int_rows.specs.Space.{SameSpace}
 use Rattle.int_rows.specs.Table.{IsTable, Table, pivoted, width}
 use Rattle.int_rows.proofs.Public.{same-symmetric}
 use Rattle.simplex_core.specs.Answer.{AreCoordinates, IsEnd, IsRun, basis, crossing, multipliers, outer}
-use Rattle.simplex_core.specs.machinery.Kept.{AreStandings}
+use Rattle.simplex_core.specs.Standings.{AreStandings}
 use Rattle.simplex_core.specs.Meaning.{HasSameBounds, HasShortFloors, IsConflict, Means, system_of}
 use Rattle.simplex_core.specs.Run.{Moment, Next, Ended, after, columns, coordinate_at, coordinates, has_wide_floor, is_wide, next, outcome, turn, wide, wide_floor}
 use Rattle.simplex_core.specs.declared.answer.Feasible.{Feasible}

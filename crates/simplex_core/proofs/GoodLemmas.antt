@@ -12,7 +12,7 @@ use Rattle.int_rows.specs.Rows.{are_short, entry}
 use Rattle.int_rows.specs.Space.{SameSpace}
 use Rattle.int_rows.specs.Table.{IsTable, Table, basic_at, pivoted, row_at, width}
 use Rattle.int_rows.proofs.Public.{length-pivoted, pivoted-same, pivoted-table, same-reflexive, same-transitive, table-pivots}
-use Rattle.simplex_core.specs.machinery.Kept.{AreStandings, may_stand}
+use Rattle.simplex_core.specs.Standings.{AreStandings, may_stand}
 use Rattle.simplex_core.specs.Run.{Moment, Outcome, Next, Ended, after, after_pivot, broken_at, coordinate_at, crossed, first_moment, is_above, is_basic, is_below, may_enter, may_leave, next, proceed, restood, row_of, run, settled, standing_at, turn}
 use Rattle.simplex_core.specs.declared.standing.Standing.{Standing}
 use Rattle.simplex_core.specs.declared.standing.Standing.TheVariants.{Basic, AtLower, AtUpper}

@@ -15,7 +15,7 @@ use Rattle.int_rows.specs.Space.{SameSpace}
 use Rattle.int_rows.specs.Table.{HasWide, IsTable, Table, basic_at, pivoted, row_at, width}
 use Rattle.int_rows.proofs.Public.{length-pivoted, pivoted-wide, same-basis, same-follows, same-solutions, same-wide}
 use Rattle.simplex_core.specs.Answer.{basis, outer}
-use Rattle.simplex_core.specs.machinery.Kept.{AreStandings}
+use Rattle.simplex_core.specs.Standings.{AreStandings}
 use Rattle.simplex_core.specs.Meaning.{IsConflict, IsVertex, of_lower, of_upper, summed, summed_bounds, system_of}
 use Rattle.simplex_core.specs.Run.{after_pivot, columns, coordinate_at, crossed, has_wide_floor, is_wide, leaving, moment, restood}
 use Rattle.simplex_core.specs.declared.standing.Standing.{Standing}

@@ -8,7 +8,7 @@ use Rattle.std.proofs.lemmas.List.FromFn.{get_or-map-range_with_len, length-map-
 use Rattle.lin_atoms.specs.Ratio.{Fraction}
 use Rattle.int_rows.specs.Basis.{bound, is_in}
 use Rattle.int_rows.specs.Table.{Table, basic_at, width}
-use Rattle.simplex_core.specs.machinery.Kept.{AreStandings, may_stand}
+use Rattle.simplex_core.specs.Standings.{AreStandings, may_stand}
 use Rattle.simplex_core.specs.Run.{Moment, can_rise, can_sink, coordinate_at, coordinates, first_standing, first_standing_at, first_standings, helps, is_basic, row_of, row_value, standing_at, stood_at, values}
 use Rattle.simplex_core.specs.declared.standing.Standing.TheVariants.{Basic}
 

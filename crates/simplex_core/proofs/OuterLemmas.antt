@@ -10,7 +10,7 @@ use Rattle.int_rows.specs.Basis.{MayStand, is_in, outside}
 use Rattle.int_rows.specs.Table.{Table, width}
 use Rattle.int_rows.specs.Basis.{in_order}
 use Rattle.simplex_core.specs.Answer.{basis, is_basic_at, is_outside_at}
-use Rattle.simplex_core.specs.machinery.Kept.{AreStandings, may_stand}
+use Rattle.simplex_core.specs.Standings.{AreStandings, may_stand}
 use Rattle.simplex_core.specs.Run.{columns, is_basic, standing_at, stood}
 use Rattle.simplex_core.specs.declared.standing.Standing.{Standing}
 use Rattle.simplex_core.specs.declared.standing.Standing.TheVariants.{Basic, AtLower, AtUpper, AtZero}

@@ -17,7 +17,7 @@ use Rattle.int_rows.specs.Basis.{Point, is_in}
 use Rattle.int_rows.specs.Rows.{Solves, SolvesAll, entry}
 use Rattle.int_rows.specs.Table.{IsTable, Table, basic_at, row_at, width}
 use Rattle.simplex_core.specs.Coordinate.{coordinate, others}
-use Rattle.simplex_core.specs.machinery.Kept.{AreStandings}
+use Rattle.simplex_core.specs.Standings.{AreStandings}
 use Rattle.simplex_core.specs.declared.standing.Standing.{Standing}
 use Rattle.simplex_core.specs.Run.{Moment, coordinate_at, coordinates, is_basic, moment, row_of, row_value, standing_at, stood_at, values}
 use Rattle.simplex_core.proofs.CoordinateLemmas.{masked-at}

@@ -11,7 +11,7 @@ use Rattle.int_rows.specs.Rows.{entry}
 use Rattle.int_rows.specs.Table.{IsTable, Table, basic_at, pivoted, row_at, width}
 use Rattle.int_rows.proofs.Public.{length-pivoted, pivoted-other}
 use Rattle.simplex_core.specs.Coordinate.{coordinate, others}
-use Rattle.simplex_core.specs.machinery.Kept.{AreStandings}
+use Rattle.simplex_core.specs.Standings.{AreStandings}
 use Rattle.simplex_core.specs.machinery.Refresh.{changes}
 use Rattle.simplex_core.specs.Run.{Moment, after, after_pivot, coordinate_at, coordinates, is_basic, moment, restood, row_of, row_value, settled, standing_at, stood, stood_at, values}
 use Rattle.simplex_core.specs.declared.standing.Standing.{Standing}

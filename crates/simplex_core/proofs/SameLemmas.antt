@@ -9,7 +9,7 @@ use Rattle.std.proofs.lemmas.List.{ext_get_or}
 use Rattle.int_rows.specs.Basis.{bound}
 use Rattle.int_rows.specs.Table.{Table, width}
 use Rattle.simplex_core.specs.Answer.{AreSame, basis, is_basic_at, is_outside_at, outer}
-use Rattle.simplex_core.specs.machinery.Kept.{are_equal, may_stand}
+use Rattle.simplex_core.specs.Standings.{are_equal, may_stand}
 use Rattle.simplex_core.specs.Run.{Moment, columns, is_basic, standing_at, stood}
 use Rattle.simplex_core.specs.declared.standing.Standing.{Standing}
 use Rattle.simplex_core.specs.declared.standing.Standing.TheVariants.{Basic, AtLower, AtUpper, AtZero}

@@ -15,7 +15,7 @@ use Rattle.int_rows.specs.Table.{IsTable, Table, basic_at, row_at, width}
 use Rattle.int_rows.proofs.Public.{follows-own, lt-true}
 use Rattle.simplex_core.specs.Answer.{multipliers, multipliers_at}
 use Rattle.simplex_core.specs.Coordinate.{others}
-use Rattle.simplex_core.specs.machinery.Kept.{AreStandings}
+use Rattle.simplex_core.specs.Standings.{AreStandings}
 use Rattle.simplex_core.specs.Meaning.{IsConflict, summed}
 use Rattle.simplex_core.specs.Run.{broken_at, can_rise, can_sink, coordinate_at, entering, helps, is_above, is_basic, is_below, may_enter, moment, seen_from, standing_at, stood_at, values}
 use Rattle.simplex_core.specs.declared.standing.Standing.{Standing}

@@ -12,7 +12,7 @@ use Rattle.int_rows.specs.Basis.{MeetsBounds, bound}
 use Rattle.int_rows.specs.Rows.{entry}
 use Rattle.int_rows.specs.Table.{IsTable, Table, width}
 use Rattle.simplex_core.specs.Answer.{AreCoordinates, basis, outer}
-use Rattle.simplex_core.specs.machinery.Kept.{AreStandings, may_stand}
+use Rattle.simplex_core.specs.Standings.{AreStandings, may_stand}
 use Rattle.simplex_core.specs.Meaning.{IsVertex, system_of}
 use Rattle.simplex_core.specs.Run.{are_crossed, are_crossed_at, broken_at, columns, coordinate_at, crossed, is_above, is_basic, is_below, leaving, may_leave, moment, standing_at, stood, stood_at}
 use Rattle.simplex_core.specs.declared.standing.Standing.{Standing}

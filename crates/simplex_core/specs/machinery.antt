@@ -1,5 +1,4 @@
 -- What the code keeps for itself: no rule cites it.
 pub mod Following
-pub mod Kept
 pub mod Refresh
 pub mod Standing

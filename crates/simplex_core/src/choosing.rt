@@ -1,9 +1,10 @@
 //! What a moment of the run is: which column leaves, which enters, or which end it is.
 
-ghost use Rattle.std.specs.Prelude.{◌≡◌, ◌<◌, ◌≤◌, ◌^◌, ◌-ℤ◌, length, nat_abs, position, take, true};
+ghost use Rattle.std.specs.Prelude.{◌≡◌, ◌<◌, ◌≤◌, ◌-ℤ◌, length, nat_abs, position, take, true};
+ghost use Rattle.base.specs.Widths.{short_limit};
 ghost use Rattle.int_rows.specs.Ready.{bound_fits};
 ghost use Rattle.int_rows.specs.Table.{row_at, width};
-ghost use Rattle.simplex_core.specs.machinery.Kept.{AreStandings};
+ghost use Rattle.simplex_core.specs.Standings.{AreStandings};
 ghost use Rattle.simplex_core.specs.Run.{are_crossed, are_crossed_at, broken, broken_at, can_rise, can_sink, coordinates, crossed, entering, has_wide_floor, helps, is_above, is_basic, is_below, is_wide, leave, leaving, may_enter, may_leave, moment, seen_from, settle, turn, wide, wide_floor};
 
 use crate::coordinate::Coordinate;
@@ -176,9 +177,9 @@ fn can_sink(t: &Tableau, standings: &[Standing], column: usize) -> bool
 
 /// The number, with the other sign where the upper bound is broken.
 pub(crate) fn seen_from(side: Side, a: i64) -> i64
-    requires { nat_abs a < 2 ^ 63 }
+    requires { nat_abs a < short_limit }
     ensures is { result ≡ seen_from side a }
-    ensures short { nat_abs result < 2 ^ 63 }
+    ensures short { nat_abs result < short_limit }
 {
     match side {
         Side::Lower => a,

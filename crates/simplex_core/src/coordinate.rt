@@ -2,7 +2,7 @@ ghost use Rattle.std.specs.Prelude.{◌≡◌, ◌^◌, ◌<◌, ◌≤◌, ◌+
 ghost use Rattle.std.specs.Int.{IsGcd, int_div_euclid};
 ghost use Rattle.std.specs.List.{list_all};
 ghost use Rattle.std.specs.Ordering.{int_cmp};
-ghost use Rattle.base.specs.Widths.{numerator_limit};
+ghost use Rattle.base.specs.Widths.{numerator_limit, long_limit};
 ghost use Rattle.lin_atoms.specs.Linear.{is_long, is_short};
 ghost use Rattle.lin_atoms.specs.Ratio.{Fraction, IsLowest, IsNumerator};
 ghost use Rattle.int_rows.specs.Rows.{entry};
@@ -73,7 +73,7 @@ pub fn held(alloc: Global, values: &[i128]) -> Result<Vec<usize>, Memory>
 /// Takes a product away from a sum.
 fn take_away(sum: &mut Accumulator, entry: i64, value: i128)
     requires room { sum.old.added < 2 ^ 32 }
-    requires long { nat_abs value < 2 ^ 64 }
+    requires long { nat_abs value < long_limit }
     ensures value { sum.new.value ≡ sum.old.value -ℤ entry *ℤ value }
     ensures added { sum.new.added ≤ sum.old.added + 1 }
 {
@@ -126,7 +126,7 @@ impl Coordinate {
 
     /// Compares the value with a bound.
     pub fn compare(&self, bound: i128) -> Ordering
-        requires { nat_abs bound < 2 ^ 64 }
+        requires { nat_abs bound < long_limit }
         ensures { result ≡ int_cmp self.now.num (self.now.den *ℤ bound) }
     {
         let mut other = Accumulator::new(0);

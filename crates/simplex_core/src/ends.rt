@@ -1,6 +1,7 @@
 //! What is answered at the end of a run.
 
 ghost use Rattle.std.specs.Prelude.{◌≡◌, ◌<◌, ◌*◌, ◌^◌, length, nat_abs, map, neg_ℤ, pos, int_lt, true, ◌++◌, ◌∷◌, [], IfOk, position, None, if◌then◌else◌};
+ghost use Rattle.base.specs.Widths.{short_limit};
 ghost use Rattle.int_rows.specs.Rows.{are_short};
 ghost use Rattle.int_rows.specs.Table.{row_at, width};
 ghost use Rattle.simplex_core.specs.Answer.{AreCoordinates, basis, crossing, crossing_at, multipliers, outer, parts};
@@ -94,7 +95,7 @@ fn positive_part(a: i64) -> i64
 
 /// The number with the other sign where it is below 0, and else 0.
 fn negative_part(a: i64) -> i64
-    requires { nat_abs a < 2 ^ 63 }
+    requires { nat_abs a < short_limit }
     ensures { result ≡ (if int_lt a (pos 0) then neg_ℤ a else pos 0) }
 {
     if a < 0 { -a } else { 0 }
@@ -111,7 +112,7 @@ fn push_two(made: &mut Vec<i64>, first: i64, second: i64) -> Result<(), Memory>
 
 /// Appends the multipliers of a column's two bounds, by its entry.
 fn push_parts(made: &mut Vec<i64>, a: i64) -> Result<(), Memory>
-    requires { nat_abs a < 2 ^ 63 }
+    requires { nat_abs a < short_limit }
     ensures { IfOk result (λ _. made.new.items ≡ made.old.items ++ parts a) }
 {
     push_two(made, positive_part(a), negative_part(a))?;

@@ -9,7 +9,7 @@ ghost use Rattle.int_rows.specs.Rows.{entry};
 ghost use Rattle.int_rows.specs.Space.{SameSpace};
 ghost use Rattle.int_rows.specs.Table.{IsTable, Table, basic_at, first_table, width};
 ghost use Rattle.simplex_core.specs.Answer.{AreCoordinates, AreSame, basis, crossing, multipliers, outer};
-ghost use Rattle.simplex_core.specs.machinery.Kept.{AreStandings};
+ghost use Rattle.simplex_core.specs.Standings.{AreStandings};
 ghost use Rattle.simplex_core.specs.Meaning.{IsConflict, IsVertex, summed, system_of, with_forms};
 ghost use Rattle.simplex_core.specs.Run.{Moment, Next, broken_at, columns, coordinate_at, crossed, entering, has_wide_floor, is_wide, leaving, moment, run};
 ghost use Rattle.simplex_core.specs.declared.standing.Standing.{Standing};

@@ -2,11 +2,12 @@
 
 ghost use Rattle.std.specs.Prelude.{◌≡◌, ◌<◌, ◌≤◌, ◌^◌, length, nat_abs, true, IfOk, OnOk};
 ghost use Rattle.std.specs.List.{list_all};
+ghost use Rattle.base.specs.Widths.{long_limit};
 ghost use Rattle.lin_atoms.specs.Linear.{is_long};
 ghost use Rattle.int_rows.specs.Basis.{is_in};
 ghost use Rattle.int_rows.specs.Table.{basic_at, row_at, width};
 ghost use Rattle.simplex_core.specs.Coordinate.{coordinate, held};
-ghost use Rattle.simplex_core.specs.machinery.Kept.{AreStandings};
+ghost use Rattle.simplex_core.specs.Standings.{AreStandings};
 ghost use Rattle.simplex_core.specs.Run.{coordinate_at, coordinates, first_standing, first_standing_at, first_standings, moment, row_of, stood, stood_at, values};
 
 use crate::coordinate::{Coordinate, held};
@@ -119,7 +120,7 @@ pub(crate) fn stood_at(t: &Tableau, standings: &[Standing], column: usize) -> i1
     requires each { length standings.now ≡ width t.now }
     requires column { column < width t.now }
     ensures is { result ≡ stood_at (moment t.now standings.now) column }
-    ensures long { nat_abs result < 2 ^ 64 }
+    ensures long { nat_abs result < long_limit }
 {
     t.is_table();
     stood(t.lower(column), t.upper(column), standings[column])

@@ -7,7 +7,7 @@ ghost use Rattle.lin_atoms.specs.Ratio.{Fraction};
 ghost use Rattle.int_rows.specs.Rows.{entry};
 ghost use Rattle.int_rows.specs.Table.{Table, row_at, width};
 ghost use Rattle.simplex_core.specs.Coordinate.{held};
-ghost use Rattle.simplex_core.specs.machinery.Kept.{AreStandings};
+ghost use Rattle.simplex_core.specs.Standings.{AreStandings};
 ghost use Rattle.simplex_core.specs.machinery.Refresh.{changes};
 ghost use Rattle.simplex_core.specs.Run.{coordinate_at, coordinates, moment, values};
 

@@ -4,7 +4,7 @@ ghost use Rattle.std.specs.Prelude.{◌≡◌, ◌<◌, ◌^◌, length, true, p
 ghost use Rattle.int_rows.specs.Rows.{entry};
 ghost use Rattle.int_rows.specs.Table.{basic_at, row_at, width};
 ghost use Rattle.simplex_core.specs.Answer.{IsEnd, Steps};
-ghost use Rattle.simplex_core.specs.machinery.Kept.{AreStandings};
+ghost use Rattle.simplex_core.specs.Standings.{AreStandings};
 ghost use Rattle.simplex_core.specs.Run.{coordinates, moment, restood, settled, turn};
 ghost use Rattle.simplex_core.specs.declared.turn.Turn.TheVariants.{Pivot, Wide};
 

@@ -60,10 +60,6 @@ pub record RefusesInput (left : Option (List ℕ)) (old new : ℕ) (read : List 
   pub long : new ≢ counted old → refusal ≡ record { kind = TooLong; offset = most_bytes; command = 0 }
   pub bytes : refusal.kind ≢ TooLong → IsInputRefused read refusal
 
--- where the refusal isn't that the bytes are too many, all of them were read
-abbrev pub ReadsInput : Option (List ℕ) → List ℕ → Refusal → Type 0
-ReadsInput left read refusal = refusal.kind ≢ TooLong → IfSome left (λ bytes. read ≡ bytes)
-
 -- the text that the call was to write: its kinds are told apart by the status that it was to end with
 pub data IsMeant (limits : Limits) (left : Option (List ℕ)) (old new : ℕ) (read : List ℕ) (book : Option Contents) (text : List ℕ) : Type 0 where
   answer : (b : Contents) → book ≡ Some b → IsAnswered limits read b text → IfSome left (λ bytes. read ≡ bytes) → IsMeant limits left old new read book text

@@ -4,10 +4,10 @@ ghost use Rattle.outside_io.specs.Counts.{counted};
 ghost use Rattle.outside_io.specs.declared.turn.Turn.TheVariants.{Fault};
 ghost use Rattle.outside_io.specs.Turns.{EndsOnce};
 ghost use Rattle.term_tree.specs.declared.refusal.Refusal.{Refusal};
-ghost use Rattle.sort_check.specs.Scripts.{IsRefused};
+ghost use Rattle.sort_check.specs.Scripts.{IsRefused, ReadsInput};
 ghost use Rattle.solve_words.specs.Properties.{IsInRange};
 ghost use Rattle.solve_call.specs.Clauses.{HasNoSystem, IsUnrefused};
-ghost use Rattle.solve_call.specs.Headline.{Answers, AreCounts, IsBookFor, ReadsInput, Refuses, WritesPart, wanting_text};
+ghost use Rattle.solve_call.specs.Headline.{Answers, AreCounts, IsBookFor, Refuses, WritesPart, wanting_text};
 
 use crate::lines::unfinished_lines;
 use crate::plan::{Plan, plan_for};

@@ -7,7 +7,7 @@ use Rattle.clap.specs.Walk.{Row, Text, first_of}
 use Rattle.clap.specs.Simple.{subcommand_of}
 use Rattle.solve_words.specs.Command.{chc}
 use Rattle.solve_words.specs.Parsed.{IsTaken}
-use Rattle.solve_words.specs.Words.{IsCall, IsCheckCall, IsGenCall, IsGiven, IsGivenOr, default_nodes, default_units, default_workers, most_depth, most_nodes, most_seed, most_call_units, most_call_workers}
+use Rattle.solve_words.specs.Words.{IsCall, IsCheckCall, IsGenCall, IsGiven, IsGivenOr, default_nodes, default_units, default_workers, most_depth, most_nodes, most_seed, most_call_units, most_workers}
 use Rattle.solve_words.specs.machinery.Reading.{check_named, check_with, gen_named, gen_with, limits_with, number_given, number_or, solve_named, solve_with, words_in, words_named}
 use Rattle.solve_words.specs.declared.limits.Limits.{Limits}
 use Rattle.solve_words.specs.declared.limits.Words.{Words}
@@ -19,7 +19,7 @@ use Rattle.solve_words.proofs.RangeLemmas.{given_found, given_read, or_found, or
 -- the command of that name says this
 abbrev Says : Text → List Row → Words → Type 0
 Says name options (Solve l) =
-    (name ≡ codes "solve") × IsGivenOr 1 most_call_workers default_workers (first_of (codes "workers") options) l.workers
+    (name ≡ codes "solve") × IsGivenOr 1 most_workers default_workers (first_of (codes "workers") options) l.workers
     × IsGivenOr 0 most_call_units default_units (first_of (codes "units") options) l.units
     × IsGivenOr 1 most_nodes default_nodes (first_of (codes "nodes") options) l.nodes
 Says name options (Check nodes) = (name ≡ codes "check") × IsGivenOr 1 most_nodes default_nodes (first_of (codes "nodes") options) nodes
@@ -30,11 +30,11 @@ words_same a b h = cc
 
 solve_read : (name : Text) (options : List Row) (w : Words) → name ≡ codes "solve" → solve_named options ≡ Some w → Says name options w
 solve_read name options w is h = by
-    (number_or 1 most_call_workers default_workers (first_of (codes "workers") options)) refl
+    (number_or 1 most_workers default_workers (first_of (codes "workers") options)) refl
     (number_or 0 most_call_units default_units (first_of (codes "units") options)) refl
     (number_or 1 most_nodes default_nodes (first_of (codes "nodes") options)) refl h
   where
-    by : (x : Option ℕ) → number_or 1 most_call_workers default_workers (first_of (codes "workers") options) ≡ x
+    by : (x : Option ℕ) → number_or 1 most_workers default_workers (first_of (codes "workers") options) ≡ x
         → (y : Option ℕ) → number_or 0 most_call_units default_units (first_of (codes "units") options) ≡ y
         → (z : Option ℕ) → number_or 1 most_nodes default_nodes (first_of (codes "nodes") options) ≡ z
         → solve_with (limits_with x y z) ≡ Some w → Says name options w
@@ -43,7 +43,7 @@ solve_read name options w is h = by
     by (Some x) a (Some y) b None c e = absurd (cc)
     by (Some x) a (Some y) b (Some z) c e = subst (Says name options) (words_same (Solve (record { workers = x; units = y; nodes = z })) w e) (
       is,
-      or_read 1 most_call_workers default_workers (first_of (codes "workers") options) x a,
+      or_read 1 most_workers default_workers (first_of (codes "workers") options) x a,
       or_read 0 most_call_units default_units (first_of (codes "units") options) y b,
       or_read 1 most_nodes default_nodes (first_of (codes "nodes") options) z c,
     )
@@ -126,7 +126,7 @@ call_read words w taken h = by (subcommand_of chc words) refl h
 
 pub solve_found : (words : List Text) (l : Limits) → IsCall words l → words_in (subcommand_of chc words) ≡ Some (Solve l)
 solve_found words l call =
-    let w = or_found 1 most_call_workers default_workers (first_of (codes "workers") call.options) l.workers call.workers in
+    let w = or_found 1 most_workers default_workers (first_of (codes "workers") call.options) l.workers call.workers in
     let u = or_found 0 most_call_units default_units (first_of (codes "units") call.options) l.units call.units in
     let n = or_found 1 most_nodes default_nodes (first_of (codes "nodes") call.options) l.nodes call.nodes in
     ap words_in call.names.1

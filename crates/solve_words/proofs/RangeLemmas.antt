@@ -3,7 +3,7 @@ use Rattle.std.proofs.Common.{◌≡◌, ℕ, ◌≤◌, List, Bool, true, false
 use Rattle.std.specs.Prelude.{nat_le, Option, if◌then◌else◌}
 use Rattle.std.proofs.lemmas.Bool.Decides.{nat_tests}
 use Rattle.base.specs.Numeral.{is_numeral, number_of}
-use Rattle.solve_words.specs.Words.{IsGiven, IsGivenOr, IsNumber}
+use Rattle.solve_words.specs.Words.{IsGiven, IsGivenOr, IsCount}
 use Rattle.solve_words.specs.machinery.Reading.{at_least, at_most, number_given, number_or, numeral_within}
 
 at_most_is : (most n k : ℕ) → at_most most n ≡ Some k → (n ≡ k) × (k ≤ most)
@@ -21,17 +21,17 @@ at_least_is least (Some n) k h = by (nat_le least n) refl h
     by true is e = let same : n ≡ k = cc in let low : least ≤ n = grind (arith, nat_tests, is) in (omega (arith, same, low), e)
     by false is e = absurd (cc)
 
-numeral_read : (least most : ℕ) (word : List ℕ) (k : ℕ) → numeral_within least most word ≡ Some k → IsNumber least most word k
+numeral_read : (least most : ℕ) (word : List ℕ) (k : ℕ) → numeral_within least most word ≡ Some k → IsCount least most word k
 numeral_read least most word k h = by (is_numeral word) refl h
   where
-    by : (b : Bool) → is_numeral word ≡ b → (let o : Option ℕ = if b then at_least least (at_most most (number_of word)) else None in o) ≡ Some k → IsNumber least most word k
+    by : (b : Bool) → is_numeral word ≡ b → (let o : Option ℕ = if b then at_least least (at_most most (number_of word)) else None in o) ≡ Some k → IsCount least most word k
     by true is e =
         let both = at_least_is least (at_most most (number_of word)) k e in
         let top = at_most_is most (number_of word) k both.1 in
         (is, top.0, both.0, top.1)
     by false is e = absurd (cc)
 
-numeral_found : (least most : ℕ) (word : List ℕ) (n : ℕ) → IsNumber least most word n → numeral_within least most word ≡ Some n
+numeral_found : (least most : ℕ) (word : List ℕ) (n : ℕ) → IsCount least most word n → numeral_within least most word ≡ Some n
 numeral_found least most word n (is, number, low, high) =
     let small : nat_le n most ≡ true = grind (arith, nat_tests, high) in
     let large : nat_le least n ≡ true = grind (arith, nat_tests, low) in

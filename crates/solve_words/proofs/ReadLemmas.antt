@@ -7,7 +7,7 @@ use Rattle.solve_words.specs.Command.{chc}
 use Rattle.clap.specs.declared.parser.matches.ArgMatches.{ArgMatches}
 use Rattle.solve_words.specs.Parsed.{IsParsedAs, IsTaken}
 use Rattle.solve_words.specs.Properties.{AreLimitsOf, AreNodesOf, AreWordsOf, IsInRange, IsWithin}
-use Rattle.solve_words.specs.Words.{IsCall, IsCheckCall, IsGenCall, default_nodes, default_units, default_workers, most_depth, most_nodes, most_seed, most_call_units, most_call_workers}
+use Rattle.solve_words.specs.Words.{IsCall, IsCheckCall, IsGenCall, default_nodes, default_units, default_workers, most_depth, most_nodes, most_seed, most_call_units, most_workers}
 use Rattle.solve_words.specs.machinery.Reading.{limits_alone, nodes_alone, said, words_in}
 use Rattle.solve_words.specs.declared.limits.Limits.{Limits}
 use Rattle.solve_words.specs.declared.limits.Words.{Words}
@@ -40,7 +40,7 @@ said_words words (Some matches) found parsed is = are_words words found parsed.0
 
 limits_within : (words : List Text) (l : Limits) → IsCall words l → IsInRange l
 limits_within words l call =
-    let w = or_within 1 most_call_workers default_workers (first_of (codes "workers") call.options) l.workers (omega arith) (omega arith) call.workers in
+    let w = or_within 1 most_workers default_workers (first_of (codes "workers") call.options) l.workers (omega arith) (omega arith) call.workers in
     let u = or_within 0 most_call_units default_units (first_of (codes "units") call.options) l.units (omega arith) (omega arith) call.units in
     let n = or_within 1 most_nodes default_nodes (first_of (codes "nodes") call.options) l.nodes (omega arith) (omega arith) call.nodes in
     record { one = w.0; workers = w.1; units = u.1; some = n.0; nodes = n.1 }

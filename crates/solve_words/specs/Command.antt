@@ -8,17 +8,17 @@ use Rattle.clap.specs.declared.builder.action.ArgAction.TheVariants.{Set}
 abbrev pub option : Text → Rule
 option name = record (new_rule name) { long = Some name; action = Some Set }
 
-abbrev pub command : Text → List Text → Shape
-command name options = record (new_shape name) { rules = map option options }
+abbrev pub command_shape : Text → List Text → Shape
+command_shape name options = record (new_shape name) { rules = map option options }
 
 abbrev pub solve : Shape
-solve = command (codes "solve") (codes "workers" ∷ codes "units" ∷ codes "nodes" ∷ [])
+solve = command_shape (codes "solve") (codes "workers" ∷ codes "units" ∷ codes "nodes" ∷ [])
 
 abbrev pub check : Shape
-check = command (codes "check") (codes "nodes" ∷ [])
+check = command_shape (codes "check") (codes "nodes" ∷ [])
 
 abbrev pub gen : Shape
-gen = command (codes "gen") (codes "depth" ∷ codes "seed" ∷ [])
+gen = command_shape (codes "gen") (codes "depth" ∷ codes "seed" ∷ [])
 
 abbrev pub alone : Shape → App
 alone s = record { top = s; subs = [] }

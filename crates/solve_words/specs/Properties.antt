@@ -1,6 +1,6 @@
 -- What is told of words.
 use Rattle.std.specs.Prelude.{◌≤◌, ℕ, List, Option, None, Some}
-use Rattle.solve_words.specs.Words.{IsCall, IsCheckCall, IsGenCall, IsNoCall, IsNoCheckCall, IsNoGenCall, most_depth, most_nodes, most_seed, most_call_units, most_call_workers}
+use Rattle.solve_words.specs.Words.{IsCall, IsCheckCall, IsGenCall, IsNoCall, IsNoCheckCall, IsNoGenCall, most_depth, most_nodes, most_seed, most_call_units, most_workers}
 use Rattle.solve_words.specs.declared.limits.Limits.{Limits}
 use Rattle.solve_words.specs.declared.limits.Words.{Words}
 use Rattle.solve_words.specs.declared.limits.Words.TheVariants.{Solve, Check, Gen}
@@ -25,7 +25,7 @@ AreNodesOf words (Some nodes) = IsCheckCall words nodes
 -- what such limits are
 pub record IsInRange (limits : Limits) : Type 0 where
   pub one : 1 ≤ limits.workers
-  pub workers : limits.workers ≤ most_call_workers
+  pub workers : limits.workers ≤ most_workers
   pub units : limits.units ≤ most_call_units
   pub some : 1 ≤ limits.nodes
   pub nodes : limits.nodes ≤ most_nodes

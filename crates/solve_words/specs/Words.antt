@@ -1,16 +1,13 @@
 -- The words after the program's name that are a call, and the numbers that they give: words that `clap` takes for the command of
 -- that name, whose options are left out or have a numeral of their range as value.
 use Rattle.std.specs.Prelude.{◌≡◌, ◌≤◌, ℕ, List, Option, Some, None, true, codes}
+pub use Rattle.base.specs.Limits.{most_workers}
 use Rattle.base.specs.Numeral.{is_numeral, number_of}
 use Rattle.clap.specs.Walk.{Row, first_of}
 use Rattle.solve_words.specs.Parsed.{Names}
 use Rattle.solve_words.specs.declared.limits.Limits.{Limits}
 
--- what a call may give; how many units a book may be given, and how many workers may hold claims on it, is said apart, by chc_core
--- and obligation_tree, for who reads of books alone
-
-abbrev pub most_call_workers : ℕ
-most_call_workers = 64
+-- what a call may give; how many units a book may be given is said apart, by chc_core, for who reads of books alone
 
 abbrev pub most_call_units : ℕ
 most_call_units = 1000000
@@ -36,24 +33,24 @@ abbrev pub default_nodes : ℕ
 default_nodes = 2000
 
 -- the text is a numeral, 0 or digits that don't begin with 0, of a number from the least to the most
-abbrev pub IsNumber : ℕ → ℕ → List ℕ → ℕ → Type 0
-IsNumber least most text n = (is_numeral text ≡ true) × (number_of text ≡ n) × (least ≤ n) × (n ≤ most)
+abbrev pub IsCount : ℕ → ℕ → List ℕ → ℕ → Type 0
+IsCount least most text n = (is_numeral text ≡ true) × (number_of text ≡ n) × (least ≤ n) × (n ≤ most)
 
 -- the number of an option that must be given
 abbrev pub IsGiven : ℕ → ℕ → Option (List ℕ) → ℕ → Type 0
 IsGiven least most None n = ⊥
-IsGiven least most (Some text) n = IsNumber least most text n
+IsGiven least most (Some text) n = IsCount least most text n
 
 -- and of one that may be left out, and stands for a number then
 abbrev pub IsGivenOr : ℕ → ℕ → ℕ → Option (List ℕ) → ℕ → Type 0
 IsGivenOr least most default None n = n ≡ default
-IsGivenOr least most default (Some text) n = IsNumber least most text n
+IsGivenOr least most default (Some text) n = IsCount least most text n
 
 -- the words are a call of `solve` with these limits
 pub record IsCall (words : List (List ℕ)) (limits : Limits) : Type 0 where
   pub options : List Row
   pub names : Names words (codes "solve") options
-  pub workers : IsGivenOr 1 most_call_workers default_workers (first_of (codes "workers") options) limits.workers
+  pub workers : IsGivenOr 1 most_workers default_workers (first_of (codes "workers") options) limits.workers
   pub units : IsGivenOr 0 most_call_units default_units (first_of (codes "units") options) limits.units
   pub nodes : IsGivenOr 1 most_nodes default_nodes (first_of (codes "nodes") options) limits.nodes
 

@@ -10,14 +10,11 @@ ghost use Rattle.solve_words.specs.machinery.Reading.{check_named, gen_named, li
 use crate::command::parsed;
 use crate::limits::{Limits, Words};
 use crate::options::{number_given, number_or, text_of};
-use base::Memory;
+use base::{MOST_WORKERS, Memory};
 use clap::ArgMatches;
 use std::alloc::Global;
 
-/// How many workers there may be.
-const MOST_WORKERS: u32 = 64;
-
-/// And how many there are where no number is given.
+/// How many workers there are where no number is given.
 const DEFAULT_WORKERS: u32 = 1;
 
 /// How many units a book may spend.

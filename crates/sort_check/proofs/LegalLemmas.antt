@@ -12,7 +12,8 @@ use Rattle.term_tree.specs.declared.sort.Sort.TheVariants.{Int as IntSort, Bool 
 use Rattle.term_check.specs.declared.part.Part.{Part}
 use Rattle.term_check.specs.declared.part.Fault.{Fault}
 use Rattle.term_tree.specs.declared.refusal.Kind.TheVariants.{SortMismatch}
-use Rattle.term_check.specs.Rules.{fault, unless, same_sort}
+use Rattle.term_tree.specs.Sorts.{same_sort}
+use Rattle.term_check.specs.Rules.{fault, unless}
 use Rattle.term_check.specs.Spelling.{Spelled, spelled, is_word, ◌>>=◌, scope_of, sort_named, sort_or_bool}
 use Rattle.term_check.specs.Term.{Term}
 use Rattle.term_check.proofs.Public.{bind_ok, unless_ok}

@@ -5,11 +5,11 @@ use Rattle.std.proofs.lemmas.Bool.{ltb-true, ltb-false}
 use Rattle.sexp_read.specs.declared.tree.Tree.{Tree}
 use Rattle.term_tree.specs.declared.script.Pred.{Pred}
 use Rattle.term_check.specs.declared.part.Fault.{Fault}
-use Rattle.term_check.specs.Rules.{or_else}
+use Rattle.term_check.specs.Rules.{first_fault}
 use Rattle.term_check.specs.Spelling.{is_some, name_of, name_or_none, start_of, pred_from}
 use Rattle.sort_check.specs.Commands.{assert_fault, count_fault, form_fault, order_fault, taken_fault, is_theory_name, sorts_fault, result_fault, declaration_fault, most_arguments, most_assertions, most_predicates}
 
-neither : (a b : Option Fault) → or_else a b ≡ None → (a ≡ None) × (b ≡ None)
+neither : (a b : Option Fault) → first_fault a b ≡ None → (a ≡ None) × (b ≡ None)
 neither None b h = (refl, h)
 neither (Some f) b h = absurd (cc)
 

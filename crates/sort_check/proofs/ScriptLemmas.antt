@@ -11,8 +11,8 @@ use Rattle.term_tree.specs.declared.refusal.Refusal.{Refusal}
 use Rattle.term_check.specs.declared.part.Fault.{Fault}
 use Rattle.sort_check.specs.Commands.{Command, command, is_exit}
 use Rattle.sort_check.specs.Checked.{IsChecked}
-use Rattle.sort_check.specs.Scripts.{outcome, stops, end_fault, stop_fault, after, refusal_at, IsScriptOf}
-use Rattle.sort_check.specs.machinery.State.{IsState, Took}
+use Rattle.sort_check.specs.Scripts.{outcome, stops, end_fault, stop_fault, after, refusal_of_fault, IsScriptOf}
+use Rattle.sort_check.specs.State.{IsState, Took}
 use Rattle.sort_check.specs.machinery.Progress.{IsSoFar}
 use Rattle.sort_check.specs.declared.state.State.{State}
 
@@ -25,7 +25,7 @@ taken_by before (Ok c) new h = (c, refl, h)
 taken_by before (Err g) new h = absurd h
 
 -- what was found, of commands that the state holds
-pub checked : (text : List ℕ) (stop : Option TextStop) (trees : List Tree) (before : List Command) (fault : Option Fault) (found : Checked) → outcome text stop [] trees ≡ stops before fault → IsScriptOf before found.script → found.stop ≡ refusal_at before fault
+pub checked : (text : List ℕ) (stop : Option TextStop) (trees : List Tree) (before : List Command) (fault : Option Fault) (found : Checked) → outcome text stop [] trees ≡ stops before fault → IsScriptOf before found.script → found.stop ≡ refusal_of_fault before fault
     → IsChecked text trees stop found
 checked text stop trees before fault found is script same = record {
   commands = before;

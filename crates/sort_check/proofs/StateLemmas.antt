@@ -17,7 +17,7 @@ use Rattle.term_check.specs.Spelling.{Spelled, spelled, ◌>>=◌, scope_of}
 use Rattle.sort_check.specs.Commands.{assertion, assert_fault, assert_term, Command, declares, declared, asserts, asserted, is_set_logic, is_inform, is_check_sat, is_exit}
 use Rattle.sort_check.specs.Commands.Command.{SetLogic, Inform, Declare, Assert, CheckSat, GetModel, Exit}
 use Rattle.sort_check.specs.Scripts.{AreAsserted}
-use Rattle.sort_check.specs.machinery.State.{IsState, Took}
+use Rattle.sort_check.specs.State.{IsState, Took}
 use Rattle.sort_check.specs.declared.state.State.{State}
 
 pub and_false : (b : Bool) → (b && false) ≡ false

@@ -8,12 +8,12 @@ use Rattle.sexp_read.specs.Trees.{IsTree, Stops, IsReading, none, more}
 use Rattle.sexp_read.proofs.Public.{has_rest, joined, one_more as one_more_tree, tree_ahead}
 use Rattle.term_tree.specs.declared.refusal.Checked.{Checked}
 use Rattle.term_check.specs.declared.part.Fault.{Fault}
-use Rattle.term_check.specs.machinery.Weight.{weight}
+use Rattle.term_check.specs.Weight.{weight}
 use Rattle.term_check.proofs.Public.{tree_light, trees_light, weigh_all}
 use Rattle.sort_check.specs.Commands.{Command, command, is_exit}
 use Rattle.sort_check.specs.Checked.{IsCheckedText}
-use Rattle.sort_check.specs.Scripts.{outcome, stops, end_fault, stop_fault, refusal_at, IsScriptOf}
-use Rattle.sort_check.specs.machinery.State.{IsState, Took}
+use Rattle.sort_check.specs.Scripts.{outcome, stops, end_fault, stop_fault, refusal_of_fault, IsScriptOf}
+use Rattle.sort_check.specs.State.{IsState, Took}
 use Rattle.sort_check.specs.machinery.Progress.{IsSoFar, IsReadSoFar}
 use Rattle.sort_check.specs.declared.state.State.{State}
 use Rattle.sort_check.proofs.ScriptLemmas.{checked, refused, ended, passes, one_more, taken_by, over as is_over_by}
@@ -35,7 +35,7 @@ module _ (text : List ℕ) (at : ℕ) (state : State) (so : IsReadSoFar text at 
 
   -- all trees were commands
   pub stopped : (stop : Option TextStop) → Stops text [] at stop → (fault : Option Fault) (found : Checked) → fault ≡ stop_fault text stop so.before
-      → IsScriptOf so.before found.script → found.stop ≡ refusal_at so.before fault → IsCheckedText text found
+      → IsScriptOf so.before found.script → found.stop ≡ refusal_of_fault so.before fault → IsCheckedText text found
   stopped stop h fault found e script same =
       let all : outcome text stop [] so.trees ≡ stops so.before fault =
       ap (outcome text stop []) (sym (append-nil so.trees)) ∙ sym (so.outcome_is stop []) ∙ ap (stops so.before) (sym e) in
@@ -65,7 +65,7 @@ module _ (text : List ℕ) (at : ℕ) (state : State) (so : IsReadSoFar text at 
         (r.2.0, joined text 0 0 so.trees at (tree ∷ r.0) r.2.0 so.read (more 0 at tree end r.0 r.2.0 t_is r.2.1), r.2.2)
 
     pub broken : (new : State) (fault : Fault) (found : Checked) → Took so.before (command text so.before tree) (Some fault) new
-        → (IsState so.before new → IsScriptOf so.before found.script) → (IsState so.before new → found.stop ≡ refusal_at so.before (Some fault)) → IsCheckedText text found
+        → (IsState so.before new → IsScriptOf so.before found.script) → (IsState so.before new → found.stop ≡ refusal_of_fault so.before (Some fault)) → IsCheckedText text found
     broken new fault found h script same =
         let r = refused text stop trees (tree ∷ (has_rest text end).0) (length so.trees) tree (has_rest text end).0 state (so_far stop (tree ∷ (has_rest text end).0)) refl fault new h in
         (trees, stop, reading, checked text stop trees so.before (Some fault) found r.0 (script r.1) (same r.1))
@@ -73,7 +73,7 @@ module _ (text : List ℕ) (at : ℕ) (state : State) (so : IsReadSoFar text at 
     -- the commands up to an exit
     abbrev Ended : State → Type 0
     Ended new = (commands : List Command) × IsState commands new × ((found : Checked) (fault : Option Fault) → fault ≡ end_fault text commands
-        → IsScriptOf commands found.script → found.stop ≡ refusal_at commands fault → IsCheckedText text found)
+        → IsScriptOf commands found.script → found.stop ≡ refusal_of_fault commands fault → IsCheckedText text found)
 
     pub over : (new : State) → Took so.before (command text so.before tree) None new → new.is_over ≡ true → Ended new
     over new h done =

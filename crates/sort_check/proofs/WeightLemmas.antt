@@ -5,7 +5,7 @@ use Rattle.sexp_read.specs.declared.tree.Tree.{Tree}
 use Rattle.sexp_read.specs.declared.tree.TextStop.{TextStop}
 use Rattle.sexp_read.specs.declared.tree.Tree.TheViews.{List as ListTree}
 use Rattle.sexp_read.specs.Trees.{IsReading}
-use Rattle.term_check.specs.machinery.Weight.{weight, weights}
+use Rattle.term_check.specs.Weight.{weight, weights}
 use Rattle.term_check.proofs.Public.{reading_weighs, weigh_all, weight-List}
 
 pub reading_counts : (text : List ℕ) (trees : List Tree) (stop : Option TextStop) → IsReading text trees stop → length trees ≤ length text

@@ -20,10 +20,11 @@ use Rattle.term_tree.specs.declared.sort.Sort.{Sort}
 use Rattle.term_tree.specs.declared.sort.Sort.TheVariants.{Int as IntSort, Bool as BoolSort}
 use Rattle.term_tree.specs.declared.script.Pred.{Pred}
 use Rattle.term_tree.specs.declared.refusal.Kind.TheVariants.{CommandForm, Order, Logic, UnknownSort, Redeclared, SortMismatch, Count}
+use Rattle.term_tree.specs.Sorts.{same_sort}
 use Rattle.term_check.specs.declared.part.Part.{Part}
 use Rattle.term_check.specs.declared.part.Fault.{Fault}
 use Rattle.term_check.specs.Operators.{operator_named}
-use Rattle.term_check.specs.Rules.{fault, unless, or_else, same_sort}
+use Rattle.term_check.specs.Rules.{fault, unless, first_fault}
 use Rattle.term_check.specs.Term.{Term}
 use Rattle.term_check.specs.Spelling.{Spelled, ◌>>=◌, is_word, is_symbol, is_some, name_of, name_or_none, sort_named, sort_or_bool, start_of, pred_from, spelled, scope_of}
 
@@ -88,7 +89,7 @@ abbrev pub logic_fault : List ℕ → Tree → Option Fault
 logic_fault text name = if is_symbol text name (codes "HORN") then None else Some (fault Logic (start_of name))
 
 abbrev pub set_logic_fault : List ℕ → Bool → ℕ → List Tree → Option Fault
-set_logic_fault text fresh start (name ∷ []) = or_else (form_fault name (is_some (symbol_bytes text name))) (or_else (order_fault start fresh) (logic_fault text name))
+set_logic_fault text fresh start (name ∷ []) = first_fault (form_fault name (is_some (symbol_bytes text name))) (first_fault (order_fault start fresh) (logic_fault text name))
 set_logic_fault text fresh start _ = Some (fault CommandForm start)
 
 -- (set-info :k), (set-info :k tree), and set-option
@@ -114,13 +115,13 @@ is_theory_name name = bytes_eq name (codes "true") || bytes_eq name (codes "fals
 abbrev pub taken_fault : List Pred → ℕ → List ℕ → Option Fault
 taken_fault preds start name = if is_theory_name name || is_some (pred_from 0 name preds) then Some (fault Redeclared start) else None
 
-abbrev pub sort_fault : List ℕ → Tree → Option Fault
-sort_fault text sort = if is_some (sort_named text sort) then None else Some (fault UnknownSort (start_of sort))
+abbrev pub unknown_sort_fault : List ℕ → Tree → Option Fault
+unknown_sort_fault text sort = if is_some (sort_named text sort) then None else Some (fault UnknownSort (start_of sort))
 
 -- the first that is no sort
 abbrev pub sorts_fault : List ℕ → List Tree → Option Fault
 sorts_fault text [] = None
-sorts_fault text (sort ∷ sorts) = or_else (sort_fault text sort) (sorts_fault text sorts)
+sorts_fault text (sort ∷ sorts) = first_fault (unknown_sort_fault text sort) (sorts_fault text sorts)
 
 abbrev pub truth_fault : Tree → Option Sort → Option Fault
 truth_fault result (Some BoolSort) = None
@@ -134,13 +135,13 @@ result_fault text result = truth_fault result (sort_named text result)
 -- The sorts past the 256th are not looked at: they are too many.
 abbrev pub signature_fault : List ℕ → List Pred → ℕ → List Tree → Tree → Option Fault
 signature_fault text preds start sorts result =
-    or_else (sorts_fault text (take most_arguments sorts)) (or_else (count_fault start (not (nat_lt most_arguments (length sorts))))
-    (or_else (result_fault text result) (count_fault start (nat_lt (length preds) most_predicates))))
+    first_fault (sorts_fault text (take most_arguments sorts)) (first_fault (count_fault start (not (nat_lt most_arguments (length sorts))))
+    (first_fault (result_fault text result) (count_fault start (nat_lt (length preds) most_predicates))))
 
 abbrev pub declaration_fault : List ℕ → Bool → List Pred → ℕ → Tree → List Tree → Tree → Option Fault
 declaration_fault text allowed preds start name sorts result =
-    or_else (form_fault name (is_some (name_of text name))) (or_else (order_fault start allowed)
-    (or_else (taken_fault preds (start_of name) (name_or_none (name_of text name))) (signature_fault text preds start sorts result)))
+    first_fault (form_fault name (is_some (name_of text name))) (first_fault (order_fault start allowed)
+    (first_fault (taken_fault preds (start_of name) (name_or_none (name_of text name))) (signature_fault text preds start sorts result)))
 
 abbrev pub sorts_named : List ℕ → List Tree → List Sort
 sorts_named text sorts = map (λ sort. sort_or_bool (sort_named text sort)) sorts
@@ -167,7 +168,7 @@ declare_constant text before start _ = Err (fault CommandForm start)
 -- (assert term)
 
 abbrev pub assert_fault : Bool → ℕ → ℕ → Option Fault
-assert_fault allowed count start = or_else (order_fault start allowed) (count_fault start (nat_lt count most_assertions))
+assert_fault allowed count start = first_fault (order_fault start allowed) (count_fault start (nat_lt count most_assertions))
 
 -- an assertion is Bool
 abbrev pub bool_fault : Part → Option Fault

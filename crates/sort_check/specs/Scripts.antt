@@ -1,5 +1,5 @@
 -- Which texts are scripts, which script each spells, and the one refusal of every other text (SMT-LIB 2.6, section 3.9).
-use Rattle.std.specs.Prelude.{◌≡◌, ℕ, ◌+◌, ◌<◌, ◌≤◌, List, [], ◌∷◌, ◌++◌, length, Option, None, Some, Result, Ok, Err, if◌then◌else◌}
+use Rattle.std.specs.Prelude.{◌≡◌, ℕ, ◌+◌, ◌<◌, ◌≤◌, List, [], ◌∷◌, ◌++◌, length, Option, None, Some, Result, Ok, Err, if◌then◌else◌, ◌≢◌, IfSome}
 use Rattle.std.specs.List.{list_any}
 use Rattle.base.specs.Limits.{most_bytes}
 use Rattle.sexp_read.specs.declared.tree.Tree.{Tree}
@@ -22,12 +22,12 @@ pub record Outcome : Type 0 where
   pub commands : List Command
   pub refusal : Option Refusal
 
-abbrev pub refusal_at : List Command → Option Fault → Option Refusal
-refusal_at before None = None
-refusal_at before (Some f) = Some (record { kind = f.kind; offset = f.offset; command = length before })
+abbrev pub refusal_of_fault : List Command → Option Fault → Option Refusal
+refusal_of_fault before None = None
+refusal_of_fault before (Some f) = Some (record { kind = f.kind; offset = f.offset; command = length before })
 
 abbrev pub stops : List Command → Option Fault → Outcome
-stops before f = record { commands = before; refusal = refusal_at before f }
+stops before f = record { commands = before; refusal = refusal_of_fault before f }
 
 -- where all commands are legal, one of them is check-sat
 abbrev pub end_fault : List ℕ → List Command → Option Fault
@@ -80,3 +80,7 @@ AreAsserted terms number assertions (Exit ∷ commands) = AreAsserted terms (num
 pub record IsScriptOf (commands : List Command) (script : Script) : Type 0 where
   pub preds : script.preds ≡ declared commands
   pub asserts : AreAsserted script.terms 0 script.asserts commands
+
+-- where the refusal isn't that the bytes are too many, all of them were read
+abbrev pub ReadsInput : Option (List ℕ) → List ℕ → Refusal → Type 0
+ReadsInput left read refusal = refusal.kind ≢ TooLong → IfSome left (λ bytes. read ≡ bytes)

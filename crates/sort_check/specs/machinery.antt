@@ -1,3 +1,2 @@
 -- What the code keeps for itself: no rule cites it.
 pub mod Progress
-pub mod State

@@ -1,7 +1,7 @@
 //! The rules of declarations.
 
 ghost use Rattle.std.specs.Prelude.{◌≡◌, take, IfOk};
-ghost use Rattle.sort_check.specs.Commands.{most_arguments, is_theory_name, taken_fault, sort_fault, sorts_fault, truth_fault, result_fault, signature_fault, declaration_fault, sorts_named, predicate_named};
+ghost use Rattle.sort_check.specs.Commands.{most_arguments, is_theory_name, taken_fault, unknown_sort_fault, sorts_fault, truth_fault, result_fault, signature_fault, declaration_fault, sorts_named, predicate_named};
 
 use crate::rules::{count_fault, form_fault, order_fault};
 use base::{Items, MOST_ARGUMENTS, MOST_PREDICATES, Memory};
@@ -27,7 +27,7 @@ fn taken_fault(signature: &Signature, start: u32, name: &[u8]) -> Option<Fault>
 }
 
 fn sort_fault(text: &[u8], sort: &Tree) -> Option<Fault>
-    ensures { result ≡ sort_fault text.now sort.now }
+    ensures { result ≡ unknown_sort_fault text.now sort.now }
 {
     match sort_named(text, sort) {
         Some(_) => None,

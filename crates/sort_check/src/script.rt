@@ -5,7 +5,7 @@ ghost use Rattle.sexp_read.specs.Trees.{IsReading};
 ghost use Rattle.sort_check.specs.Commands.{Command};
 ghost use Rattle.sort_check.specs.Checked.{IsChecked, IsCheckedText};
 ghost use Rattle.sort_check.specs.Scripts.{stop_fault};
-ghost use Rattle.sort_check.specs.machinery.State.{IsState};
+ghost use Rattle.sort_check.specs.State.{IsState};
 
 use crate::state::State;
 use base::Memory;

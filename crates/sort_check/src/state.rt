@@ -4,10 +4,10 @@ ghost use Rattle.std.specs.Prelude.{◌≡◌, ◌+◌, ◌≤◌, ◌<◌, ◌^
 ghost use Rattle.term_check.specs.Spelling.{Spelled};
 ghost use Rattle.term_check.specs.Found.{IsAligned};
 ghost use Rattle.term_check.specs.Term.{IsTermAt};
-ghost use Rattle.term_check.specs.machinery.Weight.{weight, weights};
+ghost use Rattle.term_check.specs.Weight.{weight, weights};
 ghost use Rattle.sort_check.specs.Commands.{Command, set_logic, inform, check_sat, get_model, exit, declaration, declare_function, declare_constant, assertion, assert_term, plain, worded, command};
-ghost use Rattle.sort_check.specs.Scripts.{IsScriptOf, end_fault, refusal_at};
-ghost use Rattle.sort_check.specs.machinery.State.{IsState, Took};
+ghost use Rattle.sort_check.specs.Scripts.{IsScriptOf, end_fault, refusal_of_fault};
+ghost use Rattle.sort_check.specs.State.{IsState, Took};
 
 use crate::declaration::{declaration_fault, predicate_named};
 use crate::rules::{alone_fault, assert_fault, bool_fault, inform_fault, set_logic_fault};
@@ -324,7 +324,7 @@ impl State {
     /// What the commands declare and assert, with the refusal behind them.
     pub fn into_checked(self, fault: Option<Fault>) -> Checked
         ensures script { (before : List Command) → IsState before self → IsScriptOf before result.script }
-        ensures stop { (before : List Command) → IsState before self → result.stop ≡ refusal_at before fault }
+        ensures stop { (before : List Command) → IsState before self → result.stop ≡ refusal_of_fault before fault }
     {
         let stop = match fault {
             Some(fault) => Some(Refusal {

@@ -12,7 +12,7 @@ use Rattle.book_rules.specs.Same.{same_tuple}
 use Rattle.book_rules.specs.State.{Fact, same_conclusion}
 use Rattle.book_rules.specs.Walks.{first_number, has, number_from}
 use Rattle.book_rules.proofs.Public.{tuples_equal}
-use Rattle.step_rules.specs.Views.{conclusion_of, facts_of}
+use Rattle.step_rules.specs.Views.{ground_conclusion, facts_of}
 use Rattle.step_rules.specs.Falsity.{IsLastFalse}
 use Rattle.cube_rules.proofs.Public.{both_true, from_both, plus-none}
 use Rattle.step_rules.proofs.ViewLemmas.{fact_of-at, length-facts}
@@ -25,9 +25,9 @@ get-is (y ∷ xs) zero x within is = ap (λ z. Some z) (sym is)
 get-is (y ∷ xs) (suc n) x within is = get-is xs n x (omega arith) is
 
 abbrev made : List KeptFact → ℕ → KeptFact → Fact
-made facts n f = record { conclusion = conclusion_of f.pred f.tuple; clause = f.clause; point = f.point; premises = f.premises; height = height_of facts n }
+made facts n f = record { conclusion = ground_conclusion f.pred f.tuple; clause = f.clause; point = f.point; premises = f.premises; height = height_of facts n }
 
-pub fact-has : (facts : List KeptFact) (n : ℕ) (f : KeptFact) (p : Option Ground → Bool) → n < length facts → f ≡ get_or facts n f → has (slice_get (facts_of facts) n) (λ (g : Fact). p g.conclusion) ≡ p (conclusion_of f.pred f.tuple)
+pub fact-has : (facts : List KeptFact) (n : ℕ) (f : KeptFact) (p : Option Ground → Bool) → n < length facts → f ≡ get_or facts n f → has (slice_get (facts_of facts) n) (λ (g : Fact). p g.conclusion) ≡ p (ground_conclusion f.pred f.tuple)
 fact-has facts n f p within is = ap (λ (found : Option Fact). has found (λ (g : Fact). p g.conclusion)) (fact_of-at facts n f (get-is facts n f within is))
 
 get-none : {X : Type 0} (xs : List X) (n : ℕ) → length xs ≤ n → slice_get xs n ≡ None
@@ -77,13 +77,13 @@ none-where k test (y ∷ xs) never =
 
 -- a fact of the list, with what it was made of
 
-record IsAt (facts : List KeptFact) (n : ℕ) (g : Fact) : Type 0 where
-  kept : KeptFact
-  less : n < length facts
-  there : slice_get facts n ≡ Some kept
-  conclusion : g.conclusion ≡ conclusion_of kept.pred kept.tuple
-  pred : pred_of facts n ≡ kept.pred
-  tuple : tuple_of facts n ≡ kept.tuple
+pub record IsAt (facts : List KeptFact) (n : ℕ) (g : Fact) : Type 0 where
+  pub kept : KeptFact
+  pub less : n < length facts
+  pub there : slice_get facts n ≡ Some kept
+  pub conclusion : g.conclusion ≡ ground_conclusion kept.pred kept.tuple
+  pub pred : pred_of facts n ≡ kept.pred
+  pub tuple : tuple_of facts n ≡ kept.tuple
 
 within-at : {X : Type 0} (xs : List X) (n : ℕ) (x : X) → slice_get xs n ≡ Some x → n < length xs
 within-at [] n x there = absurd (cc)
@@ -95,7 +95,7 @@ kept-at [] n within = absurd (omega arith)
 kept-at (f ∷ facts) zero within = (f, refl, refl, refl)
 kept-at (f ∷ facts) (suc n) within = kept-at facts n (omega arith)
 
-is-at : (facts : List KeptFact) (n : ℕ) (g : Fact) → slice_get (facts_of facts) n ≡ Some g → IsAt facts n g
+pub is-at : (facts : List KeptFact) (n : ℕ) (g : Fact) → slice_get (facts_of facts) n ≡ Some g → IsAt facts n g
 is-at facts n g at =
     let low = within-at (facts_of facts) n g at in
     let long = length-facts facts in
@@ -106,7 +106,7 @@ is-at facts n g at =
 
 -- false is the last fact, if it is there
 
-no-pred : (pred : Option ℕ) (tuple : List ℤ) → is_none (conclusion_of pred tuple) ≡ is_none pred
+no-pred : (pred : Option ℕ) (tuple : List ℤ) → is_none (ground_conclusion pred tuple) ≡ is_none pred
 no-pred None tuple = refl
 no-pred (Some p) tuple = refl
 
@@ -152,7 +152,7 @@ false-empty (f ∷ facts) past = absurd (omega arith)
 
 -- the fact with a conclusion
 
-same-then : (pred : Option ℕ) (tuple : List ℤ) (a : Ground) → same_conclusion (conclusion_of pred tuple) (Some a) ≡ true → (pred ≡ Some a.0) × (tuple ≡ a.1)
+same-then : (pred : Option ℕ) (tuple : List ℤ) (a : Ground) → same_conclusion (ground_conclusion pred tuple) (Some a) ≡ true → (pred ≡ Some a.0) × (tuple ≡ a.1)
 same-then None tuple a h = absurd (true≢false (sym h))
 same-then (Some p) tuple a h =
     let both = both_true (p == a.0) (same_tuple tuple a.1) h in
@@ -161,7 +161,7 @@ same-then (Some p) tuple a h =
 nat-same : (n : ℕ) → (n == n) ≡ true
 nat-same n = grind (arith, nat_tests)
 
-then-same : (tuple : List ℤ) (a : Ground) → tuple ≡ a.1 → same_conclusion (conclusion_of (Some a.0) tuple) (Some a) ≡ true
+then-same : (tuple : List ℤ) (a : Ground) → tuple ≡ a.1 → same_conclusion (ground_conclusion (Some a.0) tuple) (Some a) ≡ true
 then-same tuple a is = from_both (a.0 == a.0) (same_tuple tuple a.1) (nat-same a.0) ((tuples_equal tuple a.1).1 is)
 
 abbrev is_of : Ground → Fact → Bool
@@ -185,7 +185,7 @@ found-at facts found a tells = by found refl where
       let told = (tells n).0 some in
       let kept = kept-at facts n told.0 in
       let at = fact_of-at facts n kept.0 kept.1 in
-      let passes : is_of a (made facts n kept.0) ≡ true = ap (λ (p : Option ℕ). same_conclusion (conclusion_of p kept.0.tuple) (Some a)) (sym kept.2 ∙ told.1) ∙ then-same kept.0.tuple a (sym kept.3 ∙ told.2) in
+      let passes : is_of a (made facts n kept.0) ≡ true = ap (λ (p : Option ℕ). same_conclusion (ground_conclusion p kept.0.tuple) (Some a)) (sym kept.2 ∙ told.1) ∙ then-same kept.0.tuple a (sym kept.3 ∙ told.2) in
       some ∙ sym (first-where 0 (is_of a) (facts_of facts) n (made facts n kept.0) at passes (λ m y less there. fails (is_of a y) (λ holds. (let both : Some n ≡ Some m = sym some ∙ concluded m y there holds in let same : n ≡ m = cc in absurd (omega (arith, less, same))))) ∙ ap (λ i. Some i) (let zero-n : 0 + n ≡ n = omega arith in zero-n))
 
 pub found-is : (facts : List KeptFact) (found : Option ℕ) (a : Ground) (tuple : List ℤ) → tuple ≡ a.1 → ((n : ℕ) → (found ≡ Some n) ↔ Concludes facts n (Some a.0) tuple) → found ≡ first_number (is_of a) (facts_of facts)

@@ -3,6 +3,7 @@ pub mod WalkLemmas
 pub mod OnLemmas
 pub mod CubeLemmas
 pub mod FactLemmas
+pub mod FrontLemmas
 pub mod LiveLemmas
 pub mod RootLemmas
 pub mod RaiseLemmas

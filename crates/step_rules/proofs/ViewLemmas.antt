@@ -9,9 +9,9 @@ use Rattle.derivations.specs.Facts.{greatest as kept_greatest, height_of, height
 use Rattle.derivations.specs.declared.fact.Fact.{Fact as KeptFact}
 use Rattle.obligation_tree.specs.Nodes.{absent, marked_at, node_at}
 use Rattle.obligation_tree.specs.declared.node.Node.{Node}
-use Rattle.book_rules.specs.Effects.{greatest, height_at}
+use Rattle.book_rules.specs.Effects.{greatest_height, height_at}
 use Rattle.book_rules.specs.State.{Fact}
-use Rattle.step_rules.specs.Views.{conclusion_of, facts_of, new_fact, obligation_of, obligations_of, with_fact}
+use Rattle.step_rules.specs.Views.{ground_conclusion, facts_of, new_fact, obligation_of, obligations_of, with_fact}
 pub use Rattle.cube_rules.proofs.Public.{framed_of-at, lemmas-lifted, lemmas-push}
 
 -- lists that grow by one
@@ -49,7 +49,7 @@ height-at [] p = refl
 height-at (f ∷ before) zero = refl
 height-at (f ∷ before) (suc p) = height-at before p
 
-greatest-from : (before : List Fact) (most : ℕ) (premises : List ℕ) → fold max most (map (λ p. get_or (map (λ (f : Fact). f.height) before) p 0) premises) ≡ max most (greatest before premises)
+greatest-from : (before : List Fact) (most : ℕ) (premises : List ℕ) → fold max most (map (λ p. get_or (map (λ (f : Fact). f.height) before) p 0) premises) ≡ max most (greatest_height before premises)
 greatest-from before most [] = omega arith
 greatest-from before most (p ∷ premises) =
     let here = height-at before p in
@@ -58,7 +58,7 @@ greatest-from before most (p ∷ premises) =
 
 heights-with : (before : List Fact) (f : KeptFact) → map (λ (g : Fact). g.height) (with_fact before f) ≡ with_height (map (λ (g : Fact). g.height) before) f
 heights-with before f =
-    let most : greatest before f.premises ≡ kept_greatest (map (λ p. get_or (map (λ (g : Fact). g.height) before) p 0) f.premises) = sym (greatest-from before 0 f.premises ∙ (let none : max 0 (greatest before f.premises) ≡ greatest before f.premises = omega arith in none)) in
+    let most : greatest_height before f.premises ≡ kept_greatest (map (λ p. get_or (map (λ (g : Fact). g.height) before) p 0) f.premises) = sym (greatest-from before 0 f.premises ∙ (let none : max 0 (greatest_height before f.premises) ≡ greatest_height before f.premises = omega arith in none)) in
     let turned : (n : ℕ) → suc n ≡ 1 + n = λ n. omega arith in
     map-append (λ (g : Fact). g.height) before (new_fact before f ∷ []) ∙ ap (λ h. map (λ (g : Fact). g.height) before ++ h ∷ []) (ap suc most ∙ turned (kept_greatest (map (λ p. get_or (map (λ (g : Fact). g.height) before) p 0) f.premises)))
 
@@ -77,7 +77,7 @@ fact-height facts n fact there =
 -- the fact of a number, with the height that the facts tell
 
 abbrev made : KeptFact → ℕ → Fact
-made f h = record { conclusion = conclusion_of f.pred f.tuple; clause = f.clause; point = f.point; premises = f.premises; height = h }
+made f h = record { conclusion = ground_conclusion f.pred f.tuple; clause = f.clause; point = f.point; premises = f.premises; height = h }
 
 slice-left : {X : Type 0} (xs ys : List X) (i : ℕ) (x : X) → slice_get xs i ≡ Some x → slice_get (xs ++ ys) i ≡ Some x
 slice-left [] ys i x h = absurd (cc)
@@ -96,7 +96,7 @@ fold-at : (before : List Fact) (facts : List KeptFact) (n : ℕ) (f : KeptFact) 
 fold-at before [] n f there = absurd (cc)
 fold-at before (x ∷ facts) zero f there =
     let same : x ≡ f = cc in
-    let h = suc (greatest before x.premises) in
+    let h = suc (greatest_height before x.premises) in
     let here = fold-keeps (with_fact before x) facts (length before) (new_fact before x) (slice-end before (new_fact before x)) ∙ ap (λ (y : KeptFact). Some (made y h)) same in
     (h, subst (λ (i : ℕ). slice_get (fold with_fact (with_fact before x) facts) i ≡ Some (made f h)) (omega arith) here)
 fold-at before (x ∷ facts) (suc n) f there =

@@ -13,7 +13,7 @@ use Rattle.derivations.specs.declared.fact.Fact.{Fact as KeptFact}
 use Rattle.book_rules.specs.State.{Fact, Obligation, holds_of, is_live}
 use Rattle.book_rules.specs.Instances.{Ground}
 use Rattle.book_rules.specs.Walks.{first_number, has, number_from}
-use Rattle.step_rules.specs.Views.{conclusion_of, facts_of, obligation_of, obligations_of}
+use Rattle.step_rules.specs.Views.{ground_conclusion, facts_of, obligation_of, obligations_of}
 use Rattle.step_rules.specs.machinery.Walks.{lies_in}
 use Rattle.cube_rules.proofs.Public.{both_true, plus-none, plus-one}
 pub use Rattle.cube_rules.proofs.Public.{goes-on, is-found, is-over, is-told, tells-on}
@@ -173,7 +173,7 @@ pred-at [] n within = absurd (omega arith)
 pred-at (f ∷ facts) zero within = (f, refl, refl)
 pred-at (f ∷ facts) (suc n) within = pred-at facts n (omega arith)
 
-concludes : (pred : ℕ) (of : Option ℕ) (tuple other : List ℤ) → conclusion_of of tuple ≡ Some (pred, other) → of ≡ Some pred
+concludes : (pred : ℕ) (of : Option ℕ) (tuple other : List ℤ) → ground_conclusion of tuple ≡ Some (pred, other) → of ≡ Some pred
 concludes pred None tuple other h = absurd (cc)
 concludes pred (Some p) tuple other h = let pairs : (p, tuple) ≡ (pred, other) = cc in ap (λ (x : ℕ × List ℤ). Some x.0) pairs
 
@@ -190,7 +190,7 @@ first-of pred test facts numbers of only =
       of-pred n less passes =
           let kept = pred-at facts n less in
           let there = fact_of-at facts n kept.0 kept.1 in
-          let made : Fact = record { conclusion = conclusion_of kept.0.pred kept.0.tuple; clause = kept.0.clause; point = kept.0.point; premises = kept.0.premises; height = height_of facts n } in
+          let made : Fact = record { conclusion = ground_conclusion kept.0.pred kept.0.tuple; clause = kept.0.clause; point = kept.0.point; premises = kept.0.premises; height = height_of facts n } in
           let found = only made (sym (has-at (slice_get (facts_of facts) n) test made there) ∙ passes) in
           kept.2 ∙ concludes pred kept.0.pred kept.0.tuple found.0 found.1
 

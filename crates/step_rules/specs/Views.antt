@@ -5,18 +5,18 @@ use Rattle.derivations.specs.declared.fact.Fact.{Fact as KeptFact}
 use Rattle.obligation_tree.specs.Nodes.{closed_in, is_stalled_in, obligation_in}
 use Rattle.obligation_tree.specs.declared.node.Node.{Node}
 use Rattle.obligation_tree.specs.declared.obligation.Obligation.{Obligation as Asked}
-use Rattle.book_rules.specs.Effects.{greatest}
+use Rattle.book_rules.specs.Effects.{greatest_height}
 pub use Rattle.cube_rules.specs.Views.{framed_at, framed_of, lemmas_of}
 use Rattle.book_rules.specs.Instances.{Ground}
 use Rattle.book_rules.specs.State.{Fact, Obligation}
 
 -- a predicate with its tuple, or false
-abbrev pub conclusion_of : Option ℕ → List ℤ → Option Ground
-conclusion_of pred tuple = option_map (λ p. (p, tuple)) pred
+abbrev pub ground_conclusion : Option ℕ → List ℤ → Option Ground
+ground_conclusion pred tuple = option_map (λ p. (p, tuple)) pred
 
 -- with the height that the facts before it give it
 abbrev pub new_fact : List Fact → KeptFact → Fact
-new_fact before f = record { conclusion = conclusion_of f.pred f.tuple; clause = f.clause; point = f.point; premises = f.premises; height = suc (greatest before f.premises) }
+new_fact before f = record { conclusion = ground_conclusion f.pred f.tuple; clause = f.clause; point = f.point; premises = f.premises; height = suc (greatest_height before f.premises) }
 
 abbrev pub with_fact : List Fact → KeptFact → List Fact
 with_fact before f = before ++ new_fact before f ∷ []

@@ -5,7 +5,7 @@ ghost use Rattle.std.specs.Prelude.{◌≡◌, IfOk, true};
 ghost use Rattle.book_rules.specs.Rules.{broken, broken_fact, broken_lemma, broken_lift, broken_open, broken_raise, broken_stall};
 ghost use Rattle.book_rules.specs.Places.{has_places};
 ghost use Rattle.step_rules.specs.Taken.{record_of, learn_of, lift_of, open_of, raise_of, stall_of, step_of};
-ghost use Rattle.step_rules.specs.Standing.{state_of};
+ghost use Rattle.step_rules.specs.Standing.{standing_state};
 ghost use Rattle.step_rules.specs.declared.step.Step.TheVariants.{StallStep};
 ghost use Rattle.step_rules.specs.Standing.{IsStanding};
 
@@ -31,7 +31,7 @@ use book_rules::By;
 /// Of an Open.
 fn broken_open(parts: &Lent, step: &OpenPart) -> Result<Option<(u8, By)>, Memory>
     requires kept { IsStanding parts.now }
-    ensures { IfOk result (λ b. b ≡ broken_open parts.now.system (state_of parts.now) (open_of step.now)) }
+    ensures { IfOk result (λ b. b ≡ broken_open parts.now.system (standing_state parts.now) (open_of step.now)) }
 {
     if let Some(by) = rule_1(parts, step) {
         return Ok(Some((1, by)));
@@ -66,7 +66,7 @@ fn broken_open(parts: &Lent, step: &OpenPart) -> Result<Option<(u8, By)>, Memory
 /// Of a Lemma.
 fn broken_lemma(parts: &Lent, step: &LemmaPart) -> Result<Option<(u8, By)>, Memory>
     requires kept { IsStanding parts.now }
-    ensures { IfOk result (λ b. b ≡ broken_lemma parts.now.system (state_of parts.now) (learn_of step.now)) }
+    ensures { IfOk result (λ b. b ≡ broken_lemma parts.now.system (standing_state parts.now) (learn_of step.now)) }
 {
     if let Some(by) = rule_10(parts, step) {
         return Ok(Some((10, by)));
@@ -89,7 +89,7 @@ fn broken_lemma(parts: &Lent, step: &LemmaPart) -> Result<Option<(u8, By)>, Memo
 /// Of a Fact.
 fn broken_fact(parts: &Lent, step: &FactPart) -> Result<Option<(u8, By)>, Memory>
     requires kept { IsStanding parts.now }
-    ensures { IfOk result (λ b. b ≡ broken_fact parts.now.system (state_of parts.now) (record_of step.now)) }
+    ensures { IfOk result (λ b. b ≡ broken_fact parts.now.system (standing_state parts.now) (record_of step.now)) }
 {
     if let Some(by) = rule_20(parts, step)? {
         return Ok(Some((20, by)));
@@ -109,7 +109,7 @@ fn broken_fact(parts: &Lent, step: &FactPart) -> Result<Option<(u8, By)>, Memory
 /// Of a Lift.
 fn broken_lift(parts: &Lent, step: &LiftPart) -> Result<Option<(u8, By)>, Memory>
     requires kept { IsStanding parts.now }
-    ensures { IfOk result (λ b. b ≡ broken_lift parts.now.system (state_of parts.now) (lift_of step.now)) }
+    ensures { IfOk result (λ b. b ≡ broken_lift parts.now.system (standing_state parts.now) (lift_of step.now)) }
 {
     if let Some(by) = rule_30(parts, step) {
         return Ok(Some((30, by)));
@@ -129,7 +129,7 @@ fn broken_lift(parts: &Lent, step: &LiftPart) -> Result<Option<(u8, By)>, Memory
 /// Of a Raise.
 fn broken_raise(parts: &Lent, step: &RaisePart) -> Result<Option<(u8, By)>, Memory>
     requires kept { IsStanding parts.now }
-    ensures { IfOk result (λ b. b ≡ broken_raise parts.now.system (state_of parts.now) (raise_of step.now)) }
+    ensures { IfOk result (λ b. b ≡ broken_raise parts.now.system (standing_state parts.now) (raise_of step.now)) }
 {
     if let Some(by) = rule_40(parts, step) {
         return Ok(Some((40, by)));
@@ -153,7 +153,7 @@ fn broken_raise(parts: &Lent, step: &RaisePart) -> Result<Option<(u8, By)>, Memo
 fn broken_stall(parts: &Lent, step: &StallPart) -> Result<Option<(u8, By)>, Memory>
     requires kept { IsStanding parts.now }
     requires places { has_places parts.now.system (step_of (StallStep step.now)) ≡ true }
-    ensures { IfOk result (λ b. b ≡ broken_stall parts.now.system (state_of parts.now) (stall_of step.now)) }
+    ensures { IfOk result (λ b. b ≡ broken_stall parts.now.system (standing_state parts.now) (stall_of step.now)) }
 {
     if let Some(by) = rule_50(parts, step) {
         return Ok(Some((50, by)));
@@ -177,7 +177,7 @@ fn broken_stall(parts: &Lent, step: &StallPart) -> Result<Option<(u8, By)>, Memo
 pub fn broken_step(parts: &Lent, step: &Step) -> Result<Option<(u8, By)>, Memory>
     requires kept { IsStanding parts.now }
     requires places { has_places parts.now.system (step_of step.now) ≡ true }
-    ensures { IfOk result (λ b. b ≡ broken parts.now.system (state_of parts.now) (step_of step.now)) }
+    ensures { IfOk result (λ b. b ≡ broken parts.now.system (standing_state parts.now) (step_of step.now)) }
 {
     match step {
         Step::OpenStep(step) => broken_open(parts, step),

@@ -5,7 +5,7 @@ ghost use Rattle.std.specs.List.{find};
 ghost use Rattle.book_rules.specs.OpenRules.{is_rival, rule_7, rule_8, tuple_of};
 ghost use Rattle.book_rules.specs.StallRules.{is_live_child, rule_51};
 ghost use Rattle.book_rules.specs.Walks.{first_number};
-ghost use Rattle.step_rules.specs.Standing.{state_of};
+ghost use Rattle.step_rules.specs.Standing.{standing_state};
 ghost use Rattle.step_rules.specs.Taken.{open_of, stall_of};
 ghost use Rattle.step_rules.specs.Views.{obligations_of};
 ghost use Rattle.step_rules.specs.machinery.Walks.{child_at, is_twin, rival_at, twin_at};
@@ -83,7 +83,7 @@ fn twin_of(parts: &Lent, step: &OpenPart, atom: &Atom) -> Result<Option<u32>, Me
 
 /// 7: no live sibling of the same clause and atom holds the point.
 pub(crate) fn rule_7(parts: &Lent, step: &OpenPart) -> Result<Option<By>, Memory>
-    ensures { IfOk result (λ by. by ≡ rule_7 parts.now.system (state_of parts.now) (open_of step.now)) }
+    ensures { IfOk result (λ by. by ≡ rule_7 parts.now.system (standing_state parts.now) (open_of step.now)) }
 {
     match atom_of(parts, step) {
         Some(atom) => match twin_of(parts, step, atom)? {
@@ -135,7 +135,7 @@ fn live_rivals(tree: &Tree, step: &OpenPart) -> usize
 
 /// 8: fewer than four children of this parent and clause are live; the oldest is told.
 pub(crate) fn rule_8(parts: &Lent, step: &OpenPart) -> Option<By>
-    ensures { result ≡ rule_8 (state_of parts.now) (open_of step.now) }
+    ensures { result ≡ rule_8 (standing_state parts.now) (open_of step.now) }
 {
     if live_rivals(parts.tree, step) < 4 {
         return None;
@@ -167,7 +167,7 @@ fn live_child(tree: &Tree, parent: u32) -> Option<u32>
 
 /// 51: the target has no live child; the oldest is told.
 pub(crate) fn rule_51(parts: &Lent, step: &StallPart) -> Option<By>
-    ensures { result ≡ rule_51 (state_of parts.now) (stall_of step.now) }
+    ensures { result ≡ rule_51 (standing_state parts.now) (stall_of step.now) }
 {
     match live_child(parts.tree, step.target) {
         Some(id) => Some(By::Obligation(id)),

@@ -7,8 +7,8 @@ ghost use Rattle.book_rules.specs.State.{holds, holds_of, same_conclusion};
 ghost use Rattle.book_rules.specs.Walks.{first_number, on};
 ghost use Rattle.step_rules.specs.machinery.Told.{unholding_told};
 ghost use Rattle.step_rules.specs.Taken.{record_of};
-ghost use Rattle.step_rules.specs.Views.{conclusion_of, facts_of, fresh_of, obligations_of};
-ghost use Rattle.step_rules.specs.Standing.{state_of};
+ghost use Rattle.step_rules.specs.Views.{ground_conclusion, facts_of, fresh_of, obligations_of};
+ghost use Rattle.step_rules.specs.Standing.{standing_state};
 ghost use Rattle.step_rules.specs.Falsity.{IsLastFalse};
 
 use crate::conclusions::holds;
@@ -34,7 +34,7 @@ pub(crate) fn concluded(parts: &Lent, step: &FactPart) -> Result<Option<(u32, Tu
 
 /// Whether the fact concludes this tuple.
 fn concludes(fact: &Fact, pair: &(u32, Tuple)) -> bool
-    ensures { result ≡ same_conclusion (conclusion_of fact.now.pred fact.now.tuple) (Some pair.now) }
+    ensures { result ≡ same_conclusion (ground_conclusion fact.now.pred fact.now.tuple) (Some pair.now) }
 {
     match fact.pred {
         Some(pred) => pred == pair.0 && same_tuple(fact.tuple.as_slice(), pair.1.as_slice()),
@@ -69,7 +69,7 @@ fn are_facts_of(facts: &Facts, premises: &[u32], body: &[(u32, Tuple)]) -> bool
 
 /// 20: the premises are as many as the body atoms, each is there, and each is its body atom's tuple.
 pub(crate) fn rule_20(parts: &Lent, step: &FactPart) -> Result<Option<By>, Memory>
-    ensures { IfOk result (λ by. by ≡ rule_20 parts.now.system (state_of parts.now) (record_of step.now)) }
+    ensures { IfOk result (λ by. by ≡ rule_20 parts.now.system (standing_state parts.now) (record_of step.now)) }
 {
     match parts.system.clauses().get(step.seen.clause() as usize) {
         Some(clause) => {
@@ -127,7 +127,7 @@ fn recorded(facts: &Facts, conclusion: &Option<(u32, Tuple)>) -> Option<u32>
 /// 21: the conclusion isn't recorded.
 pub(crate) fn rule_21(parts: &Lent, step: &FactPart) -> Result<Option<By>, Memory>
     requires { IsLastFalse parts.now.facts }
-    ensures { IfOk result (λ by. by ≡ rule_21 parts.now.system (state_of parts.now) (record_of step.now)) }
+    ensures { IfOk result (λ by. by ≡ rule_21 parts.now.system (standing_state parts.now) (record_of step.now)) }
 {
     let conclusion = concluded(parts, step)?;
     match recorded(parts.facts, &conclusion) {
@@ -138,7 +138,7 @@ pub(crate) fn rule_21(parts: &Lent, step: &FactPart) -> Result<Option<By>, Memor
 
 /// 22: the target is live; it may be missing for false.
 pub(crate) fn rule_22(parts: &Lent, step: &FactPart) -> Result<Option<By>, Memory>
-    ensures { IfOk result (λ by. by ≡ rule_22 parts.now.system (state_of parts.now) (record_of step.now)) }
+    ensures { IfOk result (λ by. by ≡ rule_22 parts.now.system (standing_state parts.now) (record_of step.now)) }
 {
     match step.target {
         Some(target) => Ok(unless_live(parts.tree, target)),
@@ -178,7 +178,7 @@ fn told_at(parts: &Lent, step: &FactPart, id: u32) -> Result<Option<By>, Memory>
 
 /// 23: a target that is given holds the conclusion.
 pub(crate) fn rule_23(parts: &Lent, step: &FactPart) -> Result<Option<By>, Memory>
-    ensures { IfOk result (λ by. by ≡ rule_23 parts.now.system (state_of parts.now) (record_of step.now)) }
+    ensures { IfOk result (λ by. by ≡ rule_23 parts.now.system (standing_state parts.now) (record_of step.now)) }
 {
     match step.target {
         Some(id) => told_at(parts, step, id),

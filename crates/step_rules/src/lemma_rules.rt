@@ -7,7 +7,7 @@ ghost use Rattle.step_rules.specs.Tokens.{all_shown};
 ghost use Rattle.book_rules.specs.LemmaRules.{closes, rule_10, rule_11, rule_12, rule_13, rule_14, rule_30, rule_31, rule_32, rule_33};
 ghost use Rattle.step_rules.specs.Taken.{learn_of, learnt_of, lift_of};
 ghost use Rattle.step_rules.specs.Views.{fresh_of};
-ghost use Rattle.step_rules.specs.Standing.{state_of};
+ghost use Rattle.step_rules.specs.Standing.{standing_state};
 ghost use Rattle.step_rules.specs.machinery.Claims.{claim_of};
 
 use crate::claim::Claim;
@@ -23,7 +23,7 @@ use obligation_tree::Obligation;
 
 /// 10: the level is from 1 to the book's.
 pub(crate) fn rule_10(parts: &Lent, step: &LemmaPart) -> Option<By>
-    ensures { result ≡ rule_10 (state_of parts.now) (learn_of step.now) }
+    ensures { result ≡ rule_10 (standing_state parts.now) (learn_of step.now) }
 {
     if step.level >= 1 && step.level <= parts.level {
         return None;
@@ -50,7 +50,7 @@ pub(crate) fn rule_11(parts: &Lent, step: &LemmaPart) -> Result<Option<By>, Memo
 
 /// 12: each used lemma is in the frame of the level below, or this lemma on its own predicate.
 pub(crate) fn rule_12(parts: &Lent, step: &LemmaPart) -> Result<Option<By>, Memory>
-    ensures { IfOk result (λ by. by ≡ rule_12 parts.now.system (state_of parts.now) (learn_of step.now)) }
+    ensures { IfOk result (λ by. by ≡ rule_12 parts.now.system (standing_state parts.now) (learn_of step.now)) }
 {
     let claim = learnt(parts, step)?;
     let k = below(step.level);
@@ -60,7 +60,7 @@ pub(crate) fn rule_12(parts: &Lent, step: &LemmaPart) -> Result<Option<By>, Memo
 
 /// 13: the target is live.
 pub(crate) fn rule_13(parts: &Lent, step: &LemmaPart) -> Option<By>
-    ensures { result ≡ rule_13 (state_of parts.now) (learn_of step.now) }
+    ensures { result ≡ rule_13 (standing_state parts.now) (learn_of step.now) }
 {
     unless_live(parts.tree, step.target)
 }
@@ -82,7 +82,7 @@ fn closes(step: &LemmaPart, obligation: &Obligation) -> bool
 
 /// 14: the target is of the lemma's predicate and of no higher level, and its point is excluded.
 pub(crate) fn rule_14(parts: &Lent, step: &LemmaPart) -> Option<By>
-    ensures { result ≡ rule_14 (state_of parts.now) (learn_of step.now) }
+    ensures { result ≡ rule_14 (standing_state parts.now) (learn_of step.now) }
 {
     if step.target >= parts.tree.count() {
         return None;
@@ -105,7 +105,7 @@ fn told_of_level(id: u32, from: u32, level: u32) -> Option<By>
 
 /// 30: the lemma is there, and of the level that it is lifted from.
 pub(crate) fn rule_30(parts: &Lent, step: &LiftPart) -> Option<By>
-    ensures { result ≡ rule_30 (state_of parts.now) (lift_of step.now) }
+    ensures { result ≡ rule_30 (standing_state parts.now) (lift_of step.now) }
 {
     if step.lemma >= parts.frames.count() {
         return Some(By::Step);
@@ -115,7 +115,7 @@ pub(crate) fn rule_30(parts: &Lent, step: &LiftPart) -> Option<By>
 
 /// 31: the level above is at most the book's.
 pub(crate) fn rule_31(parts: &Lent, step: &LiftPart) -> Option<By>
-    ensures { result ≡ rule_31 (state_of parts.now) (lift_of step.now) }
+    ensures { result ≡ rule_31 (standing_state parts.now) (lift_of step.now) }
 {
     if parts.level <= step.from {
         return Some(By::Level(parts.level));
@@ -135,7 +135,7 @@ fn unlifted(parts: &Lent, step: &LiftPart, pred: u32, lemma: &Lemma) -> Result<O
 /// 32: each clause of that head has a proof of this lemma.
 pub(crate) fn rule_32(parts: &Lent, step: &LiftPart) -> Result<Option<By>, Memory>
     requires { length parts.now.system.clauses < 2 ^ 32 }
-    ensures { IfOk result (λ by. by ≡ rule_32 parts.now.system (state_of parts.now) (lift_of step.now)) }
+    ensures { IfOk result (λ by. by ≡ rule_32 parts.now.system (standing_state parts.now) (lift_of step.now)) }
 {
     if step.lemma >= parts.frames.count() {
         return Ok(None);
@@ -147,7 +147,7 @@ pub(crate) fn rule_32(parts: &Lent, step: &LiftPart) -> Result<Option<By>, Memor
 
 /// 33: each used lemma is in the frame of the level that it is lifted from.
 pub(crate) fn rule_33(parts: &Lent, step: &LiftPart) -> Option<By>
-    ensures { result ≡ rule_33 parts.now.system (state_of parts.now) (lift_of step.now) }
+    ensures { result ≡ rule_33 parts.now.system (standing_state parts.now) (lift_of step.now) }
 {
     let (sys, proofs) = (parts.system, step.proofs.as_slice());
     misused(sys, parts.frames, step.from, &Claim::False, proofs)

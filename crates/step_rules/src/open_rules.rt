@@ -13,8 +13,8 @@ ghost use Rattle.step_rules.specs.machinery.Walks.{fails_plainly_at, is_plain, i
 ghost use Rattle.step_rules.specs.machinery.Told.{low_told, misfit_told, shut_told, unheld_told, unknown_told};
 ghost use Rattle.step_rules.specs.Taken.{open_of};
 ghost use Rattle.cube_rules.specs.Views.{framed_at, lemmas_of};
-ghost use Rattle.step_rules.specs.Views.{conclusion_of, facts_of, fresh_of};
-ghost use Rattle.step_rules.specs.Standing.{state_of};
+ghost use Rattle.step_rules.specs.Views.{ground_conclusion, facts_of, fresh_of};
+ghost use Rattle.step_rules.specs.Standing.{standing_state};
 ghost use Rattle.cube_forms.specs.Cubes.{cube_holds};
 ghost use Rattle.book_rules.specs.Same.{same_cube};
 ghost use Rattle.book_rules.specs.State.{holds, holds_of};
@@ -24,6 +24,7 @@ ghost use Rattle.clause_form.specs.System.{is_clause};
 use crate::conclusions::holds;
 use crate::lent::Lent;
 use crate::levels::{below, unless_live};
+use crate::lookups::{fact_in, has_fact_in};
 use crate::open_part::OpenPart;
 use base::Memory;
 use book_rules::By;
@@ -41,7 +42,7 @@ use std::alloc::Global;
 
 /// 1: the parent is live.
 pub(crate) fn rule_1(parts: &Lent, step: &OpenPart) -> Option<By>
-    ensures { result ≡ rule_1 (state_of parts.now) (open_of step.now) }
+    ensures { result ≡ rule_1 (standing_state parts.now) (open_of step.now) }
 {
     unless_live(parts.tree, step.parent)
 }
@@ -58,98 +59,12 @@ fn told_of_level(step: &OpenPart, parent: &Obligation) -> Option<By>
 
 /// 2: the parent's level is at least 2.
 pub(crate) fn rule_2(parts: &Lent, step: &OpenPart) -> Option<By>
-    ensures { result ≡ rule_2 (state_of parts.now) (open_of step.now) }
+    ensures { result ≡ rule_2 (standing_state parts.now) (open_of step.now) }
 {
     if step.parent >= parts.tree.count() {
         return None;
     }
     told_of_level(step, parts.tree.obligation(step.parent))
-}
-
-/// Whether the literal has no divisor.
-fn is_plain(lit: &Lit) -> bool
-    ensures { result ≡ is_plain lit.now }
-{
-    match lit {
-        Lit::Le(_) => true,
-        Lit::Eq(_) => true,
-        Lit::Div(_, _) => false,
-        Lit::NDiv(_, _) => false,
-    }
-}
-
-/// Whether a literal without a divisor fails at the tuple.
-fn fails_plainly(lits: &[Lit], tuple: &[i64]) -> bool
-    ensures { result ≡ list_any (fails_plainly_at tuple.now) lits.now }
-{
-    for lit in lits {
-        if is_plain(lit) && !lit.holds(tuple) {
-            return true;
-        }
-    }
-    false
-}
-
-/// Whether the literals hold the tuple. Those without a divisor are asked first, since a division is
-/// dear.
-fn all_hold(lits: &[Lit], tuple: &[i64]) -> bool
-    ensures { result ≡ cube_holds tuple.now lits.now }
-{
-    if fails_plainly(lits, tuple) {
-        return false;
-    }
-    for lit in lits {
-        if !lit.holds(tuple) {
-            return false;
-        }
-    }
-    true
-}
-
-/// Whether the fact is of the predicate and lies in the cube.
-fn is_in(fact: &Fact, pred: u32, cube: &[Lit]) -> bool
-    ensures { result ≡ holds_of (Some pred) cube.now (conclusion_of fact.now.pred fact.now.tuple) }
-{
-    match fact.pred {
-        Some(of) => pred == of && all_hold(cube, fact.tuple.as_slice()),
-        None => false,
-    }
-}
-
-/// Whether there is a fact of that number, and it is.
-fn lies_in(facts: &Facts, pred: u32, cube: &[Lit], id: u32) -> bool
-    ensures { result ≡ lies_in_at facts.now pred cube.now id }
-{
-    if id >= facts.count() {
-        return false;
-    }
-    is_in(facts.fact(id), pred, cube)
-}
-
-/// The first of the numbers whose fact does.
-fn first_in(facts: &Facts, pred: u32, cube: &[Lit], numbers: &[u32]) -> Option<u32>
-    ensures { result ≡ find (lies_in_at facts.now pred cube.now) numbers.now }
-{
-    for id in numbers {
-        if lies_in(facts, pred, cube, *id) {
-            return Some(*id);
-        }
-    }
-    None
-}
-
-/// The first recorded fact of the predicate in the cube.
-fn fact_in(facts: &Facts, pred: u32, cube: &[Lit]) -> Option<u32>
-    ensures { result ≡ first_number (lies_in pred cube.now) (facts_of facts.now) }
-{
-    first_in(facts, pred, cube, facts.of(pred))
-}
-
-/// Whether a recorded fact of the predicate lies in the cube.
-pub fn has_fact_in(facts: &Facts, pred: u32, cube: &[Lit]) -> bool
-    ensures { result ≡ has_fact_in (facts_of facts.now) pred cube.now }
-{
-    fact_in(facts, pred, cube).is_some()
 }
 
 /// Whether the step's cube has these literals, in this order.
@@ -212,7 +127,7 @@ fn is_cube_of(parts: &Lent, step: &OpenPart, atom: &Atom, lits: &[Lit]) -> Resul
 /// holds a recorded fact or is wide.
 fn is_cube(parts: &Lent, step: &OpenPart, atom: &Atom) -> Result<bool, Memory>
     requires { length atom.now.args ≤ most_arguments }
-    ensures { IfOk result (λ b. b ≡ is_cube (state_of parts.now) (open_of step.now) atom.now) }
+    ensures { IfOk result (λ b. b ≡ is_cube (standing_state parts.now) (open_of step.now) atom.now) }
 {
     match projected_cube(parts.alloc, atom, &step.area)? {
         None => {
@@ -236,7 +151,7 @@ fn atom_fits(
     atom: &Atom,
 ) -> Result<bool, Memory>
     requires { length atom.now.args ≤ most_arguments }
-    ensures { IfOk result (λ b. b ≡ atom_fits (state_of parts.now) (open_of step.now) (fresh_of parent.now) clause.now atom.now) }
+    ensures { IfOk result (λ b. b ≡ atom_fits (standing_state parts.now) (open_of step.now) (fresh_of parent.now) clause.now atom.now) }
 {
     let k = below(parent.level);
     if !is_area(
@@ -262,7 +177,7 @@ fn clause_fits(
     clause: &Clause,
 ) -> Result<bool, Memory>
     requires { is_clause parts.now.system.preds clause.now ≡ true }
-    ensures { IfOk result (λ b. b ≡ clause_fits (state_of parts.now) (open_of step.now) (fresh_of parent.now) clause.now) }
+    ensures { IfOk result (λ b. b ≡ clause_fits (standing_state parts.now) (open_of step.now) (fresh_of parent.now) clause.now) }
 {
     if !is_head(parent.pred, &clause.head) {
         return Ok(false);
@@ -275,7 +190,7 @@ fn clause_fits(
 
 /// What is told of a parent by rule 3.
 fn misfit(parts: &Lent, step: &OpenPart, parent: &Obligation) -> Result<Option<By>, Memory>
-    ensures { IfOk result (λ by. by ≡ misfit_told parts.now.system (state_of parts.now) (open_of step.now) (fresh_of parent.now)) }
+    ensures { IfOk result (λ by. by ≡ misfit_told parts.now.system (standing_state parts.now) (open_of step.now) (fresh_of parent.now)) }
 {
     match parts.system.clauses().get(step.seen.clause() as usize) {
         Some(clause) => {
@@ -292,7 +207,7 @@ fn misfit(parts: &Lent, step: &OpenPart, parent: &Obligation) -> Result<Option<B
 /// 3: the clause's head is of the parent's predicate, the atom is there, the area is of that atom,
 /// clause and parent, and the cube is of that area and atom.
 pub(crate) fn rule_3(parts: &Lent, step: &OpenPart) -> Result<Option<By>, Memory>
-    ensures { IfOk result (λ by. by ≡ rule_3 parts.now.system (state_of parts.now) (open_of step.now)) }
+    ensures { IfOk result (λ by. by ≡ rule_3 parts.now.system (standing_state parts.now) (open_of step.now)) }
 {
     if step.parent >= parts.tree.count() {
         return Ok(None);
@@ -342,7 +257,7 @@ fn unheld(parts: &Lent, step: &OpenPart, parent: &Obligation) -> Result<Option<B
 
 /// 4: the parent holds the instance's head, and the cube holds the atom's tuple.
 pub(crate) fn rule_4(parts: &Lent, step: &OpenPart) -> Result<Option<By>, Memory>
-    ensures { IfOk result (λ by. by ≡ rule_4 parts.now.system (state_of parts.now) (open_of step.now)) }
+    ensures { IfOk result (λ by. by ≡ rule_4 parts.now.system (standing_state parts.now) (open_of step.now)) }
 {
     if step.parent >= parts.tree.count() {
         return Ok(None);
@@ -353,7 +268,7 @@ pub(crate) fn rule_4(parts: &Lent, step: &OpenPart) -> Result<Option<By>, Memory
 
 /// What is told of a parent by rule 5.
 fn shut_below(parts: &Lent, step: &OpenPart, parent: &Obligation) -> Result<Option<By>, Memory>
-    ensures { IfOk result (λ by. by ≡ shut_told parts.now.system (state_of parts.now) (open_of step.now) (fresh_of parent.now)) }
+    ensures { IfOk result (λ by. by ≡ shut_told parts.now.system (standing_state parts.now) (open_of step.now) (fresh_of parent.now)) }
 {
     let k = below(parent.level);
     match parts.system.clauses().get(step.seen.clause() as usize) {
@@ -364,7 +279,7 @@ fn shut_below(parts: &Lent, step: &OpenPart, parent: &Obligation) -> Result<Opti
 
 /// 5: no lemma of the frame below the parent shuts a body tuple of the instance out.
 pub(crate) fn rule_5(parts: &Lent, step: &OpenPart) -> Result<Option<By>, Memory>
-    ensures { IfOk result (λ by. by ≡ rule_5 parts.now.system (state_of parts.now) (open_of step.now)) }
+    ensures { IfOk result (λ by. by ≡ rule_5 parts.now.system (standing_state parts.now) (open_of step.now)) }
 {
     if step.parent >= parts.tree.count() {
         return Ok(None);
@@ -385,7 +300,7 @@ pub(crate) fn atom_of<'a>(parts: &'a Lent, step: &OpenPart) -> Option<&'a Atom>
 
 /// 6: no recorded fact of the atom's predicate lies in the cube.
 pub(crate) fn rule_6(parts: &Lent, step: &OpenPart) -> Option<By>
-    ensures { result ≡ rule_6 parts.now.system (state_of parts.now) (open_of step.now) }
+    ensures { result ≡ rule_6 parts.now.system (standing_state parts.now) (open_of step.now) }
 {
     match atom_of(parts, step) {
         Some(atom) => {
@@ -458,7 +373,7 @@ fn first_unknown(
 
 /// What is told of a parent by rule 9.
 fn unknown_below(parts: &Lent, step: &OpenPart, parent: &Obligation) -> Result<Option<By>, Memory>
-    ensures { IfOk result (λ by. by ≡ unknown_told parts.now.system (state_of parts.now) (open_of step.now) (fresh_of parent.now)) }
+    ensures { IfOk result (λ by. by ≡ unknown_told parts.now.system (standing_state parts.now) (open_of step.now) (fresh_of parent.now)) }
 {
     let k = below(parent.level);
     match parts.system.clauses().get(step.seen.clause() as usize) {
@@ -471,7 +386,7 @@ fn unknown_below(parts: &Lent, step: &OpenPart, parent: &Obligation) -> Result<O
 
 /// 9: on each body atom the area knows each lemma of the frame below the parent on its predicate.
 pub(crate) fn rule_9(parts: &Lent, step: &OpenPart) -> Result<Option<By>, Memory>
-    ensures { IfOk result (λ by. by ≡ rule_9 parts.now.system (state_of parts.now) (open_of step.now)) }
+    ensures { IfOk result (λ by. by ≡ rule_9 parts.now.system (standing_state parts.now) (open_of step.now)) }
 {
     if step.parent >= parts.tree.count() {
         return Ok(None);

@@ -5,7 +5,7 @@ ghost use Rattle.book_rules.specs.RaiseRules.{is_no_lift_of, rule_40, rule_41, r
 ghost use Rattle.step_rules.specs.Taken.{raise_of};
 ghost use Rattle.step_rules.specs.Tokens.{no_lift_of, why_of};
 ghost use Rattle.cube_rules.specs.Views.{framed_at};
-ghost use Rattle.step_rules.specs.Standing.{state_of};
+ghost use Rattle.step_rules.specs.Standing.{standing_state};
 ghost use Rattle.step_rules.specs.machinery.Places.{kept_told, pair_told, place_after, told_below};
 
 use crate::claim::Claim;
@@ -20,7 +20,7 @@ use cube_rules::{body_shut_out, is_head, same_lemma};
 /// 40: each clause with head false has a proof of the query.
 pub(crate) fn rule_40(parts: &Lent, step: &RaisePart) -> Option<By>
     requires { length parts.now.system.clauses < 2 ^ 32 }
-    ensures { result ≡ rule_40 parts.now.system (state_of parts.now) (raise_of step.now) }
+    ensures { result ≡ rule_40 parts.now.system (standing_state parts.now) (raise_of step.now) }
 {
     unshown(
         parts.system,
@@ -32,7 +32,7 @@ pub(crate) fn rule_40(parts: &Lent, step: &RaisePart) -> Option<By>
 
 /// 41: each used lemma is in the frame of the book's level.
 pub(crate) fn rule_41(parts: &Lent, step: &RaisePart) -> Option<By>
-    ensures { result ≡ rule_41 parts.now.system (state_of parts.now) (raise_of step.now) }
+    ensures { result ≡ rule_41 parts.now.system (standing_state parts.now) (raise_of step.now) }
 {
     let (sys, proofs) = (parts.system, step.closed.as_slice());
     misused(sys, parts.frames, parts.level, &Claim::False, proofs)
@@ -97,7 +97,7 @@ fn unkept_at(parts: &Lent, id: u32, kept: &[NoLift], place: usize) -> Option<By>
 
 /// 42: each lemma of a level below the book's has its NoLift in its place, and none is left over.
 pub(crate) fn rule_42(parts: &Lent, step: &RaisePart) -> Option<By>
-    ensures { result ≡ rule_42 parts.now.system (state_of parts.now) (raise_of step.now) }
+    ensures { result ≡ rule_42 parts.now.system (standing_state parts.now) (raise_of step.now) }
 {
     let kept = step.kept.as_slice();
     let mut place = 0;
@@ -117,7 +117,7 @@ pub(crate) fn rule_42(parts: &Lent, step: &RaisePart) -> Option<By>
 /// What is told of the lemma of that number and its NoLift by rule 43.
 fn outside(parts: &Lent, id: u32, why: &Why) -> Result<Option<By>, Memory>
     requires { id < length parts.now.frames.lemmas }
-    ensures { IfOk result (λ by. by ≡ seen_outside parts.now.system (state_of parts.now) (id, framed_at parts.now.frames.lemmas id) (why_of why.now)) }
+    ensures { IfOk result (λ by. by ≡ seen_outside parts.now.system (standing_state parts.now) (id, framed_at parts.now.frames.lemmas id) (why_of why.now)) }
 {
     let k = parts.frames.level_of(id);
     match why {
@@ -135,7 +135,7 @@ fn outside(parts: &Lent, id: u32, why: &Why) -> Result<Option<By>, Memory>
 fn outside_at(parts: &Lent, id: u32, kept: &[NoLift], place: usize) -> Result<Option<By>, Memory>
     requires { id < length parts.now.frames.lemmas }
     ensures { IfOk result (λ by. by ≡ told_below parts.now.level (framed_at parts.now.frames.lemmas id)
-        (pair_told (seen_outside parts.now.system (state_of parts.now)) (id, framed_at parts.now.frames.lemmas id) (slice_get kept.now place))) }
+        (pair_told (seen_outside parts.now.system (standing_state parts.now)) (id, framed_at parts.now.frames.lemmas id) (slice_get kept.now place))) }
 {
     if parts.frames.level_of(id) >= parts.level {
         return Ok(None);
@@ -148,7 +148,7 @@ fn outside_at(parts: &Lent, id: u32, kept: &[NoLift], place: usize) -> Result<Op
 
 /// 43: no lemma of the frame of the lemma's level shuts out a body tuple of a NoLift's instance.
 pub(crate) fn rule_43(parts: &Lent, step: &RaisePart) -> Result<Option<By>, Memory>
-    ensures { IfOk result (λ by. by ≡ rule_43 parts.now.system (state_of parts.now) (raise_of step.now)) }
+    ensures { IfOk result (λ by. by ≡ rule_43 parts.now.system (standing_state parts.now) (raise_of step.now)) }
 {
     let kept = step.kept.as_slice();
     let mut place = 0;
@@ -165,7 +165,7 @@ pub(crate) fn rule_43(parts: &Lent, step: &RaisePart) -> Result<Option<By>, Memo
 /// What is told of the lemma of that number and its NoLift by rule 44.
 fn misuses(parts: &Lent, id: u32, why: &Why) -> Option<By>
     requires { id < length parts.now.frames.lemmas }
-    ensures { result ≡ evidence_outside parts.now.system (state_of parts.now) (id, framed_at parts.now.frames.lemmas id) (why_of why.now) }
+    ensures { result ≡ evidence_outside parts.now.system (standing_state parts.now) (id, framed_at parts.now.frames.lemmas id) (why_of why.now) }
 {
     match why {
         Why::Broken(_) => None,
@@ -184,7 +184,7 @@ fn misuses(parts: &Lent, id: u32, why: &Why) -> Option<By>
 fn misuses_at(parts: &Lent, id: u32, kept: &[NoLift], place: usize) -> Option<By>
     requires { id < length parts.now.frames.lemmas }
     ensures { result ≡ told_below parts.now.level (framed_at parts.now.frames.lemmas id)
-        (pair_told (evidence_outside parts.now.system (state_of parts.now)) (id, framed_at parts.now.frames.lemmas id) (slice_get kept.now place)) }
+        (pair_told (evidence_outside parts.now.system (standing_state parts.now)) (id, framed_at parts.now.frames.lemmas id) (slice_get kept.now place)) }
 {
     if parts.frames.level_of(id) >= parts.level {
         return None;
@@ -197,7 +197,7 @@ fn misuses_at(parts: &Lent, id: u32, kept: &[NoLift], place: usize) -> Option<By
 
 /// 44: the evidence of a NoLift uses lemmas of the frame of the lemma's level alone.
 pub(crate) fn rule_44(parts: &Lent, step: &RaisePart) -> Option<By>
-    ensures { result ≡ rule_44 parts.now.system (state_of parts.now) (raise_of step.now) }
+    ensures { result ≡ rule_44 parts.now.system (standing_state parts.now) (raise_of step.now) }
 {
     let kept = step.kept.as_slice();
     let mut place = 0;

@@ -15,7 +15,7 @@ ghost use Rattle.step_rules.specs.machinery.Told.{misused_told, unfit_told};
 ghost use Rattle.step_rules.specs.Taken.{stall_of, step_of};
 ghost use Rattle.step_rules.specs.Tokens.{all_used};
 ghost use Rattle.step_rules.specs.Views.{fresh_of};
-ghost use Rattle.step_rules.specs.Standing.{state_of};
+ghost use Rattle.step_rules.specs.Standing.{standing_state};
 ghost use Rattle.step_rules.specs.declared.step.Step.TheVariants.{StallStep};
 ghost use Rattle.step_rules.specs.Standing.{IsStanding};
 ghost use Rattle.clause_form.specs.System.{is_clause};
@@ -42,7 +42,7 @@ use std::alloc::Global;
 
 /// 50: the target is live.
 pub(crate) fn rule_50(parts: &Lent, step: &StallPart) -> Option<By>
-    ensures { result ≡ rule_50 (state_of parts.now) (stall_of step.now) }
+    ensures { result ≡ rule_50 (standing_state parts.now) (stall_of step.now) }
 {
     unless_live(parts.tree, step.target)
 }
@@ -180,7 +180,7 @@ fn unfit(parts: &Lent, step: &StallPart, target: &Obligation) -> Result<Option<B
 pub(crate) fn rule_52(parts: &Lent, step: &StallPart) -> Result<Option<By>, Memory>
     requires kept { IsStanding parts.now }
     requires places { has_places parts.now.system (step_of (StallStep step.now)) ≡ true }
-    ensures { IfOk result (λ by. by ≡ rule_52 parts.now.system (state_of parts.now) (stall_of step.now)) }
+    ensures { IfOk result (λ by. by ≡ rule_52 parts.now.system (standing_state parts.now) (stall_of step.now)) }
 {
     if step.target >= parts.tree.count() {
         return Ok(None);
@@ -191,7 +191,7 @@ pub(crate) fn rule_52(parts: &Lent, step: &StallPart) -> Result<Option<By>, Memo
 
 /// What is told of a target by rule 53.
 fn misused_below(parts: &Lent, step: &StallPart, target: &Obligation) -> Option<By>
-    ensures { result ≡ misused_told parts.now.system (state_of parts.now) (stall_of step.now) (fresh_of target.now) }
+    ensures { result ≡ misused_told parts.now.system (standing_state parts.now) (stall_of step.now) (fresh_of target.now) }
 {
     let k = below(target.level);
     let (sys, own) = (parts.system, Claim::False);
@@ -204,7 +204,7 @@ fn misused_below(parts: &Lent, step: &StallPart, target: &Obligation) -> Option<
 
 /// 53: each used lemma is in the frame below the target.
 pub(crate) fn rule_53(parts: &Lent, step: &StallPart) -> Option<By>
-    ensures { result ≡ rule_53 parts.now.system (state_of parts.now) (stall_of step.now) }
+    ensures { result ≡ rule_53 parts.now.system (standing_state parts.now) (stall_of step.now) }
 {
     if step.target >= parts.tree.count() {
         return None;
@@ -224,7 +224,7 @@ fn told_of_mark(id: u32, stalled: bool) -> Option<By>
 
 /// 54: the target isn't stalled.
 pub(crate) fn rule_54(parts: &Lent, step: &StallPart) -> Option<By>
-    ensures { result ≡ rule_54 (state_of parts.now) (stall_of step.now) }
+    ensures { result ≡ rule_54 (standing_state parts.now) (stall_of step.now) }
 {
     if step.target >= parts.tree.count() {
         return None;

@@ -10,13 +10,14 @@ use Rattle.term_tree.specs.declared.sort.Sort.{Sort}
 use Rattle.term_tree.specs.declared.sort.Sort.TheVariants.{Bool as BoolSort}
 use Rattle.term_tree.specs.declared.refusal.Kind.TheVariants.{Arity}
 use Rattle.term_tree.specs.Arena.{Arena}
+use Rattle.term_tree.specs.Sorts.{same_sort}
 use Rattle.term_check.specs.declared.found.Found.{Found}
 use Rattle.term_check.specs.declared.head.Head.{Head}
 use Rattle.term_check.specs.declared.head.Head.TheVariants.{Operator, Declared, Divisibility}
 use Rattle.term_check.specs.declared.part.Part.{Part}
 use Rattle.term_check.specs.declared.part.Fault.{Fault}
 use Rattle.term_check.specs.declared.stop.TermStop.{TermStop}
-use Rattle.term_check.specs.Rules.{fault, unless, applied, declared_fault, divisible_fault, same_sort}
+use Rattle.term_check.specs.Rules.{fault, unless, applied, declared_fault, divisible_fault}
 use Rattle.term_check.specs.Found.{Keeps}
 use Rattle.term_check.specs.Term.{Term, operation, predicate, divisible, Terms, none, more, IsNodeAt, IsTermAt, AreTermsAt}
 use Rattle.term_check.specs.Spelling.{Spelled, Gathered, head_fault, application, sorts_of, with_part, spells, the_argument, number_or_0, let_spelled, quantified, quantifier}

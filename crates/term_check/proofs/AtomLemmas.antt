@@ -15,7 +15,7 @@ use Rattle.term_check.specs.declared.atom.Atom.{Atom}
 use Rattle.term_check.specs.declared.atom.Atom.TheVariants.{Number, Truth, BoundVariable, LetName, Predicate}
 use Rattle.term_tree.specs.declared.refusal.Kind.TheVariants.{Arity}
 use Rattle.term_check.specs.Rules.{fault, is_short}
-use Rattle.term_check.specs.Words.{is_among, reserved_words}
+use Rattle.term_check.specs.Words.{is_word_among, reserved_words}
 use Rattle.term_check.specs.Spelling.{bound_to, pred_from, sorts_in, bare_predicate, bound_symbol, symbol_atom, numeral_if_short, numeral_atom, leaf_atom}
 use Rattle.term_check.proofs.OutcomeLemmas.{same_numbers}
 
@@ -92,7 +92,7 @@ pub leaf_is : (text : List ℕ) (preds : List Declared) (names : List Named) (ki
     → IsAtom preds names atom
 leaf_is text preds names Numeral start end atom h = numeral_is preds names start (short_number (number_of (inner text Numeral start end))) atom h
 leaf_is text preds names Symbol start end atom h =
-    unreserved preds names start (inner text Symbol start end) (is_among reserved_words (inner text Symbol start end)) _ atom h
+    unreserved preds names start (inner text Symbol start end) (is_word_among reserved_words (inner text Symbol start end)) _ atom h
 leaf_is text preds names Quoted start end atom h =
     symbol_found preds names start (inner text Quoted start end) (bound_to (inner text Quoted start end) names) atom refl h
 leaf_is text preds names Decimal start end atom h = absurd (cc)

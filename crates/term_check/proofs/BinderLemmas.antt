@@ -10,11 +10,11 @@ use Rattle.term_tree.specs.declared.node.TermId.{TermId}
 use Rattle.term_tree.specs.Arena.{Arena, IsArena}
 use Rattle.term_tree.specs.Legal.{has_some}
 use Rattle.term_tree.proofs.Public.{both_true}
+use Rattle.term_tree.specs.Sorts.{same_sort}
 use Rattle.term_check.specs.declared.part.Part.{Part}
 use Rattle.term_check.specs.declared.part.Fault.{Fault}
-use Rattle.term_check.specs.Rules.{same_sort}
 use Rattle.term_check.specs.Term.{IsTermAt}
-use Rattle.term_check.specs.Spelling.{Scope, Spelled, Gathered, spelled, all_spelled, bindings_spelled, each_bound, binding_spelled, item_spelled, added, nothing_yet, items_of, binder_fault, names_fault, sort_or_bool, sort_in, sorts_bound, variables_from, lets_from, lets_in, with_variables, with_lets, let_spelled, quantified, quantifier}
+use Rattle.term_check.specs.Spelling.{SpellingScope, Spelled, Gathered, spelled, all_spelled, bindings_spelled, each_bound, binding_spelled, item_spelled, with_spelled, nothing_yet, items_of, binder_fault, names_fault, sort_or_bool, sort_in, sorts_bound, variables_from, lets_from, lets_in, with_read_variables, with_lets, let_spelled, quantified, quantifier}
 use Rattle.term_check.proofs.KnownLemmas.{Known, known_length, known_let, known_forall, known_exists}
 use Rattle.term_check.proofs.NameLemmas.{stand_later, stand_variables, fit_variables, stand_lets, fit_lets}
 use Rattle.term_check.proofs.OutcomeLemmas.{bind_ok, same_numbers, other_numbers}
@@ -41,10 +41,10 @@ binder_right text binder h =
     (not_none (length (items_of binder)) (other_numbers (length (items_of binder)) 0 b.0), b.1)
 
 -- one term more
-one_more : (g : Gathered) (s : Spelled) (k : Gathered) → added g s ≡ k → length k.parts ≡ length g.parts + 1
+one_more : (g : Gathered) (s : Spelled) (k : Gathered) → with_spelled g s ≡ k → length k.parts ≡ length g.parts + 1
 one_more g s k e = ap (λ (j : Gathered). length j.parts) (sym e) ∙ (let n : length (g.parts ++ s.part ∷ []) ≡ length g.parts + 1 = omega (arith, length-append g.parts (s.part ∷ [])) in n)
 
-module _ (text : List ℕ) (scope : Scope) where
+module _ (text : List ℕ) (scope : SpellingScope) where
   -- as many terms as trees
   pub row_counted : {n : _} (g : Gathered) (row : Row_of-Tree n) (k : Gathered) → IsEven g → all_spelled text scope g row ≡ Ok k
       → IsEven k × (length k.parts ≡ length g.parts + length (items-the_row-Tree _ row))
@@ -52,7 +52,7 @@ module _ (text : List ℕ) (scope : Scope) where
       let same = same_gathered g k h in (subst (λ (j : Gathered). IsEven j) same even, omega (arith, ap (λ (j : Gathered). length j.parts) same))
   row_counted g (more_of-Tree tree rest) k even h =
       let b = bind_ok (spelled text scope g.next tree) _ k h in
-      let later = row_counted (added g b.0) rest k (added_even g b.0 even) b.2 in
+      let later = row_counted (with_spelled g b.0) rest k (added_even g b.0 even) b.2 in
       (later.0, omega (arith, later.1, length-append g.parts (b.0.part ∷ [])))
 
   item_counted : {n : _} (g : Gathered) (row : Row_of-Tree n) (k : Gathered) → nat_eq (length (items-the_row-Tree _ row)) 2 ≡ true → item_spelled text scope g row ≡ Ok k
@@ -60,7 +60,7 @@ module _ (text : List ℕ) (scope : Scope) where
   item_counted g end_of-Tree k pair h = absurd (omega (arith, same_numbers 0 2 pair))
   item_counted g (more_of-Tree name end_of-Tree) k pair h = absurd (omega (arith, same_numbers 1 2 pair))
   item_counted g (more_of-Tree name (more_of-Tree term end_of-Tree)) k pair h =
-      let b = bind_ok (spelled text scope g.next term) _ k h in one_more g b.0 k (same_gathered (added g b.0) k b.2)
+      let b = bind_ok (spelled text scope g.next term) _ k h in one_more g b.0 k (same_gathered (with_spelled g b.0) k b.2)
   item_counted g (more_of-Tree name (more_of-Tree term (more_of-Tree other rest))) k pair h =
       absurd (omega (arith, same_numbers (length (name ∷ term ∷ other ∷ items-the_row-Tree _ rest)) 2 pair))
 
@@ -91,7 +91,7 @@ may_quantify true r f s h = (refl, h)
 may_quantify false r f s h = absurd (cc)
 
 module _ (text : List ℕ) (arena : Arena) (arranged : IsArena arena.nodes) where
-  pub let_tells_by : (scope : Scope) (next start : ℕ) (items : List Tree) (g : Gathered) (u : Spelled) → 1 ≤ length items → length items ≡ length g.parts → TellsAll arena scope next g
+  pub let_tells_by : (scope : SpellingScope) (next start : ℕ) (items : List Tree) (g : Gathered) (u : Spelled) → 1 ≤ length items → length items ≡ length g.parts → TellsAll arena scope next g
       → Tells arena (with_lets text scope items g.parts) g.next u → Tells arena scope next (let_spelled start g u)
   let_tells_by scope next start items g u some many all one = (omega (arith, all.0, one.0), told)
     where
@@ -109,8 +109,8 @@ module _ (text : List ℕ) (arena : Arena) (arranged : IsArena arena.nodes) wher
           (scope.names ++ lets_from text (lets_in scope.names) items g.parts) g.parts ids g.next u.part body at.2.0 (some_there ids there)
           (fit_lets scope.preds arena.nodes scope.quantifies text scope.names lets g.next later items g.parts ids bound.known) bound told_body
 
-  pub quantifier_tells_by : (scope : Scope) (next start : ℕ) (all : Bool) (items : List Tree) (u s : Spelled) → 1 ≤ length items → scope.quantifies ≡ true
-      → Tells arena (with_variables text scope next items) (next + length items) u → quantified (quantifier all start next (sorts_bound text items)) start u ≡ Ok s → Tells arena scope next s
+  pub quantifier_tells_by : (scope : SpellingScope) (next start : ℕ) (all : Bool) (items : List Tree) (u s : Spelled) → 1 ≤ length items → scope.quantifies ≡ true
+      → Tells arena (with_read_variables text scope next items) (next + length items) u → quantified (quantifier all start next (sorts_bound text items)) start u ≡ Ok s → Tells arena scope next s
   quantifier_tells_by scope next start all items u s some may one h =
       let q = may_quantify (same_sort u.part.sort BoolSort) _ _ s h in
       subst (λ (r : Spelled). Tells arena scope next r) (same_spelled _ s q.1) (omega (arith, one.0), told all (equal_sorts u.part.sort BoolSort q.0))

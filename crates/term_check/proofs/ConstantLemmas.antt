@@ -10,12 +10,12 @@ use Rattle.term_tree.specs.declared.node.OpKind.{OpKind}
 use Rattle.term_tree.specs.declared.node.OpKind.TheVariants.{Not, And, Or, Xor, Implies, Eq, Distinct, Ite, Add, Mul, Sub, Abs, Div, Mod, Le, Lt, Ge, Gt}
 use Rattle.term_tree.specs.declared.node.Node.TheVariants.{Op}
 use Rattle.term_tree.specs.declared.scalar.Value.TheVariants.{Int}
-use Rattle.term_tree.specs.Constants.{all_constant, constants_among, applied, is_arithmetic, is_short, is_short_constant, is_divisor, is_linear, has_short_constants}
+use Rattle.term_tree.specs.Constants.{all_constant, constants_among, integer_result, is_arithmetic, is_short, is_short_constant, is_divisor, is_linear, has_short_constants}
 use Rattle.term_tree.specs.Operators.{integer, sum_of, difference_of, on_two, first_of_all}
 use Rattle.term_tree.specs.Width.{prefix_results}
 use Rattle.term_check.specs.declared.part.Part.{Part}
 use Rattle.term_check.specs.declared.part.Fault.{Fault}
-use Rattle.term_check.specs.Rules.{number_fault, linear_fault, product_fault, divisor_fault, divisor_fault_by, is_constant, varying, is_short, if_short, multiplied, product_if_short, worth_of, worth, quotient, remainder, value_at, wide_unless, without_value, product_constant, constant_of}
+use Rattle.term_check.specs.Rules.{number_fault, linear_fault, product_fault, divisor_fault, divisor_fault_by, is_constant, varying, is_short, if_short, multiplied, product_if_short, worth_of, worth, quotient, remainder, value_at, wide_unless, without_value, product_constant, operator_constant}
 use Rattle.term_check.proofs.OutcomeLemmas.{both_are, not_if, not_below, up_to, same_numbers, other_numbers}
 use Rattle.term_check.proofs.SortLemmas.{right_number}
 
@@ -25,7 +25,7 @@ constants ps = map (λ (p : Part). p.constant) ps
 
 -- the constant of an operation on parts with these
 abbrev pub operation_constant : OpKind → List (Option ℤ) → Option ℤ
-operation_constant op given = if is_arithmetic op then option_map (applied op) (all_constant given) else None
+operation_constant op given = if is_arithmetic op then option_map (integer_result op) (all_constant given) else None
 
 -- Which parts are constants.
 
@@ -149,14 +149,14 @@ product_short start ps c h =
     let known = product_known start ps c (nat_eq (varying ps) 0) h in (known.0, products (pos 1) known.0 (constants ps) refl known.1, known.2)
 
 product_value : (k : ℤ) (ps : List Part) (c : Option ℤ) (b : Bool) → nat_eq (varying ps) 0 ≡ b → IsShortProduct (pos 1) k (constants_among (constants ps)) → (if b then Some k else None) ≡ c
-    → (option_map (applied Mul) (all_constant (constants ps)) ≡ c) × (is_short_constant c ≡ true)
+    → (option_map (integer_result Mul) (all_constant (constants ps)) ≡ c) × (is_short_constant c ≡ true)
 product_value k ps c true e is h = (
-  ap (λ (o : Option (List ℤ)). option_map (applied Mul) o) (all_among ps (same_numbers (varying ps) 0 e))
+  ap (λ (o : Option (List ℤ)). option_map (integer_result Mul) o) (all_among ps (same_numbers (varying ps) 0 e))
       ∙ ap (λ (ns : List ℤ). Some (fold (λ (x y : ℤ). x *ℤ y) (pos 1) ns)) (integers (constants_among (constants ps))) ∙ ap (λ (x : ℤ). Some x) is.0 ∙ h,
   short_value k c is.2 h,
 )
 product_value k ps c false e is h =
-    (ap (λ (o : Option (List ℤ)). option_map (applied Mul) o) (some_vary ps (other_numbers (varying ps) 0 e)) ∙ h, no_value c h)
+    (ap (λ (o : Option (List ℤ)). option_map (integer_result Mul) o) (some_vary ps (other_numbers (varying ps) 0 e)) ∙ h, no_value c h)
 
 -- Divisions.
 
@@ -184,7 +184,7 @@ nothing_known c h = by c (cc)
     by c e = (e, no_value c e)
 
 -- the value of an operation's constant is the operator's, and short
-pub operation_known : (op : OpKind) (start : ℕ) (ps : List Part) (c : Option ℤ) → number_fault op start (length ps) ≡ None → linear_fault op start ps ≡ None → constant_of op start ps ≡ Ok c
+pub operation_known : (op : OpKind) (start : ℕ) (ps : List Part) (c : Option ℤ) → number_fault op start (length ps) ≡ None → linear_fault op start ps ≡ None → operator_constant op start ps ≡ Ok c
     → (operation_constant op (constants ps) ≡ c) × (is_short_constant c ≡ true)
 operation_known Not start ps c n l h = nothing_known c h
 operation_known And start ps c n l h = nothing_known c h
@@ -195,19 +195,19 @@ operation_known Eq start ps c n l h = nothing_known c h
 operation_known Distinct start ps c n l h = nothing_known c h
 operation_known Ite start ps c n l h = nothing_known c h
 operation_known Add start ps c n l h =
-    arithmetic start (applied Add) (value_at Add) ps c (nat_eq (varying ps) 0) refl (λ none. ap sum_of (integers (map worth ps))) h
+    arithmetic start (integer_result Add) (value_at Add) ps c (nat_eq (varying ps) 0) refl (λ none. ap sum_of (integers (map worth ps))) h
 operation_known Mul start ps c n l h =
     let is = product_short start ps c h in product_value is.0 ps c (nat_eq (varying ps) 0) refl is.1 is.2
 operation_known Sub start ps c n l h =
-    arithmetic start (applied Sub) (value_at Sub) ps c (nat_eq (varying ps) 0) refl (λ none. ap difference_of (integers (map worth ps))) h
+    arithmetic start (integer_result Sub) (value_at Sub) ps c (nat_eq (varying ps) 0) refl (λ none. ap difference_of (integers (map worth ps))) h
 operation_known Abs start ps c n l h =
-    arithmetic start (applied Abs) (value_at Abs) ps c (nat_eq (varying ps) 0) refl (λ none. ap (λ (ks : List ℤ). pos (nat_abs (first_of_all ks))) (integers (map worth ps))) h
+    arithmetic start (integer_result Abs) (value_at Abs) ps c (nat_eq (varying ps) 0) refl (λ none. ap (λ (ks : List ℤ). pos (nat_abs (first_of_all ks))) (integers (map worth ps))) h
 operation_known Div start ps c n l h =
     let is = divided start ps (right_number Div start (length ps) n).0 l in
-    arithmetic start (applied Div) (value_at Div) ps c (nat_eq (varying ps) 0) refl (λ none. ap (on_two int_div_euclid) (integers (map worth ps)) ∙ is.1) h
+    arithmetic start (integer_result Div) (value_at Div) ps c (nat_eq (varying ps) 0) refl (λ none. ap (on_two int_div_euclid) (integers (map worth ps)) ∙ is.1) h
 operation_known Mod start ps c n l h =
     let is = divided start ps (right_number Mod start (length ps) n).0 l in
-    arithmetic start (applied Mod) (value_at Mod) ps c (nat_eq (varying ps) 0) refl (λ none. ap (on_two int_rem_euclid) (integers (map worth ps)) ∙ is.2) h
+    arithmetic start (integer_result Mod) (value_at Mod) ps c (nat_eq (varying ps) 0) refl (λ none. ap (on_two int_rem_euclid) (integers (map worth ps)) ∙ is.2) h
 operation_known Le start ps c n l h = nothing_known c h
 operation_known Lt start ps c n l h = nothing_known c h
 operation_known Ge start ps c n l h = nothing_known c h
@@ -242,7 +242,7 @@ module _ (part : ℕ → Option ℤ) (ids : List TermId) (ps : List Part) (are :
   known_short op c is short =
       ap (λ (cs : List (Option ℤ)). is_short_constant (operation_constant op cs)) are ∙ ap is_short_constant is ∙ short
 
-  pub operation_short : (op : OpKind) (start : ℕ) (c : Option ℤ) → constant_of op start ps ≡ Ok c → operation_constant op (constants ps) ≡ c → is_short_constant c ≡ true
+  pub operation_short : (op : OpKind) (start : ℕ) (c : Option ℤ) → operator_constant op start ps ≡ Ok c → operation_constant op (constants ps) ≡ c → is_short_constant c ≡ true
       → has_short_constants part (Op op ids) ≡ true
   operation_short Mul start c h is short =
       both_are _ _

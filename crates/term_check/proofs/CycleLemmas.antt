@@ -14,10 +14,10 @@ use Rattle.term_check.specs.declared.stop.TermStop.{TermStop}
 use Rattle.term_check.specs.Rules.{unless}
 use Rattle.term_check.specs.machinery.Known.{Known, IsReady, is_let_below, are_lets_below, below_let, below_quantifier}
 use Rattle.term_check.specs.Term.{IsTermAt, AreTermsAt}
-use Rattle.term_check.specs.Spelling.{Scope, Spelled, Gathered, ◌>>=◌, spelled, added, nothing_yet, items_of, lets_in, lets_from, variables_from, with_lets, with_variables, count_let, let_names_fault, binder_fault, variables_fault, quantifier_fault, let_spelled, quantified, quantifier, sorts_bound}
+use Rattle.term_check.specs.Spelling.{SpellingScope, Spelled, Gathered, ◌>>=◌, spelled, with_spelled, nothing_yet, items_of, lets_in, lets_from, variables_from, with_lets, with_read_variables, count_let, let_names_fault, binder_fault, variables_fault, quantifier_fault, let_spelled, quantified, quantifier, sorts_bound}
 use Rattle.term_check.specs.Found.{IsFoundUnder, Keeps}
 use Rattle.term_check.specs.machinery.Reading.{IsGathered, Tells, next_spelled, under_lets, under_variables, quantifier_list}
-use Rattle.term_check.specs.machinery.Weight.{weight, weights}
+use Rattle.term_check.specs.Weight.{weight, weights}
 use Rattle.term_check.proofs.ReadingLemmas.{gathered_stay, gathered_more, all_below, below_both, both, first_of_both, second_of_both, lt_test, test_lt}
 use Rattle.term_check.proofs.TermLemmas.{terms_stay}
 
@@ -66,16 +66,16 @@ none_gathered lets arena ids parts next n i p is = record {
   level = ap (λ (xs : List TermId). length xs) i ∙ sym (ap (λ (ps : List Part). length ps) p);
 }
 
-pub next_told : (lets : List TermId) (text : List ℕ) (scope : Scope) (next : ℕ) (tree : Tree) (old new : Arena) (found : Found) (ids ids' : List TermId) (parts parts' : List Part) (n : ℕ)
+pub next_told : (lets : List TermId) (text : List ℕ) (scope : SpellingScope) (next : ℕ) (tree : Tree) (old new : Arena) (found : Found) (ids ids' : List TermId) (parts parts' : List Part) (n : ℕ)
     → IsFoundUnder lets (spelled text scope next tree) new found.id found.part found.next → Keeps old new
     → ids' ≡ ids ++ found.id ∷ [] → parts' ≡ parts ++ found.part ∷ [] → n ≡ found.next
     → (g : Gathered) → IsGathered lets old g ids parts next
     → (h : Gathered) × (next_spelled text scope g tree ≡ Ok h) × IsGathered lets new h ids' parts' n
 next_told lets text scope next tree old new found ids ids' parts parts' n told keeps is ps ns g h =
     let s = told.0 in (
-      added g s,
-      ap (λ k. spelled text scope k tree >>= λ s. Ok (added g s)) h.next_is ∙ ap (λ (r : Result Spelled Fault). r >>= λ s. Ok (added g s)) told.1,
-      subst (λ k. IsGathered lets new (added g s) ids' parts' k) (sym ns) (gathered_more lets new g ids ids' parts parts' next s found (gathered_stay lets old new g ids parts next keeps h) told.2 told.3 told.4 is ps),
+      with_spelled g s,
+      ap (λ k. spelled text scope k tree >>= λ s. Ok (with_spelled g s)) h.next_is ∙ ap (λ (r : Result Spelled Fault). r >>= λ s. Ok (with_spelled g s)) told.1,
+      subst (λ k. IsGathered lets new (with_spelled g s) ids' parts' k) (sym ns) (gathered_more lets new g ids ids' parts parts' next s found (gathered_stay lets old new g ids parts next keeps h) told.2 told.3 told.4 is ps),
     )
 
 -- a turn of a loop over trees
@@ -178,7 +178,7 @@ under_lets_told known self start next items body ids ids' parts parts' found old
     ap (λ (ps : List Part). with_lets known.text known.scope items ps) h.parts_are ∙ ap (λ n. record known.scope { names = known.scope.names ++ lets_from known.text n items parts }) numbered in
     let outcome : under_lets known.text known.scope start items body g ≡ Ok (let_spelled start g s) =
     ap (λ (o : Option Fault). unless o (spelled known.text (with_lets known.text known.scope items g.parts) g.next body >>= λ s. Ok (let_spelled start g s))) none
-    ∙ ap (λ (k : Scope). spelled known.text k g.next body >>= λ s. Ok (let_spelled start g s)) scope
+    ∙ ap (λ (k : SpellingScope). spelled known.text k g.next body >>= λ s. Ok (let_spelled start g s)) scope
     ∙ ap (λ n. spelled known.text ((below_let known items parts ids).scope) n body >>= λ s. Ok (let_spelled start g s)) h.next_is
     ∙ ap (λ (r : Result Spelled Fault). r >>= λ s. Ok (let_spelled start g s)) found_there.1 in
     subst (λ (r : Result Spelled Fault). Tells known.lets r new result) (sym outcome)
@@ -193,12 +193,12 @@ under_variables_told known self start next first all items body sorts found mid 
     let found_there = subst (λ (k : Known). IsFoundUnder k.lets (spelled k.text k.scope first body) mid found.id found.part found.next) is told in
     let s = found_there.0 in
     let outcome : under_variables known.text known.scope next start all items body ≡ quantified (quantifier all start next sorts) start s =
-    ap (λ n. spelled known.text (with_variables known.text known.scope next items) n body >>= λ s. quantified (quantifier all start next (sorts_bound known.text items)) start s) (sym same_first)
+    ap (λ n. spelled known.text (with_read_variables known.text known.scope next items) n body >>= λ s. quantified (quantifier all start next (sorts_bound known.text items)) start s) (sym same_first)
     ∙ ap (λ (r : Result Spelled Fault). r >>= λ s. quantified (quantifier all start next (sorts_bound known.text items)) start s) found_there.1
     ∙ ap (λ ss. quantified (quantifier all start next ss) start s) (sym same_sorts) in
     subst (λ (r : Result Spelled Fault). Tells known.lets r new result) (sym outcome) (added known.lets s found_there.2 found_there.3 found_there.4)
 
-pub quantifier_told : (text : List ℕ) (scope : Scope) (next start : ℕ) (all : Bool) (binder body : Tree) (rest : List Tree) → scope.quantifies ≡ true → rest ≡ binder ∷ body ∷ []
+pub quantifier_told : (text : List ℕ) (scope : SpellingScope) (next start : ℕ) (all : Bool) (binder body : Tree) (rest : List Tree) → scope.quantifies ≡ true → rest ≡ binder ∷ body ∷ []
     → binder_fault text binder ≡ None → variables_fault text [] (items_of binder) ≡ None
     → unless (quantifier_fault scope.quantifies start) (quantifier_list text scope next start all rest) ≡ under_variables text scope next start all (items_of binder) body
 quantifier_told text scope next start all binder body rest q is none unrepeated =

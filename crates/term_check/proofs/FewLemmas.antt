@@ -9,7 +9,7 @@ use Rattle.term_check.specs.declared.scope.Meaning.{Meaning}
 use Rattle.term_check.specs.machinery.Meanings.{named_as}
 use Rattle.term_check.specs.Operators.{first_of}
 use Rattle.term_check.specs.Spelling.{bound_to}
-use Rattle.term_check.specs.Words.{is_among}
+use Rattle.term_check.specs.Words.{is_word_among}
 use Rattle.term_check.proofs.MeaningLemmas.{bound_more}
 
 first_in_turn : (a b c : Option Bound) → first_of (first_of a b) c ≡ first_of a (first_of b c)
@@ -46,15 +46,15 @@ last_other name few i d some within same is =
     sym (ap (λ own. cond own (Some (get_or few (i - 1) d).bound) (bound_to name (map named_as (take (i - 1) few)))) is) ∙ sym (last_of name few i d some within) ∙ same
 
 -- the names of a set behind others
-pub among_later : (first later : List (List ℕ)) (name : List ℕ) → is_among first name ≡ false → is_among (first ++ later) name ≡ is_among later name
-among_later first later name none = list_any-append (bytes_eq name) first later ∙ ap (λ b. b || is_among later name) none
+pub among_later : (first later : List (List ℕ)) (name : List ℕ) → is_word_among first name ≡ false → is_word_among (first ++ later) name ≡ is_word_among later name
+among_later first later name none = list_any-append (bytes_eq name) first later ∙ ap (λ b. b || is_word_among later name) none
 
 none_later : (a b : Bool) → (a || b) ≡ false → b ≡ false
 none_later false b none = none
 none_later true b none = absurd (cc)
 
-pub not_later : (first later : List (List ℕ)) (name : List ℕ) → is_among (first ++ later) name ≡ false → is_among later name ≡ false
-not_later first later name none = none_later (is_among first name) (is_among later name) (sym (list_any-append (bytes_eq name) first later) ∙ none)
+pub not_later : (first later : List (List ℕ)) (name : List ℕ) → is_word_among (first ++ later) name ≡ false → is_word_among later name ≡ false
+not_later first later name none = none_later (is_word_among first name) (is_word_among later name) (sym (list_any-append (bytes_eq name) first later) ∙ none)
 
 -- the outermost names alone
 pub left : (n : ℕ) (few : List Meaning) (more : List Named) → take n (map named_as few ++ more) ≡ map named_as (take n few) ++ take (n - length few) more

@@ -10,12 +10,12 @@ use Rattle.term_check.specs.declared.check.FormulaStop.TheVariants.{Memory as Ou
 use Rattle.term_check.specs.declared.scope.Named.{Named}
 use Rattle.term_check.specs.machinery.Known.{Known, IsReady, are_lets_below}
 use Rattle.term_check.specs.Formula.{params_from}
-use Rattle.term_check.specs.Spelling.{Scope, lets_in, scope_of}
+use Rattle.term_check.specs.Spelling.{SpellingScope, lets_in, scope_of}
 use Rattle.term_check.specs.Found.{IsAligned}
 use Rattle.term_check.specs.Term.{Term}
 use Rattle.term_check.specs.machinery.TellsFormula.{TellsFormula}
 
-pub ready_at_first : (known : Known) (text : List ℕ) (scope : Scope) (arena : Arena) (next room : ℕ) → known ≡ record { text = text; scope = scope; lets = [] } → lets_in scope.names ≡ 0 → are_lets_below 0 scope.names ≡ true
+pub ready_at_first : (known : Known) (text : List ℕ) (scope : SpellingScope) (arena : Arena) (next room : ℕ) → known ≡ record { text = text; scope = scope; lets = [] } → lets_in scope.names ≡ 0 → are_lets_below 0 scope.names ≡ true
     → IsAligned arena → next + room < 2 ^ 32 → IsReady known arena next room
 ready_at_first known text scope arena next room is none below aligned fits = subst (λ (k : Known). IsReady k arena next room) (sym is) (record {
   aligned = aligned;

@@ -17,7 +17,7 @@ use Rattle.term_tree.specs.Subterms.{is_among, is_part, EverySubterm, is_plain, 
 use Rattle.term_tree.proofs.Public.{arena_below, constant_at, sort_at}
 use Rattle.term_check.specs.declared.part.Part.{Part}
 use Rattle.term_check.specs.Operators.{wanted}
-use Rattle.term_check.specs.Rules.{number_fault, sort_fault, linear_fault, result_sort, constant_of as constant_by}
+use Rattle.term_check.specs.Rules.{number_fault, sort_fault, linear_fault, result_sort, operator_constant}
 use Rattle.term_check.proofs.ConstantLemmas.{constants, operation_constant, operation_known, operation_linear, operation_short}
 use Rattle.term_check.proofs.NodeLemmas.{every_by_parts}
 use Rattle.term_check.proofs.SortLemmas.{given, operation_sorted}
@@ -156,7 +156,7 @@ module _ (preds : List Declared) (nodes : List Node) (quantifies : Bool) where
         refl refl refl refl (λ none without. absurd (no_first number p none declared)) (λ part has. known_among ps ids part all has)
 
     pub known_operation : (op : OpKind) (start : ℕ) (ps : List Part) (ids : List TermId) (c : Option ℤ) → slice_get nodes id ≡ Some (Op op ids) → number_fault op start (length ps) ≡ None
-        → sort_fault (wanted op) ps ≡ None → linear_fault op start ps ≡ None → constant_by op start ps ≡ Ok c → AllKnown preds nodes quantifies ps ids
+        → sort_fault (wanted op) ps ≡ None → linear_fault op start ps ≡ None → operator_constant op start ps ≡ Ok c → AllKnown preds nodes quantifies ps ids
         → Known preds nodes quantifies (result_sort op ps) c id
     known_operation op start ps ids c is n s l h all =
         let are = known_constants ps ids all in

@@ -12,7 +12,7 @@ use Rattle.term_check.specs.declared.part.Fault.{Fault}
 use Rattle.term_check.specs.declared.scope.Bound.{Bound}
 use Rattle.term_check.specs.declared.scope.Bound.TheVariants.{Variable, Let}
 use Rattle.term_check.specs.declared.scope.Named.{Named}
-use Rattle.term_check.specs.Words.{is_among, reserved_words}
+use Rattle.term_check.specs.Words.{is_word_among, reserved_words}
 use Rattle.term_check.specs.machinery.Known.{is_let_below, are_lets_below, is_atom_below}
 use Rattle.term_check.specs.Operators.{first_of}
 use Rattle.term_check.specs.Spelling.{bound_to, leaf_atom, symbol_atom, bound_symbol, free_symbol, bare_predicate, numeral_atom, numeral_if_short, pred_from, sorts_of}
@@ -68,7 +68,7 @@ leaf_below : (n : ℕ) (text : List ℕ) (preds : List Pred) (names : List Named
     → WhereOk (is_atom_below n) (leaf_atom text preds names kind start end)
 leaf_below n text preds names Numeral start end h = number_below n start (numeral_if_short (short_number (number_of (inner text Numeral start end))))
 leaf_below n text preds names Symbol start end h =
-    choose (is_atom_below n) (is_among reserved_words (inner text Symbol start end)) _ _ tt (symbol_below n preds names start (inner text Symbol start end) h)
+    choose (is_atom_below n) (is_word_among reserved_words (inner text Symbol start end)) _ _ tt (symbol_below n preds names start (inner text Symbol start end) h)
 leaf_below n text preds names Quoted start end h = symbol_below n preds names start (inner text Quoted start end) h
 leaf_below n text preds names Decimal start end h = tt
 leaf_below n text preds names Text start end h = tt

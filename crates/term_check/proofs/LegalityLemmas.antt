@@ -15,10 +15,10 @@ use Rattle.term_check.specs.declared.head.Head.{Head}
 use Rattle.term_check.specs.declared.scope.Bound.{Bound}
 use Rattle.term_check.specs.declared.scope.Bound.TheVariants.{Variable, Let}
 use Rattle.term_check.specs.declared.scope.Named.{Named}
-use Rattle.term_check.specs.machinery.Legality.{AreParameters}
+use Rattle.term_check.specs.Parameters.{AreParameters}
 use Rattle.term_check.specs.Term.{IsTermAt}
 use Rattle.term_check.specs.Operators.{first_of}
-use Rattle.term_check.specs.Spelling.{Scope, Spelled, Gathered, spelled, list_spelled, all_spelled, let_spelled_by, bindings_spelled, each_bound, binding_spelled, item_spelled, quantifier_spelled, added, nothing_yet, application, head_of, head_fault, is_word, items_of, binder_fault, let_names_fault, variables_fault, with_lets, with_variables, let_spelled, quantifier_fault, bound_to, lets_in, count_let}
+use Rattle.term_check.specs.Spelling.{SpellingScope, Spelled, Gathered, spelled, list_spelled, all_spelled, let_spelled_by, bindings_spelled, each_bound, binding_spelled, item_spelled, quantifier_spelled, with_spelled, nothing_yet, application, spelled_head, head_fault, is_word, items_of, binder_fault, let_names_fault, variables_fault, with_lets, with_read_variables, let_spelled, quantifier_fault, bound_to, lets_in, count_let}
 use Rattle.term_check.proofs.BinderLemmas.{binder_right, row_counted, bindings_counted, let_tells_by, quantifier_tells_by}
 use Rattle.term_check.proofs.NameLemmas.{Stand, Fit, same_variable, other_name}
 use Rattle.term_check.proofs.OutcomeLemmas.{bind_ok, unless_ok}
@@ -43,7 +43,7 @@ allowed true start h = refl
 allowed false start h = absurd (cc)
 
 module _ (text : List ℕ) (arena : Arena) (arranged : IsArena arena.nodes) where
-  application_by : {n : _} (scope : Scope) (next start : ℕ) (rest : Row_of-Tree n) (head : Head) (g : Gathered) (s : Spelled) → TellsAll arena scope next g
+  application_by : {n : _} (scope : SpellingScope) (next start : ℕ) (rest : Row_of-Tree n) (head : Head) (g : Gathered) (s : Spelled) → TellsAll arena scope next g
       → all_spelled text scope (nothing_yet next) rest ≡ Ok g → head_fault scope.preds head start (length (items-the_row-Tree _ rest)) ≡ None → application scope.preds head start g ≡ Ok s
       → Tells arena scope next s
   application_by scope next start rest head g s all is h k =
@@ -51,7 +51,7 @@ module _ (text : List ℕ) (arena : Arena) (arranged : IsArena arena.nodes) wher
       let many : length g.parts ≡ length (items-the_row-Tree _ rest) = omega (arith, count.1) in
       application_tells arena arranged scope next start head g s all count.0 (ap (λ (m : ℕ). head_fault scope.preds head start m) many ∙ h) k
 
-  let_by : (scope : Scope) (next start : ℕ) (binder : Tree) (g : Gathered) (u s : Spelled) → binder_fault text binder ≡ None → bindings_spelled text scope (nothing_yet next) binder ≡ Ok g
+  let_by : (scope : SpellingScope) (next start : ℕ) (binder : Tree) (g : Gathered) (u s : Spelled) → binder_fault text binder ≡ None → bindings_spelled text scope (nothing_yet next) binder ≡ Ok g
       → TellsAll arena scope next g → Tells arena (with_lets text scope (items_of binder) g.parts) g.next u → (let r : Result Spelled Fault = Ok (let_spelled start g u) in r) ≡ Ok s
       → Tells arena scope next s
   let_by scope next start binder g u s right is all one h =
@@ -60,11 +60,11 @@ module _ (text : List ℕ) (arena : Arena) (arranged : IsArena arena.nodes) wher
       (let_tells_by text arena arranged scope next start (items_of binder) g u b.0 (bindings_counted text scope next binder g b.1 is) all one)
 
   mutual
-    tree_tells : (scope : Scope) (next : ℕ) (tree : Tree) (s : Spelled) → spelled text scope next tree ≡ Ok s → Tells arena scope next s
+    tree_tells : (scope : SpellingScope) (next : ℕ) (tree : Tree) (s : Spelled) → spelled text scope next tree ≡ Ok s → Tells arena scope next s
     tree_tells scope next (Leaf kind start end) s h = leaf_tells arena arranged text scope next kind start end s h
     tree_tells scope next (List' shape row start end) s h = list_tells scope next start row s h
 
-    list_tells : {n : _} (scope : Scope) (next start : ℕ) (row : Row_of-Tree n) (s : Spelled) → list_spelled text scope next start row ≡ Ok s → Tells arena scope next s
+    list_tells : {n : _} (scope : SpellingScope) (next start : ℕ) (row : Row_of-Tree n) (s : Spelled) → list_spelled text scope next start row ≡ Ok s → Tells arena scope next s
     list_tells scope next start end_of-Tree s h = absurd (cc)
     list_tells scope next start (more_of-Tree head rest) s h =
         elim (form_of (is_word text head (codes "let")) (is_word text head (codes "forall")) (is_word text head (codes "exists")) _ _ _ _ s h) [
@@ -72,21 +72,21 @@ module _ (text : List ℕ) (arena : Arena) (arranged : IsArena arena.nodes) wher
           | a_forall e ↦ (let u = unless_ok (quantifier_fault scope.quantifies start) _ s e in quantifier_tells scope next start true rest s (allowed scope.quantifies start u.0) u.1)
           | an_exists e ↦ (let u = unless_ok (quantifier_fault scope.quantifies start) _ s e in quantifier_tells scope next start false rest s (allowed scope.quantifies start u.0) u.1)
           | an_application e ↦
-              (let b = bind_ok (head_of text scope.preds head) _ s e in
+              (let b = bind_ok (spelled_head text scope.preds head) _ s e in
               let u = unless_ok (head_fault scope.preds b.0 start (length (items-the_row-Tree _ rest))) _ s b.2 in
               let g = bind_ok (all_spelled text scope (nothing_yet next) rest) _ s u.1 in
               let all = all_tells scope next (nothing_yet next) rest g.0 (nothing_tells arena arranged scope next) g.1 in
               application_by scope next start rest b.0 g.0 s all g.1 u.0 g.2)
         ]
 
-    all_tells : {n : _} (scope : Scope) (first : ℕ) (g : Gathered) (row : Row_of-Tree n) (k : Gathered) → TellsAll arena scope first g → all_spelled text scope g row ≡ Ok k
+    all_tells : {n : _} (scope : SpellingScope) (first : ℕ) (g : Gathered) (row : Row_of-Tree n) (k : Gathered) → TellsAll arena scope first g → all_spelled text scope g row ≡ Ok k
         → TellsAll arena scope first k
     all_tells scope first g end_of-Tree k all h = subst (λ (j : Gathered). TellsAll arena scope first j) (same_gathered g k h) all
     all_tells scope first g (more_of-Tree tree rest) k all h =
         let b = bind_ok (spelled text scope g.next tree) _ k h in
-        all_tells scope first (added g b.0) rest k (added_tells arena arranged scope first g b.0 all (tree_tells scope g.next tree b.0 b.1)) b.2
+        all_tells scope first (with_spelled g b.0) rest k (added_tells arena arranged scope first g b.0 all (tree_tells scope g.next tree b.0 b.1)) b.2
 
-    let_tells : {n : _} (scope : Scope) (next start : ℕ) (row : Row_of-Tree n) (s : Spelled) → let_spelled_by text scope next start row ≡ Ok s → Tells arena scope next s
+    let_tells : {n : _} (scope : SpellingScope) (next start : ℕ) (row : Row_of-Tree n) (s : Spelled) → let_spelled_by text scope next start row ≡ Ok s → Tells arena scope next s
     let_tells scope next start (more_of-Tree binder (more_of-Tree body end_of-Tree)) s h =
         let u = unless_ok (binder_fault text binder) _ s h in
         let g = bind_ok (bindings_spelled text scope (nothing_yet next) binder) _ s u.1 in
@@ -98,42 +98,42 @@ module _ (text : List ℕ) (arena : Arena) (arranged : IsArena arena.nodes) wher
     let_tells scope next start (more_of-Tree binder end_of-Tree) s h = absurd (cc)
     let_tells scope next start (more_of-Tree binder (more_of-Tree body (more_of-Tree other rest))) s h = absurd (cc)
 
-    bindings_tells : (scope : Scope) (first : ℕ) (g : Gathered) (binder : Tree) (k : Gathered) → TellsAll arena scope first g → bindings_spelled text scope g binder ≡ Ok k
+    bindings_tells : (scope : SpellingScope) (first : ℕ) (g : Gathered) (binder : Tree) (k : Gathered) → TellsAll arena scope first g → bindings_spelled text scope g binder ≡ Ok k
         → TellsAll arena scope first k
     bindings_tells scope first g (Leaf kind start end) k all h = subst (λ (j : Gathered). TellsAll arena scope first j) (same_gathered g k h) all
     bindings_tells scope first g (List' shape row start end) k all h = each_tells scope first g row k all h
 
-    each_tells : {n : _} (scope : Scope) (first : ℕ) (g : Gathered) (row : Row_of-Tree n) (k : Gathered) → TellsAll arena scope first g → each_bound text scope g row ≡ Ok k
+    each_tells : {n : _} (scope : SpellingScope) (first : ℕ) (g : Gathered) (row : Row_of-Tree n) (k : Gathered) → TellsAll arena scope first g → each_bound text scope g row ≡ Ok k
         → TellsAll arena scope first k
     each_tells scope first g end_of-Tree k all h = subst (λ (j : Gathered). TellsAll arena scope first j) (same_gathered g k h) all
     each_tells scope first g (more_of-Tree item rest) k all h =
         let b = bind_ok (binding_spelled text scope g item) _ k h in
         each_tells scope first b.0 rest k (binding_tells scope first g item b.0 all b.1) b.2
 
-    binding_tells : (scope : Scope) (first : ℕ) (g : Gathered) (item : Tree) (k : Gathered) → TellsAll arena scope first g → binding_spelled text scope g item ≡ Ok k
+    binding_tells : (scope : SpellingScope) (first : ℕ) (g : Gathered) (item : Tree) (k : Gathered) → TellsAll arena scope first g → binding_spelled text scope g item ≡ Ok k
         → TellsAll arena scope first k
     binding_tells scope first g (Leaf kind start end) k all h = subst (λ (j : Gathered). TellsAll arena scope first j) (same_gathered g k h) all
     binding_tells scope first g (List' shape row start end) k all h = item_tells scope first g row k all h
 
-    item_tells : {n : _} (scope : Scope) (first : ℕ) (g : Gathered) (row : Row_of-Tree n) (k : Gathered) → TellsAll arena scope first g → item_spelled text scope g row ≡ Ok k
+    item_tells : {n : _} (scope : SpellingScope) (first : ℕ) (g : Gathered) (row : Row_of-Tree n) (k : Gathered) → TellsAll arena scope first g → item_spelled text scope g row ≡ Ok k
         → TellsAll arena scope first k
     item_tells scope first g (more_of-Tree name (more_of-Tree term end_of-Tree)) k all h =
         let b = bind_ok (spelled text scope g.next term) _ k h in
-        subst (λ (j : Gathered). TellsAll arena scope first j) (same_gathered (added g b.0) k b.2)
+        subst (λ (j : Gathered). TellsAll arena scope first j) (same_gathered (with_spelled g b.0) k b.2)
         (added_tells arena arranged scope first g b.0 all (tree_tells scope g.next term b.0 b.1))
     item_tells scope first g end_of-Tree k all h = subst (λ (j : Gathered). TellsAll arena scope first j) (same_gathered g k h) all
     item_tells scope first g (more_of-Tree name end_of-Tree) k all h = subst (λ (j : Gathered). TellsAll arena scope first j) (same_gathered g k h) all
     item_tells scope first g (more_of-Tree name (more_of-Tree term (more_of-Tree other rest))) k all h =
         subst (λ (j : Gathered). TellsAll arena scope first j) (same_gathered g k h) all
 
-    quantifier_tells : {n : _} (scope : Scope) (next start : ℕ) (all : Bool) (row : Row_of-Tree n) (s : Spelled) → scope.quantifies ≡ true
+    quantifier_tells : {n : _} (scope : SpellingScope) (next start : ℕ) (all : Bool) (row : Row_of-Tree n) (s : Spelled) → scope.quantifies ≡ true
         → quantifier_spelled text scope next start all row ≡ Ok s → Tells arena scope next s
     quantifier_tells scope next start all (more_of-Tree binder (more_of-Tree body end_of-Tree)) s may h =
         let u = unless_ok (binder_fault text binder) _ s h in
         let v = unless_ok (variables_fault text [] (items_of binder)) _ s u.1 in
-        let b = bind_ok (spelled text (with_variables text scope next (items_of binder)) (next + length (items_of binder)) body) _ s v.1 in
+        let b = bind_ok (spelled text (with_read_variables text scope next (items_of binder)) (next + length (items_of binder)) body) _ s v.1 in
         quantifier_tells_by text arena arranged scope next start all (items_of binder) b.0 s (binder_right text binder u.0).0 may
-        (tree_tells (with_variables text scope next (items_of binder)) (next + length (items_of binder)) body b.0 b.1) b.2
+        (tree_tells (with_read_variables text scope next (items_of binder)) (next + length (items_of binder)) body b.0 b.1) b.2
     quantifier_tells scope next start all end_of-Tree s may h = absurd (cc)
     quantifier_tells scope next start all (more_of-Tree binder end_of-Tree) s may h = absurd (cc)
     quantifier_tells scope next start all (more_of-Tree binder (more_of-Tree body (more_of-Tree other rest))) s may h = absurd (cc)
@@ -187,14 +187,14 @@ parameters_fit names sorts are = record {
     nothing : {A : Type 0} {X : Type 0} {x : X} → None ≡ Some x → A
     nothing h = absurd (cc)
 
-told_term : (text : List ℕ) (scope : Scope) (variables : List Sort) (tree : Tree) (s : Spelled) (arena : Arena) (id : ℕ) → IsArena arena.nodes → AreParameters 0 scope.names variables
+told_term : (text : List ℕ) (scope : SpellingScope) (variables : List Sort) (tree : Tree) (s : Spelled) (arena : Arena) (id : ℕ) → IsArena arena.nodes → AreParameters 0 scope.names variables
     → spelled text scope (length variables) tree ≡ Ok s → IsTermAt arena [] s.term id
     → Told scope.preds arena.nodes scope.quantifies scope.names [] (length variables) s.part s.next id
 told_term text scope variables tree s arena id arranged are h at =
     (tree_tells text arena arranged scope (length variables) tree s h).1 [] (parameters_stand scope.preds arena.nodes scope.quantifies scope.names variables are) id at
 
 -- a term over parameters is legal
-pub spelled_legal : (text : List ℕ) (scope : Scope) (variables : List Sort) (tree : Tree) (s : Spelled) (arena : Arena) (id : ℕ) → IsArena arena.nodes → AreParameters 0 scope.names variables
+pub spelled_legal : (text : List ℕ) (scope : SpellingScope) (variables : List Sort) (tree : Tree) (s : Spelled) (arena : Arena) (id : ℕ) → IsArena arena.nodes → AreParameters 0 scope.names variables
     → spelled text scope (length variables) tree ≡ Ok s → IsTermAt arena [] s.term id → IsLegal scope.preds arena.nodes variables s.part.sort id
 spelled_legal text scope variables tree s arena id arranged are h at =
     let told = told_term text scope variables tree s arena id arranged are h at in
@@ -207,7 +207,7 @@ spelled_legal text scope variables tree s arena id arranged are h at =
     }
 
 -- without predicates and quantifiers it is plain
-pub spelled_plain : (text : List ℕ) (scope : Scope) (variables : List Sort) (tree : Tree) (s : Spelled) (arena : Arena) (id : ℕ) → IsArena arena.nodes → AreParameters 0 scope.names variables
+pub spelled_plain : (text : List ℕ) (scope : SpellingScope) (variables : List Sort) (tree : Tree) (s : Spelled) (arena : Arena) (id : ℕ) → IsArena arena.nodes → AreParameters 0 scope.names variables
     → scope.preds ≡ [] → scope.quantifies ≡ false
     → spelled text scope (length variables) tree ≡ Ok s → IsTermAt arena [] s.term id → IsPlain arena.nodes id
 spelled_plain text scope variables tree s arena id arranged are none without h at =

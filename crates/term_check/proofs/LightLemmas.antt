@@ -6,7 +6,7 @@ use Rattle.sexp_read.specs.declared.tree.Tree.TheViews.{List as ListTree}
 use Rattle.sexp_read.specs.declared.tree.TextStop.{TextStop}
 use Rattle.sexp_read.specs.Trees.{IsTree, leaf, list, AreTrees, none, more, IsReading}
 use Rattle.sexp_read.proofs.Public.{IsAhead, next_ahead}
-use Rattle.term_check.specs.machinery.Weight.{weight, weights}
+use Rattle.term_check.specs.Weight.{weight, weights}
 use Rattle.term_check.proofs.SpellingLemmas.{weight-List}
 
 mutual

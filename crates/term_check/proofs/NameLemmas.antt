@@ -9,7 +9,7 @@ use Rattle.term_tree.specs.declared.sort.Sort.{Sort}
 use Rattle.term_tree.specs.declared.script.Pred.{Pred as Declared}
 use Rattle.term_tree.specs.declared.node.TermId.{TermId}
 use Rattle.term_tree.specs.declared.node.Node.{Node}
-use Rattle.term_tree.specs.Legal.{Scope as Names, with_bound, with_variables}
+use Rattle.term_tree.specs.Legal.{NamesInScope as Names, with_bound, with_variables}
 use Rattle.term_tree.specs.Subterms.{is_among}
 use Rattle.term_check.specs.declared.part.Part.{Part}
 use Rattle.term_check.specs.declared.scope.Bound.{Bound}

@@ -6,7 +6,7 @@ use Rattle.term_tree.specs.declared.node.TermId.{TermId}
 use Rattle.term_tree.specs.declared.node.Node.{Node}
 use Rattle.term_tree.specs.declared.node.Node.TheVariants.{Num, True, False, Var, LetVar, Pred, Op, Divisible, Let, Forall, Exists}
 use Rattle.term_tree.specs.Arena.{IsArena, is_below, has_parts_below}
-use Rattle.term_tree.specs.Legal.{Scope, with_bound, with_variables, has_some, node_is_scoped, is_scoped, carried, numbers_through, node_numbers, next_variable}
+use Rattle.term_tree.specs.Legal.{NamesInScope, with_bound, with_variables, has_some, node_is_scoped, is_scoped, carried, numbers_through, node_numbers, next_variable}
 use Rattle.term_tree.specs.Subterms.{is_part, IsSubterm, itself, inside, EverySubterm}
 use Rattle.term_tree.proofs.Public.{arena_below, below_from, both_true, told_at}
 
@@ -14,21 +14,21 @@ use Rattle.term_tree.proofs.Public.{arena_below, below_from, both_true, told_at}
 abbrev AgreeBelow : (X : Type 0) → (ℕ → X) → (ℕ → X) → ℕ → Type 0
 AgreeBelow X p q n = (c : ℕ) → c < n → p c ≡ q c
 
-same_checks : (p q : ℕ → Scope → Bool) (n : ℕ) (ids : List TermId) (scope : Scope) → AgreeBelow (Scope → Bool) p q n → list_all (is_below n) ids ≡ true
+same_checks : (p q : ℕ → NamesInScope → Bool) (n : ℕ) (ids : List TermId) (scope : NamesInScope) → AgreeBelow (NamesInScope → Bool) p q n → list_all (is_below n) ids ≡ true
     → list_all (λ (id : TermId). p id.0 scope) ids ≡ list_all (λ (id : TermId). q id.0 scope) ids
 same_checks p q n [] scope same below = refl
 same_checks p q n (id ∷ ids) scope same below =
     let both = both_true (nat_lt id.0 n) (list_all (is_below n) ids) below in
-    ap (λ (f : Scope → Bool). f scope && list_all (λ (i : TermId). p i.0 scope) ids) (same id.0 (below_from id.0 n both.0))
+    ap (λ (f : NamesInScope → Bool). f scope && list_all (λ (i : TermId). p i.0 scope) ids) (same id.0 (below_from id.0 n both.0))
     ∙ ap (λ (b : Bool). q id.0 scope && b) (same_checks p q n ids scope same both.1)
 
-same_let : (p q : ℕ → Scope → Bool) (n : ℕ) (bound : List TermId) (body : TermId) (scope : Scope) → AgreeBelow (Scope → Bool) p q n → list_all (is_below n) bound ≡ true → nat_lt body.0 n ≡ true
+same_let : (p q : ℕ → NamesInScope → Bool) (n : ℕ) (bound : List TermId) (body : TermId) (scope : NamesInScope) → AgreeBelow (NamesInScope → Bool) p q n → list_all (is_below n) bound ≡ true → nat_lt body.0 n ≡ true
     → node_is_scoped p (Let bound body) scope ≡ node_is_scoped q (Let bound body) scope
 same_let p q n bound body scope same below under =
     ap (λ (b : Bool). has_some bound && (b && p body.0 (with_bound bound scope))) (same_checks p q n bound scope same below)
-    ∙ ap (λ (f : Scope → Bool). has_some bound && (list_all (λ (id : TermId). q id.0 scope) bound && f (with_bound bound scope))) (same body.0 (below_from body.0 n under))
+    ∙ ap (λ (f : NamesInScope → Bool). has_some bound && (list_all (λ (id : TermId). q id.0 scope) bound && f (with_bound bound scope))) (same body.0 (below_from body.0 n under))
 
-scopes_rest : (p q : ℕ → Scope → Bool) (n : ℕ) (node : Node) → AgreeBelow (Scope → Bool) p q n → has_parts_below n node ≡ true → node_is_scoped p node ≡ node_is_scoped q node
+scopes_rest : (p q : ℕ → NamesInScope → Bool) (n : ℕ) (node : Node) → AgreeBelow (NamesInScope → Bool) p q n → has_parts_below n node ≡ true → node_is_scoped p node ≡ node_is_scoped q node
 scopes_rest p q n (Num k) same below = refl
 scopes_rest p q n True same below = refl
 scopes_rest p q n False same below = refl
@@ -74,9 +74,9 @@ numbers_rest p q n (Exists first sorts body) same below = λ i next. if first ==
 
 module _ (nodes : List Node) (arena : IsArena nodes) (id : ℕ) (node : Node) (is : slice_get nodes id ≡ Some node) where
   -- which names a term may use, by its node
-  pub scoped_at : (scope : Scope) → is_scoped nodes id scope ≡ node_is_scoped (is_scoped nodes) node scope
+  pub scoped_at : (scope : NamesInScope) → is_scoped nodes id scope ≡ node_is_scoped (is_scoped nodes) node scope
   scoped_at scope =
-      ap (λ (f : Scope → Bool). f scope) (told_at (Scope → Bool) (λ s. false) node_is_scoped scopes_rest nodes id node is (arena_below nodes id node arena is))
+      ap (λ (f : NamesInScope → Bool). f scope) (told_at (NamesInScope → Bool) (λ s. false) node_is_scoped scopes_rest nodes id node is (arena_below nodes id node arena is))
 
   -- the numbers of a term's variables, by its node
   pub numbered_at : (next : ℕ) → next_variable nodes id next ≡ node_numbers (next_variable nodes) node next

@@ -11,7 +11,7 @@ use Rattle.std.specs.Prelude.{Option, None, Some}
 use Rattle.std.specs.Str.{bytes_eq}
 use Rattle.std.specs.BTreeMap.{insert_entry}
 use Rattle.std.specs.BTreeSet.{insert_key}
-use Rattle.term_check.specs.Words.{is_among}
+use Rattle.term_check.specs.Words.{is_word_among}
 use Rattle.term_check.specs.machinery.Numbers.{AreNames}
 use Rattle.term_check.proofs.NumberLemmas.{same_bytes}
 
@@ -103,9 +103,9 @@ module _ {K : Type 0} (bytes : K → List ℕ) where
       by later Greater h =
           either_found false (test k) (bytes_eq (bytes key) name) (list_any test ks) (list_any test (insert_key in_order ks key)) (λ t. absurd (cc)) later
 
-  among_last : (names : List (List ℕ)) (last name : List ℕ) → is_among (names ++ last ∷ []) name ≡ (bytes_eq last name || is_among names name)
+  among_last : (names : List (List ℕ)) (last name : List ℕ) → is_word_among (names ++ last ∷ []) name ≡ (bytes_eq last name || is_word_among names name)
   among_last [] last name = ap (λ b. b || false) (same_bytes name last)
-  among_last (n ∷ ns) last name = ap (λ rest. bytes_eq name n || rest) (among_last ns last name) ∙ turned (bytes_eq name n) (bytes_eq last name) (is_among ns name)
+  among_last (n ∷ ns) last name = ap (λ rest. bytes_eq name n || rest) (among_last ns last name) ∙ turned (bytes_eq name n) (bytes_eq last name) (is_word_among ns name)
     where
       turned : (a b c : Bool) → (a || (b || c)) ≡ (b || (a || c))
       turned true true c = refl
@@ -116,4 +116,4 @@ module _ {K : Type 0} (bytes : K → List ℕ) where
   pub name_added : (names all : List (List ℕ)) (ks new : List K) (key : K) → all ≡ names ++ bytes key ∷ [] → new ≡ insert_key in_order ks key → AreNames bytes names ks → AreNames bytes all new
   name_added names all ks new key more is found name =
       ap (list_any (λ k. bytes_eq name (bytes k))) is ∙ any_inserted ks key name ∙ ap (λ rest. bytes_eq (bytes key) name || rest) (found name)
-      ∙ sym (among_last names (bytes key) name) ∙ ap (λ (ns : List (List ℕ)). is_among ns name) (sym more)
+      ∙ sym (among_last names (bytes key) name) ∙ ap (λ (ns : List (List ℕ)). is_word_among ns name) (sym more)

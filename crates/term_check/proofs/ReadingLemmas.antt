@@ -17,7 +17,7 @@ use Rattle.term_check.specs.declared.stop.TermStop.TheVariants.{Memory as OutOfM
 use Rattle.term_check.specs.machinery.Known.{Known, IsReady}
 use Rattle.term_check.specs.Found.{IsAligned, Keeps}
 use Rattle.term_check.specs.Term.{Term, numeral, truth, variable, let_name, predicate, operation, divisible, binding, universal, existential, Terms, none, more, with_last, IsNodeAt, IsTermAt, AreTermsAt}
-use Rattle.term_check.specs.Spelling.{Spelled, Gathered, added, atom_term}
+use Rattle.term_check.specs.Spelling.{Spelled, Gathered, with_spelled, atom_term}
 use Rattle.term_check.specs.machinery.Reading.{IsAtomNode, IsGathered, IsAdded, Tells, TellsAll}
 use Rattle.term_check.proofs.TermLemmas.{terms_stay}
 
@@ -189,7 +189,7 @@ gathered_stay lets old new g ids parts next keeps h =
 -- one more term behind those that are gathered
 pub gathered_more : (lets : List TermId) (arena : Arena) (g : Gathered) (ids ids' : List TermId) (parts parts' : List Part) (next : ℕ) (s : Spelled) (found : Found)
     → IsGathered lets arena g ids parts next → IsTermAt arena lets s.term found.id.0 → s.part ≡ found.part → s.next ≡ found.next
-    → ids' ≡ ids ++ found.id ∷ [] → parts' ≡ parts ++ found.part ∷ [] → IsGathered lets arena (added g s) ids' parts' found.next
+    → ids' ≡ ids ++ found.id ∷ [] → parts' ≡ parts ++ found.part ∷ [] → IsGathered lets arena (with_spelled g s) ids' parts' found.next
 gathered_more lets arena g ids ids' parts parts' next s found h t p n is ps = record {
   terms = subst (λ (xs : List TermId). AreTermsAt arena lets (with_last g.terms s.term) xs) (sym is) (append_term arena lets g.terms ids s.term found.id h.terms t);
   parts_are = ap (λ (qs : List Part). qs ++ s.part ∷ []) h.parts_are ∙ ap (λ (q : Part). parts ++ q ∷ []) p ∙ sym ps;

@@ -7,10 +7,11 @@ use Rattle.term_tree.specs.declared.sort.Sort.{Sort}
 use Rattle.term_tree.specs.declared.sort.Sort.TheVariants.{Int as IntSort, Bool as BoolSort}
 use Rattle.term_tree.specs.declared.node.OpKind.{OpKind}
 use Rattle.term_tree.specs.declared.node.OpKind.TheVariants.{Not, And, Or, Xor, Implies, Eq, Distinct, Ite, Add, Mul, Sub, Abs, Div, Mod, Le, Lt, Ge, Gt}
-use Rattle.term_tree.specs.Sorts.{same_sort as are_same, has_sort, have_sorts, are_alike, sort_if, all_of, choice_sort, operation_sort}
+use Rattle.term_tree.specs.Sorts.{same_sort, has_sort, have_sorts, are_alike, sort_if, all_of, choice_sort, operation_sort}
+use Rattle.term_tree.specs.Operators.{is_distinct}
 use Rattle.term_check.specs.declared.part.Part.{Part}
-use Rattle.term_check.specs.Operators.{least_operands, most_operands, wanted, is_distinct}
-use Rattle.term_check.specs.Rules.{is_above, most_distinct, number_fault, same_sort, first_not, first_unlike, choice_fault, sort_fault, result_sort, declared_fault}
+use Rattle.term_check.specs.Operators.{least_operands, most_operands, wanted}
+use Rattle.term_check.specs.Rules.{is_above, most_distinct, number_fault, first_not, first_unlike, choice_fault, sort_fault, result_sort, declared_fault}
 use Rattle.term_check.proofs.OutcomeLemmas.{both_are, if_none, not_if, not_below, up_to}
 
 -- the sorts of parts
@@ -23,7 +24,7 @@ equal_sorts BoolSort BoolSort h = refl
 equal_sorts IntSort BoolSort h = absurd (cc)
 equal_sorts BoolSort IntSort h = absurd (cc)
 
-pub sort_is : (s t : Sort) → same_sort s t ≡ true → are_same t s ≡ true
+pub sort_is : (s t : Sort) → same_sort s t ≡ true → same_sort t s ≡ true
 sort_is IntSort IntSort h = refl
 sort_is BoolSort BoolSort h = refl
 sort_is IntSort BoolSort h = absurd (cc)
@@ -33,7 +34,7 @@ pub all_have : (s : Sort) (ps : List Part) → first_not s ps ≡ None → list_
 all_have s [] h = refl
 all_have s (p ∷ ps) h =
     let b = if_none (same_sort p.sort s) (first_not s ps) _ h in
-    both_are (are_same s p.sort) (list_all (has_sort s) (given ps)) (sort_is p.sort s b.0) (all_have s ps b.1)
+    both_are (same_sort s p.sort) (list_all (has_sort s) (given ps)) (sort_is p.sort s b.0) (all_have s ps b.1)
 
 all_alike : (ps : List Part) → first_unlike ps ≡ None → are_alike (given ps) ≡ true
 all_alike [] h = refl
@@ -116,4 +117,4 @@ declared_sorted [] (p ∷ ps) n h = absurd (omega (arith, n))
 declared_sorted (s ∷ sorts) [] n h = absurd (omega (arith, n))
 declared_sorted (s ∷ sorts) (p ∷ ps) n h =
     let b = if_none (same_sort p.sort s) (declared_fault sorts ps) _ h in
-    both_are (are_same s p.sort) (have_sorts sorts (given ps)) (sort_is p.sort s b.0) (declared_sorted sorts ps (omega (arith, n)) b.1)
+    both_are (same_sort s p.sort) (have_sorts sorts (given ps)) (sort_is p.sort s b.0) (declared_sorted sorts ps (omega (arith, n)) b.1)

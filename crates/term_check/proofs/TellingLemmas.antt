@@ -10,6 +10,7 @@ use Rattle.term_tree.specs.declared.node.OpKind.{OpKind}
 use Rattle.term_tree.specs.declared.node.TermId.{TermId}
 use Rattle.term_tree.specs.Arena.{Arena, IsArena}
 use Rattle.term_tree.specs.Legal.{carried, is_scoped, next_variable}
+use Rattle.term_tree.specs.Sorts.{same_sort}
 use Rattle.term_check.specs.declared.part.Part.{Part}
 use Rattle.term_check.specs.declared.part.Fault.{Fault}
 use Rattle.term_check.specs.declared.atom.Atom.{Atom}
@@ -17,9 +18,9 @@ use Rattle.term_check.specs.declared.atom.Atom.TheVariants.{Number, Truth, Bound
 use Rattle.term_check.specs.declared.head.Head.{Head}
 use Rattle.term_check.specs.declared.head.Head.TheVariants.{Operator, Declared, Constant, Divisibility}
 use Rattle.term_check.specs.Operators.{wanted}
-use Rattle.term_check.specs.Rules.{number_fault, sort_fault, linear_fault, result_sort, constant_of, part_of, applied, first_not, or_else, divisibility_fault, divisible_fault, declared_fault, same_sort}
+use Rattle.term_check.specs.Rules.{number_fault, sort_fault, linear_fault, result_sort, operator_constant, part_of, applied, first_not, first_fault, divisibility_fault, divisible_fault, declared_fault}
 use Rattle.term_check.specs.Term.{Term, operation, Terms, none, more, with_last, IsTermAt, AreTermsAt}
-use Rattle.term_check.specs.Spelling.{Scope, Spelled, Gathered, sorts_in, sorts_of, atom_part, spelled_atom, leaf_atom, leaf_term, declared_number_fault, head_fault, with_part, the_argument, number_or_0, application, added, nothing_yet}
+use Rattle.term_check.specs.Spelling.{SpellingScope, Spelled, Gathered, sorts_in, sorts_of, atom_part, spelled_atom, leaf_atom, leaf_term, declared_number_fault, head_fault, with_part, the_argument, number_or_0, application, with_spelled, nothing_yet}
 use Rattle.term_check.proofs.AtomLemmas.{IsAtom, leaf_is}
 use Rattle.term_check.proofs.KnownLemmas.{Known, known_numeral, known_true, known_false, known_variable, known_name, known_predicate, known_operation, known_divisible}
 use Rattle.term_check.proofs.NameLemmas.{Stand, stand_later}
@@ -29,21 +30,21 @@ use Rattle.term_check.proofs.SortLemmas.{equal_sorts, declared_sorted}
 use Rattle.term_check.proofs.ToldLemmas.{Told, ToldAll, split_last, told_nothing, told_more, told_numeral, told_true, told_false, told_variable, told_name, told_predicate, told_operation, told_divisible}
 
 -- the names of a scope stand, with the terms of lets at these numbers
-abbrev pub StandIn : Arena → Scope → List TermId → ℕ → Type 0
+abbrev pub StandIn : Arena → SpellingScope → List TermId → ℕ → Type 0
 StandIn arena scope lets next = Stand scope.preds arena.nodes scope.quantifies scope.names lets next
 
-abbrev pub ToldIn : Arena → Scope → List TermId → ℕ → Part → ℕ → ℕ → Type 0
+abbrev pub ToldIn : Arena → SpellingScope → List TermId → ℕ → Part → ℕ → ℕ → Type 0
 ToldIn arena scope lets first part next id = Told scope.preds arena.nodes scope.quantifies scope.names lets first part next id
 
-abbrev pub ToldAllIn : Arena → Scope → List TermId → ℕ → List Part → ℕ → List TermId → Type 0
+abbrev pub ToldAllIn : Arena → SpellingScope → List TermId → ℕ → List Part → ℕ → List TermId → Type 0
 ToldAllIn arena scope lets first parts next ids = ToldAll scope.preds arena.nodes scope.quantifies scope.names lets first parts next ids
 
 -- the term is told of wherever the arena has it
-abbrev pub Tells : Arena → Scope → ℕ → Spelled → Type 0
+abbrev pub Tells : Arena → SpellingScope → ℕ → Spelled → Type 0
 Tells arena scope next s =
     (next ≤ s.next) × ((lets : List TermId) → StandIn arena scope lets next → (id : ℕ) → IsTermAt arena lets s.term id → ToldIn arena scope lets next s.part s.next id)
 
-abbrev pub TellsAll : Arena → Scope → ℕ → Gathered → Type 0
+abbrev pub TellsAll : Arena → SpellingScope → ℕ → Gathered → Type 0
 TellsAll arena scope first g =
     (first ≤ g.next) × ((lets : List TermId) → StandIn arena scope lets first → (ids : List TermId) → AreTermsAt arena lets g.terms ids → ToldAllIn arena scope lets first g.parts g.next ids)
 
@@ -70,7 +71,7 @@ count_last (more u us) t = ap (λ (n : ℕ). n + 1) (count_last us t)
 abbrev pub IsEven : Gathered → Type 0
 IsEven g = count g.terms ≡ length g.parts
 
-pub added_even : (g : Gathered) (s : Spelled) → IsEven g → IsEven (added g s)
+pub added_even : (g : Gathered) (s : Spelled) → IsEven g → IsEven (with_spelled g s)
 added_even g s h = omega (arith, count_last g.terms s.term, h, length-append g.parts (s.part ∷ []))
 
 one_number : (o : Option ℕ) (n : ℕ) → carried (λ k. Some k) o ≡ Some n → o ≡ Some n
@@ -82,14 +83,14 @@ one_check true h = refl
 one_check false h = h
 
 module _ (arena : Arena) (arranged : IsArena arena.nodes) where
-  pub nothing_tells : (scope : Scope) (next : ℕ) → TellsAll arena scope next (nothing_yet next)
+  pub nothing_tells : (scope : SpellingScope) (next : ℕ) → TellsAll arena scope next (nothing_yet next)
   nothing_tells scope next = (omega arith, nothing)
     where
       nothing : (lets : List TermId) → StandIn arena scope lets next → (ids : List TermId) → AreTermsAt arena lets none ids → ToldAllIn arena scope lets next [] next ids
       nothing lets stand [] h = told_nothing scope.preds arena.nodes scope.quantifies scope.names lets next
       nothing lets stand (id ∷ ids) h = absurd h
 
-  pub added_tells : (scope : Scope) (first : ℕ) (g : Gathered) (s : Spelled) → TellsAll arena scope first g → Tells arena scope g.next s → TellsAll arena scope first (added g s)
+  pub added_tells : (scope : SpellingScope) (first : ℕ) (g : Gathered) (s : Spelled) → TellsAll arena scope first g → Tells arena scope g.next s → TellsAll arena scope first (with_spelled g s)
   added_tells scope first g s all one = (omega (arith, all.0, one.0), both)
     where
       both : (lets : List TermId) → StandIn arena scope lets first → (ids : List TermId) → AreTermsAt arena lets (with_last g.terms s.term) ids
@@ -103,7 +104,7 @@ module _ (arena : Arena) (arranged : IsArena arena.nodes) where
 
   -- Leaves.
 
-  atom_tells : (scope : Scope) (next start : ℕ) (atom : Atom) → IsAtom scope.preds scope.names atom → Tells arena scope next (spelled_atom next start atom)
+  atom_tells : (scope : SpellingScope) (next start : ℕ) (atom : Atom) → IsAtom scope.preds scope.names atom → Tells arena scope next (spelled_atom next start atom)
   atom_tells scope next start (Number k) is = (
     omega arith,
     λ lets stand id at.
@@ -142,7 +143,7 @@ module _ (arena : Arena) (arranged : IsArena arena.nodes) where
         (known_predicate scope.preds arena.nodes scope.quantifies arranged id number is.0 [] at.0 at.1.0 is.1 (declared_sorted is.0.args [] (sym is.2) (no_parts is.0.args)) all.known) number [] at.0 at.1.0 all,
   )
 
-  pub leaf_tells : (text : List ℕ) (scope : Scope) (next : ℕ) (kind : LeafKind) (start end : ℕ) (s : Spelled) → leaf_term text scope next kind start end ≡ Ok s → Tells arena scope next s
+  pub leaf_tells : (text : List ℕ) (scope : SpellingScope) (next : ℕ) (kind : LeafKind) (start end : ℕ) (s : Spelled) → leaf_term text scope next kind start end ≡ Ok s → Tells arena scope next s
   leaf_tells text scope next kind start end s h =
       let b = bind_ok (leaf_atom text scope.preds scope.names kind start end) _ s h in
       subst (λ (r : Spelled). Tells arena scope next r) (same_spelled (spelled_atom next start b.0) s b.2)
@@ -158,13 +159,13 @@ module _ (arena : Arena) (arranged : IsArena arena.nodes) where
   its_constant start sort (Ok c) p h = (c, refl, cc)
   its_constant start sort (Err f) p h = absurd (cc)
 
-  operator_tells : (scope : Scope) (next start : ℕ) (op : OpKind) (g : Gathered) (s : Spelled) → TellsAll arena scope next g → number_fault op start (length g.parts) ≡ None
+  operator_tells : (scope : SpellingScope) (next start : ℕ) (op : OpKind) (g : Gathered) (s : Spelled) → TellsAll arena scope next g → number_fault op start (length g.parts) ≡ None
       → application scope.preds (Operator op) start g ≡ Ok s → Tells arena scope next s
   operator_tells scope next start op g s all n h =
       let p = the_part (operation start op g.terms) g.next (applied op start g.parts) s h in
       let sorts = unless_ok (sort_fault (wanted op) g.parts) _ p.0 p.1 in
       let linear = unless_ok (linear_fault op start g.parts) _ p.0 sorts.1 in
-      let c = its_constant start (result_sort op g.parts) (constant_of op start g.parts) p.0 linear.1 in
+      let c = its_constant start (result_sort op g.parts) (operator_constant op start g.parts) p.0 linear.1 in
       let part : Part = record { start = start; sort = result_sort op g.parts; constant = c.0 } in
       subst (λ (r : Spelled). Tells arena scope next r) (ap (λ (q : Part). record { term = operation start op g.terms; part = q; next = g.next }) c.2 ∙ p.2) (
         all.0,
@@ -181,7 +182,7 @@ module _ (arena : Arena) (arranged : IsArena arena.nodes) where
       let some = not_if (nat_eq (length p.args) 0) _ _ h in
       (p, refl, same_numbers n (length p.args) (if_none (nat_eq n (length p.args)) _ _ some.1).0)
 
-  declared_tells : (scope : Scope) (next start number : ℕ) (g : Gathered) (s : Spelled) → TellsAll arena scope next g
+  declared_tells : (scope : SpellingScope) (next start number : ℕ) (g : Gathered) (s : Spelled) → TellsAll arena scope next g
       → declared_number_fault start (length (sorts_of scope.preds number)) (length g.parts) ≡ None → application scope.preds (Declared number) start g ≡ Ok s → Tells arena scope next s
   declared_tells scope next start number g s all n h =
       let declared = as_declared start (slice_get scope.preds number) (length g.parts) n in
@@ -195,7 +196,7 @@ module _ (arena : Arena) (arranged : IsArena arena.nodes) where
             (known_predicate scope.preds arena.nodes scope.quantifies arranged id number declared.0 g.parts at.0 at.1.0 declared.1 right told.known) number g.parts at.0 at.1.0 told,
       )
 
-  none_before : (a b : Option Fault) → or_else a b ≡ None → (a ≡ None) × (b ≡ None)
+  none_before : (a b : Option Fault) → first_fault a b ≡ None → (a ≡ None) × (b ≡ None)
   none_before None b h = (refl, h)
   none_before (Some f) b h = absurd (cc)
 
@@ -204,7 +205,7 @@ module _ (arena : Arena) (arranged : IsArena arena.nodes) where
   by_number start (Some n) h = positive n (not_if (nat_eq n 0) _ _ h).0
 
   -- the one argument
-  one_told : (scope : Scope) (lets : List TermId) (first next : ℕ) (ts : Terms) (ps : List Part) (id : TermId) → count ts ≡ 1 → length ps ≡ 1 → first_not IntSort ps ≡ None
+  one_told : (scope : SpellingScope) (lets : List TermId) (first next : ℕ) (ts : Terms) (ps : List Part) (id : TermId) → count ts ≡ 1 → length ps ≡ 1 → first_not IntSort ps ≡ None
       → ((ids : List TermId) → AreTermsAt arena lets ts ids → ToldAllIn arena scope lets first ps next ids) → IsTermAt arena lets (the_argument ts) id.0
       → (p : Part) × (p.sort ≡ IntSort) × ToldIn arena scope lets first p next id.0
   one_told scope lets first next none ps id c n sorts all at = absurd (omega (arith, c))
@@ -222,7 +223,7 @@ module _ (arena : Arena) (arranged : IsArena arena.nodes) where
         },
       )
 
-  divisible_tells : (scope : Scope) (next start : ℕ) (by : Option ℕ) (g : Gathered) (s : Spelled) → TellsAll arena scope next g → IsEven g → length g.parts ≡ 1
+  divisible_tells : (scope : SpellingScope) (next start : ℕ) (by : Option ℕ) (g : Gathered) (s : Spelled) → TellsAll arena scope next g → IsEven g → length g.parts ≡ 1
       → application scope.preds (Divisibility by) start g ≡ Ok s → Tells arena scope next s
   divisible_tells scope next start by g s all even n h =
       let u = unless_ok (divisible_fault by start g.parts) _ s h in
@@ -236,7 +237,7 @@ module _ (arena : Arena) (arranged : IsArena arena.nodes) where
             (known_divisible scope.preds arena.nodes scope.quantifies arranged id (number_or_0 by) at.0 one.0.constant at.1.0 (by_number start by rules.1) known) (number_or_0 by) at.0 one.0 at.1.0 one.2,
       )
 
-  pub application_tells : (scope : Scope) (next start : ℕ) (head : Head) (g : Gathered) (s : Spelled) → TellsAll arena scope next g → IsEven g
+  pub application_tells : (scope : SpellingScope) (next start : ℕ) (head : Head) (g : Gathered) (s : Spelled) → TellsAll arena scope next g → IsEven g
       → head_fault scope.preds head start (length g.parts) ≡ None → application scope.preds head start g ≡ Ok s → Tells arena scope next s
   application_tells scope next start (Operator op) g s all even n h = operator_tells scope next start op g s all n h
   application_tells scope next start (Declared number) g s all even n h = declared_tells scope next start number g s all n h

@@ -9,7 +9,7 @@ use Rattle.term_tree.specs.declared.node.TermId.{TermId}
 use Rattle.term_tree.specs.declared.node.Node.{Node}
 use Rattle.term_tree.specs.declared.node.Node.TheVariants.{Num, True, False, Var, LetVar, Pred, Op, Divisible, Let, Forall, Exists}
 use Rattle.term_tree.specs.Arena.{Arena, IsArena}
-use Rattle.term_tree.specs.Legal.{Scope as Names, with_bound, with_variables, has_some, node_is_scoped, is_scoped, carried, numbers_through, node_numbers, next_variable}
+use Rattle.term_tree.specs.Legal.{NamesInScope as Names, with_bound, with_variables, has_some, node_is_scoped, is_scoped, carried, numbers_through, node_numbers, next_variable}
 use Rattle.term_tree.specs.Sorts.{has_sort}
 use Rattle.term_check.specs.declared.part.Part.{Part}
 use Rattle.term_check.specs.declared.scope.Named.{Named}

@@ -4,10 +4,10 @@ use Rattle.sexp_read.specs.declared.tree.Tree.{Tree}
 use Rattle.term_tree.specs.declared.sort.Sort.{Sort}
 use Rattle.term_tree.specs.declared.sort.Sort.TheVariants.{Bool as BoolSort}
 use Rattle.term_tree.specs.declared.script.Name.{Name}
+use Rattle.term_tree.specs.Sorts.{same_sort}
 use Rattle.term_check.specs.declared.part.Fault.{Fault}
 use Rattle.term_check.specs.declared.scope.Bound.TheVariants.{Variable}
 use Rattle.term_check.specs.declared.scope.Named.{Named}
-use Rattle.term_check.specs.Rules.{same_sort}
 use Rattle.term_check.specs.Spelling.{Spelled, spelled, scope_of}
 use Rattle.term_check.specs.Term.{Term}
 
@@ -22,5 +22,5 @@ bool_term (Ok s) = if same_sort s.part.sort BoolSort then Ok s.term else Err s.p
 bool_term (Err f) = Err f.offset
 
 -- the formula that a tree spells over parameters, or where its first fault is
-abbrev pub formula : List ℕ → List (Name × Sort) → Tree → Result Term ℕ
-formula text params tree = bool_term (spelled text (scope_of [] (params_from 0 params) false) (length params) tree)
+abbrev pub spelled_formula : List ℕ → List (Name × Sort) → Tree → Result Term ℕ
+spelled_formula text params tree = bool_term (spelled text (scope_of [] (params_from 0 params) false) (length params) tree)

@@ -1,8 +1,10 @@
 pub mod Formula
 pub mod Found
 pub mod Operators
+pub mod Parameters
 pub mod Rules
 pub mod Spelling
 pub mod Term
+pub mod Weight
 pub mod Words
 pub mod machinery

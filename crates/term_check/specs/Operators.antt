@@ -99,7 +99,3 @@ is_product _ = false
 abbrev pub is_choice : OpKind → Bool
 is_choice Ite = true
 is_choice _ = false
-
-abbrev pub is_distinct : OpKind → Bool
-is_distinct Distinct = true
-is_distinct _ = false

@@ -1,11 +1,12 @@
 -- What an application owes to its arguments, rule by rule in the order of checking: their number, their sorts, that products
 -- and divisions are linear, that no divisor is 0, and that constants are short (SMT-LIB 2.6, section 3.6, with the theories
 -- Core and Ints; linear terms as in the logics LIA).
-use Rattle.std.specs.Prelude.{ℕ, ◌+◌, ◌^◌, List, [], ◌∷◌, map, fold, Bool, true, false, ◌&&◌, nat_lt, nat_eq, Option, None, Some, Result, Ok, Err, ℤ, pos, ◌*ℤ◌, nat_abs, if◌then◌else◌}
+use Rattle.std.specs.Prelude.{ℕ, ◌+◌, List, [], ◌∷◌, map, fold, Bool, true, false, ◌&&◌, nat_lt, nat_eq, Option, None, Some, Result, Ok, Err, ℤ, pos, ◌*ℤ◌, nat_abs, if◌then◌else◌}
 use Rattle.std.specs.Int.{int_div_euclid, int_rem_euclid}
 use Rattle.std.specs.Ordering.{int_eq}
 pub use Rattle.base.specs.Limits.{most_distinct}
 pub use Rattle.base.specs.Widths.{is_short}
+use Rattle.base.specs.Widths.{short_limit}
 use Rattle.term_tree.specs.declared.node.OpKind.{OpKind}
 use Rattle.term_tree.specs.declared.node.OpKind.TheVariants.{Add, Sub, Abs, Div, Mod}
 use Rattle.term_tree.specs.declared.sort.Sort.{Sort}
@@ -13,12 +14,13 @@ use Rattle.term_tree.specs.declared.sort.Sort.TheVariants.{Int as IntSort, Bool 
 use Rattle.term_tree.specs.declared.refusal.Kind.{Kind}
 use Rattle.term_tree.specs.declared.refusal.Kind.TheVariants.{Arity, Count, SortMismatch, NotLinear, ZeroDivisor, TooWide}
 use Rattle.term_tree.specs.Constants.{is_arithmetic}
-use Rattle.term_tree.specs.Operators.{sum_of, difference_of, on_two, first_of_all}
+use Rattle.term_tree.specs.Operators.{sum_of, difference_of, on_two, first_of_all, is_distinct}
+use Rattle.term_tree.specs.Sorts.{same_sort}
 use Rattle.term_check.specs.declared.operators.Sorts.{Sorts}
 use Rattle.term_check.specs.declared.operators.Sorts.TheVariants.{Bools, Ints, Alike, Choice}
 use Rattle.term_check.specs.declared.part.Part.{Part}
 use Rattle.term_check.specs.declared.part.Fault.{Fault}
-use Rattle.term_check.specs.Operators.{least_operands, most_operands, wanted, is_division, is_product, is_choice, is_distinct}
+use Rattle.term_check.specs.Operators.{least_operands, most_operands, wanted, is_division, is_product, is_choice}
 
 abbrev pub fault : Kind → ℕ → Fault
 fault kind offset = record { kind = kind; offset = offset }
@@ -29,9 +31,9 @@ unless None later = later
 unless (Some f) later = Err f
 
 -- the fault of an earlier rule, else that of a later one
-abbrev pub or_else : Option Fault → Option Fault → Option Fault
-or_else None later = later
-or_else (Some f) later = Some f
+abbrev pub first_fault : Option Fault → Option Fault → Option Fault
+first_fault None later = later
+first_fault (Some f) later = Some f
 
 -- The number of arguments.
 
@@ -47,11 +49,6 @@ number_fault op start n =
     else None
 
 -- The sorts of arguments. The fault is at the first argument that is wrong.
-
-abbrev pub same_sort : Sort → Sort → Bool
-same_sort IntSort IntSort = true
-same_sort BoolSort BoolSort = true
-same_sort _ _ = false
 
 abbrev pub first_not : Sort → List Part → Option Fault
 first_not sort [] = None
@@ -155,8 +152,8 @@ without_value (Err f) = Err f
 abbrev pub product_constant : ℕ → List Part → Result (Option ℤ) Fault
 product_constant start ps = let product = wide_unless start (product_if_short ps) in if nat_eq (varying ps) 0 then product else without_value product
 
-abbrev pub constant_of : OpKind → ℕ → List Part → Result (Option ℤ) Fault
-constant_of op start ps =
+abbrev pub operator_constant : OpKind → ℕ → List Part → Result (Option ℤ) Fault
+operator_constant op start ps =
     if is_product op then product_constant start ps
     else if is_arithmetic op && nat_eq (varying ps) 0 then wide_unless start (if_short (value_at op (map worth ps)))
     else Ok None
@@ -168,15 +165,15 @@ part_of start sort (Err f) = Err f
 -- an operator at its arguments, whose number is right
 abbrev pub applied : OpKind → ℕ → List Part → Result Part Fault
 applied op start ps =
-    unless (sort_fault (wanted op) ps) (unless (linear_fault op start ps) (part_of start (result_sort op ps) (constant_of op start ps)))
+    unless (sort_fault (wanted op) ps) (unless (linear_fault op start ps) (part_of start (result_sort op ps) (operator_constant op start ps)))
 
 abbrev pub divisibility_fault : ℕ → Option ℕ → Option Fault
 divisibility_fault start None = Some (fault TooWide start)
-divisibility_fault start (Some n) = if nat_eq n 0 then Some (fault ZeroDivisor start) else if nat_lt n (2 ^ 63) then None else Some (fault TooWide start)
+divisibility_fault start (Some n) = if nat_eq n 0 then Some (fault ZeroDivisor start) else if nat_lt n short_limit then None else Some (fault TooWide start)
 
 -- (_ divisible n) at its argument, where n is known if it is below 2 ^ 63
 abbrev pub divisible_fault : Option ℕ → ℕ → List Part → Option Fault
-divisible_fault by start ps = or_else (first_not IntSort ps) (divisibility_fault start by)
+divisible_fault by start ps = first_fault (first_not IntSort ps) (divisibility_fault start by)
 
 -- a predicate at its arguments, as many as it was declared with: the first argument that is not of the declared sort
 abbrev pub declared_fault : List Sort → List Part → Option Fault

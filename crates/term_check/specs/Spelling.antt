@@ -15,6 +15,7 @@ use Rattle.term_tree.specs.declared.sort.Sort.TheVariants.{Int as IntSort, Bool 
 use Rattle.term_tree.specs.declared.node.OpKind.{OpKind}
 use Rattle.term_tree.specs.declared.script.Pred.{Pred}
 use Rattle.term_tree.specs.declared.refusal.Kind.TheVariants.{CommandForm, UnknownSort, Redeclared, UnknownSymbol, Arity, SortMismatch, TooWide}
+use Rattle.term_tree.specs.Sorts.{same_sort}
 use Rattle.term_check.specs.declared.part.Part.{Part}
 use Rattle.term_check.specs.declared.part.Fault.{Fault}
 use Rattle.term_check.specs.declared.scope.Bound.{Bound}
@@ -24,18 +25,18 @@ use Rattle.term_check.specs.declared.atom.Atom.{Atom}
 use Rattle.term_check.specs.declared.atom.Atom.TheVariants.{Number, Truth, BoundVariable, LetName, Predicate}
 use Rattle.term_check.specs.declared.head.Head.{Head}
 use Rattle.term_check.specs.declared.head.Head.TheVariants.{Operator, Declared, Constant, Divisibility}
-use Rattle.term_check.specs.Words.{is_among, reserved_words}
+use Rattle.term_check.specs.Words.{is_word_among, reserved_words}
 use Rattle.term_check.specs.Operators.{first_of, operator_named}
-use Rattle.term_check.specs.Rules.{fault, unless, or_else, if_short, number_fault, same_sort, applied, divisible_fault, declared_fault}
+use Rattle.term_check.specs.Rules.{fault, unless, first_fault, if_short, number_fault, applied, divisible_fault, declared_fault}
 use Rattle.term_check.specs.Term.{Term, numeral, truth, variable, let_name, predicate, operation, divisible, binding, universal, existential, Terms, none, more, with_last}
 
 -- What a term may use: the declared predicates in their order, the bound names, the innermost last, and whether quantifiers.
-pub record Scope : Type 0 where
+pub record SpellingScope : Type 0 where
   pub preds : List Pred
   pub names : List Named
   pub quantifies : Bool
 
-abbrev pub scope_of : List Pred → List Named → Bool → Scope
+abbrev pub scope_of : List Pred → List Named → Bool → SpellingScope
 scope_of preds names quantifies = record { preds = preds; names = names; quantifies = quantifies }
 
 -- a term, what it is to the term around it, and the number of the next quantified variable of the text
@@ -50,6 +51,8 @@ pub record Gathered : Type 0 where
   pub parts : List Part
   pub next : ℕ
 
+-- What the first part gives goes into the rest, up to the first fault. Readers of answers have their own, whose faults are
+-- offsets alone.
 infixl 20 ◌>>=◌
 abbrev pub ◌>>=◌ : {A B : Type 0} → Result A Fault → (A → Result B Fault) → Result B Fault
 Ok a >>= f = f a
@@ -110,7 +113,7 @@ numeral_atom start (Some k) = Ok (Number k)
 abbrev pub leaf_atom : List ℕ → List Pred → List Named → LeafKind → ℕ → ℕ → Result Atom Fault
 leaf_atom text preds names Numeral start end = numeral_atom start (numeral_if_short (short_number (number_of (inner text Numeral start end))))
 leaf_atom text preds names Symbol start end =
-    let name = inner text Symbol start end in if is_among reserved_words name then Err (fault UnknownSymbol start) else symbol_atom preds names start name
+    let name = inner text Symbol start end in if is_word_among reserved_words name then Err (fault UnknownSymbol start) else symbol_atom preds names start name
 leaf_atom text preds names Quoted start end = symbol_atom preds names start (inner text Quoted start end)
 leaf_atom text preds names _ start end = Err (fault CommandForm start)
 
@@ -139,7 +142,7 @@ atom_part start atom = record { start = start; sort = atom_sort atom; constant =
 abbrev pub spelled_atom : ℕ → ℕ → Atom → Spelled
 spelled_atom next start atom = record { term = atom_term start atom; part = atom_part start atom; next = next }
 
-abbrev pub leaf_term : List ℕ → Scope → ℕ → LeafKind → ℕ → ℕ → Result Spelled Fault
+abbrev pub leaf_term : List ℕ → SpellingScope → ℕ → LeafKind → ℕ → ℕ → Result Spelled Fault
 leaf_term text scope next kind start end = leaf_atom text scope.preds scope.names kind start end >>= λ atom. Ok (spelled_atom next start atom)
 
 -- Heads of applications. Bound names are none.
@@ -170,13 +173,13 @@ is_word text tree name = is_spelled (word_bytes text tree) name
 abbrev pub is_symbol : List ℕ → Tree → List ℕ → Bool
 is_symbol text tree name = is_spelled (symbol_bytes text tree) name
 
-abbrev pub is_numeral : Tree → Bool
-is_numeral (Leaf Numeral start end) = true
-is_numeral _ = false
+abbrev pub is_numeral_leaf : Tree → Bool
+is_numeral_leaf (Leaf Numeral start end) = true
+is_numeral_leaf _ = false
 
 -- (_ divisible n), the one head that is no symbol
 abbrev pub is_divisible : List ℕ → Tree → Tree → Tree → Bool
-is_divisible text a b n = is_word text a (codes "_") && is_symbol text b (codes "divisible") && is_numeral n
+is_divisible text a b n = is_word text a (codes "_") && is_symbol text b (codes "divisible") && is_numeral_leaf n
 
 abbrev pub list_head : List ℕ → ℕ → List Tree → Result Head Fault
 list_head text start (a ∷ b ∷ n ∷ []) = if is_divisible text a b n then Ok (Divisibility (numeral_value text n)) else Err (fault CommandForm start)
@@ -184,13 +187,13 @@ list_head text start _ = Err (fault CommandForm start)
 
 abbrev pub leaf_head : List ℕ → List Pred → LeafKind → ℕ → ℕ → Result Head Fault
 leaf_head text preds Symbol start end =
-    let name = inner text Symbol start end in if is_among reserved_words name then Err (fault UnknownSymbol start) else symbol_head preds start name
+    let name = inner text Symbol start end in if is_word_among reserved_words name then Err (fault UnknownSymbol start) else symbol_head preds start name
 leaf_head text preds Quoted start end = symbol_head preds start (inner text Quoted start end)
 leaf_head text preds _ start end = Err (fault CommandForm start)
 
-abbrev pub head_of : List ℕ → List Pred → Tree → Result Head Fault
-head_of text preds (Leaf kind start end) = leaf_head text preds kind start end
-head_of text preds (List' shape row start end) = list_head text start (items-the_row-Tree _ row)
+abbrev pub spelled_head : List ℕ → List Pred → Tree → Result Head Fault
+spelled_head text preds (Leaf kind start end) = leaf_head text preds kind start end
+spelled_head text preds (List' shape row start end) = list_head text start (items-the_row-Tree _ row)
 
 -- The number of arguments that a head takes. A predicate without arguments, true and false are never applied.
 
@@ -241,7 +244,7 @@ start_of (List' shape row start end) = start
 
 -- a name that may be bound: a symbol that is no reserved word
 abbrev pub name_of : List ℕ → Tree → Option (List ℕ)
-name_of text (Leaf Symbol start end) = let name = inner text Symbol start end in if is_among reserved_words name then None else Some name
+name_of text (Leaf Symbol start end) = let name = inner text Symbol start end in if is_word_among reserved_words name then None else Some name
 name_of text (Leaf Quoted start end) = Some (inner text Quoted start end)
 name_of text _ = None
 
@@ -265,8 +268,8 @@ abbrev pub read_by : {A : Type 0} → (Tree → Option A) → Option Tree → Op
 read_by f None = None
 read_by f (Some t) = f t
 
-abbrev pub name_in : List ℕ → Tree → Option (List ℕ)
-name_in text item = read_by (name_of text) (first_in (items_of item))
+abbrev pub first_name : List ℕ → Tree → Option (List ℕ)
+first_name text item = read_by (name_of text) (first_in (items_of item))
 
 abbrev pub name_start : Tree → ℕ
 name_start item = offset_of (first_in (items_of item))
@@ -288,7 +291,7 @@ name_or_none (Some name) = name
 -- the first item whose name is none
 abbrev pub names_fault : List ℕ → List Tree → Option Fault
 names_fault text [] = None
-names_fault text (item ∷ items) = if is_some (name_in text item) then names_fault text items else Some (fault CommandForm (name_start item))
+names_fault text (item ∷ items) = if is_some (first_name text item) then names_fault text items else Some (fault CommandForm (name_start item))
 
 -- one item or more, each of two trees; then the form of the names
 abbrev pub binder_fault : List ℕ → Tree → Option Fault
@@ -299,11 +302,11 @@ binder_fault text binder =
 
 -- a name that stands in the binder before
 abbrev pub repeated_fault : List ℕ → List (List ℕ) → Tree → Option Fault
-repeated_fault text seen item = if is_among seen (name_or_none (name_in text item)) then Some (fault Redeclared (name_start item)) else None
+repeated_fault text seen item = if is_word_among seen (name_or_none (first_name text item)) then Some (fault Redeclared (name_start item)) else None
 
 abbrev pub let_names_fault : List ℕ → List (List ℕ) → List Tree → Option Fault
 let_names_fault text seen [] = None
-let_names_fault text seen (item ∷ items) = or_else (repeated_fault text seen item) (let_names_fault text (seen ++ name_or_none (name_in text item) ∷ []) items)
+let_names_fault text seen (item ∷ items) = first_fault (repeated_fault text seen item) (let_names_fault text (seen ++ name_or_none (first_name text item) ∷ []) items)
 
 abbrev pub sort_name_fault : List ℕ → Tree → Option Fault
 sort_name_fault text item = if is_some (sort_in text item) then None else Some (fault UnknownSort (sort_start item))
@@ -312,7 +315,7 @@ sort_name_fault text item = if is_some (sort_in text item) then None else Some (
 abbrev pub variables_fault : List ℕ → List (List ℕ) → List Tree → Option Fault
 variables_fault text seen [] = None
 variables_fault text seen (item ∷ items) =
-    or_else (repeated_fault text seen item) (or_else (sort_name_fault text item) (variables_fault text (seen ++ name_or_none (name_in text item) ∷ []) items))
+    first_fault (repeated_fault text seen item) (first_fault (sort_name_fault text item) (variables_fault text (seen ++ name_or_none (first_name text item) ∷ []) items))
 
 abbrev pub sort_or_bool : Option Sort → Sort
 sort_or_bool None = BoolSort
@@ -322,7 +325,7 @@ abbrev pub sorts_bound : List ℕ → List Tree → List Sort
 sorts_bound text items = map (λ item. sort_or_bool (sort_in text item)) items
 
 abbrev pub naming : List ℕ → Tree → Bound → Named
-naming text item bound = record { name = record { bytes = name_or_none (name_in text item) }; bound = bound }
+naming text item bound = record { name = record { bytes = name_or_none (first_name text item) }; bound = bound }
 
 -- the quantified variables, numbered from here on
 abbrev pub variables_from : List ℕ → ℕ → List Tree → List Named
@@ -343,16 +346,16 @@ abbrev pub lets_in : List Named → ℕ
 lets_in [] = 0
 lets_in (n ∷ ns) = count_let n.bound (lets_in ns)
 
-abbrev pub with_variables : List ℕ → Scope → ℕ → List Tree → Scope
-with_variables text scope next items = record scope { names = scope.names ++ variables_from text next items }
+abbrev pub with_read_variables : List ℕ → SpellingScope → ℕ → List Tree → SpellingScope
+with_read_variables text scope next items = record scope { names = scope.names ++ variables_from text next items }
 
-abbrev pub with_lets : List ℕ → Scope → List Tree → List Part → Scope
+abbrev pub with_lets : List ℕ → SpellingScope → List Tree → List Part → SpellingScope
 with_lets text scope items parts = record scope { names = scope.names ++ lets_from text (lets_in scope.names) items parts }
 
 -- Terms.
 
-abbrev pub added : Gathered → Spelled → Gathered
-added g s = record { terms = with_last g.terms s.term; parts = g.parts ++ s.part ∷ []; next = s.next }
+abbrev pub with_spelled : Gathered → Spelled → Gathered
+with_spelled g s = record { terms = with_last g.terms s.term; parts = g.parts ++ s.part ∷ []; next = s.next }
 
 abbrev pub nothing_yet : ℕ → Gathered
 nothing_yet next = record { terms = none; parts = []; next = next }
@@ -379,49 +382,49 @@ abbrev pub is_binder : List ℕ → Tree → Bool
 is_binder text tree = is_word text tree (codes "let") || is_word text tree (codes "forall") || is_word text tree (codes "exists")
 
 abbrev mutual
-  pub spelled : List ℕ → Scope → ℕ → Tree → Result Spelled Fault
+  pub spelled : List ℕ → SpellingScope → ℕ → Tree → Result Spelled Fault
   spelled text scope next (Leaf kind start end) = leaf_term text scope next kind start end
   spelled text scope next (List' shape row start end) = list_spelled text scope next start row
 
-  pub list_spelled : {n : _} → List ℕ → Scope → ℕ → ℕ → Row_of-Tree n → Result Spelled Fault
+  pub list_spelled : {n : _} → List ℕ → SpellingScope → ℕ → ℕ → Row_of-Tree n → Result Spelled Fault
   list_spelled text scope next start end_of-Tree = Err (fault CommandForm start)
   list_spelled text scope next start (more_of-Tree head rest) =
       if is_word text head (codes "let") then let_spelled_by text scope next start rest
       else if is_word text head (codes "forall") then unless (quantifier_fault scope.quantifies start) (quantifier_spelled text scope next start true rest)
       else if is_word text head (codes "exists") then unless (quantifier_fault scope.quantifies start) (quantifier_spelled text scope next start false rest)
-      else head_of text scope.preds head >>= λ h. unless (head_fault scope.preds h start (length (items-the_row-Tree _ rest))) (all_spelled text scope (nothing_yet next) rest >>= application scope.preds h start)
+      else spelled_head text scope.preds head >>= λ h. unless (head_fault scope.preds h start (length (items-the_row-Tree _ rest))) (all_spelled text scope (nothing_yet next) rest >>= application scope.preds h start)
 
   -- the trees, each in full, one after another
-  pub all_spelled : {n : _} → List ℕ → Scope → Gathered → Row_of-Tree n → Result Gathered Fault
+  pub all_spelled : {n : _} → List ℕ → SpellingScope → Gathered → Row_of-Tree n → Result Gathered Fault
   all_spelled text scope g end_of-Tree = Ok g
-  all_spelled text scope g (more_of-Tree tree rest) = spelled text scope g.next tree >>= λ s. all_spelled text scope (added g s) rest
+  all_spelled text scope g (more_of-Tree tree rest) = spelled text scope g.next tree >>= λ s. all_spelled text scope (with_spelled g s) rest
 
-  pub let_spelled_by : {n : _} → List ℕ → Scope → ℕ → ℕ → Row_of-Tree n → Result Spelled Fault
+  pub let_spelled_by : {n : _} → List ℕ → SpellingScope → ℕ → ℕ → Row_of-Tree n → Result Spelled Fault
   let_spelled_by text scope next start (more_of-Tree binder (more_of-Tree body end_of-Tree)) =
       unless (binder_fault text binder) (bindings_spelled text scope (nothing_yet next) binder >>= λ g.
       unless (let_names_fault text [] (items_of binder)) (spelled text (with_lets text scope (items_of binder) g.parts) g.next body >>= λ s. Ok (let_spelled start g s)))
   let_spelled_by text scope next start _ = Err (fault CommandForm start)
 
   -- the bound terms of a let's binder
-  pub bindings_spelled : List ℕ → Scope → Gathered → Tree → Result Gathered Fault
+  pub bindings_spelled : List ℕ → SpellingScope → Gathered → Tree → Result Gathered Fault
   bindings_spelled text scope g (Leaf kind start end) = Ok g
   bindings_spelled text scope g (List' shape row start end) = each_bound text scope g row
 
-  pub each_bound : {n : _} → List ℕ → Scope → Gathered → Row_of-Tree n → Result Gathered Fault
+  pub each_bound : {n : _} → List ℕ → SpellingScope → Gathered → Row_of-Tree n → Result Gathered Fault
   each_bound text scope g end_of-Tree = Ok g
   each_bound text scope g (more_of-Tree item rest) = binding_spelled text scope g item >>= λ h. each_bound text scope h rest
 
-  pub binding_spelled : List ℕ → Scope → Gathered → Tree → Result Gathered Fault
+  pub binding_spelled : List ℕ → SpellingScope → Gathered → Tree → Result Gathered Fault
   binding_spelled text scope g (Leaf kind start end) = Ok g
   binding_spelled text scope g (List' shape row start end) = item_spelled text scope g row
 
-  pub item_spelled : {n : _} → List ℕ → Scope → Gathered → Row_of-Tree n → Result Gathered Fault
-  item_spelled text scope g (more_of-Tree name (more_of-Tree term end_of-Tree)) = spelled text scope g.next term >>= λ s. Ok (added g s)
+  pub item_spelled : {n : _} → List ℕ → SpellingScope → Gathered → Row_of-Tree n → Result Gathered Fault
+  item_spelled text scope g (more_of-Tree name (more_of-Tree term end_of-Tree)) = spelled text scope g.next term >>= λ s. Ok (with_spelled g s)
   item_spelled text scope g _ = Ok g
 
-  pub quantifier_spelled : {n : _} → List ℕ → Scope → ℕ → ℕ → Bool → Row_of-Tree n → Result Spelled Fault
+  pub quantifier_spelled : {n : _} → List ℕ → SpellingScope → ℕ → ℕ → Bool → Row_of-Tree n → Result Spelled Fault
   quantifier_spelled text scope next start all (more_of-Tree binder (more_of-Tree body end_of-Tree)) =
       unless (binder_fault text binder) (unless (variables_fault text [] (items_of binder))
-      (spelled text (with_variables text scope next (items_of binder)) (next + length (items_of binder)) body >>= λ s.
+      (spelled text (with_read_variables text scope next (items_of binder)) (next + length (items_of binder)) body >>= λ s.
       quantified (quantifier all start next (sorts_bound text (items_of binder))) start s))
   quantifier_spelled text scope next start all _ = Err (fault CommandForm start)

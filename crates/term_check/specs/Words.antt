@@ -3,8 +3,8 @@ use Rattle.std.specs.Prelude.{ℕ, List, [], ◌∷◌, ◌++◌, Bool, codes}
 use Rattle.std.specs.List.{list_any}
 use Rattle.std.specs.Str.{bytes_eq}
 
-abbrev pub is_among : List (List ℕ) → List ℕ → Bool
-is_among words word = list_any (bytes_eq word) words
+abbrev pub is_word_among : List (List ℕ) → List ℕ → Bool
+is_word_among words word = list_any (bytes_eq word) words
 
 -- the reserved words of terms
 abbrev pub term_words : List (List ℕ)

@@ -1,9 +1,7 @@
 -- What the code keeps for itself: no rule cites it.
 pub mod Known
-pub mod Legality
 pub mod Meanings
 pub mod Numbers
 pub mod Reading
 pub mod TellsFormula
-pub mod Weight
 pub mod WordLengths

@@ -3,7 +3,7 @@
 ghost use Rattle.std.specs.Prelude.{◌≡◌, ◌<◌, [], length, nat_eq, IfOk};
 ghost use Rattle.std.specs.List.{list_all};
 ghost use Rattle.std.specs.Option.{option_copied};
-ghost use Rattle.term_check.specs.Spelling.{items_of, name_in, name_start, sort_in, sort_start, name_or_none, sort_or_bool, names_fault, binder_fault, repeated_fault, let_names_fault, sort_name_fault, variables_fault, sorts_bound};
+ghost use Rattle.term_check.specs.Spelling.{items_of, first_name, name_start, sort_in, sort_start, name_or_none, sort_or_bool, names_fault, binder_fault, repeated_fault, let_names_fault, sort_name_fault, variables_fault, sorts_bound};
 
 use crate::part::Fault;
 use crate::seen::Seen;
@@ -25,7 +25,7 @@ pub fn items_of(tree: &Tree) -> &[Tree]
 
 /// The name in an item of a binder, if it has a form that may be bound.
 fn name_in<'a>(text: &'a [u8], item: &Tree) -> Option<&'a [u8]>
-    ensures { option_copied result ≡ name_in text.now item.now }
+    ensures { option_copied result ≡ first_name text.now item.now }
 {
     match items_of(item) {
         [] => None,
@@ -35,7 +35,7 @@ fn name_in<'a>(text: &'a [u8], item: &Tree) -> Option<&'a [u8]>
 
 /// The name that an item of a binder binds.
 pub fn name_bound<'a>(text: &'a [u8], item: &Tree) -> &'a [u8]
-    ensures { result.now ≡ name_or_none (name_in text.now item.now) }
+    ensures { result.now ≡ name_or_none (first_name text.now item.now) }
 {
     match name_in(text, item) {
         Some(name) => name,

@@ -5,10 +5,10 @@ ghost use Rattle.term_tree.specs.Arena.{Arena};
 ghost use Rattle.term_check.specs.declared.part.Fault.{Fault as AFault};
 ghost use Rattle.term_check.specs.Term.{Term, IsTermAt};
 ghost use Rattle.term_check.specs.Spelling.{Spelled, spelled, scope_of};
-ghost use Rattle.term_check.specs.machinery.Weight.{weight};
+ghost use Rattle.term_check.specs.Weight.{weight};
 ghost use Rattle.term_check.specs.Found.{IsFound, IsAligned, Keeps};
 ghost use Rattle.term_check.specs.machinery.Reading.{Tells};
-ghost use Rattle.term_check.specs.Formula.{bool_term, formula};
+ghost use Rattle.term_check.specs.Formula.{bool_term, spelled_formula};
 ghost use Rattle.term_check.specs.machinery.TellsFormula.{TellsFormula};
 
 use crate::bindings::Bindings;
@@ -95,8 +95,8 @@ pub fn check_formula(
     params: &[(Name, Sort)],
 ) -> Result<(Terms, TermId), FormulaStop>
     requires weight { length params.now + weight tree.now < 2 ^ 32 }
-    ensures formula { IfOk result (λ made. (term : Term) × (formula text.now params.now tree.now ≡ Ok term) × IsTermAt made.0 [] term made.1.0) }
-    ensures bad { (offset : ℕ) → IsErrOf result (FormulaStop.Bad offset) → formula text.now params.now tree.now ≡ Err offset }
+    ensures formula { IfOk result (λ made. (term : Term) × (spelled_formula text.now params.now tree.now ≡ Ok term) × IsTermAt made.0 [] term made.1.0) }
+    ensures bad { (offset : ℕ) → IsErrOf result (FormulaStop.Bad offset) → spelled_formula text.now params.now tree.now ≡ Err offset }
 {
     let signature = Signature::new(alloc);
     let mut bindings = Bindings::new(alloc);

@@ -1,7 +1,7 @@
 //! Heads of applications, and how many arguments they take.
 
 ghost use Rattle.std.specs.Prelude.{◌≡◌};
-ghost use Rattle.term_check.specs.Spelling.{is_numeral, is_divisible, list_head, head_of, unapplied_fault, declared_number_fault, head_fault};
+ghost use Rattle.term_check.specs.Spelling.{is_numeral_leaf, is_divisible, list_head, spelled_head, unapplied_fault, declared_number_fault, head_fault};
 
 use crate::head::Head;
 use crate::names::{sorts_of, symbol_head};
@@ -14,7 +14,7 @@ use sexp_read::{LeafKind, Tree, numeral_value, symbol_bytes};
 use term_tree::{Kind, Pred};
 
 fn is_numeral(tree: &Tree) -> bool
-    ensures { result ≡ is_numeral tree.now }
+    ensures { result ≡ is_numeral_leaf tree.now }
 {
     match tree {
         Tree::Leaf { kind, .. } => match kind {
@@ -97,7 +97,7 @@ pub fn head_fault(preds: &[Pred], head: Head, start: u32, number: usize) -> Opti
 
 /// What a head is, by its form and name.
 pub fn head_of(text: &[u8], signature: &Signature, tree: &Tree) -> Result<Head, Fault>
-    ensures { result ≡ head_of text.now signature.now tree.now }
+    ensures { result ≡ spelled_head text.now signature.now tree.now }
 {
     match tree {
         Tree::List { items, start, .. } => list_head(text, *start, items.as_slice()),

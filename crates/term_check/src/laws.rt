@@ -5,7 +5,7 @@ ghost use Rattle.sexp_read.specs.declared.tree.Tree.{Tree};
 ghost use Rattle.sexp_read.specs.declared.tree.Tree.TheViews.{List as ListTree};
 ghost use Rattle.sexp_read.specs.declared.tree.TextStop.{TextStop};
 ghost use Rattle.sexp_read.specs.Trees.{IsReading};
-ghost use Rattle.term_check.specs.machinery.Weight.{weight};
+ghost use Rattle.term_check.specs.Weight.{weight};
 ghost use Rattle.term_tree.specs.declared.node.TermId.{TermId};
 ghost use Rattle.term_tree.specs.Arena.{Arena, IsArena};
 ghost use Rattle.term_check.specs.Term.{Term, IsTermAt};
@@ -14,9 +14,9 @@ ghost use Rattle.term_tree.specs.declared.sort.Sort.{Sort};
 ghost use Rattle.term_tree.specs.Legal.{IsLegal};
 ghost use Rattle.term_tree.specs.Subterms.{IsPlain};
 ghost use Rattle.term_check.specs.declared.part.Part.{Part};
-ghost use Rattle.term_check.specs.machinery.Legality.{AreParameters};
+ghost use Rattle.term_check.specs.Parameters.{AreParameters};
 ghost use Rattle.term_check.specs.Found.{IsFound, Keeps};
-ghost use Rattle.term_check.specs.Spelling.{Scope, Spelled, spelled, scope_of};
+ghost use Rattle.term_check.specs.Spelling.{SpellingScope, Spelled, spelled, scope_of};
 
 /// A term of an arena stays that term as the arena grows.
 pub fn terms_stay()
@@ -53,11 +53,11 @@ pub fn found_terms_are_legal()
 /// So is a term over parameters, whose names are bound to the first variables. Where there are no
 /// predicates and may be no quantifiers, it has none.
 pub fn spelled_formulas_are_legal()
-    ensures legal { (text : List ℕ) (scope : Scope) (variables : List Sort) (tree : Tree) (s : Spelled) (arena : Arena) (id : ℕ) →
+    ensures legal { (text : List ℕ) (scope : SpellingScope) (variables : List Sort) (tree : Tree) (s : Spelled) (arena : Arena) (id : ℕ) →
         IsArena arena.nodes → AreParameters 0 scope.names variables →
         spelled text scope (length variables) tree ≡ Ok s → IsTermAt arena [] s.term id →
         IsLegal scope.preds arena.nodes variables s.part.sort id }
-    ensures plain { (text : List ℕ) (scope : Scope) (variables : List Sort) (tree : Tree) (s : Spelled) (arena : Arena) (id : ℕ) →
+    ensures plain { (text : List ℕ) (scope : SpellingScope) (variables : List Sort) (tree : Tree) (s : Spelled) (arena : Arena) (id : ℕ) →
         IsArena arena.nodes → AreParameters 0 scope.names variables → scope.preds ≡ [] → scope.quantifies ≡ false →
         spelled text scope (length variables) tree ≡ Ok s → IsTermAt arena [] s.term id →
         IsPlain arena.nodes id }

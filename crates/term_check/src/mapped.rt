@@ -1,4 +1,5 @@
-ghost use Rattle.std.specs.Prelude.{◌≡◌, ◌++◌, [], ◌∷◌, ◌-◌, ◌<◌, ◌^◌, length, take, OnOk};
+ghost use Rattle.std.specs.Prelude.{◌≡◌, ◌++◌, [], ◌∷◌, ◌-◌, ◌<◌, length, take, OnOk};
+ghost use Rattle.base.specs.Widths.{short_limit};
 ghost use Rattle.term_check.specs.machinery.Meanings.{named, joined};
 ghost use Rattle.term_check.specs.Spelling.{bound_to};
 
@@ -57,7 +58,7 @@ impl<'a> Mapped<'a> {
     /// How many names there are.
     pub fn len(&self) -> usize
         ensures len { result ≡ length self.now }
-        ensures short { result < 2 ^ 63 }
+        ensures short { result < short_limit }
     {
         self.bindings.len()
     }

@@ -2,7 +2,8 @@
 
 ghost use Rattle.std.specs.Prelude.{◌≡◌};
 ghost use Rattle.term_tree.specs.Constants.{is_arithmetic};
-ghost use Rattle.term_check.specs.Operators.{core_operator, number_operator, order_operator, operator_named, least_operands, most_operands, wanted, is_division, is_product, is_choice, is_distinct};
+ghost use Rattle.term_tree.specs.Operators.{is_distinct};
+ghost use Rattle.term_check.specs.Operators.{core_operator, number_operator, order_operator, operator_named, least_operands, most_operands, wanted, is_division, is_product, is_choice};
 
 use term_tree::OpKind;
 

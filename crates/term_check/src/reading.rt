@@ -8,7 +8,7 @@ ghost use Rattle.term_check.specs.machinery.Reading.{item_bound, all_bound, unde
 ghost use Rattle.term_check.specs.Rules.{unless};
 ghost use Rattle.term_check.specs.Spelling.{spelled, nothing_yet, quantifier_fault, Gathered};
 ghost use Rattle.term_check.specs.Found.{Keeps};
-ghost use Rattle.term_check.specs.machinery.Weight.{weight, weights};
+ghost use Rattle.term_check.specs.Weight.{weight, weights};
 
 use crate::apply::{add_binding, add_quantifier, apply, read_leaf};
 use crate::binders::{binder_fault, items_of, let_names_fault, sorts_bound, variables_fault};

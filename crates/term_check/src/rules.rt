@@ -1,7 +1,8 @@
 //! What an application owes to its arguments, in the order of checking.
 
 ghost use Rattle.std.specs.Prelude.{ℕ, ℤ, pos, ◌≡◌, ◌+◌, ◌^◌, ◌≤◌, length, ◌≤ℤ◌, ◌-◌, nat_abs};
-ghost use Rattle.term_check.specs.Rules.{fault, number_fault, same_sort, first_not, first_unlike, choice_fault, sort_fault, second_sort, result_sort, varying, divisor_fault, product_fault, linear_fault, if_short, product_if_short, wide_unless, product_constant, constant_of, applied, divisibility_fault, divisible_fault, declared_fault};
+ghost use Rattle.term_tree.specs.Sorts.{same_sort};
+ghost use Rattle.term_check.specs.Rules.{fault, number_fault, first_not, first_unlike, choice_fault, sort_fault, second_sort, result_sort, varying, divisor_fault, product_fault, linear_fault, if_short, product_if_short, wide_unless, product_constant, operator_constant, applied, divisibility_fault, divisible_fault, declared_fault};
 ghost use Rattle.term_check.specs.machinery.Reading.{divisor_of};
 
 use crate::operators::{
@@ -172,7 +173,7 @@ fn product_constant(start: u32, parts: &[Part]) -> Result<Option<i64>, Fault>
 }
 
 fn constant_of(op: OpKind, start: u32, parts: &[Part]) -> Result<Option<i64>, Fault>
-    ensures { result ≡ constant_of op start parts.now }
+    ensures { result ≡ operator_constant op start parts.now }
 {
     if is_product(op) {
         product_constant(start, parts)

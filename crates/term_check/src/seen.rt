@@ -1,5 +1,5 @@
 ghost use Rattle.std.specs.Prelude.{◌≡◌, ◌++◌, [], ◌∷◌, false, map, IfOk, OnOk};
-ghost use Rattle.term_check.specs.Words.{is_among};
+ghost use Rattle.term_check.specs.Words.{is_word_among};
 
 use crate::bindings::FEW;
 use crate::sorted::Sorted;
@@ -25,7 +25,7 @@ impl<'a> Model for Seen<'a> {
 
 /// Whether one of them is that name.
 fn has_name<'a>(few: &[&'a [u8]], name: &[u8]) -> bool
-    ensures { result ≡ is_among (map (λ one. one.now) few.now) name.now }
+    ensures { result ≡ is_word_among (map (λ one. one.now) few.now) name.now }
 {
     for one in few {
         if name == *one {
@@ -48,14 +48,14 @@ impl<'a> Seen<'a> {
 
     /// Whether the name is among them.
     pub fn contains(&self, name: &[u8]) -> bool
-        ensures { result ≡ is_among self.now name.now }
+        ensures { result ≡ is_word_among self.now name.now }
     {
         has_name(self.few.as_slice(), name) || !self.more.is_empty() && self.more.contains(name)
     }
 
     /// Adds a name that is new.
     pub fn add(&mut self, name: &'a [u8]) -> Result<(), Memory>
-        requires { is_among self.old name.now ≡ false }
+        requires { is_word_among self.old name.now ≡ false }
         ensures { OnOk result (self.new ≡ self.old ++ name.now ∷ []) }
     {
         if self.few.len() < FEW && self.more.is_empty() {

@@ -1,5 +1,5 @@
 ghost use Rattle.std.specs.Prelude.{◌≡◌, ◌++◌, [], ◌∷◌, ◌↔◌, IfOk, OnOk, IsTrue};
-ghost use Rattle.term_check.specs.Words.{is_among};
+ghost use Rattle.term_check.specs.Words.{is_word_among};
 
 use base::Memory;
 use std::alloc::Global;
@@ -45,7 +45,7 @@ impl<'a> Sorted<'a> {
 
     /// Whether the name is among them.
     pub fn contains(&self, name: &[u8]) -> bool
-        ensures { result ≡ is_among self.now name.now }
+        ensures { result ≡ is_word_among self.now name.now }
     {
         self.set.contains(name)
     }

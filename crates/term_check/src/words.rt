@@ -1,12 +1,12 @@
 //! The reserved words, by their lengths.
 
 ghost use Rattle.std.specs.Prelude.{◌≡◌};
-ghost use Rattle.term_check.specs.Words.{is_among, reserved_words};
+ghost use Rattle.term_check.specs.Words.{is_word_among, reserved_words};
 ghost use Rattle.term_check.specs.machinery.WordLengths.{between};
 
 /// Whether it is a reserved word of one to three bytes.
 fn is_of_1_to_3(word: &[u8]) -> bool
-    ensures { result ≡ is_among (between 0 4 reserved_words) word.now }
+    ensures { result ≡ is_word_among (between 0 4 reserved_words) word.now }
 {
     word == b"_".as_slice()
         || word == b"!".as_slice()
@@ -18,7 +18,7 @@ fn is_of_1_to_3(word: &[u8]) -> bool
 
 /// Whether it is a reserved word of four or five bytes.
 fn is_of_4_or_5(word: &[u8]) -> bool
-    ensures { result ≡ is_among (between 3 6 reserved_words) word.now }
+    ensures { result ≡ is_word_among (between 3 6 reserved_words) word.now }
 {
     word == b"match".as_slice()
         || word == b"echo".as_slice()
@@ -29,7 +29,7 @@ fn is_of_4_or_5(word: &[u8]) -> bool
 
 /// Whether it is a reserved word of six or seven bytes.
 fn is_of_6_or_7(word: &[u8]) -> bool
-    ensures { result ≡ is_among (between 5 8 reserved_words) word.now }
+    ensures { result ≡ is_word_among (between 5 8 reserved_words) word.now }
 {
     word == b"exists".as_slice()
         || word == b"forall".as_slice()
@@ -42,7 +42,7 @@ fn is_of_6_or_7(word: &[u8]) -> bool
 
 /// Whether it is a reserved word of eight or nine bytes.
 fn is_of_8_or_9(word: &[u8]) -> bool
-    ensures { result ≡ is_among (between 7 10 reserved_words) word.now }
+    ensures { result ≡ is_word_among (between 7 10 reserved_words) word.now }
 {
     word == b"check-sat".as_slice()
         || word == b"get-info".as_slice()
@@ -55,7 +55,7 @@ fn is_of_8_or_9(word: &[u8]) -> bool
 
 /// Whether it is a reserved word of ten to thirteen bytes.
 fn is_of_10_to_13(word: &[u8]) -> bool
-    ensures { result ≡ is_among (between 9 14 reserved_words) word.now }
+    ensures { result ≡ is_word_among (between 9 14 reserved_words) word.now }
 {
     word == b"HEXADECIMAL".as_slice()
         || word == b"declare-const".as_slice()
@@ -69,7 +69,7 @@ fn is_of_10_to_13(word: &[u8]) -> bool
 
 /// Whether it is a reserved word of 14 to 21 bytes.
 fn is_of_14_to_21(word: &[u8]) -> bool
-    ensures { result ≡ is_among (between 13 22 reserved_words) word.now }
+    ensures { result ≡ is_word_among (between 13 22 reserved_words) word.now }
 {
     word == b"check-sat-assuming".as_slice()
         || word == b"declare-datatype".as_slice()
@@ -85,7 +85,7 @@ fn is_of_14_to_21(word: &[u8]) -> bool
 
 /// Whether the word is reserved: written without bars it names no predicate and no variable.
 pub fn is_reserved(word: &[u8]) -> bool
-    ensures { result ≡ is_among reserved_words word.now }
+    ensures { result ≡ is_word_among reserved_words word.now }
 {
     match word.len() {
         1..=3 => is_of_1_to_3(word),

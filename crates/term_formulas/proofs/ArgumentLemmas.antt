@@ -9,12 +9,13 @@ use Rattle.term_tree.specs.declared.node.Node.{Node}
 use Rattle.term_tree.specs.declared.node.Node.TheVariants.{Op}
 use Rattle.term_tree.specs.Subterms.{is_among}
 use Rattle.term_tree.proofs.Public.{eqb_self}
+use Rattle.term_tree.specs.Operators.{is_distinct}
 use Rattle.lin_atoms.specs.Linear.{Linear}
 use Rattle.lin_atoms.specs.declared.form.Form.{Form}
 use Rattle.lin_atoms.specs.declared.form.Form.TheVariants.{False}
 use Rattle.linear_terms.specs.Linear.{Naming, less}
 use Rattle.linear_terms.specs.Text.{Sorting, are_truths}
-use Rattle.linear_terms.specs.Formula.{Reading, comparison, denied, eq, implied, is_pairwise, neighbours, operation, related, sides}
+use Rattle.linear_terms.specs.Formula.{TermForms, comparison, denied, eq, implication_forms, neighbours, operation, related, sides}
 use Rattle.linear_terms.specs.Place.{integer_place}
 use Rattle.term_formulas.specs.Written.{HasRoom, place_form_by, place_forms_by}
 use Rattle.term_formulas.specs.machinery.Fresh.{IsFresh}
@@ -37,13 +38,13 @@ room_last constant naming nodes above [] last room = room.0
 room_last constant naming nodes above (id ∷ ids) last room = room_last constant naming nodes above ids last room.1
 
 -- an implication's parts are those before the last, denied, and the last
-pub implied_split : (part : ℕ → Bool → Form) (sign : Bool) (before : List TermId) (last : TermId) → implied part sign (before ++ last ∷ []) ≡ each part (not sign) before ++ part last.0 sign ∷ []
+pub implied_split : (part : ℕ → Bool → Form) (sign : Bool) (before : List TermId) (last : TermId) → implication_forms part sign (before ++ last ∷ []) ≡ each part (not sign) before ++ part last.0 sign ∷ []
 implied_split part sign [] last = refl
 implied_split part sign (id ∷ []) last = refl
 implied_split part sign (id ∷ next ∷ ids) last = ap (λ (forms : List Form). part id.0 (not sign) ∷ forms) (implied_split part sign (next ∷ ids) last)
 
 -- What is said of all other operators.
-pub other_operation : (reading : Reading) (part : ℕ → Bool → Form) (op : OpKind) (args : List TermId) (sign : Bool) → (op ≡ Not → ⊥) → (op ≡ AndOp → ⊥) → (op ≡ OrOp → ⊥) → (op ≡ Implies → ⊥)
+pub other_operation : (reading : TermForms) (part : ℕ → Bool → Form) (op : OpKind) (args : List TermId) (sign : Bool) → (op ≡ Not → ⊥) → (op ≡ AndOp → ⊥) → (op ≡ OrOp → ⊥) → (op ≡ Implies → ⊥)
     → (op ≡ Xor → ⊥) → (op ≡ Ite → ⊥)
     → operation reading part op args sign ≡ comparison op (are_truths reading.sorts args) sign (map (λ (arg : TermId). reading.bit arg.0) args) (map (λ (arg : TermId). reading.linear arg.0) args)
 other_operation reading part Not args sign a b c d e f = absurd (a refl)
@@ -67,7 +68,7 @@ pub other_sides : {X : Type 0} (op : OpKind) (xs : List X) → (op ≡ Distinct 
 other_sides Distinct xs h = absurd (h refl)
 other_sides _ xs h = refl
 
-pub not_distinct : (op : OpKind) → (op ≡ Distinct → ⊥) → is_pairwise op ≡ false
+pub not_distinct : (op : OpKind) → (op ≡ Distinct → ⊥) → is_distinct op ≡ false
 not_distinct Distinct h = absurd (h refl)
 not_distinct _ h = refl
 
@@ -93,12 +94,12 @@ room_taken constant naming nodes above (suc k) (id ∷ ids) room = (room.0, room
 
 -- the parts of an implication are those before the last, denied, and the last
 pub implied_last : (part : ℕ → Bool → Form) (sign : Bool) (ids : List TermId) (d : TermId) → 1 ≤ length ids
-    → implied part sign ids ≡ each part (not sign) (take (length ids - 1) ids) ++ part (get_or ids (length ids - 1) d).0 sign ∷ []
+    → implication_forms part sign ids ≡ each part (not sign) (take (length ids - 1) ids) ++ part (get_or ids (length ids - 1) d).0 sign ∷ []
 implied_last part sign ids d some =
     let n : ℕ = length ids - 1 in
     let one_more : n + 1 ≡ length ids = omega arith in
     let whole : ids ≡ take n ids ++ get_or ids n d ∷ [] = sym (take_all (n + 1) ids (omega arith)) ∙ take_more ids n d (omega arith) in
-    ap (implied part sign) whole ∙ implied_split part sign (take n ids) (get_or ids n d)
+    ap (implication_forms part sign) whole ∙ implied_split part sign (take n ids) (get_or ids n d)
 
 pub each_more : (part : ℕ → Bool → Form) (sign : Bool) (ids : List TermId) (i : ℕ) (d : TermId) (before new : List Form) (form : Form) → i < length ids → before ≡ each part sign (take i ids)
     → form ≡ part (get_or ids i d).0 sign → new ≡ before ++ form ∷ [] → new ≡ each part sign (take (i + 1) ids)

@@ -6,7 +6,7 @@ use Rattle.lin_atoms.specs.Linear.{Linear}
 use Rattle.lin_atoms.specs.declared.form.Form.{Form}
 use Rattle.linear_terms.specs.Formula.{neighbours, pairs}
 use Rattle.linear_terms.specs.Linear.{is_narrow, less}
-use Rattle.term_widths.specs.machinery.Sides.{is_wide_pair, is_wide_with}
+use Rattle.term_widths.specs.Sides.{is_wide_pair, is_wide_with}
 use Rattle.term_widths.proofs.SideLemmas.{next_neighbours, with_more, pairs_more as wide_pairs}
 use Rattle.term_formulas.specs.machinery.Parts.{AreBits, IsBit}
 

@@ -6,7 +6,7 @@ use Rattle.term_tree.specs.Subterms.{EverySubterm, IsSubterm}
 use Rattle.lin_atoms.specs.declared.form.Form.{Form}
 use Rattle.linear_terms.specs.Text.{Sorting, is_truth}
 use Rattle.linear_terms.specs.Linear.{Naming, bit_of, variable_form}
-use Rattle.linear_terms.specs.Formula.{Reading, told_formula}
+use Rattle.linear_terms.specs.Formula.{TermForms, told_formula}
 use Rattle.linear_terms.specs.Place.{integer_place, truth_place}
 use Rattle.term_forms.specs.declared.names.Names.{Names}
 use Rattle.term_forms.specs.Found.{form_by, naming_in}
@@ -15,7 +15,7 @@ use Rattle.term_widths.specs.Wide.{first_wide_by}
 abbrev pub naming_by : Names → Naming
 naming_by names = naming_in names.own.items names.auxiliary
 
-abbrev pub reading_by : (ℕ → Option ℤ) → Sorting → Naming → List Node → Reading
+abbrev pub reading_by : (ℕ → Option ℤ) → Sorting → Naming → List Node → TermForms
 reading_by constant sorts naming nodes = record { sorts = sorts; bit = bit_of naming nodes; linear = form_by constant naming nodes }
 
 -- where the Bool term is true, or where it is false

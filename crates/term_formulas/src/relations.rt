@@ -3,11 +3,12 @@
 ghost use Rattle.std.specs.Prelude.{◌≡◌, ◌++◌, map, not, IfOk, OnOk, IsTrue, false, if◌then◌else◌};
 ghost use Rattle.std.specs.List.{list_any};
 ghost use Rattle.term_tree.specs.declared.node.OpKind.TheVariants.{Ge, Gt, Le as AtMost, Lt};
+ghost use Rattle.term_tree.specs.Operators.{is_distinct};
 ghost use Rattle.lin_atoms.specs.Algebra.{added};
 ghost use Rattle.linear_terms.specs.Linear.{is_narrow, less};
-ghost use Rattle.linear_terms.specs.Formula.{is_pairwise, joined, neighbours, pairs, related, same_bits, sides};
+ghost use Rattle.linear_terms.specs.Formula.{joined, neighbours, pairs, related, same_bits, sides};
 ghost use Rattle.linear_terms.specs.Width.{is_relation};
-ghost use Rattle.term_widths.specs.machinery.Sides.{is_wide_pair};
+ghost use Rattle.term_widths.specs.Sides.{is_wide_pair};
 ghost use Rattle.term_formulas.specs.machinery.Parts.{AreBits, IsBit};
 
 use crate::literals::{eq, equal, joined, le, one_minus, one_more};
@@ -246,7 +247,7 @@ pub(crate) fn compared_bits(
     bits: &[Lin],
 ) -> Result<Form, Memory>
     requires { AreBits bits.now }
-    ensures { IfOk result (λ form. form ≡ joined sign (map (λ p. same_bits (if is_pairwise op then not sign else sign) p.0 p.1) (sides op bits.now))) }
+    ensures { IfOk result (λ form. form ≡ joined sign (map (λ p. same_bits (if is_distinct op then not sign else sign) p.0 p.1) (sides op bits.now))) }
 {
     match op {
         OpKind::Distinct => Ok(joined(sign, same_pairs(alloc, !sign, bits)?)),

@@ -6,7 +6,7 @@ ghost use Rattle.lin_atoms.specs.declared.form.Form.TheVariants.{Lit as Literal}
 ghost use Rattle.lin_atoms.specs.declared.form.Form.TheViews.{And, Or};
 ghost use Rattle.linear_terms.specs.Text.{are_truths, is_truth};
 ghost use Rattle.linear_terms.specs.Linear.{bit_of, is_narrow, variable_form};
-ghost use Rattle.linear_terms.specs.Formula.{choice, comparison, denied, implied, is_one, le, node_formula, complement_of, operation};
+ghost use Rattle.linear_terms.specs.Formula.{choice, comparison, denied, implication_forms, is_one, le, node_formula, complement_of, operation};
 ghost use Rattle.term_tables.specs.machinery.Table.{constant_in, sort_in};
 ghost use Rattle.term_forms.specs.Found.{AreFound, form_by};
 ghost use Rattle.term_widths.specs.machinery.Seen.{IsNarrowTerm};
@@ -313,7 +313,7 @@ fn implied(
 ) -> Result<Items<Form>, Memory>
     requires room { HaveRoom (constant_in constants.now) (naming_by names.now) terms.now.nodes above.0 ids.now }
     requires known { AreFound (constant_in constants.now) (naming_by names.now) terms.now.nodes known.old }
-    ensures is { IfOk result (λ forms. forms ≡ implied (formula_by (constant_in constants.now) (sort_in sorts.now) (naming_by names.now) terms.now.nodes) sign ids.now) }
+    ensures is { IfOk result (λ forms. forms ≡ implication_forms (formula_by (constant_in constants.now) (sort_in sorts.now) (naming_by names.now) terms.now.nodes) sign ids.now) }
     ensures known { OnOk result (AreFound (constant_in constants.now) (naming_by names.now) terms.now.nodes known.new) }
 {
     match ids {

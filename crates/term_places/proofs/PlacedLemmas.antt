@@ -13,7 +13,7 @@ use Rattle.term_tree.proofs.Public.{below_from, both_true, told_at_each}
 use Rattle.linear_terms.specs.declared.standing.Spot.{Spot}
 use Rattle.linear_terms.specs.declared.standing.Standing.{Standing}
 use Rattle.linear_terms.specs.declared.standing.Standing.TheVariants.{Plain, Bit, Argument}
-use Rattle.linear_terms.specs.Text.{Sorting, are_truths, chosen, has_auxiliary, inner, needs_one, node_spots, operands, spot_as, spots}
+use Rattle.linear_terms.specs.Text.{Sorting, are_truths, chosen, has_auxiliary, inner_spots, needs_one, node_spots, operands, spot_as, spots}
 use Rattle.term_places.specs.machinery.Placed.{all_placed, placed}
 
 abbrev pub are_below : ℕ → List Spot → Bool
@@ -45,7 +45,7 @@ last_below n (p ∷ parts) part below less =
     ap (λ (b : Bool). b && are_below n (parts ++ part ∷ [])) both.0 ∙ last_below n parts part both.1 less
 
 -- the parts of a node are below where it may stand
-pub inner_below : (sorts : Sorting) (n : ℕ) (node : Node) → has_parts_below n node ≡ true → are_below n (inner sorts node) ≡ true
+pub inner_below : (sorts : Sorting) (n : ℕ) (node : Node) → has_parts_below n node ≡ true → are_below n (inner_spots sorts node) ≡ true
 inner_below sorts n (Pred pred args) below = spots_below n Argument args below
 inner_below sorts n (Op op args) below = operands_below sorts n args below op
 inner_below sorts n (Divisible by arg) below = ap (λ (b : Bool). b && true) below
@@ -65,7 +65,7 @@ parts_rest p q n (part ∷ parts) same below =
 
 texts_rest : (sorts : Sorting) (p q : ℕ → Spot → List Spot) (n : ℕ) (node : Node) (spot : Spot) → ((c : ℕ) → c < n → (s : Spot) → p c s ≡ q c s) → has_parts_below n node ≡ true
     → node_spots sorts p node spot ≡ node_spots sorts q node spot
-texts_rest sorts p q n node spot same below = ap (λ (xs : List Spot). spot ∷ xs) (parts_rest p q n (inner sorts node) same (inner_below sorts n node below))
+texts_rest sorts p q n node spot same below = ap (λ (xs : List Spot). spot ∷ xs) (parts_rest p q n (inner_spots sorts node) same (inner_below sorts n node below))
 
 spots_at : (sorts : Sorting) (nodes : List Node) (id : ℕ) (node : Node) (spot : Spot) → slice_get nodes id ≡ Some node → has_parts_below id node ≡ true
     → spots sorts nodes id spot ≡ node_spots sorts (spots sorts nodes) node spot
@@ -96,12 +96,12 @@ all_marked sorts nodes (part ∷ parts) =
 
 -- a term, where it has an auxiliary variable, and then those of its parts
 pub placed_at : (sorts : Sorting) (nodes : List Node) (node : Node) (spot : Spot) → slice_get nodes spot.id ≡ Some node → has_parts_below spot.id node ≡ true
-    → placed sorts nodes spot ≡ (if needs_one spot.standing (sorts spot.id) (Some node) then spot.id ∷ [] else []) ++ all_placed sorts nodes (inner sorts node)
+    → placed sorts nodes spot ≡ (if needs_one spot.standing (sorts spot.id) (Some node) then spot.id ∷ [] else []) ++ all_placed sorts nodes (inner_spots sorts node)
 placed_at sorts nodes node spot is below =
     ap (marked (has_auxiliary sorts nodes)) (spots_at sorts nodes spot.id node spot is below)
-    ∙ marked_on (has_auxiliary sorts nodes) spot (flat_map (λ (s : Spot). spots sorts nodes s.id s) (inner sorts node))
-    ∙ ap (λ (o : Option Node). (if needs_one spot.standing (sorts spot.id) o then spot.id ∷ [] else []) ++ marked (has_auxiliary sorts nodes) (flat_map (λ (s : Spot). spots sorts nodes s.id s) (inner sorts node))) is
-    ∙ ap (λ (ns : List ℕ). (if needs_one spot.standing (sorts spot.id) (Some node) then spot.id ∷ [] else []) ++ ns) (all_marked sorts nodes (inner sorts node))
+    ∙ marked_on (has_auxiliary sorts nodes) spot (flat_map (λ (s : Spot). spots sorts nodes s.id s) (inner_spots sorts node))
+    ∙ ap (λ (o : Option Node). (if needs_one spot.standing (sorts spot.id) o then spot.id ∷ [] else []) ++ marked (has_auxiliary sorts nodes) (flat_map (λ (s : Spot). spots sorts nodes s.id s) (inner_spots sorts node))) is
+    ∙ ap (λ (ns : List ℕ). (if needs_one spot.standing (sorts spot.id) (Some node) then spot.id ∷ [] else []) ++ ns) (all_marked sorts nodes (inner_spots sorts node))
 
 -- those of one more part
 pub placed_more : (sorts : Sorting) (nodes : List Node) (before new : List ℕ) (parts : List Spot) (i : ℕ) (d : Spot) (whole : List ℕ) → i < length parts

@@ -14,7 +14,7 @@ use Rattle.term_tree.specs.Sorts.{has_sort}
 use Rattle.term_tree.proofs.Public.{arena_below, below_from, both_true, there_is}
 use Rattle.linear_terms.specs.declared.standing.Spot.{Spot}
 use Rattle.linear_terms.specs.declared.standing.Standing.TheVariants.{Plain, Bit}
-use Rattle.linear_terms.specs.Text.{Sorting, are_truths, inner, needs_one, operands, spot_as}
+use Rattle.linear_terms.specs.Text.{Sorting, are_truths, inner_spots, needs_one, operands, spot_as}
 use Rattle.term_places.specs.machinery.Placed.{all_placed, placed}
 use Rattle.term_places.proofs.PlacedLemmas.{are_below, inner_below, placed_at}
 
@@ -32,7 +32,7 @@ operands_same S T n args same below Eq = compared_same S T args (truths_same S T
 operands_same S T n args same below Distinct = compared_same S T args (truths_same S T n args same below)
 operands_same S T n args same below _ = refl
 
-inner_same : (S T : Sorting) (n : ℕ) (node : Node) → ((c : ℕ) → c < n → S c ≡ T c) → has_parts_below n node ≡ true → inner S node ≡ inner T node
+inner_same : (S T : Sorting) (n : ℕ) (node : Node) → ((c : ℕ) → c < n → S c ≡ T c) → has_parts_below n node ≡ true → inner_spots S node ≡ inner_spots T node
 inner_same S T n (Op op args) same below = operands_same S T n args same below op
 inner_same S T n _ same below = refl
 
@@ -52,10 +52,10 @@ placed_same S T nodes arena m same (suc n) spot h less within =
     let node : Node = found.0 in
     let is : slice_get nodes spot.id ≡ Some node = found.1 in
     let below : has_parts_below spot.id node ≡ true = arena_below nodes spot.id node arena is in
-    let inner_is : inner S node ≡ inner T node = inner_same S T spot.id node (λ c lower. same c (omega arith)) below in
+    let inner_is : inner_spots S node ≡ inner_spots T node = inner_same S T spot.id node (λ c lower. same c (omega arith)) below in
     placed_at S nodes node spot is below
-    ∙ ap (λ (s : Option Sort). (if needs_one spot.standing s (Some node) then spot.id ∷ [] else []) ++ all_placed S nodes (inner S node)) (same spot.id less)
+    ∙ ap (λ (s : Option Sort). (if needs_one spot.standing s (Some node) then spot.id ∷ [] else []) ++ all_placed S nodes (inner_spots S node)) (same spot.id less)
     ∙ ap (λ (ns : List ℕ). (if needs_one spot.standing (T spot.id) (Some node) then spot.id ∷ [] else []) ++ ns)
-    (all_same S T nodes spot.id (inner S node) (λ part lower. placed_same S T nodes arena m same n part (omega arith) (omega arith) (omega arith)) (inner_below S spot.id node below)
+    (all_same S T nodes spot.id (inner_spots S node) (λ part lower. placed_same S T nodes arena m same n part (omega arith) (omega arith) (omega arith)) (inner_below S spot.id node below)
     ∙ ap (all_placed T nodes) inner_is)
     ∙ sym (placed_at T nodes node spot is below)

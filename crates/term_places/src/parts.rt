@@ -3,7 +3,7 @@
 ghost use Rattle.std.specs.Prelude.{◌≡◌, [], ◌∷◌, ◌++◌, map, IfOk};
 ghost use Rattle.term_tree.specs.declared.sort.Sort.TheVariants.{Bool as Truth};
 ghost use Rattle.term_tree.specs.Sorts.{has_sort};
-ghost use Rattle.linear_terms.specs.Text.{are_truths, chosen, compared, inner, is_truth, operands, spot_as};
+ghost use Rattle.linear_terms.specs.Text.{are_truths, chosen, compared, inner_spots, is_truth, operands, spot_as};
 ghost use Rattle.term_tables.specs.machinery.Table.{sort_in};
 
 use base::Memory;
@@ -116,7 +116,7 @@ fn one(alloc: Global, id: TermId) -> Result<Vec<Spot>, Memory>
 
 /// The parts of a node in the order of the text.
 pub(crate) fn inner(alloc: Global, sorts: &SortTable, node: &Node) -> Result<Vec<Spot>, Memory>
-    ensures { IfOk result (λ spots. spots.items ≡ inner (sort_in sorts.now) node.now) }
+    ensures { IfOk result (λ spots. spots.items ≡ inner_spots (sort_in sorts.now) node.now) }
 {
     match node {
         Node::Num(_) => Ok(Vec::new(alloc)),

@@ -3,7 +3,7 @@
 //! for, and the others with the numbers of their parts.
 
 ghost use Rattle.std.specs.Prelude.{◌+◌, ◌<◌, ◌^◌, length};
-ghost use Rattle.term_check.specs.machinery.Weight.{weight};
+ghost use Rattle.term_check.specs.Weight.{weight};
 
 use crate::reading::parts;
 use base::{Items, Memory};

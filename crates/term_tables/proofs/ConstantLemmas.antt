@@ -10,7 +10,7 @@ use Rattle.term_tree.specs.declared.node.OpKind.{OpKind}
 use Rattle.term_tree.specs.declared.node.OpKind.TheVariants.{Not, And, Or, Xor, Implies, Eq, Distinct, Ite, Add, Mul, Sub, Abs, Div, Mod, Le, Lt, Ge, Gt}
 use Rattle.term_tree.specs.declared.scalar.Value.TheVariants.{Int}
 use Rattle.term_tree.specs.Arena.{IsArena, has_parts_below}
-use Rattle.term_tree.specs.Constants.{all_constant, applied, constant_of, constants_among, has_short_constants, is_arithmetic, is_short, is_short_constant, node_constant}
+use Rattle.term_tree.specs.Constants.{all_constant, integer_result, constant_of, constants_among, has_short_constants, is_arithmetic, is_short, is_short_constant, node_constant}
 use Rattle.term_tree.specs.Operators.{difference_of, first_of_all, integer, on_two, product_of, sum_of}
 use Rattle.term_tree.specs.Subterms.{EverySubterm, IsSubterm, inside, is_among, is_part}
 use Rattle.term_tree.specs.Width.{prefix_results}
@@ -49,11 +49,11 @@ all_among [] ns h = cc
 all_among (None ∷ given) ns h = absurd (cc)
 all_among (Some n ∷ given) ns h = among_step n given ns (all_constant given) (λ ms is. all_among given ms is) h
 
-product_value : (ns : List ℤ) → list_all is_short (prefix_results (λ x n. x *ℤ n) (pos 1) ns) ≡ true → short_product ns ≡ Some (applied Mul ns)
+product_value : (ns : List ℤ) → list_all is_short (prefix_results (λ x n. x *ℤ n) (pos 1) ns) ≡ true → short_product ns ≡ Some (integer_result Mul ns)
 product_value ns prefixes = product_is (pos 1) ns prefixes ∙ ap (λ (xs : List ℤ). Some (product_of xs)) (sym (same_numbers ns))
 
 abbrev value_by : OpKind → Option (List ℤ) → Option ℤ
-value_by op all = if is_arithmetic op then option_map (applied op) all else None
+value_by op all = if is_arithmetic op then option_map (integer_result op) all else None
 
 -- a product, from the constants among its factors
 product_operation : (given : List (Option ℤ)) (o : Option (List ℤ)) → all_constant given ≡ o → list_all is_short (prefix_results (λ x n. x *ℤ n) (pos 1) (constants_among given)) ≡ true

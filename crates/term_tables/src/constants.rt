@@ -1,7 +1,8 @@
 //! The value of a node that is a constant, over the values of its parts.
 
-ghost use Rattle.std.specs.Prelude.{◌≡◌, ◌<◌, ◌^◌, ◌*ℤ◌, nat_abs, pos, map, option_map, IfOk};
+ghost use Rattle.std.specs.Prelude.{◌≡◌, ◌<◌, ◌*ℤ◌, nat_abs, pos, map, option_map, IfOk};
 ghost use Rattle.std.specs.Int.{int_div_euclid, int_rem_euclid};
+ghost use Rattle.base.specs.Widths.{long_limit};
 ghost use Rattle.term_tree.specs.Constants.{all_constant};
 ghost use Rattle.term_tree.specs.Operators.{difference_of, on_two, first_of_all, sum_of};
 ghost use Rattle.term_tables.specs.machinery.Table.{constant_in, short_integer, short_applied, short_constant, short_kept, short_operation, short_product, signed_sum};
@@ -124,7 +125,7 @@ fn product(constants: &[i64]) -> Option<i64>
 
 /// Euclid's quotient. No legal term divides by 0.
 fn quotient(m: i128, n: i128) -> i128
-    requires { nat_abs m < 2 ^ 64 }
+    requires { nat_abs m < long_limit }
     ensures { result ≡ int_div_euclid m n }
 {
     if n == 0 {

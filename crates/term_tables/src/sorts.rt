@@ -2,6 +2,7 @@
 
 ghost use Rattle.std.specs.Prelude.{◌≡◌, map, IfOk, slice_get, nat_le, length, ◌&&◌, None, if◌then◌else◌};
 ghost use Rattle.std.specs.List.{list_all};
+ghost use Rattle.base.specs.Limits.{most_distinct};
 ghost use Rattle.term_tree.specs.Sorts.{all_of, are_alike, choice_sort, has_sort, have_sorts, is_sorted, node_sort, operation_sort, predicate_sort, sort_if};
 ghost use Rattle.term_tree.specs.declared.sort.Sort.TheVariants.{Bool as Truth};
 ghost use Rattle.term_tables.specs.machinery.Table.{sort_in};
@@ -131,7 +132,7 @@ fn operation_sort(op: OpKind, given: &[Option<Sort>]) -> Option<Sort>
 }
 
 fn are_few_alike(given: &[Option<Sort>]) -> bool
-    ensures { result ≡ (nat_le 2 (length given.now) && (nat_le (length given.now) 64 && are_alike given.now)) }
+    ensures { result ≡ (nat_le 2 (length given.now) && (nat_le (length given.now) most_distinct && are_alike given.now)) }
 {
     given.len() >= 2 && given.len() <= MOST_DISTINCT && are_alike(given)
 }

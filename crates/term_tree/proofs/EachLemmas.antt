@@ -10,7 +10,7 @@ use Rattle.term_tree.specs.declared.node.Node.{Node}
 use Rattle.term_tree.specs.declared.node.Node.TheVariants.{Num, True, False, Var, LetVar, Pred, Op, Divisible, Let, Forall, Exists}
 use Rattle.term_tree.specs.Arena.{is_below, has_parts_below}
 use Rattle.term_tree.specs.Fold.{told_from, told_of}
-use Rattle.term_tree.specs.Legal.{Scope, with_variables, with_bound, has_some, node_is_scoped, is_scoped, carried, numbers_through, node_numbers, next_variable}
+use Rattle.term_tree.specs.Legal.{NamesInScope, with_variables, with_bound, has_some, node_is_scoped, is_scoped, carried, numbers_through, node_numbers, next_variable}
 use Rattle.term_tree.specs.Same.{parts_of, is_alike, same_parts, same_node, node_is_same, is_same_tree}
 use Rattle.term_tree.proofs.MeaningLemmas.{both_true, below_from}
 
@@ -60,7 +60,7 @@ all_rest p q n (id ∷ ids) a same below =
     ap (λ (b : Bool). b && list_all (λ (i : TermId). p i.0 a) ids) (same id.0 (below_from id.0 n both.0) a)
     ∙ ap (λ (b : Bool). q id.0 a && b) (all_rest p q n ids a same both.1)
 
-scopes_rest : RestsOnParts Scope Bool node_is_scoped
+scopes_rest : RestsOnParts NamesInScope Bool node_is_scoped
 scopes_rest p q n (Num k) scope same below = refl
 scopes_rest p q n True scope same below = refl
 scopes_rest p q n False scope same below = refl
@@ -145,9 +145,9 @@ trees_rest others p q n node id same below = by_other (slice_get others id)
     by_other (Some other) = ap (λ (b : Bool). is_alike node other && b) (parts_rest p q n (parts_of node) (parts_of other) same (all_below n node below))
 
 -- whether a term's names are bound, by its node
-pub scoped_at : (nodes : List Node) (id : ℕ) (node : Node) (scope : Scope) → slice_get nodes id ≡ Some node → has_parts_below id node ≡ true
+pub scoped_at : (nodes : List Node) (id : ℕ) (node : Node) (scope : NamesInScope) → slice_get nodes id ≡ Some node → has_parts_below id node ≡ true
     → is_scoped nodes id scope ≡ node_is_scoped (is_scoped nodes) node scope
-scoped_at nodes id node scope is below = told_at_each Scope Bool (λ s. false) node_is_scoped scopes_rest nodes id node scope is below
+scoped_at nodes id node scope is below = told_at_each NamesInScope Bool (λ s. false) node_is_scoped scopes_rest nodes id node scope is below
 
 -- the number of the next variable, by the term's node
 pub numbered_at : (nodes : List Node) (id : ℕ) (node : Node) (next : ℕ) → slice_get nodes id ≡ Some node → has_parts_below id node ≡ true

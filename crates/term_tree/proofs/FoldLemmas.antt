@@ -12,7 +12,7 @@ use Rattle.term_tree.specs.declared.node.TermId.{TermId}
 use Rattle.term_tree.specs.declared.node.Node.{Node}
 use Rattle.term_tree.specs.declared.node.Node.TheVariants.{Num, True, False, Var, LetVar, Pred, Op, Divisible, Let, Forall, Exists}
 use Rattle.term_tree.specs.Arena.{is_below, has_parts_below}
-use Rattle.term_tree.specs.Constants.{node_constant, constant_of, is_arithmetic, applied, all_constant}
+use Rattle.term_tree.specs.Constants.{node_constant, constant_of, is_arithmetic, integer_result, all_constant}
 use Rattle.term_tree.specs.Fold.{told_from, told_of}
 use Rattle.term_tree.specs.Head.{node_has_head, has_head}
 use Rattle.term_tree.specs.Sorts.{node_sort, sort_of, predicate_sort, operation_sort, sort_if, has_sort, is_sorted}
@@ -97,7 +97,7 @@ constants_rest p q n (Var binder sort) same below = refl
 constants_rest p q n (LetVar bound) same below = same bound.0 (below_from bound.0 n below)
 constants_rest p q n (Pred pred args) same below = refl
 constants_rest p q n (Op op args) same below =
-    ap (λ (given : List (Option ℤ)). if is_arithmetic op then option_map (applied op) (all_constant given) else None) (same_parts p q n args same below)
+    ap (λ (given : List (Option ℤ)). if is_arithmetic op then option_map (integer_result op) (all_constant given) else None) (same_parts p q n args same below)
 constants_rest p q n (Divisible by arg) same below = refl
 constants_rest p q n (Let bound body) same below =
     let both = both_true (list_all (is_below n) bound) (nat_lt body.0 n) below in same body.0 (below_from body.0 n both.1)

@@ -11,7 +11,7 @@ use Rattle.term_tree.specs.declared.scalar.Value.TheVariants.{Bool as Truth}
 use Rattle.term_tree.specs.Operators.{result_of, truth, implied}
 use Rattle.term_tree.specs.Value.{Environment}
 use Rattle.term_tree.specs.Truth.{Interpretation, Meaning, AreKnown, Completes, Determines, bound_from, HasValue}
-use Rattle.term_tree.specs.machinery.Agreement.{IsTrueBelow}
+use Rattle.term_tree.specs.Agreement.{IsTrueBelow}
 use Rattle.term_tree.specs.Arena.{IsArena}
 use Rattle.term_tree.specs.Head.{is_applied, ends_applied, node_has_head, has_head}
 use Rattle.term_tree.specs.Subterms.{is_part}

@@ -11,7 +11,7 @@ use Rattle.term_tree.specs.declared.scalar.Value.TheVariants.{Int, Bool as Truth
 use Rattle.term_tree.specs.Operators.{result_of, divides, integer, first_of_all}
 use Rattle.term_tree.specs.Value.{Environment}
 use Rattle.term_tree.specs.Truth.{Interpretation, Meaning, AreKnown, Completes, Determines, HoldsForAll, HoldsForSome, bound_from, node_meaning, meaning_in, meanings_from, HasValue}
-use Rattle.term_tree.specs.machinery.Agreement.{AgreeEverywhere}
+use Rattle.term_tree.specs.Agreement.{AgreeEverywhere}
 use Rattle.term_tree.specs.Solution.{interpretation_of, DefinesEach, AreFormulas, IsSolution}
 use Rattle.term_tree.specs.declared.definition.Definition.{Definition}
 use Rattle.term_tree.specs.declared.script.Assertion.{Assertion}

@@ -25,8 +25,8 @@ constants_among [] = []
 constants_among (None ∷ given) = constants_among given
 constants_among (Some n ∷ given) = n ∷ constants_among given
 
-abbrev pub applied : OpKind → List ℤ → ℤ
-applied op ns = integer (result_of op (map (λ n. Int n) ns))
+abbrev pub integer_result : OpKind → List ℤ → ℤ
+integer_result op ns = integer (result_of op (map (λ n. Int n) ns))
 
 abbrev pub is_arithmetic : OpKind → Bool
 is_arithmetic Add = true
@@ -40,7 +40,7 @@ is_arithmetic _ = false
 abbrev pub node_constant : (ℕ → Option ℤ) → Node → Option ℤ
 node_constant part (Num n) = Some n
 node_constant part (LetVar bound) = part bound.0
-node_constant part (Op op args) = if is_arithmetic op then option_map (applied op) (all_constant (map (λ arg. part arg.0) args)) else None
+node_constant part (Op op args) = if is_arithmetic op then option_map (integer_result op) (all_constant (map (λ arg. part arg.0) args)) else None
 node_constant part (Let bound body) = part body.0
 node_constant part _ = None
 

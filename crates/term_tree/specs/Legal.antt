@@ -13,17 +13,17 @@ use Rattle.term_tree.specs.Sorts.{has_sort, sort_of}
 use Rattle.term_tree.specs.Subterms.{is_among, EverySubterm}
 
 -- the names that may stand in a term: the variables by number, and the terms that `let` binds
-pub record Scope : Type 0 where
+pub record NamesInScope : Type 0 where
   pub variables : ℕ → Option Sort
   pub bound : List TermId
 
 -- the variables from `first` on have these sorts
-abbrev pub with_variables : ℕ → List Sort → Scope → Scope
+abbrev pub with_variables : ℕ → List Sort → NamesInScope → NamesInScope
 with_variables first sorts scope =
     record { variables = λ k. if nat_lt k first then scope.variables k else if nat_lt (k - first) (length sorts) then slice_get sorts (k - first) else scope.variables k; bound = scope.bound }
 
 -- the terms are bound to names
-abbrev pub with_bound : List TermId → Scope → Scope
+abbrev pub with_bound : List TermId → NamesInScope → NamesInScope
 with_bound terms scope = record { variables = scope.variables; bound = terms ++ scope.bound }
 
 abbrev pub has_some : {X : Type 0} → List X → Bool
@@ -31,7 +31,7 @@ has_some [] = false
 has_some (x ∷ xs) = true
 
 -- each name is bound, a variable to its sort, and a binder has one name or more. The terms of a `let` stand outside it
-abbrev pub node_is_scoped : (ℕ → Scope → Bool) → Node → Scope → Bool
+abbrev pub node_is_scoped : (ℕ → NamesInScope → Bool) → Node → NamesInScope → Bool
 node_is_scoped part (Num n) scope = true
 node_is_scoped part True scope = true
 node_is_scoped part False scope = true
@@ -44,7 +44,7 @@ node_is_scoped part (Let bound body) scope = has_some bound && (list_all (λ b. 
 node_is_scoped part (Forall first sorts body) scope = has_some sorts && part body.0 (with_variables first sorts scope)
 node_is_scoped part (Exists first sorts body) scope = has_some sorts && part body.0 (with_variables first sorts scope)
 
-abbrev pub is_scoped : List Node → ℕ → Scope → Bool
+abbrev pub is_scoped : List Node → ℕ → NamesInScope → Bool
 is_scoped = told_of (λ scope. false) node_is_scoped
 
 abbrev pub carried : (ℕ → Option ℕ) → Option ℕ → Option ℕ
@@ -79,7 +79,7 @@ is_there None = false
 is_there (Some n) = true
 
 -- the variables of a definition, from 0 on, and no other names
-abbrev pub parameters : List Sort → Scope
+abbrev pub parameters : List Sort → NamesInScope
 parameters sorts = record { variables = slice_get sorts; bound = [] }
 
 -- the term is legal over these predicates and variables of these sorts, and has the sort

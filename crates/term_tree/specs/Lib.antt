@@ -1,3 +1,4 @@
+pub mod Agreement
 pub mod Arena
 pub mod Constants
 pub mod Division

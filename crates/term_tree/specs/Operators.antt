@@ -38,6 +38,11 @@ abbrev pub pairwise : (Value → Value → Bool) → List Value → Bool
 pairwise r [] = true
 pairwise r (x ∷ vs) = list_all (r x) vs && pairwise r vs
 
+-- the operator that asks it of all pairs; the other relations ask it of neighbours
+abbrev pub is_distinct : OpKind → Bool
+is_distinct Distinct = true
+is_distinct _ = false
+
 -- a => (b => c)
 abbrev pub implied : List Bool → Bool
 implied [] = true
@@ -82,8 +87,8 @@ choice_of _ = Truth false
 abbrev pub at_most : Value → Value → Bool
 at_most x y = int_le (integer x) (integer y)
 
-abbrev pub less : Value → Value → Bool
-less x y = int_lt (integer x) (integer y)
+abbrev pub is_smaller : Value → Value → Bool
+is_smaller x y = int_lt (integer x) (integer y)
 
 -- what an operator gives for the values of its arguments
 abbrev pub result_of : OpKind → List Value → Value
@@ -102,9 +107,9 @@ result_of Abs vs = Int (pos (nat_abs (first_of_all (map integer vs))))
 result_of Div vs = Int (on_two int_div_euclid (map integer vs))
 result_of Mod vs = Int (on_two int_rem_euclid (map integer vs))
 result_of Le vs = Truth (chained at_most vs)
-result_of Lt vs = Truth (chained less vs)
+result_of Lt vs = Truth (chained is_smaller vs)
 result_of Ge vs = Truth (chained (λ x y. at_most y x) vs)
-result_of Gt vs = Truth (chained (λ x y. less y x) vs)
+result_of Gt vs = Truth (chained (λ x y. is_smaller y x) vs)
 
 -- whether the divisor divides the number
 abbrev pub divides : ℤ → ℤ → Bool

@@ -3,6 +3,7 @@
 -- `or`, `+` or `*` of one argument is allowed.
 use Rattle.std.specs.Prelude.{ℕ, List, [], ◌∷◌, map, length, slice_get, Option, Some, None, Bool, true, false, ◌&&◌, nat_le, if◌then◌else◌}
 use Rattle.std.specs.List.{list_all}
+use Rattle.base.specs.Limits.{most_distinct}
 use Rattle.term_tree.specs.declared.sort.Sort.{Sort}
 use Rattle.term_tree.specs.declared.sort.Sort.TheVariants.{Int, Bool as Truth}
 use Rattle.term_tree.specs.declared.script.Pred.{Pred as Declared}
@@ -55,7 +56,7 @@ operation_sort Or given = sort_if (all_of Truth 1 given) Truth
 operation_sort Xor given = sort_if (all_of Truth 2 given) Truth
 operation_sort Implies given = sort_if (all_of Truth 2 given) Truth
 operation_sort Eq given = sort_if (nat_le 2 (length given) && are_alike given) Truth
-operation_sort Distinct given = sort_if (nat_le 2 (length given) && (nat_le (length given) 64 && are_alike given)) Truth
+operation_sort Distinct given = sort_if (nat_le 2 (length given) && (nat_le (length given) most_distinct && are_alike given)) Truth
 operation_sort Ite given = choice_sort given
 operation_sort Add given = sort_if (all_of Int 1 given) Int
 operation_sort Mul given = sort_if (all_of Int 1 given) Int

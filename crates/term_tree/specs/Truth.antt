@@ -3,7 +3,8 @@
 -- true or false cannot be decided in general, so a term need not be known to have a value; it never has two. So an
 -- operation must not wait for the values of all its arguments: an implication whose last argument is true is true, whatever
 -- is known of the others. Where all arguments have values the rule is the standard's.
-use Rattle.std.specs.Prelude.{◌≡◌, ℕ, zero, suc, ◌-◌, List, [], ◌∷◌, ◌++◌, map, true, false, nat_lt, if◌then◌else◌, slice_index_or, Option, Some, None}
+use Rattle.std.specs.Prelude.{◌≡◌, ℕ, zero, suc, ◌-◌, List, [], ◌∷◌, ◌++◌, map, true, false, nat_lt, if◌then◌else◌, slice_index_or, Option, Some, None, ℤ, pos}
+use Rattle.std.specs.Ordering.{int_eq}
 use Rattle.term_tree.specs.declared.sort.Sort.{Sort}
 use Rattle.term_tree.specs.declared.sort.Sort.TheVariants.{Int as IntSort, Bool as BoolSort}
 use Rattle.term_tree.specs.declared.node.TermId.{TermId}
@@ -34,6 +35,17 @@ HaveSorts [] [] = Unit {0}
 HaveSorts (s ∷ sorts) (v ∷ values) = HasSort s v × HaveSorts sorts values
 HaveSorts [] (v ∷ values) = ⊥
 HaveSorts (s ∷ sorts) [] = ⊥
+
+-- the value of the sort that an integer stands for: of sort Bool, 1 is true and every other integer is false
+abbrev pub as_value : Sort → ℤ → Value
+as_value IntSort n = Int n
+as_value BoolSort n = Truth (int_eq n (pos 1))
+
+-- one for each sort
+abbrev pub as_values : List Sort → List ℤ → List Value
+as_values [] point = []
+as_values (sort ∷ sorts) [] = []
+as_values (sort ∷ sorts) (n ∷ point) = as_value sort n ∷ as_values sorts point
 
 -- the environment in which the variables from `first` on have these values
 abbrev pub bound_from : ℕ → List Value → Environment → Environment

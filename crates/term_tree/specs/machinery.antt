@@ -1,5 +1,4 @@
 -- What the code keeps for itself: no rule cites it.
-pub mod Agreement
 pub mod Known
 pub mod Pairs
 pub mod Walk

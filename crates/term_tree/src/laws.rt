@@ -10,8 +10,8 @@ ghost use Rattle.term_tree.specs.declared.scalar.Value.{Value};
 ghost use Rattle.term_tree.specs.Arena.{IsArena};
 ghost use Rattle.term_tree.specs.Value.{Environment, node_worth, value_of};
 ghost use Rattle.term_tree.specs.Truth.{Interpretation, HasValue, node_meaning};
-ghost use Rattle.term_tree.specs.machinery.Agreement.{AgreeEverywhere, IsTrueBelow, all_true, all_positive};
-ghost use Rattle.term_tree.specs.Legal.{Scope, is_scoped, node_is_scoped, next_variable, node_numbers};
+ghost use Rattle.term_tree.specs.Agreement.{AgreeEverywhere, IsTrueBelow, all_true, all_positive};
+ghost use Rattle.term_tree.specs.Legal.{NamesInScope, is_scoped, node_is_scoped, next_variable, node_numbers};
 ghost use Rattle.term_tree.specs.Same.{is_alike, is_same_tree, parts_of, same_parts};
 ghost use Rattle.term_tree.specs.Head.{has_head, node_has_head};
 ghost use Rattle.term_tree.specs.Division.{IsDivision};
@@ -109,7 +109,7 @@ pub fn constant_of_nodes()
 
 /// The law of a node for bound names.
 pub fn scoped_of_nodes()
-    ensures { (nodes : List Node) (id : ℕ) (node : Node) (scope : Scope) →
+    ensures { (nodes : List Node) (id : ℕ) (node : Node) (scope : NamesInScope) →
         IsArena nodes → slice_get nodes id ≡ Some node →
         is_scoped nodes id scope ≡ node_is_scoped (is_scoped nodes) node scope }
 {}

@@ -13,7 +13,7 @@ use Rattle.linear_terms.specs.Formula.{neighbours, pairs, sides}
 use Rattle.linear_terms.specs.Linear.{is_narrow, less}
 use Rattle.linear_terms.specs.Width.{is_relation, is_wide_relation}
 use Rattle.linear_terms.proofs.PartLemmas.{first_among, later_among}
-use Rattle.term_widths.specs.machinery.Sides.{is_wide_pair}
+use Rattle.term_widths.specs.Sides.{is_wide_pair}
 use Rattle.term_widths.proofs.SideLemmas.{any_both}
 
 module _ (f g : ℕ → Linear) where

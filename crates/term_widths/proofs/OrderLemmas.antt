@@ -16,7 +16,7 @@ use Rattle.lin_atoms.specs.Linear.{Linear, are_ordered}
 use Rattle.lin_atoms.specs.Algebra.{negated, negated_terms}
 use Rattle.lin_atoms.proofs.LinearLemmas.{are_ordered-negated}
 use Rattle.lin_atoms.proofs.Public.{collected-ordered, ordered-cons, scaled-ordered}
-use Rattle.linear_terms.specs.Linear.{Naming, all_terms, auxiliary_form, difference_form, linear_of, multiple_of, node_linear, operation_form, told_linear, varying}
+use Rattle.linear_terms.specs.Linear.{Naming, all_terms, auxiliary_form, difference_form, linear_of, multiple_of, node_linear, operation_form, told_linear, varying_form}
 use Rattle.linear_terms.proofs.PartLemmas.{first_among, later_among, linear_at}
 
 abbrev pub IsRising : Linear → Type 0
@@ -41,7 +41,7 @@ first_rises : (whole : List (Option ℤ)) (forms : List Linear) → AllByRecursi
 first_rises whole [] rise = refl
 first_rises whole (f ∷ forms) rise = scaled-ordered (product_of (constants_among (drop 1 whole))) 0 f.terms rise.0
 
-product_rises : (whole constants : List (Option ℤ)) (forms rest : List Linear) → AllByRecursion IsRising forms → AllByRecursion IsRising rest → IsRising (multiple_of (varying constants rest) whole forms)
+product_rises : (whole constants : List (Option ℤ)) (forms rest : List Linear) → AllByRecursion IsRising forms → AllByRecursion IsRising rest → IsRising (multiple_of (varying_form constants rest) whole forms)
 product_rises whole [] forms rest rise others = first_rises whole forms rise
 product_rises whole (c ∷ constants) forms [] rise others = first_rises whole forms rise
 product_rises whole (None ∷ constants) forms (f ∷ rest) rise others = scaled-ordered (product_of (constants_among whole)) 0 f.terms others.0

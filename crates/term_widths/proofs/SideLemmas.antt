@@ -6,7 +6,7 @@ use Rattle.std.proofs.lemmas.Bool.{cases_lt}
 use Rattle.std.proofs.lemmas.List.{drop_all, drop_more}
 use Rattle.lin_atoms.specs.Linear.{Linear, of_constant}
 use Rattle.linear_terms.specs.Formula.{neighbours, pairs}
-use Rattle.term_widths.specs.machinery.Sides.{is_wide_pair, is_wide_with}
+use Rattle.term_widths.specs.Sides.{is_wide_pair, is_wide_with}
 
 pub with_more : (first : Linear) (others : List Linear) (i : ℕ) (d : Linear) → i < length others → is_wide_with first (drop i others) ≡ (is_wide_pair (first, get_or others i d) || is_wide_with first (drop (i + 1) others))
 with_more first others i d h = ap (is_wide_with first) (drop_more others i d h)

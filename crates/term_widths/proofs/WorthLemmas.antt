@@ -14,7 +14,7 @@ use Rattle.term_tree.proofs.Public.{arena_below, eqb_self, part_below, there_is}
 use Rattle.lin_atoms.specs.Linear.{Linear, value_at, variable_at}
 use Rattle.lin_atoms.specs.Algebra.{negated, scaled}
 use Rattle.lin_atoms.proofs.Public.{value_at-negated, value_at-scaled}
-use Rattle.linear_terms.specs.Linear.{Naming, auxiliary_form, difference_form, linear_of, multiple_of, node_linear, operation_form, sum_form, told_linear, varying}
+use Rattle.linear_terms.specs.Linear.{Naming, auxiliary_form, difference_form, linear_of, multiple_of, node_linear, operation_form, sum_form, told_linear, varying_form}
 use Rattle.linear_terms.proofs.LinearLemmas.{sum_value, variable_value}
 use Rattle.linear_terms.proofs.PartLemmas.{first_among, later_among, linear_at}
 use Rattle.term_widths.specs.machinery.Apart.{Occurs}
@@ -69,7 +69,7 @@ module _ (p q : List ℤ) where
 
   -- the factor that isn't constant stands at the same place
   product_same : (whole constants : List (Option ℤ)) (fs gs rest_f rest_g : List Linear) → Same fs gs → Same rest_f rest_g
-      → value_at p (multiple_of (varying constants rest_f) whole fs) ≡ value_at q (multiple_of (varying constants rest_g) whole gs)
+      → value_at p (multiple_of (varying_form constants rest_f) whole fs) ≡ value_at q (multiple_of (varying_form constants rest_g) whole gs)
   product_same whole [] fs gs rest_f rest_g same rest = first_factor whole fs gs same
   product_same whole (c ∷ constants) fs gs [] [] same rest = first_factor whole fs gs same
   product_same whole (c ∷ constants) fs gs [] (g ∷ rest_g) same rest = absurd (cc)

@@ -1,4 +1,3 @@
 -- What the code keeps for itself: no rule cites it.
 pub mod Apart
 pub mod Seen
-pub mod Sides

@@ -4,7 +4,7 @@ ghost use Rattle.std.specs.Prelude.{◌≡◌, not, IfOk};
 ghost use Rattle.std.specs.List.{list_any};
 ghost use Rattle.linear_terms.specs.Formula.{neighbours, pairs, sides};
 ghost use Rattle.linear_terms.specs.Linear.{is_narrow, less};
-ghost use Rattle.term_widths.specs.machinery.Sides.{is_wide_pair, is_wide_with};
+ghost use Rattle.term_widths.specs.Sides.{is_wide_pair, is_wide_with};
 
 use base::Memory;
 use lin_atoms::{Lin, WideStop};

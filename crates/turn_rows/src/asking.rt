@@ -6,6 +6,7 @@ ghost use Rattle.obligation_turn.specs.Turns.{IsThin};
 ghost use Rattle.book_loop.specs.Runs.{CanRun};
 
 use crate::books::opened;
+use crate::journals::searched;
 use chc_core::Book;
 use chc_tokens::Goal;
 use clause_queries::{Found, ask_all};
@@ -44,21 +45,21 @@ fn summary(found: &Found) -> Told {
 }
 
 /// Asks all clauses for false.
-fn asked(rt: &impl Abort, alloc: Global, book: &Book, k: u32) -> Told
+fn asked(rt: &impl Abort, alloc: Global, book: &Book, k: u32) -> Found
     requires can_run { CanRun book.now.system }
     requires thin { IsThin (standing_of book.now) }
 {
     book.is_replayed();
     let sys = book.system();
-    let found = ask_all(alloc, sys, book.frames(), None, &Goal::Query, k, 100).expect(rt, "memory");
-    summary(&found)
+    ask_all(alloc, sys, book.frames(), None, &Goal::Query, k, 100).expect(rt, "memory")
 }
 
 fn check(rt: &impl Abort, alloc: Global, shows: &str, clauses: [&str; 2], k: u32, expected: Told) {
     let [first, second] = clauses;
     let text = format!(in alloc; "{P}{first}{second}(check-sat)").expect(rt, "memory");
     let book = opened(rt, alloc, text.as_str(), 1);
-    assert!(rt; asked(rt, alloc, &book, k) == expected, "{shows}");
+    let found = asked(rt, alloc, &book, k);
+    assert!(rt; summary(&found) == expected, "{shows}");
 }
 
 #[test]
@@ -104,4 +105,45 @@ fn clauses_with_fewer_body_atoms_are_asked_first(rt: HostRuntime) {
     ] {
         check(&rt, rt.alloc(), shows, clauses, k, expected);
     }
+}
+
+/// p of 0 and of what follows a number of p; q of what p has; no number of q is below 0.
+const CHAIN: &str =
+    "(set-logic HORN)(declare-fun p (Int) Bool)(declare-fun q (Int) Bool)(assert (p 0))(assert (forall ((x Int)) (=> (p x) (p (+ x 1)))))(assert (forall ((x Int)) (=> (p x) (q x))))(assert (forall ((x Int)) (=> (and (q x) (< x 0)) false)))(check-sat)";
+
+/// How many lemmas of F(k) are about q.
+fn lemmas_of_q(book: &Book, k: u32) -> usize
+    requires { 0 < k }
+{
+    if book.frames().preds() == 2 {
+        book.frames().upper(1, k).len()
+    } else {
+        0
+    }
+}
+
+/// How many lemmas are used in the proofs that false has no instance under F(k).
+fn used(rt: &impl Abort, alloc: Global, book: &Book, k: u32) -> usize
+    requires can_run { CanRun book.now.system }
+    requires thin { IsThin (standing_of book.now) }
+{
+    let found = asked(rt, alloc, book, k);
+    match &found {
+        Found::Refuted(proofs) => match proofs.as_slice() {
+            [only] => only.used().len(),
+            _ => panic!(rt; "one clause is asked"),
+        },
+        _ => panic!(rt; "false has no instance"),
+    }
+}
+
+#[test]
+fn a_lemma_that_another_one_implies_is_left_out(rt: HostRuntime) {
+    let book = searched(&rt, rt.alloc(), CHAIN);
+    // That q has no number within one step, and that it has none below 0.
+    assert!(rt; lemmas_of_q(&book, 1) == 2);
+    assert!(rt; used(&rt, rt.alloc(), &book, 1) == 1);
+    // The second one alone.
+    assert!(rt; lemmas_of_q(&book, 2) == 1);
+    assert!(rt; used(&rt, rt.alloc(), &book, 2) == 1);
 }

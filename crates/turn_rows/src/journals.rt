@@ -1,5 +1,9 @@
 //! The journal of a whole search: a letter for each step.
 
+ghost use Rattle.chc_core.specs.Views.{standing_of};
+ghost use Rattle.obligation_turn.specs.Turns.{IsThin};
+ghost use Rattle.book_loop.specs.Runs.{CanRun};
+
 use crate::books::opened;
 use base::Same;
 use book_loop::search;
@@ -31,7 +35,10 @@ fn letters(rt: &impl Abort, alloc: Global, book: &Book) -> String {
 }
 
 /// The book of a script once it has ended.
-fn searched(rt: &impl Abort, alloc: Global, text: &str) -> Book {
+pub(crate) fn searched(rt: &impl Abort, alloc: Global, text: &str) -> Book
+    ensures can_run { CanRun result.system }
+    ensures thin { IsThin (standing_of result) }
+{
     let mut book = opened(rt, alloc, text, 1_000);
     search(&mut book, 100).expect(rt, "memory");
     book

@@ -1,21 +1,15 @@
 -- The obligations that may be asked.
-use Rattle.std.specs.Prelude.{◌≡◌, ◌<◌, ℕ, List, length, Bool, true, false, Option, None}
+use Rattle.std.specs.Prelude.{◌≡◌, ℕ, List, Bool, true, false, Option, None}
 use Rattle.obligation_tree.specs.declared.node.Node.{Node}
-use Rattle.obligation_tree.specs.Nodes.{has_live_child, is_live_at, is_stalled_in, node_at}
+use Rattle.obligation_tree.specs.Nodes.{is_stalled_in, node_at, IsLiveLeaf}
 
 -- whether the obligation of a number is stalled
 abbrev pub is_stalled : List Node → ℕ → Bool
 is_stalled nodes n = is_stalled_in (node_at nodes n)
 
--- a live obligation without live children
-pub record IsLeaf (nodes : List Node) (n : ℕ) : Type 0 where
-  pub there : n < length nodes
-  pub live : is_live_at nodes n ≡ true
-  pub leaf : has_live_child nodes n ≡ false
-
 -- one that isn't stalled
 pub record IsJob (nodes : List Node) (n : ℕ) : Type 0 where
-  pub is_leaf : IsLeaf nodes n
+  pub is_leaf : IsLiveLeaf nodes n
   pub unmarked : is_stalled nodes n ≡ false
 
 -- none is found only where none was, and this one is stalled

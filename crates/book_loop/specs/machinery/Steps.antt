@@ -9,7 +9,7 @@ use Rattle.book_rules.specs.Walks.{AllOf}
 use Rattle.std.specs.List.{list_all}
 use Rattle.chc_core.specs.Contents.{Contents}
 use Rattle.chc_core.specs.Views.{standing_of}
-use Rattle.step_rules.specs.Standing.{Standing, state_of}
+use Rattle.step_rules.specs.Standing.{Standing, standing_state}
 use Rattle.step_rules.specs.Taken.{IsMadeFor, step_of}
 use Rattle.step_rules.specs.Tokens.{all_shown}
 use Rattle.step_rules.specs.declared.step.Step.{Step}
@@ -20,7 +20,7 @@ use Rattle.book_loop.specs.Runs.{IsOwn}
 -- what is needed of a turn: the step breaks no rule, its tokens are the system's and its cubes over their predicates; evidence
 -- counts the nodes that were allowed, and what is added is thin
 pub record IsTaken (b : Standing) (nodes : ℕ) (step : Step) : Type 0 where
-  pub unbroken : broken b.system (state_of b) (step_of step) ≡ None
+  pub unbroken : broken b.system (standing_state b) (step_of step) ≡ None
   pub made : IsMadeFor b.system step
   pub places : has_places b.system (step_of step) ≡ true
   pub counts : StepCounts nodes step

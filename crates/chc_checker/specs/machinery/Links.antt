@@ -3,14 +3,11 @@ use Rattle.std.specs.Prelude.{◌≡◌, ℕ, ℤ, pos, negsuc, ◌≤ℤ◌, Li
 use Rattle.lin_atoms.specs.Linear.{Linear, variable_at}
 use Rattle.lin_atoms.specs.Truth.{truth}
 use Rattle.lin_atoms.specs.declared.form.Form.{Form}
+use Rattle.linear_terms.specs.Meeting.{truth_number}
 
 -- formulas are true at the same points over the integers
 abbrev pub SayTheSame : Form → Form → Type 0
 SayTheSame form other = (point : List ℤ) → truth point other ≡ truth point form
-
-abbrev pub bit : Bool → ℤ
-bit true = pos 1
-bit false = pos 0
 
 -- the second variable is the first one's value, or the other one of 0 and 1
 abbrev pub partner : Bool → Bool → Bool
@@ -19,8 +16,8 @@ partner false value = not value
 
 pub record AreLinked (u v : ℕ) (same : Bool) (point : List ℤ) : Type 0 where
   pub value : Bool
-  pub first : variable_at point u ≡ bit value
-  pub second : variable_at point v ≡ bit (partner same value)
+  pub first : variable_at point u ≡ truth_number value
+  pub second : variable_at point v ≡ truth_number (partner same value)
 
 -- as one literal, between bounds of the first one
 abbrev pub link_form : ℕ → ℕ → Bool → Linear
@@ -40,13 +37,13 @@ pub record AreWithin (low high : List Bool) (point : List ℤ) : Type 0 where
 
 -- where the marks are right, the formula is true exactly where the variable has that value
 pub record IsValue (low high : List Bool) (form : Form) (v : ℕ) (value : Bool) : Type 0 where
-  pub made : (point : List ℤ) → variable_at point v ≡ bit value → truth point form ≡ true
-  pub only : (point : List ℤ) → AreWithin low high point → truth point form ≡ true → variable_at point v ≡ bit value
+  pub made : (point : List ℤ) → variable_at point v ≡ truth_number value → truth point form ≡ true
+  pub only : (point : List ℤ) → AreWithin low high point → truth point form ≡ true → variable_at point v ≡ truth_number value
 
 -- exactly where both have
 pub record AreValues (low high : List Bool) (form : Form) (u : ℕ) (first : Bool) (v : ℕ) (second : Bool) : Type 0 where
-  pub made : (point : List ℤ) → variable_at point u ≡ bit first → variable_at point v ≡ bit second → truth point form ≡ true
-  pub only : (point : List ℤ) → AreWithin low high point → truth point form ≡ true → (variable_at point u ≡ bit first) × (variable_at point v ≡ bit second)
+  pub made : (point : List ℤ) → variable_at point u ≡ truth_number first → variable_at point v ≡ truth_number second → truth point form ≡ true
+  pub only : (point : List ℤ) → AreWithin low high point → truth point form ≡ true → (variable_at point u ≡ truth_number first) × (variable_at point v ≡ truth_number second)
 
 -- exactly where they are linked
 pub record IsLink (low high : List Bool) (form : Form) (u v : ℕ) (same : Bool) : Type 0 where

@@ -6,8 +6,7 @@ use Rattle.book_rules.specs.Places.{AreOver}
 use Rattle.chc_core.specs.Contents.{Contents}
 use Rattle.chc_core.specs.Openings.{IsOpening, most_units, opening_of}
 use Rattle.step_rules.specs.Standing.{IsNumbered}
-use Rattle.chc_core.specs.Views.{steps_of}
-use Rattle.chc_core.specs.Views.{state_of}
+use Rattle.chc_core.specs.Views.{AreMadeFor, state_of, steps_of}
 use Rattle.step_rules.specs.Falsity.{IsLastFalse}
 
 -- it is the replay of its journal from its opening, and each entry is legal where it is written. That lemmas are good, facts
@@ -19,6 +18,7 @@ pub record IsBook (b : Contents) : Type 0 where
   pub opened : IsOpening b.system (opening_of b)
   pub replayed : replay b.system (opening_of b) (steps_of b.journal) ≡ state_of b
   pub legal : AreLegal b.system (opening_of b) (steps_of b.journal)
+  pub made : AreMadeFor b.system b.journal
   pub over : AreOver b.system (state_of b)
   pub preds : b.frames.preds ≡ length b.system.preds
   pub false_last : IsLastFalse b.facts

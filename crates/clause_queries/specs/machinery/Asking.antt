@@ -11,7 +11,7 @@ use Rattle.chc_tokens.specs.declared.seeing.Seen.{Seen}
 use Rattle.chc_tokens.specs.declared.used.Used.{Used}
 use Rattle.book_rules.specs.Walks.{AllOf}
 use Rattle.clause_queries.specs.Answers.{IsGivenUpFor, IsInstanceFor, IsProof, IsRefutedFor, IsUnknown, NoneFound, is_through}
-use Rattle.clause_queries.specs.Uses.{IsAskedAt, uses}
+use Rattle.clause_queries.specs.Uses.{AreUses, IsAskedAt}
 use Rattle.clause_queries.specs.declared.asking.Asked.{Asked}
 use Rattle.clause_queries.specs.declared.asking.Asked.TheVariants.{Instance, Refuted, GivenUp}
 use Rattle.clause_queries.specs.declared.finding.Found.{Found}
@@ -34,7 +34,9 @@ IsAnswer sys n goal used nodes (GivenUp lost) = IsGivenUpFor sys n goal used nod
 -- what is answered of a clause that is asked, under F(k)
 pub record IsAnswerAt (sys : Clauses) (fs : List Framed) (pred : Option ℕ) (goal : Goal) (k nodes n : ℕ) (asked : Asked) : Type 0 where
   pub at : IsAskedAt sys pred k n
-  pub answer : IsAnswer sys n goal (uses k fs at.clause) nodes asked
+  pub used : List Used
+  pub under : AreUses k fs at.clause used
+  pub answer : IsAnswer sys n goal used nodes asked
 
 abbrev pub first_lost : Option Lost → Lost → Option Lost
 first_lost None lost = Some lost

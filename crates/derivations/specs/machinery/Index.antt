@@ -1,5 +1,5 @@
 -- The rows of the predicates, beside the facts.
-use Rattle.std.specs.Prelude.{ℕ, ℤ, ◌≡◌, ◌≢◌, ◌<◌, ◌≤◌, ◌↔◌, List, [], length, get_or, Some}
+use Rattle.std.specs.Prelude.{ℕ, ℤ, ◌≡◌, ◌≢◌, ◌<◌, ◌≤◌, ◌↔◌, List, [], length, get_or, take, Some}
 use Rattle.std.specs.List.{AllPairs, Contains}
 use Rattle.std.specs.Ordering.{int_cmp}
 use Rattle.std.specs.declared.cmp.Ordering.TheVariants.{Less}
@@ -17,6 +17,17 @@ pub record IsRank (T : ℕ → List ℤ) (row : List ℕ) (tuple : List ℤ) (ra
   pub within : rank ≤ length row
   pub before : (k d : ℕ) → k < rank → slice_cmp int_cmp (T (get_or row k d)) tuple ≡ Less
   pub behind : (k d : ℕ) → rank ≤ k → k < length row → slice_cmp int_cmp (T (get_or row k d)) tuple ≢ Less
+
+-- the tuple begins with these values
+abbrev pub Begins : List ℤ → List ℤ → Type 0
+Begins front tuple = take (length front) tuple ≡ front
+
+-- from low on and before high the tuples of a row begin with these values, and the one at high doesn't
+pub record IsRun (T : ℕ → List ℤ) (row : List ℕ) (front : List ℤ) (low high : ℕ) : Type 0 where
+  pub after : low ≤ high
+  pub within : high ≤ length row
+  pub begins : (k d : ℕ) → low ≤ k → k < high → Begins front (T (get_or row k d))
+  pub ends : (d : ℕ) → high < length row → Begins front (T (get_or row high d)) → ⊥
 
 -- the facts of one predicate, by number and by tuple
 pub record IsRow (facts : List Fact) (pred : ℕ) (row : Row) : Type 0 where

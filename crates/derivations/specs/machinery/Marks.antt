@@ -2,7 +2,7 @@
 use Rattle.std.specs.Prelude.{ℕ, ◌≡◌, ◌<◌, ◌≤◌, ◌+◌, List, Bool, true, false, length, get_or, ◌↔◌}
 use Rattle.std.specs.List.{AllPairs, Contains}
 use Rattle.derivations.specs.declared.fact.Fact.{Fact}
-use Rattle.derivations.specs.Facts.{premises_of, RestsOn}
+use Rattle.derivations.specs.Facts.{fact_premises, RestsOn}
 
 abbrev pub IsMarked : List Bool → ℕ → Type 0
 IsMarked marks m = get_or marks m false ≡ true
@@ -12,7 +12,7 @@ pub record AreMarked (facts : List Fact) (n i : ℕ) (marks : List Bool) : Type 
   pub long : length marks ≡ n + 1
   pub sound : (m : ℕ) → IsMarked marks m → RestsOn facts n m
   pub first : IsMarked marks n
-  pub closed : (p q : ℕ) → i ≤ p → IsMarked marks p → Contains (premises_of facts p) q → IsMarked marks q
+  pub closed : (p q : ℕ) → i ≤ p → IsMarked marks p → Contains (fact_premises facts p) q → IsMarked marks q
 
 -- the marked numbers among the first i
 pub record AreCollected (marks : List Bool) (i : ℕ) (steps : List ℕ) : Type 0 where

@@ -1,9 +1,8 @@
 -- Tries, after more of them.
 use Rattle.step_rules.specs.Standing.{Standing}
 use Rattle.lemma_general.specs.Generals.{IsForSame}
-use Rattle.lemma_general.specs.Tries.{IsTrying, part_of}
+use Rattle.lemma_general.specs.Tries.{IsTrying, part_of, IsWiderCube}
 use Rattle.lemma_general.specs.declared.trying.Tries.{Tries}
-use Rattle.lemma_candidates.specs.Candidates.{IsWiderCube}
 
 -- what the lemma is for stays
 pub record IsTriedOn (b : Standing) (old new : Tries) : Type 0 where

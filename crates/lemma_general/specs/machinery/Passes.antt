@@ -1,7 +1,6 @@
 -- How literals are dropped.
-use Rattle.std.specs.Prelude.{◌≡◌, ◌<◌, ◌≤◌, ◌-◌, ◌+◌, ◌⊎◌, ◌++◌, ◌∷◌, [], ℕ, ℤ, List, Bool, true, false, Option, Some, None, length}
+use Rattle.std.specs.Prelude.{◌≡◌, ◌<◌, ◌≤◌, ◌-◌, ◌+◌, ◌⊎◌, ◌++◌, ◌∷◌, [], ℕ, List, Bool, true, false, Option, Some, None, length}
 use Rattle.lin_atoms.specs.declared.lit.Lit.{Lit}
-use Rattle.cube_forms.specs.Cubes.{cube_holds}
 use Rattle.chc_tokens.specs.declared.goal.Goal.TheVariants.{Holds}
 use Rattle.chc_tokens.specs.declared.refuting.Shown.{Shown}
 use Rattle.book_rules.specs.Areas.{is_wide}
@@ -22,10 +21,6 @@ use Rattle.lemma_general.specs.declared.breaking.Breaking.{Breaking}
 pub record IsCubeOf (b : Standing) (pred : ℕ) (cube : List Lit) : Type 0 where
   pub over : is_over b.system.preds pred cube ≡ true
   pub thin : is_wide cube ≡ false
-
--- each tuple in the first cube is in the second
-abbrev pub IsWithin : List Lit → List Lit → Type 0
-IsWithin cube wider = (tuple : List ℤ) → cube_holds tuple cube ≡ true → cube_holds tuple wider ≡ true
 
 -- what is found of a cube under F(k)
 abbrev pub IsFoundOf : Standing → ℕ → List Lit → ℕ → ℕ → Found → Type 0

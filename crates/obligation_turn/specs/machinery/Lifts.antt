@@ -17,7 +17,7 @@ use Rattle.book_rules.specs.Steps.{NoLift as PlainNoLift}
 use Rattle.book_rules.specs.Walks.{AllOf}
 use Rattle.clause_queries.specs.Answers.{AreProofs, IsLost}
 use Rattle.clause_queries.specs.declared.lost.Lost.{Lost}
-use Rattle.step_rules.specs.Standing.{Standing, state_of}
+use Rattle.step_rules.specs.Standing.{Standing, standing_state}
 use Rattle.step_rules.specs.Taken.{IsMadeFor, step_of}
 use Rattle.step_rules.specs.Tokens.{all_no_lifts, no_lift_of}
 use Rattle.step_rules.specs.Views.{framed_at, lemmas_of}
@@ -51,20 +51,20 @@ ArePairs sys s (e ∷ es) (k ∷ ks) = IsPair sys s e k × ArePairs sys s es ks
 -- what was found that keeps the lemma of a number where it is
 pub record IsKeptAt (b : Standing) (nodes id : ℕ) (kept : NoLift) : Type 0 where
   pub no_lift : IsNoLift b.system kept
-  pub pair : IsPair b.system (state_of b) (id, framed_at b.frames.lemmas id) (no_lift_of kept)
+  pub pair : IsPair b.system (standing_state b) (id, framed_at b.frames.lemmas id) (no_lift_of kept)
   pub places : no_lift_has_places b.system (no_lift_of kept) ≡ true
   pub counts : WhyCounts nodes (kept_why kept)
 
 -- what was found of the lemmas below this number
 pub record AreKept (b : Standing) (nodes n : ℕ) (kept : List NoLift) : Type 0 where
   pub no_lifts : AllOf (IsNoLift b.system) kept
-  pub pairs : ArePairs b.system (state_of b) (below_from b.level 0 (take n (lemmas_of b.frames.lemmas))) (all_no_lifts kept)
+  pub pairs : ArePairs b.system (standing_state b) (below_from b.level 0 (take n (lemmas_of b.frames.lemmas))) (all_no_lifts kept)
   pub places : list_all (no_lift_has_places b.system) (all_no_lifts kept) ≡ true
   pub counts : AllOf (λ k. WhyCounts nodes (kept_why k)) kept
 
 -- a Lift that breaks no rule
 pub record IsLegalLift (b : Standing) (part : LiftPart) : Type 0 where
-  pub unbroken : broken b.system (state_of b) (step_of (LiftStep part)) ≡ None
+  pub unbroken : broken b.system (standing_state b) (step_of (LiftStep part)) ≡ None
   pub made : IsMadeFor b.system (LiftStep part)
   pub places : has_places b.system (step_of (LiftStep part)) ≡ true
 

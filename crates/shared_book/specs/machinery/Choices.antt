@@ -1,17 +1,10 @@
 -- The leaves of a book, and which has been claimed so far.
-use Rattle.std.specs.Prelude.{◌≡◌, ◌<◌, ◌||◌, ℕ, List, length, Bool, true, false, Option, Some, None}
+use Rattle.std.specs.Prelude.{◌≡◌, ◌||◌, ℕ, Bool, true, Option, Some, None}
 use Rattle.obligation_tree.specs.Claims.{is_held_by_another}
-use Rattle.obligation_tree.specs.declared.node.Node.{Node}
-use Rattle.obligation_tree.specs.Nodes.{has_live_child, is_live_at, is_stalled_in, node_at}
+use Rattle.obligation_tree.specs.Nodes.{is_stalled_in, node_at}
 use Rattle.chc_core.specs.Contents.{Contents}
 use Rattle.shared_book.specs.Jobs.{IsFree}
 use Rattle.shared_book.specs.Locks.{claimed_by}
-
--- a live obligation without live children
-pub record IsLiveLeaf (nodes : List Node) (n : ℕ) : Type 0 where
-  pub there : n < length nodes
-  pub live : is_live_at nodes n ≡ true
-  pub leaf : has_live_child nodes n ≡ false
 
 -- stalled, or held by another
 abbrev pub is_out : Contents → ℕ → ℕ → Bool

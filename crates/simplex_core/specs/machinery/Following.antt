@@ -3,7 +3,7 @@ use Rattle.std.specs.Prelude.{◌≡◌, ℕ, ◌-◌, ◌^◌, ◌<◌, ◌==�
 use Rattle.std.specs.List.{range_with_len}
 use Rattle.std.specs.Option.{unwrap_or}
 use Rattle.int_rows.specs.Table.{IsTable, Table, width}
-use Rattle.simplex_core.specs.machinery.Kept.{AreStandings}
+use Rattle.simplex_core.specs.Standings.{AreStandings}
 use Rattle.simplex_core.specs.machinery.Standing.{number}
 use Rattle.simplex_core.specs.Run.{Moment, Outcome, Next, Ended, run}
 use Rattle.simplex_core.specs.declared.standing.Standing.{Standing}

@@ -5,7 +5,7 @@ use Rattle.base.specs.Numeral.{is_numeral, number_of}
 use Rattle.clap.specs.Walk.{Row, Text, first_of}
 use Rattle.clap.specs.Simple.{subcommand_rows_of}
 use Rattle.clap.specs.declared.parser.matches.ArgMatches.{ArgMatches}
-use Rattle.solve_words.specs.Words.{default_nodes, default_units, default_workers, most_depth, most_nodes, most_seed, most_call_units, most_call_workers}
+use Rattle.solve_words.specs.Words.{default_nodes, default_units, default_workers, most_depth, most_nodes, most_seed, most_call_units, most_workers}
 use Rattle.solve_words.specs.declared.limits.Limits.{Limits}
 use Rattle.solve_words.specs.declared.limits.Words.{Words}
 use Rattle.solve_words.specs.declared.limits.Words.TheVariants.{Solve, Check, Gen}
@@ -41,7 +41,7 @@ solve_with (Some limits) = Some (Solve limits)
 
 abbrev pub solve_named : List Row → Option Words
 solve_named options = solve_with (limits_with
-    (number_or 1 most_call_workers default_workers (first_of (codes "workers") options))
+    (number_or 1 most_workers default_workers (first_of (codes "workers") options))
     (number_or 0 most_call_units default_units (first_of (codes "units") options))
     (number_or 1 most_nodes default_nodes (first_of (codes "nodes") options)))
 

@@ -5,7 +5,7 @@ use Rattle.sexp_read.specs.declared.tree.TextStop.{TextStop}
 use Rattle.sexp_read.specs.Trees.{AreTrees}
 use Rattle.sort_check.specs.Commands.{Command}
 use Rattle.sort_check.specs.Scripts.{outcome}
-use Rattle.sort_check.specs.machinery.State.{IsState}
+use Rattle.sort_check.specs.State.{IsState}
 use Rattle.sort_check.specs.declared.state.State.{State}
 
 -- the trees so far were commands that the state holds, and the rest decide

@@ -11,11 +11,11 @@ use Rattle.term_check.specs.declared.atom.Atom.TheVariants.{LetName}
 use Rattle.term_check.specs.Found.{IsAligned}
 use Rattle.sexp_read.specs.declared.tree.Tree.{Tree}
 use Rattle.term_check.specs.declared.part.Part.{Part}
-use Rattle.term_check.specs.Spelling.{Scope, lets_in, lets_from, with_variables}
+use Rattle.term_check.specs.Spelling.{SpellingScope, lets_in, lets_from, with_read_variables}
 
 pub record Known : Type 0 where
   pub text : List ℕ
-  pub scope : Scope
+  pub scope : SpellingScope
   pub lets : List TermId
 
 -- a name of let stands for one of the first terms
@@ -41,7 +41,7 @@ pub record IsReady (known : Known) (arena : Arena) (next room : ℕ) : Type 0 wh
 
 -- with the names of a quantifier, or of a let
 abbrev pub below_quantifier : Known → ℕ → List Tree → Known
-below_quantifier known first items = record known { scope = with_variables known.text known.scope first items }
+below_quantifier known first items = record known { scope = with_read_variables known.text known.scope first items }
 
 abbrev pub below_let : Known → List Tree → List Part → List TermId → Known
 below_let known items parts ids =

@@ -20,55 +20,55 @@ use Rattle.term_check.specs.declared.scope.Named.{Named}
 use Rattle.term_check.specs.Found.{IsFoundUnder}
 use Rattle.term_check.specs.Rules.{fault, unless, divisible_fault}
 use Rattle.term_check.specs.Term.{IsNodeAt, IsTermAt, AreTermsAt}
-use Rattle.term_check.specs.Spelling.{Scope, Spelled, Gathered, ◌>>=◌, spelled, added, nothing_yet, application, head_of, head_fault, is_word, items_of, binder_fault, let_names_fault, variables_fault, with_lets, with_variables, let_spelled, quantified, quantifier, quantifier_fault, sorts_bound, number_or_0}
+use Rattle.term_check.specs.Spelling.{SpellingScope, Spelled, Gathered, ◌>>=◌, spelled, with_spelled, nothing_yet, application, spelled_head, head_fault, is_word, items_of, binder_fault, let_names_fault, variables_fault, with_lets, with_read_variables, let_spelled, quantified, quantifier, quantifier_fault, sorts_bound, number_or_0}
 
 -- The forms of terms by the list of their trees.
 
 -- one more tree
-abbrev pub next_spelled : List ℕ → Scope → Gathered → Tree → Result Gathered Fault
-next_spelled text scope g tree = spelled text scope g.next tree >>= λ s. Ok (added g s)
+abbrev pub next_spelled : List ℕ → SpellingScope → Gathered → Tree → Result Gathered Fault
+next_spelled text scope g tree = spelled text scope g.next tree >>= λ s. Ok (with_spelled g s)
 
 -- the trees, each in full, one after another
-abbrev pub each_spelled : List ℕ → Scope → Gathered → List Tree → Result Gathered Fault
+abbrev pub each_spelled : List ℕ → SpellingScope → Gathered → List Tree → Result Gathered Fault
 each_spelled text scope g [] = Ok g
 each_spelled text scope g (tree ∷ trees) = next_spelled text scope g tree >>= λ h. each_spelled text scope h trees
 
 -- a head with its arguments
-abbrev pub applied_list : List ℕ → Scope → ℕ → ℕ → Tree → List Tree → Result Spelled Fault
+abbrev pub applied_list : List ℕ → SpellingScope → ℕ → ℕ → Tree → List Tree → Result Spelled Fault
 applied_list text scope next start head args =
-    head_of text scope.preds head >>= λ h. unless (head_fault scope.preds h start (length args)) (each_spelled text scope (nothing_yet next) args >>= application scope.preds h start)
+    spelled_head text scope.preds head >>= λ h. unless (head_fault scope.preds h start (length args)) (each_spelled text scope (nothing_yet next) args >>= application scope.preds h start)
 
 -- the term of an item of let
-abbrev pub item_bound : List ℕ → Scope → Gathered → List Tree → Result Gathered Fault
+abbrev pub item_bound : List ℕ → SpellingScope → Gathered → List Tree → Result Gathered Fault
 item_bound text scope g (name ∷ term ∷ []) = next_spelled text scope g term
 item_bound text scope g _ = Ok g
 
 -- the terms of all items
-abbrev pub all_bound : List ℕ → Scope → Gathered → List Tree → Result Gathered Fault
+abbrev pub all_bound : List ℕ → SpellingScope → Gathered → List Tree → Result Gathered Fault
 all_bound text scope g [] = Ok g
 all_bound text scope g (item ∷ items) = item_bound text scope g (items_of item) >>= λ h. all_bound text scope h items
 
 -- the names of let, and the term below them
-abbrev pub under_lets : List ℕ → Scope → ℕ → List Tree → Tree → Gathered → Result Spelled Fault
+abbrev pub under_lets : List ℕ → SpellingScope → ℕ → List Tree → Tree → Gathered → Result Spelled Fault
 under_lets text scope start items body g =
     unless (let_names_fault text [] items) (spelled text (with_lets text scope items g.parts) g.next body >>= λ s. Ok (let_spelled start g s))
 
-abbrev pub let_list : List ℕ → Scope → ℕ → ℕ → List Tree → Result Spelled Fault
+abbrev pub let_list : List ℕ → SpellingScope → ℕ → ℕ → List Tree → Result Spelled Fault
 let_list text scope next start (binder ∷ body ∷ []) =
     unless (binder_fault text binder) (all_bound text scope (nothing_yet next) (items_of binder) >>= under_lets text scope start (items_of binder) body)
 let_list text scope next start _ = Err (fault CommandForm start)
 
 -- the term below the variables of a quantifier
-abbrev pub under_variables : List ℕ → Scope → ℕ → ℕ → Bool → List Tree → Tree → Result Spelled Fault
+abbrev pub under_variables : List ℕ → SpellingScope → ℕ → ℕ → Bool → List Tree → Tree → Result Spelled Fault
 under_variables text scope next start all items body =
-    spelled text (with_variables text scope next items) (next + length items) body >>= λ s. quantified (quantifier all start next (sorts_bound text items)) start s
+    spelled text (with_read_variables text scope next items) (next + length items) body >>= λ s. quantified (quantifier all start next (sorts_bound text items)) start s
 
-abbrev pub quantifier_list : List ℕ → Scope → ℕ → ℕ → Bool → List Tree → Result Spelled Fault
+abbrev pub quantifier_list : List ℕ → SpellingScope → ℕ → ℕ → Bool → List Tree → Result Spelled Fault
 quantifier_list text scope next start all (binder ∷ body ∷ []) =
     unless (binder_fault text binder) (unless (variables_fault text [] (items_of binder)) (under_variables text scope next start all (items_of binder) body))
 quantifier_list text scope next start all _ = Err (fault CommandForm start)
 
-abbrev pub any_list : List ℕ → Scope → ℕ → ℕ → List Tree → Result Spelled Fault
+abbrev pub any_list : List ℕ → SpellingScope → ℕ → ℕ → List Tree → Result Spelled Fault
 any_list text scope next start [] = Err (fault CommandForm start)
 any_list text scope next start (head ∷ rest) =
     if is_word text head (codes "let") then let_list text scope next start rest

@@ -1,6 +1,6 @@
 use Rattle.std.proofs.Common.{◌≡◌, ℕ, ◌<◌, ◌≤◌, List, length, get_or, true, sym, ◌∙◌, subst}
-use Rattle.obligation_tree.specs.Nodes.{leaf_numbers}
-use Rattle.book_loop.specs.machinery.Jobs.{IsLeaf, is_stalled}
+use Rattle.obligation_tree.specs.Nodes.{leaf_numbers, IsLiveLeaf}
+use Rattle.book_loop.specs.machinery.Jobs.{is_stalled}
 use Rattle.book_loop.proofs.JobLemmas.{all-on, all-over, leaf_at}
 use Rattle.book_loop.proofs.choosing.best_leaf.Goals as goal
 
@@ -9,7 +9,7 @@ with_leaf-best-requires-clause-leaf c =
     let nodes = c.args.tree.now.nodes in
     let i = c.loop-id.id-index in
     let within = subst (λ (xs : List ℕ). i < length xs) c.live_leaves-id-items.ensures c.loop-id-test.true in
-    subst (λ (xs : List ℕ). IsLeaf nodes (get_or xs i 0)) (sym c.live_leaves-id-items.ensures) (leaf_at nodes i within)
+    subst (λ (xs : List ℕ). IsLiveLeaf nodes (get_or xs i 0)) (sym c.live_leaves-id-items.ensures) (leaf_at nodes i within)
 
 pub loop-id-preserved : goal.loop-id-preserved
 loop-id-preserved c =

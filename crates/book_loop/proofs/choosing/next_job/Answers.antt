@@ -1,7 +1,7 @@
 use Rattle.std.proofs.Common.{◌≡◌, subst, refl}
 use Rattle.std.specs.Prelude.{true}
 use Rattle.std.specs.List.{list_all}
-use Rattle.obligation_tree.specs.Nodes.{State as Tree, leaf_numbers}
+use Rattle.obligation_tree.specs.Nodes.{TreeState as Tree, leaf_numbers}
 use Rattle.chc_core.specs.Views.{standing_of}
 use Rattle.book_loop.specs.machinery.Jobs.{IsJob, is_stalled}
 use Rattle.book_loop.proofs.JobLemmas.{open_leaf, some_job}

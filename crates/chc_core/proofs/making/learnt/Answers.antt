@@ -2,7 +2,7 @@ use Rattle.std.proofs.Common.{◌≡◌, ℕ, List, [], ◌∷◌, ◌++◌, ◌
 use Rattle.lin_atoms.specs.declared.lit.Lit.{Lit}
 use Rattle.lemma_frames.specs.Frames.{Lemmas}
 use Rattle.obligation_tree.specs.Closing.{after_lemma}
-use Rattle.obligation_tree.specs.Nodes.{State as Tree}
+use Rattle.obligation_tree.specs.Nodes.{TreeState as Tree}
 use Rattle.chc_core.specs.Contents.{Contents}
 use Rattle.chc_core.proofs.MadeLemmas.{lemmas-room, made-lemma, spent-room}
 use Rattle.chc_core.proofs.MakingLemmas.{can_learn}

@@ -1,5 +1,5 @@
 use Rattle.std.proofs.Common.{◌≡◌, ◌+◌, ◌<◌, ◌-◌, ◌^◌, [], ◌∷◌, ◌++◌, length, true, refl, ap, sym, ◌∙◌, subst, arith}
-use Rattle.obligation_tree.specs.Nodes.{State as Tree, fresh, is_live_at}
+use Rattle.obligation_tree.specs.Nodes.{TreeState as Tree, fresh, is_live_at}
 use Rattle.chc_core.specs.Contents.{Contents}
 use Rattle.chc_core.proofs.AskLemmas.{asked-lives, asked-pred}
 use Rattle.chc_core.proofs.MadeLemmas.{made-open, nodes-room, spent-room}

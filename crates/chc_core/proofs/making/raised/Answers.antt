@@ -1,5 +1,5 @@
 use Rattle.std.proofs.Common.{◌≡◌, ℕ, ◌+◌, length, refl, ap, ap₂, ◌∙◌, arith}
-use Rattle.obligation_tree.specs.Nodes.{State as Tree}
+use Rattle.obligation_tree.specs.Nodes.{TreeState as Tree}
 use Rattle.obligation_tree.specs.Closing.{after_raise}
 use Rattle.chc_core.specs.Contents.{Contents}
 use Rattle.chc_core.proofs.MadeLemmas.{level-room, made-raise, spent-room}

@@ -4,10 +4,10 @@ use Rattle.std.specs.List.{All}
 use Rattle.derivations.specs.Facts.{Concludes}
 use Rattle.derivations.specs.declared.fact.Fact.{Fact as KeptFact}
 use Rattle.obligation_tree.specs.Closing.{after_fact}
-use Rattle.obligation_tree.specs.Nodes.{State as Tree}
+use Rattle.obligation_tree.specs.Nodes.{TreeState as Tree}
 use Rattle.book_rules.specs.FactRules.{concluded}
 use Rattle.step_rules.specs.Taken.{record_of}
-use Rattle.step_rules.specs.Views.{conclusion_of}
+use Rattle.step_rules.specs.Views.{ground_conclusion}
 use Rattle.chc_core.specs.Contents.{Contents}
 use Rattle.chc_core.proofs.AskLemmas.{clause-room, clause-there, concluded-is, fact-clause-within}
 use Rattle.chc_core.proofs.MadeLemmas.{facts-room, made-fact, not-recorded, spent-room}
@@ -31,7 +31,7 @@ add-requires c =
     let clause = c.clause-clause.result.now in
     let there : slice_get b.system.clauses (record_of f).seen.clause ≡ Some clause =
     clause-there b c.get.result.now c.clause.result (record_of f).seen.clause clause (c.get.ensures ∙ ap (λ (x : Contents). x.system) c.parts.view_is) c.clause.ensures c.clause-clause.ensures.is in
-    let head : conclusion_of pred tuple ≡ concluded b.system (record_of f) = concluded-is b f clause (conclusion_of pred tuple) there c.in_ok-pred.ensures.head in
+    let head : ground_conclusion pred tuple ≡ concluded b.system (record_of f) = concluded-is b f clause (ground_conclusion pred tuple) there c.in_ok-pred.ensures.head in
     record {
       there = subst (λ (fs : List KeptFact). All (λ p. p < length fs) c.in_ok-copy.field-0) (sym facts) (subst (λ (ps : List ℕ). All (λ p. p < length b.facts) ps) (sym premises) (can_record b f c.requires));
       fresh = subst (λ (fs : List KeptFact). (n : ℕ) → Concludes fs n pred tuple → ⊥) (sym facts) (not-recorded b f pred tuple c.requires head);
@@ -53,7 +53,7 @@ returns c =
     let clause = c.clause-clause.result.now in
     let there : slice_get b.system.clauses (record_of f).seen.clause ≡ Some clause =
     clause-there b c.get.result.now c.clause.result (record_of f).seen.clause clause (c.get.ensures ∙ ap (λ (x : Contents). x.system) c.parts.view_is) c.clause.ensures c.clause-clause.ensures.is in
-    let head : conclusion_of pred tuple ≡ concluded b.system (record_of f) = concluded-is b f clause (conclusion_of pred tuple) there c.in_ok-pred.ensures.head in
+    let head : ground_conclusion pred tuple ≡ concluded b.system (record_of f) = concluded-is b f clause (ground_conclusion pred tuple) there c.in_ok-pred.ensures.head in
     let facts : c.in_ok-facts.facts ≡ b.facts = c.in_ok-facts.ensures ∙ ap (λ (x : Contents). x.facts) c.parts.view_is in
     let point : c.in_ok-from_slice.field-0 ≡ (record_of f).seen.point = c.in_ok-from_slice.ensures ∙ c.point.ensures in
     let premises : c.in_ok-copy.field-0 ≡ f.premises = c.in_ok-copy.ensures in

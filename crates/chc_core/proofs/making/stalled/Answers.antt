@@ -1,5 +1,5 @@
 use Rattle.std.proofs.Common.{◌≡◌, ◌<◌, length, refl, ap, sym, ◌∙◌, subst}
-use Rattle.obligation_tree.specs.Nodes.{State as Tree, marked_at}
+use Rattle.obligation_tree.specs.Nodes.{TreeState as Tree, marked_at}
 use Rattle.chc_core.specs.Contents.{Contents}
 use Rattle.chc_core.proofs.MadeLemmas.{made-stall}
 use Rattle.chc_core.proofs.MakingLemmas.{can_stall}

@@ -1,6 +1,6 @@
 use Rattle.std.proofs.Common.{refl, arith, ◌∙◌}
 use Rattle.answer_text.specs.Lines.{error_text}
-use Rattle.check_call.specs.Calls.IsMeant.{verdict, error}
+use Rattle.check_call.specs.Calls.IsMeantByCheck.{verdict, error}
 use Rattle.check_call.proofs.ExactLemmas.{judged_others, judged_system, refused_only, untold, untold_others, untold_system}
 use Rattle.check_call.proofs.PlanLemmas.{appended, input_of, refused_read, refused_long, written_part}
 use Rattle.check_call.proofs.call.check_call.Goals.{in-Ok, in-Err, in-Ok-write_all, in-Err-write_all, in-Ok-write_all-2, in-Err-write_all-2, in-Ok-write_all-5, in-Err-write_all-5}

@@ -2,7 +2,7 @@ use Rattle.std.proofs.Common.{◌≡◌, ◌<◌, ℕ, List, length, map, get_or
 use Rattle.std.specs.Prelude.{Ok}
 use Rattle.term_tree.specs.declared.script.Assertion.{Assertion}
 use Rattle.term_tree.specs.declared.script.Pred.{Pred as Declared}
-use Rattle.clause_normal.specs.Reading.{all_clauses, clause_reading}
+use Rattle.clause_normal.specs.Reading.{all_clauses, normal_reading}
 use Rattle.clause_normal.proofs.ReadingLemmas.{clauses_more}
 use Rattle.clause_normal.proofs.SystemLemmas.{kept_more}
 use Rattle.clause_normal.proofs.reading.read_all.Goals as goal
@@ -16,7 +16,7 @@ loop-index-preserved c =
     let items : c.as_slice-assertion-items.result.now ≡ script.asserts = c.as_slice-assertion-items.ensures in
     let count = ap (λ (xs : List Assertion). length xs) items in
     let less : index < length script.asserts = omega (arith, count) in
-    let read : clause_reading script index (get_or script.asserts index d) ≡ Ok one = cc (c.in_ok-clause.ensures.made, items) in
+    let read : normal_reading script index (get_or script.asserts index d) ≡ Ok one = cc (c.in_ok-clause.ensures.made, items) in
     record {
       read = clauses_more script c.loop-index.clauses c.push.new.self index d one (all_clauses script 0 script.asserts) less c.loop-index.invariant.read read c.in_ok-push.ensures.ok;
       kept = kept_more (map (λ (p : Declared). p.args) script.preds) c.loop-index.clauses c.push.new.self one c.loop-index.invariant.kept c.in_ok-clause.ensures.kept c.in_ok-push.ensures.ok;

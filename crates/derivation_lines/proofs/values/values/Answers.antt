@@ -1,6 +1,6 @@
 use Rattle.std.proofs.Common.{◌≡◌, List, [], ◌++◌, drop, append-nil, ap, sym, ◌∙◌, arith}
 use Rattle.term_tree.specs.declared.scalar.Value.{Value}
-use Rattle.derivation_laws.specs.Steps.{as_values}
+use Rattle.term_tree.specs.Truth.{as_values}
 use Rattle.derivation_lines.proofs.AddLemmas.{point-end, sorts-end}
 use Rattle.derivation_lines.proofs.values.values.Goals as goal
 use Rattle.derivation_lines.proofs.values.values.Goals.{then-loop-at-test+else-at-point, else-loop-at-test}

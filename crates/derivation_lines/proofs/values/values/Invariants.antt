@@ -1,5 +1,5 @@
 use Rattle.std.proofs.Common.{◌≡◌, ◌-◌, ◌++◌, length, drop}
-use Rattle.derivation_laws.specs.Steps.{as_values}
+use Rattle.term_tree.specs.Truth.{as_values}
 use Rattle.derivation_lines.proofs.values.values.Given as goal
 
 abbrev pub invariant-loop-at : goal.invariant-loop-at

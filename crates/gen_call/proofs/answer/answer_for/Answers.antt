@@ -1,6 +1,6 @@
 use Rattle.std.proofs.Common.{subst}
 use Rattle.term_tree.specs.declared.refusal.Checked.{Checked}
-use Rattle.gen_call.specs.machinery.Answers.{IsMadeOf}
+use Rattle.gen_call.specs.Answers.{IsMadeOf}
 use Rattle.gen_call.proofs.answer.answer_for.Goals as goal
 
 pub returns : goal.returns

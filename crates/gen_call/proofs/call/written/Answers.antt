@@ -1,7 +1,7 @@
 use Rattle.std.proofs.Common.{subst}
 use Rattle.solve_words.specs.Words.{default_nodes, default_units}
 use Rattle.gen_call.specs.Summaries.{generated}
-use Rattle.gen_call.specs.machinery.Answers.{IsMadeOf}
+use Rattle.gen_call.specs.Answers.{IsMadeOf}
 use Rattle.gen_call.proofs.call.written.Goals as goal
 
 pub answered-requires : goal.answered-requires

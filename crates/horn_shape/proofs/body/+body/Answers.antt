@@ -7,7 +7,7 @@ use Rattle.term_tree.specs.declared.node.Node.TheVariants.{Let}
 use Rattle.term_tree.proofs.Public.{both_true}
 use Rattle.horn_shape.specs.Plain.{is_plain_term}
 use Rattle.horn_shape.specs.Shape.{Reading, atom_of, body_form, body_reading, bound_over}
-use Rattle.horn_shape.specs.machinery.Flags.{flag_of}
+use Rattle.horn_shape.specs.Flags.{flag_of}
 use Rattle.horn_shape.specs.machinery.Gathering.{IsMisfit, onto, place_of}
 use Rattle.horn_shape.proofs.FlagLemmas.{application_by, bound_flags}
 use Rattle.horn_shape.proofs.GatherLemmas.{same_stop}

@@ -4,7 +4,7 @@ use Rattle.std.specs.List.{list_all}
 use Rattle.term_tree.specs.Arena.{is_below, has_parts_below}
 use Rattle.term_tree.specs.declared.node.Node.{Node}
 use Rattle.horn_shape.specs.Shape.{head_of, disjunct_form}
-use Rattle.horn_shape.specs.machinery.Flags.{flag_of}
+use Rattle.horn_shape.specs.Flags.{flag_of}
 use Rattle.horn_shape.specs.machinery.Gathering.{onto, place_of}
 use Rattle.horn_shape.proofs.FlagLemmas.{application_by}
 use Rattle.horn_shape.proofs.GatherLemmas.{same_stop}

@@ -3,7 +3,7 @@ use Rattle.std.specs.Prelude.{IsTrue}
 use Rattle.std.specs.List.{list_all}
 use Rattle.term_tree.specs.Arena.{is_below}
 use Rattle.horn_shape.specs.Shape.{bound_over, Reading}
-use Rattle.horn_shape.specs.machinery.Flags.{flag_of}
+use Rattle.horn_shape.specs.Flags.{flag_of}
 use Rattle.horn_shape.proofs.gather.first_mixed.Given as goal
 
 abbrev pub invariant-loop-id : goal.invariant-loop-id

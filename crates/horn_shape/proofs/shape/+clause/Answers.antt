@@ -6,7 +6,7 @@ use Rattle.term_tree.specs.declared.node.Node.{Node}
 use Rattle.term_tree.specs.declared.node.Node.TheVariants.{Let}
 use Rattle.term_tree.proofs.Public.{both_true}
 use Rattle.horn_shape.specs.Shape.{Reading, at, head_of, body_reading, bound_over, clause_form, clause_reading, each}
-use Rattle.horn_shape.specs.machinery.Flags.{flag_of}
+use Rattle.horn_shape.specs.Flags.{flag_of}
 use Rattle.horn_shape.specs.machinery.Gathering.{IsMisfit, onto, place_of, with_vars}
 use Rattle.horn_shape.proofs.FlagLemmas.{application_by, bound_flags}
 use Rattle.horn_shape.proofs.GatherLemmas.{same_stop, onto_quantified, onto_both, misfit_both, implication_last}

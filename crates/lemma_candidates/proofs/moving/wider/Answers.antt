@@ -1,9 +1,10 @@
 use Rattle.std.proofs.Common.{List, subst}
 use Rattle.std.specs.Prelude.{Option, IfSome}
 use Rattle.lin_atoms.specs.declared.lit.Lit.{Lit}
-use Rattle.lemma_candidates.specs.Candidates.{IsLooser, IsWiderCube}
+use Rattle.lemma_candidates.specs.Candidates.{IsLooser}
 use Rattle.lemma_candidates.proofs.MovedLemmas.{made-wider, wider-at}
 use Rattle.lemma_candidates.proofs.moving.wider.Goals as goal
+use Rattle.lemma_general.specs.Tries.{IsWiderCube}
 
 pub returns-in_ok-made-in-Some : goal.returns-in_ok-made-in-Some
 returns-in_ok-made-in-Some c =

@@ -2,9 +2,9 @@ use Rattle.std.proofs.Common.{List, ap, ◌∙◌, subst}
 use Rattle.std.specs.Prelude.{Option, IfSome}
 use Rattle.lin_atoms.specs.declared.lit.Lit.{Lit}
 use Rattle.step_rules.specs.declared.lemma_part.LemmaPart.{LemmaPart}
-use Rattle.lemma_candidates.specs.Candidates.{IsWiderCube}
 use Rattle.lemma_candidates.proofs.TriedLemmas.{widened-by}
 use Rattle.lemma_candidates.proofs.widening.try_move.Goals as goal
+use Rattle.lemma_general.specs.Tries.{IsWiderCube}
 
 pub returns-in_ok-taken-in-Some : goal.returns-in_ok-taken-in-Some
 returns-in_ok-taken-in-Some c =

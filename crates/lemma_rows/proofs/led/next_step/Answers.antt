@@ -1,5 +1,5 @@
 use Rattle.std.proofs.Common.{sym, subst}
-use Rattle.obligation_tree.specs.Nodes.{State as Tree}
+use Rattle.obligation_tree.specs.Nodes.{TreeState as Tree}
 use Rattle.step_rules.specs.Standing.{Standing}
 use Rattle.chc_core.specs.Views.{standing_of}
 use Rattle.obligation_turn.specs.Turns.{GoesOn, IsOpenLeaf, IsTurn}

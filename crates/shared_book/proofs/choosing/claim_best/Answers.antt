@@ -1,6 +1,6 @@
 use Rattle.std.proofs.Common.{◌≡◌, ℕ, ◌<◌, ◌≤◌, List, length, get_or, refl, sym, ◌∙◌, subst, true}
-use Rattle.obligation_tree.specs.Nodes.{leaf_numbers}
-use Rattle.shared_book.specs.machinery.Choices.{IsLiveLeaf, is_out}
+use Rattle.obligation_tree.specs.Nodes.{leaf_numbers, IsLiveLeaf}
+use Rattle.shared_book.specs.machinery.Choices.{is_out}
 use Rattle.shared_book.proofs.ChoiceLemmas.{all-on, all-over, all_held, leaf_at}
 use Rattle.shared_book.proofs.choosing.claim_best.Goals as goal
 

@@ -1,6 +1,6 @@
 use Rattle.std.proofs.Common.{◌≡◌, ap, sym, ◌∙◌, arith, map, subst}
 use Rattle.std.specs.List.{range_with_len}
-use Rattle.simplex_core.specs.machinery.Kept.{AreStandings}
+use Rattle.simplex_core.specs.Standings.{AreStandings}
 use Rattle.simplex_core.specs.Run.{first_standing_at, first_standings}
 use Rattle.simplex_core.proofs.MomentLemmas.{first-legal}
 use Rattle.simplex_core.proofs.RangeLemmas.{made-more}

@@ -5,7 +5,7 @@ use Rattle.std.specs.Prelude.{Bool}
 use Rattle.lin_atoms.specs.Ratio.{Fraction}
 use Rattle.int_rows.specs.Table.{Table, basic_at, width}
 use Rattle.simplex_core.specs.Answer.{basis}
-use Rattle.simplex_core.specs.machinery.Kept.{AreStandings}
+use Rattle.simplex_core.specs.Standings.{AreStandings}
 use Rattle.simplex_core.specs.machinery.Refresh.{changes}
 use Rattle.simplex_core.specs.Run.{after_pivot, columns, coordinate_at, moment, restood, values}
 use Rattle.simplex_core.specs.declared.standing.Standing.{Standing}

@@ -1,10 +1,10 @@
 use Rattle.std.proofs.Common.{◌≡◌, ◌+◌, ◌<◌, ◌≤◌, List, length, drop, get_or, sym, ap, subst, ◌∙◌, arith}
 use Rattle.sexp_read.specs.declared.tree.Tree.{Tree}
 use Rattle.std.specs.Prelude.{Some}
-use Rattle.term_check.specs.machinery.Weight.{weight}
+use Rattle.term_check.specs.Weight.{weight}
 use Rattle.sort_check.specs.Commands.{command}
 use Rattle.sort_check.specs.Scripts.{stops}
-use Rattle.sort_check.specs.machinery.State.{Took}
+use Rattle.sort_check.specs.State.{Took}
 use Rattle.term_check.proofs.Public.{reading_weighs}
 use Rattle.sort_check.proofs.WeightLemmas.{reading_counts, one_weighs}
 use Rattle.sort_check.proofs.ScriptLemmas.{left, checked, refused, ended, goes_on, all_taken}

@@ -2,7 +2,7 @@ use Rattle.std.proofs.Common.{[], subst, arith, rules}
 use Rattle.sexp_read.specs.Trees.{IsTree, Stops}
 use Rattle.sexp_read.proofs.Public.{tree_ahead}
 use Rattle.sort_check.specs.Commands.{command}
-use Rattle.sort_check.specs.machinery.State.{Took}
+use Rattle.sort_check.specs.State.{Took}
 use Rattle.sort_check.proofs.TextLemmas.{nothing_read, stopped, few, light, broken, over, read_on}
 use Rattle.sort_check.proofs.script.check_text.Goals as goal
 

@@ -1,6 +1,6 @@
 use Rattle.std.proofs.Common.{◌<◌, ◌≤◌, ◌+◌, length, drop, Some, None, refl, sym, ◌∙◌, arith, ◌≡◌, ap}
 use Rattle.book_rules.specs.RaiseRules.{seen_outside}
-use Rattle.step_rules.specs.Standing.{Standing, state_of}
+use Rattle.step_rules.specs.Standing.{Standing, standing_state}
 use Rattle.cube_rules.specs.Views.{framed_at, lemmas_of}
 use Rattle.cube_rules.proofs.Public.{framed-end}
 use Rattle.step_rules.proofs.RaiseLemmas.{pairs-on, pairs-end}
@@ -17,7 +17,7 @@ returns-in-Some c =
     let same : length c.parts.inside.frames.now.lemmas ≡ length lemmas = ap (λ (s : Standing). length s.frames.lemmas) c.parts.view_is in
     let within : id < length lemmas = omega (arith, same) in
     let told = rw c.in-Some.is at c.in_ok-by.ensures in
-    sym (pairs-on (seen_outside nodes.system (state_of nodes)) nodes.level id (framed_at lemmas id) (drop id (lemmas_of lemmas)) (drop (id + 1) (lemmas_of lemmas)) c.as_slice-kept.result.now c.loop-id.place _ (Some c.in-Some.by) (framed-drop lemmas id within) told refl) ∙ c.loop-id.invariant.0
+    sym (pairs-on (seen_outside nodes.system (standing_state nodes)) nodes.level id (framed_at lemmas id) (drop id (lemmas_of lemmas)) (drop (id + 1) (lemmas_of lemmas)) c.as_slice-kept.result.now c.loop-id.place _ (Some c.in-Some.by) (framed-drop lemmas id within) told refl) ∙ c.loop-id.invariant.0
 
 pub loop-id-preserved : goal.loop-id-preserved
 loop-id-preserved c =
@@ -29,7 +29,7 @@ loop-id-preserved c =
     let same : length c.parts.inside.frames.now.lemmas ≡ length lemmas = ap (λ (s : Standing). length s.frames.lemmas) c.parts.view_is in
     let within : id < length lemmas = omega (arith, same) in
     let told = rw c.in-None.is at c.in_ok-by.ensures in
-    (sym (pairs-on (seen_outside nodes.system (state_of nodes)) nodes.level id (framed_at lemmas id) (drop id (lemmas_of lemmas)) (drop (id + 1) (lemmas_of lemmas)) c.as_slice-kept.result.now c.loop-id.place c.next_place-place.result None (framed-drop lemmas id within) told c.next_place-place.ensures.is) ∙ c.loop-id.invariant.0, c.next_place-place.ensures.room)
+    (sym (pairs-on (seen_outside nodes.system (standing_state nodes)) nodes.level id (framed_at lemmas id) (drop id (lemmas_of lemmas)) (drop (id + 1) (lemmas_of lemmas)) c.as_slice-kept.result.now c.loop-id.place c.next_place-place.result None (framed-drop lemmas id within) told c.next_place-place.ensures.is) ∙ c.loop-id.invariant.0, c.next_place-place.ensures.room)
 
 pub returns : goal.returns
 returns c =
@@ -40,4 +40,4 @@ returns c =
     let less = c.loop-id-test.false in
     let same : length c.parts.inside.frames.now.lemmas ≡ length lemmas = ap (λ (s : Standing). length s.frames.lemmas) c.parts.view_is in
     let past : length lemmas ≤ id = omega (arith, same) in
-    sym (pairs-end (seen_outside nodes.system (state_of nodes)) nodes.level id (drop id (lemmas_of lemmas)) c.as_slice-kept.result.now c.loop-id.place (framed-end lemmas id past)) ∙ c.loop-id.invariant.0
+    sym (pairs-end (seen_outside nodes.system (standing_state nodes)) nodes.level id (drop id (lemmas_of lemmas)) c.as_slice-kept.result.now c.loop-id.place (framed-end lemmas id past)) ∙ c.loop-id.invariant.0

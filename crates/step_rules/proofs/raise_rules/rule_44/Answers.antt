@@ -1,6 +1,6 @@
 use Rattle.std.proofs.Common.{◌<◌, ◌≤◌, ◌+◌, length, drop, Some, None, refl, sym, ◌∙◌, arith, ◌≡◌, ap}
 use Rattle.book_rules.specs.RaiseRules.{evidence_outside}
-use Rattle.step_rules.specs.Standing.{Standing, state_of}
+use Rattle.step_rules.specs.Standing.{Standing, standing_state}
 use Rattle.cube_rules.specs.Views.{framed_at, lemmas_of}
 use Rattle.cube_rules.proofs.Public.{framed-end}
 use Rattle.step_rules.proofs.RaiseLemmas.{pairs-on, pairs-end}
@@ -16,7 +16,7 @@ returns-in-Some c =
     let less = c.loop-id-test.true in
     let same : length c.parts.inside.frames.now.lemmas ≡ length lemmas = ap (λ (s : Standing). length s.frames.lemmas) c.parts.view_is in
     let within : id < length lemmas = omega (arith, same) in
-    sym (pairs-on (evidence_outside nodes.system (state_of nodes)) nodes.level id (framed_at lemmas id) (drop id (lemmas_of lemmas)) (drop (id + 1) (lemmas_of lemmas)) c.as_slice-kept.result.now c.loop-id.place _ (Some c.in-Some.by) (framed-drop lemmas id within) c.in-Some.ensures refl) ∙ c.loop-id.invariant.0
+    sym (pairs-on (evidence_outside nodes.system (standing_state nodes)) nodes.level id (framed_at lemmas id) (drop id (lemmas_of lemmas)) (drop (id + 1) (lemmas_of lemmas)) c.as_slice-kept.result.now c.loop-id.place _ (Some c.in-Some.by) (framed-drop lemmas id within) c.in-Some.ensures refl) ∙ c.loop-id.invariant.0
 
 pub loop-id-preserved : goal.loop-id-preserved
 loop-id-preserved c =
@@ -27,7 +27,7 @@ loop-id-preserved c =
     let less = c.loop-id-test.true in
     let same : length c.parts.inside.frames.now.lemmas ≡ length lemmas = ap (λ (s : Standing). length s.frames.lemmas) c.parts.view_is in
     let within : id < length lemmas = omega (arith, same) in
-    (sym (pairs-on (evidence_outside nodes.system (state_of nodes)) nodes.level id (framed_at lemmas id) (drop id (lemmas_of lemmas)) (drop (id + 1) (lemmas_of lemmas)) c.as_slice-kept.result.now c.loop-id.place c.next_place-place.result None (framed-drop lemmas id within) c.in-None.ensures c.next_place-place.ensures.is) ∙ c.loop-id.invariant.0, c.next_place-place.ensures.room)
+    (sym (pairs-on (evidence_outside nodes.system (standing_state nodes)) nodes.level id (framed_at lemmas id) (drop id (lemmas_of lemmas)) (drop (id + 1) (lemmas_of lemmas)) c.as_slice-kept.result.now c.loop-id.place c.next_place-place.result None (framed-drop lemmas id within) c.in-None.ensures c.next_place-place.ensures.is) ∙ c.loop-id.invariant.0, c.next_place-place.ensures.room)
 
 pub returns : goal.returns
 returns c =
@@ -38,4 +38,4 @@ returns c =
     let less = c.loop-id-test.false in
     let same : length c.parts.inside.frames.now.lemmas ≡ length lemmas = ap (λ (s : Standing). length s.frames.lemmas) c.parts.view_is in
     let past : length lemmas ≤ id = omega (arith, same) in
-    sym (pairs-end (evidence_outside nodes.system (state_of nodes)) nodes.level id (drop id (lemmas_of lemmas)) c.as_slice-kept.result.now c.loop-id.place (framed-end lemmas id past)) ∙ c.loop-id.invariant.0
+    sym (pairs-end (evidence_outside nodes.system (standing_state nodes)) nodes.level id (drop id (lemmas_of lemmas)) c.as_slice-kept.result.now c.loop-id.place (framed-end lemmas id past)) ∙ c.loop-id.invariant.0

@@ -1,6 +1,6 @@
 use Rattle.std.proofs.Common.{◌≡◌, true}
 use Rattle.term_tree.specs.declared.sort.Sort.TheVariants.{Bool as BoolSort}
-use Rattle.term_check.specs.Rules.{same_sort}
+use Rattle.term_tree.specs.Sorts.{same_sort}
 use Rattle.term_check.proofs.ApplyLemmas.{quantifier_told}
 use Rattle.term_check.proofs.apply.add_quantifier.Goals as goal
 

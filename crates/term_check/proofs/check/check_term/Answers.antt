@@ -1,6 +1,6 @@
 use Rattle.std.proofs.Common.{refl, ap, ◌∙◌, [], true, arith}
 use Rattle.term_check.specs.Spelling.{scope_of}
-use Rattle.term_check.specs.machinery.Weight.{weight}
+use Rattle.term_check.specs.Weight.{weight}
 use Rattle.term_check.proofs.FormulaLemmas.{ready_at_first}
 use Rattle.term_check.proofs.check.check_term.Goals as goal
 

@@ -8,7 +8,7 @@ use Rattle.term_check.specs.declared.part.Part.{Part}
 use Rattle.term_check.specs.machinery.Known.{Known, IsReady, below_let}
 use Rattle.term_check.specs.machinery.Reading.{Tells, IsGathered, each_spelled, all_bound, next_spelled, item_bound, under_variables, any_list}
 use Rattle.term_check.specs.Spelling.{Gathered, Spelled, nothing_yet, items_of, spelled, binder_fault, variables_fault, let_names_fault, sorts_bound}
-use Rattle.term_check.specs.machinery.Weight.{weight, weights}
+use Rattle.term_check.specs.Weight.{weight, weights}
 use Rattle.term_check.proofs.CycleLemmas.{if_ok_then, rest_of, two_of, second_weighs, weigh_drop, weigh_next, none_gathered, next_told, turned, ready_below_let, ready_below_quantifier, under_lets_told, under_variables_told, quantifier_told}
 use Rattle.term_check.proofs.ReadingLemmas.{keeps_all, keeps_then, ready_then, all_below, within, keeps_length, below_more}
 use Rattle.term_check.proofs.SpellingLemmas.{spelled-List, weight-List, weight_of_items, weighs, weigh_all}

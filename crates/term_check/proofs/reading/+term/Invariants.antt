@@ -2,7 +2,7 @@ use Rattle.std.proofs.Common.{◌≡◌, ◌+◌, ◌*◌, ◌≤◌, drop, leng
 use Rattle.term_check.specs.machinery.Reading.{each_spelled, all_bound, IsGathered}
 use Rattle.term_check.specs.Spelling.{Gathered, nothing_yet}
 use Rattle.term_check.specs.Found.{Keeps}
-use Rattle.term_check.specs.machinery.Weight.{weight, weights}
+use Rattle.term_check.specs.Weight.{weight, weights}
 use Rattle.term_check.proofs.reading.+term.Given as goal
 
 abbrev pub decreases-read_term : goal.decreases-read_term

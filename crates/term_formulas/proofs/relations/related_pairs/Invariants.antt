@@ -5,7 +5,7 @@ use Rattle.lin_atoms.specs.Linear.{Linear}
 use Rattle.linear_terms.specs.Linear.{less}
 use Rattle.linear_terms.specs.Formula.{pairs, related}
 use Rattle.linear_terms.specs.Width.{is_relation}
-use Rattle.term_widths.specs.machinery.Sides.{is_wide_pair}
+use Rattle.term_widths.specs.Sides.{is_wide_pair}
 use Rattle.term_formulas.proofs.relations.related_pairs.Given as goal
 
 -- the relations so far stand before those of the sides to come

@@ -1,11 +1,12 @@
 use Rattle.std.proofs.Common.{◌≡◌, List, map, not, true, false, ap, sym, ◌∙◌, subst}
 use Rattle.std.specs.Prelude.{Bool, IfOk, if◌then◌else◌}
 use Rattle.term_tree.specs.declared.node.TermId.{TermId}
+use Rattle.term_tree.specs.Operators.{is_distinct}
 use Rattle.lin_atoms.specs.Linear.{Linear}
 use Rattle.lin_atoms.specs.declared.form.Form.{Form}
 use Rattle.linear_terms.specs.Linear.{bit_of, less}
 use Rattle.linear_terms.specs.Text.{are_truths}
-use Rattle.linear_terms.specs.Formula.{comparison, is_pairwise, joined, related, same_bits, sides}
+use Rattle.linear_terms.specs.Formula.{comparison, joined, related, same_bits, sides}
 use Rattle.term_tables.specs.machinery.Table.{constant_in, sort_in}
 use Rattle.term_forms.specs.Found.{form_by}
 use Rattle.term_formulas.specs.Written.{naming_by}
@@ -20,7 +21,7 @@ returns-in_ok-bits-clause-is c =
     let same : c.as_slice.result.now ≡ bits = c.as_slice.ensures.value ∙ c.in_ok-bits.ensures.are in
     let truths : are_truths (sort_in c.args.sorts.now) c.args.args.now ≡ true = sym c.are_truths.ensures ∙ c.if-are_truths.true in
     subst (λ (f : Form). IfOk c.compared_bits.result (λ form. form ≡ f))
-    (ap (λ (bs : List Linear). joined sign (map (λ (p : Linear × Linear). same_bits (if is_pairwise op then not sign else sign) p.0 p.1) (sides op bs))) same
+    (ap (λ (bs : List Linear). joined sign (map (λ (p : Linear × Linear). same_bits (if is_distinct op then not sign else sign) p.0 p.1) (sides op bs))) same
     ∙ sym (ap (λ (b : Bool). comparison op b sign bits forms) truths))
     c.compared_bits.ensures
 

@@ -1,5 +1,5 @@
 use Rattle.std.proofs.Common.{refl, suc, arith}
-use Rattle.term_tree.specs.machinery.Agreement.{all_true}
+use Rattle.term_tree.specs.Agreement.{all_true}
 use Rattle.term_tree.proofs.HeadLemmas.{implication}
 use Rattle.term_tree.proofs.laws.heads_are_true_under_true.Goals as goal
 

@@ -6,7 +6,7 @@ use Rattle.term_tree.specs.Operators.{result_of}
 use Rattle.term_tree.specs.declared.scalar.Value.TheVariants.{Int, Bool as Truth}
 use Rattle.term_tree.specs.Truth.{Interpretation, Completes, HasValue}
 use Rattle.term_tree.specs.Value.{Environment}
-use Rattle.term_tree.specs.machinery.Agreement.{all_positive}
+use Rattle.term_tree.specs.Agreement.{all_positive}
 use Rattle.term_tree.proofs.LawLemmas.{one_value, differ}
 use Rattle.term_tree.proofs.laws.not_all_are_positive.Goals as goal
 

@@ -1,5 +1,5 @@
 use Rattle.std.proofs.Common.{◌≡◌, drop}
-use Rattle.term_widths.specs.machinery.Sides.{is_wide_with}
+use Rattle.term_widths.specs.Sides.{is_wide_with}
 use Rattle.term_widths.proofs.sides.is_wide_with.Given as goal
 
 -- the others to come decide

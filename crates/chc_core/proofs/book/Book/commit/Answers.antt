@@ -28,7 +28,7 @@ invariant_of-self-2 c =
     let places = subst (λ (x : Contents). has_places x.system (step_of c.args.step) ≡ true) (sym c.self.view_is) c.requires.places in
     let for : IsMadeFor b.system c.args.step = subst (λ (x : Contents). IsMadeFor x.system c.args.step) (sym c.self.view_is) c.requires.made in
     let legal : IsLegal b.system (state_of b) (step_of c.args.step) = legal-step b c.args.step c.in_ok-allow.ensures.ok for c.is_projected.ensures in
-    subst IsBook (sym c.in_ok-put.ensures.ok) (kept-book b c.in_ok-made.made (record { worker = c.args.worker; step = c.args.step }) c.in_ok-allow.ensures.ok legal places c.in_ok-made.ensures)
+    subst IsBook (sym c.in_ok-put.ensures.ok) (kept-book b c.in_ok-made.made (record { worker = c.args.worker; step = c.args.step }) c.in_ok-allow.ensures.ok for legal places c.in_ok-made.ensures)
 
 pub returns-clause-number : goal.returns-clause-number
 returns-clause-number c = c.next_number-number.ensures ∙ ap (λ (b : Contents). length b.journal + 1) c.self.view_is

@@ -10,4 +10,4 @@ pub returns : goal.returns
 returns c =
     let kept = subst IsBook c.self.view_is c.self.invariant in
     let lemmas : IsSound (instances c.args.self.now.system) (state_of c.args.self.now) = sound c.args.self.now kept in
-    record { replayed = kept.replayed; legal = kept.legal; over = kept.over; sound = lemmas; numbered = kept.numbered }
+    record { replayed = kept.replayed; legal = kept.legal; over = kept.over; sound = lemmas; numbered = kept.numbered; made = kept.made }

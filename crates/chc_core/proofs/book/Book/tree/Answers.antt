@@ -1,5 +1,5 @@
 use Rattle.std.proofs.Common.{◌≤◌, ◌+◌, length, rules, sym, subst}
-use Rattle.obligation_tree.specs.Nodes.{State as Tree}
+use Rattle.obligation_tree.specs.Nodes.{TreeState as Tree}
 use Rattle.book_rules.specs.Kept.{ArePlaced}
 use Rattle.book_rules.specs.Rooted.{IsRooted}
 use Rattle.chc_core.specs.Contents.{Contents}

@@ -1,6 +1,6 @@
 use Rattle.std.proofs.Common.{◌≡◌, ℕ, ◌<◌, length}
 use Rattle.horn_shape.specs.Plain.{is_plain_term}
-use Rattle.horn_shape.specs.machinery.Flags.{flag_of}
+use Rattle.horn_shape.specs.Flags.{flag_of}
 use Rattle.horn_shape.proofs.plain.PlainTerms.of.Given as goal
 
 abbrev pub invariant-loop-i : goal.invariant-loop-i
