@@ -6,6 +6,8 @@ pub mod FollowLemmas
 pub mod PivotLemmas
 pub mod PivotedLemmas
 pub mod Public
+pub mod PushLemmas
+pub mod PushedLemmas
 pub mod QuotientLemmas
 pub mod ReadyLemmas
 pub mod SpaceLemmas

@@ -140,7 +140,7 @@ zero-cases column v other row false same some none nil =
     zero-factor (entry (Crossed column other row) v) g some (*ℤ_comm (entry (Crossed column other row) v) (pos g) ∙ omega (arith, ints, whole, first, second))
 
 -- it is 0 where both rows are
-eliminated-zero : (column v : ℕ) (other row : List ℤ) → length row ≡ length other → 0 < content (crossed column row other) → entry other v ≡ pos 0 → entry row v ≡ pos 0 → entry (eliminated column other row) v ≡ pos 0
+pub eliminated-zero : (column v : ℕ) (other row : List ℤ) → length row ≡ length other → 0 < content (crossed column row other) → entry other v ≡ pos 0 → entry row v ≡ pos 0 → entry (eliminated column other row) v ≡ pos 0
 eliminated-zero column v other row same some none nil = zero-cases column v other row (nat_abs (entry row column) == 0) same some none nil
 
 same-cases : (X : Type 0) (j i : ℕ) (b : Bool) → (j == i) ≡ b → (j ≡ i → X) → ((j ≡ i → ⊥) → X) → X
@@ -151,20 +151,22 @@ same-cases X j i false e same away = away (eqb-false _ _ e)
 pub by-same : (X : Type 0) (j i : ℕ) → (j ≡ i → X) → ((j ≡ i → ⊥) → X) → X
 by-same X j i same away = same-cases X j i (j == i) refl same away
 
--- the crossing of two rows of a tableau isn't 0 everywhere
+-- the crossing of a row by another isn't 0 everywhere where the row is positive in a column in which the other is 0
+pub crossed-positive : (column v : ℕ) (other row : List ℤ) → length row ≡ length other → v < length row → (entry other column ≡ pos 0 → ⊥) → entry other v ≡ pos 0 → pos 0 <ℤ entry row v → 0 < content (crossed column row other)
+crossed-positive column v other row same place factor nil positive =
+    let n = nat_abs (entry other column) in
+    let q = turned (entry other column) (entry row column) in
+    let inside : v < length (crossed column row other) = omega (arith, place, length-combined (pos n) q row other same) in
+    let value : get_or (crossed column row other) v (pos 0) ≡ pos n *ℤ entry row v -ℤ q *ℤ entry other v = combined-at (pos n) q row other v (pos 0) place same in
+    let none : q *ℤ entry other v ≡ pos 0 = ap (λ z. q *ℤ z) nil ∙ *ℤ-zero q in
+    let product = positive-product n (entry row v) (some-magnitude (entry other column) factor) positive in
+    content-positive (crossed column row other) v inside (omega (arith, ints, value, none, product))
+
+-- so is that of two rows of a tableau
 crossed-some : (columns i j column : ℕ) (basic : List ℕ) (other row : List ℤ) → (j ≡ i → ⊥) → j < length basic → basic_at basic j < columns → (entry other column ≡ pos 0 → ⊥)
     → Solved columns basic i other → Solved columns basic j row → 0 < content (crossed column row other)
 crossed-some columns i j column basic other row away k within factor own is =
-    let same : length row ≡ length other = is.width ∙ sym own.width in
-    let v = basic_at basic j in
-    let n = nat_abs (entry other column) in
-    let q = turned (entry other column) (entry row column) in
-    let place : v < length row = omega (arith, within, is.width) in
-    let inside : v < length (crossed column row other) = omega (arith, place, length-combined (pos n) q row other same) in
-    let value : get_or (crossed column row other) v (pos 0) ≡ pos n *ℤ entry row v -ℤ q *ℤ entry other v = combined-at (pos n) q row other v (pos 0) place same in
-    let none : q *ℤ entry other v ≡ pos 0 = ap (λ z. q *ℤ z) (own.zero j k away) ∙ *ℤ-zero q in
-    let product = positive-product n (entry row v) (some-magnitude (entry other column) factor) is.positive in
-    content-positive (crossed column row other) v inside (omega (arith, ints, value, none, product))
+    crossed-positive column (basic_at basic j) other row (is.width ∙ sym own.width) (omega (arith, within, is.width)) factor (own.zero j k away) is.positive
 
 eliminated-solved-row : (columns i j column : ℕ) (basic : List ℕ) (other row : List ℤ) → (j ≡ i → ⊥) → i < length basic → j < length basic → basic_at basic j < columns → column < columns → (entry other column ≡ pos 0 → ⊥) → 0 < content (crossed column row other)
     → Solved columns basic i other → Solved columns basic j row → Solved columns (set basic i column) j (eliminated column other row)

@@ -90,11 +90,11 @@ turned-follows-back : (b : Bool) (row : List ℤ) → Follows (cond b (map neg_�
 turned-follows-back true row = neg-follows-back row
 turned-follows-back false row = follows-own (row ∷ []) 0 (omega arith)
 
-one-follows : (rows : List (List ℤ)) (one : List ℤ) → Follows rows one → All (Follows rows) (one ∷ [])
+pub one-follows : (rows : List (List ℤ)) (one : List ℤ) → Follows rows one → All (Follows rows) (one ∷ [])
 one-follows rows one h zero d less = h
 one-follows rows one h (suc i) d less = absurd (omega (arith, less))
 
-two-follow : (rows : List (List ℤ)) (one two : List ℤ) → Follows rows one → Follows rows two → All (Follows rows) (one ∷ two ∷ [])
+pub two-follow : (rows : List (List ℤ)) (one two : List ℤ) → Follows rows one → Follows rows two → All (Follows rows) (one ∷ two ∷ [])
 two-follow rows one two h k zero d less = h
 two-follow rows one two h k (suc zero) d less = k
 two-follow rows one two h k (suc (suc i)) d less = absurd (omega (arith, less))

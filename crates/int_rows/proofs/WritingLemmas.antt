@@ -80,7 +80,7 @@ equation-is columns slack n len items new ts lin h size room long same is =
     ap (λ row. set row slack (pos 1)) (refilled len new items count (sym room) ∙ is ∙ ap (λ m. turned_terms m ts) size ∙ ap (turned_terms columns) same)
     ∙ slack-written lin.terms slack columns h
 
-below-more : (m n : ℕ) (ts : List (ℕ × ℤ)) → m ≤ n → list_all (λ t. nat_lt t.0 m) ts ≡ true → list_all (λ t. nat_lt t.0 n) ts ≡ true
+pub below-more : (m n : ℕ) (ts : List (ℕ × ℤ)) → m ≤ n → list_all (λ t. nat_lt t.0 m) ts ≡ true → list_all (λ t. nat_lt t.0 n) ts ≡ true
 below-more m n [] h all = refl
 below-more m n (t ∷ ts) h all =
     let both = both_true (nat_lt t.0 m) _ all in

@@ -1,6 +1,7 @@
 pub mod Basis
 pub mod Node
 pub mod Pivot
+pub mod Pushed
 pub mod Ready
 pub mod Rows
 pub mod Space

@@ -54,7 +54,12 @@ fn put_terms(row: &mut [i64], terms: &[(u32, i64)])
 }
 
 /// The slack less the form without its constant.
-fn equation(alloc: Global, columns: usize, slack: usize, lin: &Lin) -> Result<Vec<i64>, Memory>
+pub(crate) fn equation(
+    alloc: Global,
+    columns: usize,
+    slack: usize,
+    lin: &Lin,
+) -> Result<Vec<i64>, Memory>
     requires slack { slack < columns }
     requires below { lin_is_below columns lin.now ≡ true }
     ensures { IfOk result (λ row. row.items ≡ equation columns slack lin.now) }

@@ -10,6 +10,7 @@ mod equation;
 mod laws;
 mod making;
 mod pivoting;
+mod pushing;
 mod row;
 mod stop;
 mod tableau;
@@ -23,5 +24,5 @@ pub use laws::{
 };
 pub use making::ready;
 pub use row::Row;
-pub use stop::{ReadyStop, RowStop, RowWide};
+pub use stop::{PushStop, ReadyStop, RowStop, RowWide};
 pub use tableau::Tableau;

@@ -41,6 +41,29 @@ impl From<Memory> for RowStop {
     }
 }
 
+/// Why a tableau takes no further form.
+#[derive(Debug, Drop, Error)]
+pub enum PushStop {
+    #[error("out of memory")]
+    Memory,
+    #[error("1,024 rows already")]
+    TooMany,
+    /// Without the basic variables of the first `row` rows the form's own row has the entry.
+    #[error("{0}")]
+    Wide(RowWide),
+}
+
+impl From<Memory> for PushStop {
+    ghost use Rattle.std.specs.Prelude.{◌≡◌};
+    ghost use Rattle.int_rows.specs.declared.stop.PushStop.TheVariants.{Memory as OutOfMemory};
+
+    ghost from_gives = { λ _ e. e ≡ OutOfMemory };
+
+    fn from(_: Memory) -> PushStop {
+        PushStop::Memory
+    }
+}
+
 /// The primitive row of a basis has an entry of 2^63 or more in magnitude.
 #[derive(Clone, Copy, Debug, PartialEq, Eq, Error)]
 #[error("row {row} has the entry {entry}")]

@@ -1,8 +1,9 @@
-ghost use Rattle.std.specs.Prelude.{◌≡◌, ◌+◌, ◌<◌, ◌≤◌, ◌^◌, ◌↔◌, ℕ, List, ℤ, length, nat_abs, pos, true, false, slice_set, IfOk, OnOk, IfErr, OnErr, IfSome, IsNone, IsErrOf, Some};
+ghost use Rattle.std.specs.Prelude.{◌≡◌, ◌+◌, ◌<◌, ◌≤◌, ◌^◌, ◌↔◌, ◌++◌, ◌∷◌, [], ℕ, List, ℤ, length, nat_abs, pos, take, true, false, slice_set, IfOk, OnOk, IfErr, OnErr, IfSome, IsNone, IsErrOf, Some};
 ghost use Rattle.std.specs.List.{Contains, list_all};
 ghost use Rattle.base.specs.Limits.{most_rows};
 ghost use Rattle.lin_atoms.specs.Linear.{lin_is_below};
 ghost use Rattle.int_rows.specs.Basis.{IsWideRow, bound, in_order};
+ghost use Rattle.int_rows.specs.Pushed.{HasRoom, IsFirstWide, next_equation, pushed, widened};
 ghost use Rattle.int_rows.specs.Ready.{bound_fits};
 ghost use Rattle.int_rows.specs.Rows.{are_short, entry, SolvesAll};
 ghost use Rattle.int_rows.specs.Space.{SameSpace};
@@ -11,7 +12,8 @@ ghost use Rattle.int_rows.specs.Table.{HasWide, IsTable, basic_at, first_table, 
 use crate::copies::{copy_bounds, copy_numbers, copy_rows};
 use crate::equation::{equations, no_bounds, numbers};
 use crate::pivoting::{first_wide, pivot_rows};
-use crate::stop::{RowStop, RowWide};
+use crate::pushing::{pushed_bounds, pushed_numbers, pushed_rows};
+use crate::stop::{PushStop, RowStop, RowWide};
 use base::{MOST_ROWS, Memory};
 use lin_atoms::Lin;
 use std::alloc::Global;
@@ -169,6 +171,42 @@ impl Tableau {
         }
         pivot_rows(self.rows.as_mut_slice(), row, column);
         self.basic[row] = column;
+        Ok(())
+    }
+
+    /// Takes one form more, without its constant. Its slack has the next number, is basic in the new
+    /// last row, and has no bounds. The rows span the space of the old ones, in which the slack is
+    /// 0, and of the form's equation. That is freed of the old basic variables in order of the rows;
+    /// where an entry has no room on the way, or memory, or 1,024 rows are there, the tableau stays
+    /// as it is.
+    pub fn push(&mut self, alloc: Global, lin: &Lin) -> Result<(), PushStop>
+        requires { lin_is_below self.old.variables lin.now ≡ true }
+        ensures pushed { OnOk result (self.new ≡ pushed lin.now self.old) }
+        ensures room { OnOk result (HasRoom self.old.basic (widened self.old.rows) (next_equation self.old lin.now)) }
+        ensures space { OnOk result (SameSpace (widened self.old.rows ++ next_equation self.old lin.now ∷ []) self.new.rows) }
+        ensures wide { (w : RowWide) → IsErrOf result (PushStop.Wide w) → IsFirstWide self.old.basic (widened self.old.rows) (next_equation self.old lin.now) w.row w.entry }
+        ensures evidence { (w : RowWide) → IsErrOf result (PushStop.Wide w) → IsWideRow (width self.old + 1) (take w.row (widened self.old.rows) ++ next_equation self.old lin.now ∷ [])
+            (in_order (width self.old + 1) (take w.row self.old.basic ++ width self.old ∷ [])) w.entry }
+        ensures too_many { IsErrOf result PushStop.TooMany ↔ (length self.old.rows ≡ most_rows) }
+        ensures unchanged { OnErr result (self.new ≡ self.old) }
+    {
+        if self.rows.len() >= MOST_ROWS {
+            return Err(PushStop::TooMany);
+        }
+        let _constant = lin.constant();
+        let slack = self.lower.len();
+        let (rows, basic) = (self.rows.as_slice(), self.basic.as_slice());
+        let rows = match pushed_rows(alloc, rows, basic, slack, lin) {
+            Ok(rows) => rows,
+            Err(stop) => return Err(stop),
+        };
+        let basic = pushed_numbers(alloc, self.basic.as_slice(), slack)?;
+        let lower = pushed_bounds(alloc, self.lower.as_slice())?;
+        let upper = pushed_bounds(alloc, self.upper.as_slice())?;
+        self.rows = rows;
+        self.basic = basic;
+        self.lower = lower;
+        self.upper = upper;
         Ok(())
     }
 

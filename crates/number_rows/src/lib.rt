@@ -22,6 +22,8 @@ mod projected;
 #[cfg(test)]
 mod promises;
 #[cfg(test)]
+mod pushes;
+#[cfg(test)]
 mod room;
 #[cfg(test)]
 mod runs;

@@ -17,7 +17,7 @@ fn are_below(forms: &[Lin], variables: usize) -> bool
 }
 
 /// The tableau of the forms, whose variables are below the number, of 2 at most.
-fn tableau(alloc: Global, forms: Vec<Lin>, variables: usize) -> Result<Tableau, Fail> {
+pub(crate) fn tableau(alloc: Global, forms: Vec<Lin>, variables: usize) -> Result<Tableau, Fail> {
     if variables > 2 || !are_below(forms.as_slice(), variables) {
         return Err("a variable out of range".into());
     }
@@ -26,14 +26,14 @@ fn tableau(alloc: Global, forms: Vec<Lin>, variables: usize) -> Result<Tableau, 
 }
 
 /// The form a*x + b*y and a constant.
-fn of_pair(alloc: Global, a: i64, b: i64, constant: i128) -> Result<Lin, Fail> {
+pub(crate) fn of_pair(alloc: Global, a: i64, b: i64, constant: i128) -> Result<Lin, Fail> {
     let terms = Vec::from_array(alloc, [(0, a), (1, b)])?;
     let lin = Lin::new(terms, constant)?;
     Ok(lin)
 }
 
 /// The tableau of the forms a*x + b*y and c*x + d*y.
-fn of_two(alloc: Global, a: i64, b: i64, c: i64, d: i64) -> Result<Tableau, Fail> {
+pub(crate) fn of_two(alloc: Global, a: i64, b: i64, c: i64, d: i64) -> Result<Tableau, Fail> {
     let first = of_pair(alloc, a, b, 0)?;
     let second = of_pair(alloc, c, d, 7)?;
     let forms = Vec::from_array(alloc, [first, second])?;
@@ -67,7 +67,7 @@ fn pivot(t: &mut Tableau, row: usize, column: usize) -> Option<Result<(), RowWid
     Some(t.pivot(row, column))
 }
 
-fn is_made(t: &mut Tableau, row: usize, column: usize) -> bool {
+pub(crate) fn is_made(t: &mut Tableau, row: usize, column: usize) -> bool {
     matches!(pivot(t, row, column), Some(Ok(())))
 }
 
@@ -102,7 +102,7 @@ fn rows_are_divided_by_what_divides_them(rt: HostRuntime) -> Result<(), Fail> {
 }
 
 /// 2^62 + 1.
-const LARGE: i64 = (1 << 62) + 1;
+pub(crate) const LARGE: i64 = (1 << 62) + 1;
 
 /// Whether a pivot answers that the row has an entry of -2^124 - 2^63.
 fn is_wide(t: &mut Tableau, row: usize, column: usize, wide: usize) -> bool {
@@ -123,7 +123,7 @@ fn a_row_without_room_leaves_the_tableau(rt: HostRuntime) -> Result<(), Fail> {
 }
 
 /// `count` forms of no variable.
-fn constants(alloc: Global, count: usize) -> Result<Vec<Lin>, Fail> {
+pub(crate) fn constants(alloc: Global, count: usize) -> Result<Vec<Lin>, Fail> {
     let mut forms = Vec::new(alloc);
     for _ in 0..count {
         forms.push(Lin::of_constant(alloc, 0))?;
@@ -269,7 +269,12 @@ fn constants_have_a_truth_and_wide_bounds_none(rt: HostRuntime) -> Result<(), Fa
 }
 
 /// Whether a variable that is there has these bounds.
-fn has_bounds(t: &Tableau, variable: usize, lower: Option<i128>, upper: Option<i128>) -> bool {
+pub(crate) fn has_bounds(
+    t: &Tableau,
+    variable: usize,
+    lower: Option<i128>,
+    upper: Option<i128>,
+) -> bool {
     if variable < t.columns() || variable - t.columns() < t.rows() {
         t.lower(variable) == lower && t.upper(variable) == upper
     } else {
@@ -278,7 +283,7 @@ fn has_bounds(t: &Tableau, variable: usize, lower: Option<i128>, upper: Option<i
 }
 
 /// Gives a variable both bounds.
-fn fasten(t: &mut Tableau, variable: usize) {
+pub(crate) fn fasten(t: &mut Tableau, variable: usize) {
     if variable < t.columns() || variable - t.columns() < t.rows() {
         t.set_bounds(variable, Some(-5), Some(7));
     }
