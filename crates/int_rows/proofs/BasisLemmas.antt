@@ -145,7 +145,7 @@ one-place columns basic rows is i j h k e =
     let none : entry (row_at rows i) (basic_at basic i) ≡ pos 0 = ap (entry (row_at rows i)) e ∙ solved.zero j k away in
     absurd (omega (arith, ints, positive, none)))
 
-solved-row : (columns i : ℕ) (basic : List ℕ) (rows others : List (List ℤ)) → SolvedRows columns basic rows → All (Follows others) rows → i < length rows → IsBasicRow columns others (in_order columns basic) (basic_at basic i) (row_at rows i)
+pub solved-row : (columns i : ℕ) (basic : List ℕ) (rows others : List (List ℤ)) → SolvedRows columns basic rows → All (Follows others) rows → i < length rows → IsBasicRow columns others (in_order columns basic) (basic_at basic i) (row_at rows i)
 solved-row columns i basic rows others is all h =
     let solved = is.solved i h in
     record {

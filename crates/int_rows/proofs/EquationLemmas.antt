@@ -35,7 +35,7 @@ pub range-more : (a n : ℕ) → range_with_len a (n + 1) ≡ range_with_len a n
 range-more a n = sym (map-id (range_with_len a (n + 1))) ∙ map-range_with_len_more (λ k. k) a n (a + n) refl ∙ ap (λ ks. ks ++ (a + n) ∷ []) (map-id (range_with_len a n))
 
 -- one equation more
-equations-++ : (columns slack : ℕ) (lins : List Linear) (lin : Linear) → equations columns slack (lins ++ lin ∷ []) ≡ equations columns slack lins ++ equation columns (slack + length lins) lin ∷ []
+pub equations-++ : (columns slack : ℕ) (lins : List Linear) (lin : Linear) → equations columns slack (lins ++ lin ∷ []) ≡ equations columns slack lins ++ equation columns (slack + length lins) lin ∷ []
 equations-++ columns slack [] lin = let e : slack ≡ slack + 0 = omega arith in ap (λ s. equation columns s lin ∷ []) e
 equations-++ columns slack (l ∷ lins) lin =
     let e : slack + 1 + length lins ≡ slack + suc (length lins) = omega arith in

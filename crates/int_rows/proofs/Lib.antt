@@ -2,6 +2,7 @@ pub mod BasisLemmas
 pub mod CombineLemmas
 pub mod ContentLemmas
 pub mod EquationLemmas
+pub mod FirstPushLemmas
 pub mod FollowLemmas
 pub mod PivotLemmas
 pub mod PivotedLemmas

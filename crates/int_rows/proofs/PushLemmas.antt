@@ -5,10 +5,11 @@ use Rattle.std.specs.List.{All, Contains}
 use Rattle.std.proofs.lemmas.List.{get_or-append-add, get_or-take, get_or_append_left, length-append, length-take}
 use Rattle.std.proofs.lemmas.List.Elements.{All-append}
 use Rattle.int_rows.specs.Pivot.{CanCross, crossed, eliminated}
-use Rattle.int_rows.specs.Pushed.{CanFree, Frees, IsFirstWide, freed, freed_of}
+use Rattle.int_rows.specs.Pushed.{IsFirstWide, freed, freed_of}
 use Rattle.int_rows.specs.Rows.{Follows, are_short, content, entry, is_primitive}
 use Rattle.int_rows.specs.Space.{SameSpace}
 use Rattle.int_rows.specs.Table.{basic_at, row_at}
+use Rattle.int_rows.specs.machinery.Freeing.{CanFree, Frees}
 use Rattle.int_rows.proofs.FollowLemmas.{eliminated-follows, eliminated-follows-back, follows-own, follows-trans}
 use Rattle.int_rows.proofs.PivotLemmas.{eliminated-gone, eliminated-positive, eliminated-primitive}
 use Rattle.int_rows.proofs.PivotedLemmas.{by-same, crossed-positive, eliminated-zero, length-eliminated}

@@ -2,7 +2,7 @@
 use Rattle.std.proofs.Common.{◌≡◌, ℕ, suc, zero, List, [], ◌∷◌, ◌++◌, ap, sym, ◌∙◌, refl, arith, subst, ◌<◌, ◌≤◌, ◌+◌, true, ◌&&◌, eq-eqb, length, get_or, take, ⊎_elim}
 use Rattle.std.specs.Prelude.{ℤ, pos, ◌<ℤ◌, None}
 use Rattle.std.specs.Int.{◌∣◌}
-use Rattle.std.specs.List.{Contains, range_with_len}
+use Rattle.std.specs.List.{All, Contains, range_with_len}
 use Rattle.std.proofs.lemmas.Bool.{cases_lt, eqb-true}
 use Rattle.std.proofs.lemmas.Int.{ints}
 use Rattle.std.proofs.lemmas.List.{get_or-map, get_or-take, get_or_append_left, get_or_at, get_or_past, length-append, length-map, length-take, take_all}
@@ -11,13 +11,14 @@ use Rattle.std.proofs.lemmas.List.Folds.{list_all-append}
 use Rattle.std.proofs.lemmas.Nat.Gcd.{dvd-zero, dvd_refl}
 use Rattle.lin_atoms.specs.Linear.{Linear, are_ordered, are_short as terms_short, is_linear, is_short, lin_is_below}
 use Rattle.lin_atoms.proofs.Public.{both_true}
-use Rattle.int_rows.specs.Basis.{IsWideRow, in_order}
+use Rattle.int_rows.specs.Basis.{IsBasicRow, IsBasis, IsWideRow, in_order}
 use Rattle.int_rows.specs.Node.{equation}
-use Rattle.int_rows.specs.Pushed.{CanFree, HasRoom, IsFirstWide, freed, next_equation, pushed, widened}
-use Rattle.int_rows.specs.Rows.{are_short, content, entry, is_primitive}
+use Rattle.int_rows.specs.Pushed.{HasRoom, IsFirstWide, freed, freed_of, next_equation, pushed, widened}
+use Rattle.int_rows.specs.Rows.{Follows, are_short, content, entry, is_primitive}
 use Rattle.int_rows.specs.Space.{SameSpace}
 use Rattle.int_rows.specs.Table.{HasWide, IsSolved, IsTable, Table, basic_at, row_at, width}
-use Rattle.int_rows.proofs.BasisLemmas.{solved-wide}
+use Rattle.int_rows.specs.machinery.Freeing.{CanFree}
+use Rattle.int_rows.proofs.BasisLemmas.{solved-basis, solved-row, solved-wide}
 use Rattle.int_rows.proofs.ContentLemmas.{Divides, by-one, content-is, content-most}
 use Rattle.int_rows.proofs.EquationLemmas.{equation-solved}
 use Rattle.int_rows.proofs.PivotedLemmas.{Solved, SolvedRows}
@@ -193,25 +194,56 @@ push-can t lin is legal below =
 pub pushed-same : (t : Table) (lin : Linear) → IsTable t → is_linear lin ≡ true → lin_is_below t.variables lin ≡ true → SameSpace (widened t.rows ++ next_equation t lin ∷ []) (pushed lin t).rows
 pushed-same t lin is legal below = freed-same (width t) (width t + 1) t.basic (widened t.rows) (next_equation t lin) (next-row t lin legal below).kept (widened-free t is)
 
--- the first entry without room is one of the slack's row in a basis
+-- without the first k basic columns, beside the rows that freed it
+abbrev part : Table → Linear → ℕ → List (List ℤ)
+part t lin k = take k (widened t.rows) ++ freed_of k t.basic (widened t.rows) (next_equation t lin) ∷ []
+
+part-solved : (t : Table) (lin : Linear) (k : ℕ) → IsTable t → is_linear lin ≡ true → lin_is_below t.variables lin ≡ true → SolvedRows (width t + 1) (take k t.basic ++ width t ∷ []) (part t lin k)
+part-solved t lin k is legal below =
+    let next = next-row t lin legal below in
+    freed-solved (width t) (width t + 1) (take k t.basic) (take k (widened t.rows)) (next_equation t lin) (take-solved (width t + 1) k t.basic (widened t.rows) (widened-solved t is)) (take-free (width t) (width t + 1) k t.basic (widened t.rows) (widened-free t is)) next.kept next.primitive
+
+part-follows : (t : Table) (lin : Linear) (k : ℕ) → IsTable t → is_linear lin ≡ true → lin_is_below t.variables lin ≡ true → All (Follows (take k (widened t.rows) ++ next_equation t lin ∷ [])) (part t lin k)
+part-follows t lin k is legal below =
+    (freed-same (width t) (width t + 1) (take k t.basic) (take k (widened t.rows)) (next_equation t lin) (next-row t lin legal below).kept (take-free (width t) (width t + 1) k t.basic (widened t.rows) (widened-free t is))).0
+
+part-count : (others : List (List ℤ)) (row made : List ℤ) → length (others ++ made ∷ []) ≡ length (others ++ row ∷ [])
+part-count others row made = length-append others (made ∷ []) ∙ sym (length-append others (row ∷ []))
+
+-- its basic columns are a basis, in which it is the slack's row
+pub freed-basis : (t : Table) (lin : Linear) (k : ℕ) → IsTable t → is_linear lin ≡ true → lin_is_below t.variables lin ≡ true → IsBasis (width t + 1) (take k (widened t.rows) ++ next_equation t lin ∷ []) (in_order (width t + 1) (take k t.basic ++ width t ∷ []))
+freed-basis t lin k is legal below =
+    let others = take k (widened t.rows) in
+    let row = next_equation t lin in
+    solved-basis (width t + 1) (take k t.basic ++ width t ∷ []) (part t lin k) (others ++ row ∷ []) (part-solved t lin k is legal below) (part-count others row (freed (take k t.basic) others row)) (part-follows t lin k is legal below)
+
+pub freed-basic : (t : Table) (lin : Linear) (k : ℕ) → IsTable t → is_linear lin ≡ true → lin_is_below t.variables lin ≡ true
+    → IsBasicRow (width t + 1) (take k (widened t.rows) ++ next_equation t lin ∷ []) (in_order (width t + 1) (take k t.basic ++ width t ∷ [])) (width t) (freed_of k t.basic (widened t.rows) (next_equation t lin))
+freed-basic t lin k is legal below =
+    let slack = width t in
+    let basic = take k t.basic in
+    let others = take k (widened t.rows) in
+    let row = next_equation t lin in
+    let made = freed basic others row in
+    let n = length others in
+    let same : length basic ≡ n = omega (arith, is.basics, length-widened t.rows, length-take k t.basic, length-take k (widened t.rows)) in
+    let found = solved-row (slack + 1) n (basic ++ slack ∷ []) (part t lin k) (others ++ row ∷ []) (part-solved t lin k is legal below) (part-follows t lin k is legal below) (omega (arith, length-append others (made ∷ []))) in
+    subst (λ c. IsBasicRow (slack + 1) (others ++ row ∷ []) (in_order (slack + 1) (basic ++ slack ∷ [])) c made) (basic-new basic slack n same)
+    (subst (IsBasicRow (slack + 1) (others ++ row ∷ []) (in_order (slack + 1) (basic ++ slack ∷ [])) (basic_at (basic ++ slack ∷ []) n)) (get_or_at others made [] [] n refl) found)
+
+-- the first entry without room is one of that row
 pub pushed-wide : (t : Table) (lin : Linear) (k : ℕ) (wide : ℤ) → IsTable t → is_linear lin ≡ true → lin_is_below t.variables lin ≡ true → IsFirstWide t.basic (widened t.rows) (next_equation t lin) k wide
     → IsWideRow (width t + 1) (take k (widened t.rows) ++ next_equation t lin ∷ []) (in_order (width t + 1) (take k t.basic ++ width t ∷ [])) wide
 pushed-wide t lin k wide is legal below first =
-    let slack = width t in
-    let row = next_equation t lin in
-    let basic = take k t.basic in
     let others = take k (widened t.rows) in
-    let made = freed basic others row in
-    let next = next-row t lin legal below in
-    let free = take-free slack (slack + 1) k t.basic (widened t.rows) (widened-free t is) in
-    let solved = freed-solved slack (slack + 1) basic others row (take-solved (slack + 1) k t.basic (widened t.rows) (widened-solved t is)) free next.kept next.primitive in
-    let count = length-append others (made ∷ []) in
-    let has : HasWide (others ++ made ∷ []) (length others) wide = record {
-      within = omega (arith, count);
+    let row = next_equation t lin in
+    let made = freed (take k t.basic) others row in
+    let has : HasWide (part t lin k) (length others) wide = record {
+      within = omega (arith, length-append others (made ∷ []));
       contains = subst (λ (r : List ℤ). Contains r wide) (sym (get_or_at others made [] [] (length others) refl)) first.contains;
       is_wide = first.is_wide;
     } in
-    solved-wide (slack + 1) (basic ++ slack ∷ []) (others ++ made ∷ []) (others ++ row ∷ []) (length others) wide solved (count ∙ sym (length-append others (row ∷ []))) (freed-same slack (slack + 1) basic others row next.kept free).0 has
+    solved-wide (width t + 1) (take k t.basic ++ width t ∷ []) (part t lin k) (others ++ row ∷ []) (length others) wide (part-solved t lin k is legal below) (part-count others row made) (part-follows t lin k is legal below) has
 
 -- the rows have room where the row had it all the time
 pub push-room : (t : Table) (row : List ℤ) → IsTable t → HasRoom t.basic (widened t.rows) row → are_short (freed t.basic (widened t.rows) row) ≡ true

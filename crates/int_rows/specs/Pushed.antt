@@ -1,12 +1,12 @@
--- One form more in a tableau: its equation is freed of the basic variables, of each by the row in which it is basic, and gives the slack's own row (Dutertre and de Moura, A Fast Linear-Arithmetic Solver for DPLL(T), section 3).
-use Rattle.std.specs.Prelude.{◌≡◌, ℕ, ◌+◌, ◌<◌, ◌≤◌, List, [], ◌∷◌, ◌++◌, map, take, ℤ, pos, ◌<ℤ◌, nat_abs, true, length, None}
+-- One form more in a tableau: its equation is freed of the basic variables, of each by the row in which it is basic, and is then the slack's row (Detlefs, Nelson and Saxe, Simplify: A Theorem Prover for Program Checking, the simplex algorithm).
+use Rattle.std.specs.Prelude.{◌≡◌, ℕ, ◌+◌, ◌<◌, ◌≤◌, List, [], ◌∷◌, ◌++◌, map, take, ℤ, pos, nat_abs, true, length, None}
 use Rattle.std.specs.List.{Contains}
 use Rattle.base.specs.Widths.{short_limit}
 use Rattle.lin_atoms.specs.Linear.{Linear}
 use Rattle.int_rows.specs.Node.{equation}
 use Rattle.int_rows.specs.Pivot.{eliminated}
-use Rattle.int_rows.specs.Rows.{are_short, entry}
-use Rattle.int_rows.specs.Table.{Table, basic_at, row_at, width}
+use Rattle.int_rows.specs.Rows.{are_short}
+use Rattle.int_rows.specs.Table.{Table, width}
 
 -- the rows with a column more, in which they are 0
 abbrev pub widened : List (List ℤ) → List (List ℤ)
@@ -46,20 +46,3 @@ pub record IsFirstWide (columns : List ℕ) (others : List (List ℤ)) (row : Li
   pub sooner : (j : ℕ) → j < k → are_short (freed_of j columns others row) ≡ true
   pub contains : Contains (freed_of k columns others row) wide
   pub is_wide : short_limit ≤ nat_abs wide
-
--- a row that frees others of a column, and keeps what they have in the slack's
-pub record Frees (slack columns column : ℕ) (other : List ℤ) : Type 0 where
-  pub width : length other ≡ columns
-  pub short : are_short other ≡ true
-  pub there : column < columns
-  pub some : entry other column ≡ pos 0 → ⊥
-  pub none : entry other slack ≡ pos 0
-
--- a row with a slack, which can be freed of the columns
-pub record CanFree (columns : List ℕ) (others : List (List ℤ)) (row : List ℤ) : Type 0 where
-  pub slack : ℕ
-  pub there : slack < length row
-  pub short : are_short row ≡ true
-  pub positive : pos 0 <ℤ entry row slack
-  pub each : length columns ≡ length others
-  pub free : (i : ℕ) → i < length others → Frees slack (length row) (basic_at columns i) (row_at others i)

@@ -1,15 +1,16 @@
 //! Laws of the definitions, as contracts of functions that do nothing.
 
-ghost use Rattle.std.specs.Prelude.{◌≡◌, ◌↔◌, ◌<◌, ℕ, ◌++◌, ◌∷◌, [], List, ℤ, length, true, false, pos, ◌<ℤ◌, slice_set};
-ghost use Rattle.lin_atoms.specs.Linear.{Linear, are_ordered, lin_is_below};
+ghost use Rattle.std.specs.Prelude.{◌≡◌, ◌↔◌, ◌<◌, ◌+◌, ℕ, ◌++◌, ◌∷◌, [], List, ℤ, length, true, false, pos, ◌<ℤ◌, slice_set, take};
+ghost use Rattle.lin_atoms.specs.Linear.{Linear, are_ordered, is_linear, lin_is_below};
 ghost use Rattle.lin_atoms.specs.Truth.{lit_truth};
 ghost use Rattle.lin_atoms.specs.declared.lit.Lit.TheVariants.{Le, Eq, Div, NDiv};
 ghost use Rattle.int_rows.specs.Ready.{ready, ready_truth};
-ghost use Rattle.std.specs.List.{All};
+ghost use Rattle.std.specs.List.{All, list_all};
 ghost use Rattle.int_rows.specs.Pivot.{crossed, eliminated};
 ghost use Rattle.int_rows.specs.Rows.{Follows, Solves, SolvesAll, content, entry, is_primitive};
-ghost use Rattle.int_rows.specs.Table.{row_at, IsTable, Table, basic_at, width, pivoted, HasWide};
+ghost use Rattle.int_rows.specs.Table.{row_at, IsTable, Table, basic_at, first_table, width, pivoted, HasWide};
 ghost use Rattle.int_rows.specs.Basis.{IsBasicRow, IsBasis, IsWideRow, in_order};
+ghost use Rattle.int_rows.specs.Pushed.{freed_of, next_equation, pushed, widened};
 ghost use Rattle.int_rows.specs.Space.{SameSpace};
 
 /// A literal made ready has the same integer points: its bounds hold exactly where the literal is
@@ -97,4 +98,18 @@ pub fn pivots_without_room_are_wide_rows()
     ensures { (t : Table) → IsTable t → (i column j : ℕ) (wide : ℤ) → i < length t.rows → column < width t →
         (entry (row_at t.rows i) column ≡ pos 0 → ⊥) → HasWide (pivoted i column t.rows) j wide →
         IsWideRow (width t) t.rows (in_order (width t) (slice_set t.basic i column)) wide }
+{}
+
+/// A form's equation without the first k basic columns of a tableau: with their rows it has the
+/// basis of these columns and the slack, and is the slack's row in it.
+pub fn freed_rows_are_basic()
+    ensures basis { (t : Table) (lin : Linear) (k : ℕ) → IsTable t → is_linear lin ≡ true → lin_is_below t.variables lin ≡ true →
+        IsBasis (width t + 1) (take k (widened t.rows) ++ next_equation t lin ∷ []) (in_order (width t + 1) (take k t.basic ++ width t ∷ [])) }
+    ensures row { (t : Table) (lin : Linear) (k : ℕ) → IsTable t → is_linear lin ≡ true → lin_is_below t.variables lin ≡ true →
+        IsBasicRow (width t + 1) (take k (widened t.rows) ++ next_equation t lin ∷ []) (in_order (width t + 1) (take k t.basic ++ width t ∷ [])) (width t) (freed_of k t.basic (widened t.rows) (next_equation t lin)) }
+{}
+
+/// Before a pivot a further form gives the tableau of all forms, as if it had been among them.
+pub fn pushes_make_first_tables()
+    ensures { (variables : ℕ) (lins : List Linear) (lin : Linear) → list_all (lin_is_below variables) (lins ++ lin ∷ []) ≡ true → pushed lin (first_table variables lins) ≡ first_table variables (lins ++ lin ∷ []) }
 {}

@@ -5,8 +5,9 @@ ghost use Rattle.std.specs.List.{Contains};
 ghost use Rattle.lin_atoms.specs.Linear.{lin_is_below};
 ghost use Rattle.int_rows.specs.Node.{equation};
 ghost use Rattle.int_rows.specs.Pivot.{CanCross, eliminated};
-ghost use Rattle.int_rows.specs.Pushed.{CanFree, HasRoom, IsFirstWide, freed, widened};
+ghost use Rattle.int_rows.specs.Pushed.{HasRoom, IsFirstWide, freed, widened};
 ghost use Rattle.int_rows.specs.Rows.{are_short};
+ghost use Rattle.int_rows.specs.machinery.Freeing.{CanFree};
 
 use crate::eliminate::{eliminate, wide_elimination};
 use crate::equation::equation;

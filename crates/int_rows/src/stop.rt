@@ -48,7 +48,7 @@ pub enum PushStop {
     Memory,
     #[error("1,024 rows already")]
     TooMany,
-    /// Without the basic variables of the first `row` rows the form's own row has the entry.
+    /// The last row of the first `row` rows and the form would have the entry.
     #[error("{0}")]
     Wide(RowWide),
 }

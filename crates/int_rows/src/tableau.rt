@@ -174,11 +174,11 @@ impl Tableau {
         Ok(())
     }
 
-    /// Takes one form more, without its constant. Its slack has the next number, is basic in the new
-    /// last row, and has no bounds. The rows span the space of the old ones, in which the slack is
-    /// 0, and of the form's equation. That is freed of the old basic variables in order of the rows;
-    /// where an entry has no room on the way, or memory, or 1,024 rows are there, the tableau stays
-    /// as it is.
+    /// Takes one form more, without its constant, also after pivots. Its slack has the next number, is
+    /// basic in the new last row, and has no bounds. The rows then span the space of the old ones,
+    /// which are 0 in the slack, and of the form's equation. `Wide` says how many of the rows free the
+    /// equation of their basic variables when it first has an entry without room, and the entry. The
+    /// tableau stays as it is after each refusal.
     pub fn push(&mut self, alloc: Global, lin: &Lin) -> Result<(), PushStop>
         requires { lin_is_below self.old.variables lin.now ≡ true }
         ensures pushed { OnOk result (self.new ≡ pushed lin.now self.old) }

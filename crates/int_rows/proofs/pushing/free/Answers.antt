@@ -3,8 +3,9 @@ use Rattle.std.specs.Int.{w128}
 use Rattle.std.proofs.lemmas.Int.{to_z-of_z}
 use Rattle.std.proofs.lemmas.List.{get_or-map, length-map}
 use Rattle.int_rows.specs.Pivot.{CanCross, eliminated}
-use Rattle.int_rows.specs.Pushed.{CanFree, freed_of}
+use Rattle.int_rows.specs.Pushed.{freed_of}
 use Rattle.int_rows.specs.Table.{basic_at, row_at}
+use Rattle.int_rows.specs.machinery.Freeing.{CanFree}
 use Rattle.int_rows.proofs.PushLemmas.{freed-cross, freed-more, room-next, wide-next}
 use Rattle.int_rows.proofs.pushing.free.Goals as goal
 

@@ -3,12 +3,13 @@ use Rattle.std.specs.Prelude.{ℤ, None, Option}
 use Rattle.std.proofs.lemmas.List.{length-map}
 use Rattle.lin_atoms.specs.Linear.{Linear}
 use Rattle.int_rows.specs.Node.{equation}
-use Rattle.int_rows.specs.Pushed.{CanFree, HasRoom, IsFirstWide, freed, next_equation, pushed, widened}
+use Rattle.int_rows.specs.Pushed.{HasRoom, IsFirstWide, freed, next_equation, pushed, widened}
 use Rattle.int_rows.specs.Space.{SameSpace}
 use Rattle.int_rows.specs.Table.{IsTable, Table, width}
 use Rattle.int_rows.specs.declared.stop.PushStop.{PushStop}
 use Rattle.int_rows.specs.declared.stop.PushStop.TheVariants.{Wide}
 use Rattle.int_rows.specs.declared.tableau.Tableau.TheInside.{Inside}
+use Rattle.int_rows.specs.machinery.Freeing.{CanFree}
 use Rattle.int_rows.proofs.PushedLemmas.{push-can, pushed-same, pushed-table, pushed-wide}
 use Rattle.int_rows.proofs.WritingLemmas.{below-more}
 use Rattle.int_rows.proofs.tableau.Tableau.push.Goals as goal
