@@ -1,4 +1,4 @@
-//! The clauses of the runs, over one predicate of an integer, and books of them.
+//! The clauses of the runs, most over one predicate of an integer, and books of them.
 
 use base::Items;
 use chc_core::Book;
@@ -34,10 +34,10 @@ pub(crate) fn values(rt: &impl Abort, alloc: Global, values: &[i64]) -> Items<Fo
     parts
 }
 
-/// p at a variable.
-fn atom(rt: &impl Abort, alloc: Global, variable: u32) -> Atom {
+/// A predicate at a variable.
+pub(crate) fn atom(rt: &impl Abort, alloc: Global, pred: u32, variable: u32) -> Atom {
     let args = Items::from_slice(alloc, &[variable]).expect(rt, "memory");
-    Atom { pred: 0, args }
+    Atom { pred, args }
 }
 
 fn integers(rt: &impl Abort, alloc: Global, count: u32) -> Items<Sort> {
@@ -52,25 +52,25 @@ fn integers(rt: &impl Abort, alloc: Global, count: u32) -> Items<Sort> {
 fn body(rt: &impl Abort, alloc: Global, count: u32) -> Items<Atom> {
     let mut atoms = Items::new(alloc);
     for _ in 0..count {
-        atoms.push(atom(rt, alloc, 0)).expect(rt, "memory");
+        atoms.push(atom(rt, alloc, 0, 0)).expect(rt, "memory");
     }
     atoms
 }
 
-/// A clause of that guard over the given number of variables, with `count` body atoms `p(x0)`.
-fn clause(
+/// A clause of that guard over the given number of variables.
+pub(crate) fn clause(
     rt: &impl Abort,
     alloc: Global,
     variables: u32,
     guard: Form,
-    count: u32,
+    atoms: Items<Atom>,
     head: Option<Atom>,
 ) -> Clause {
     Clause {
         assertion: 0,
         user: variables,
         sorts: integers(rt, alloc, variables),
-        atoms: body(rt, alloc, count),
+        atoms,
         guard,
         head,
     }
@@ -78,31 +78,43 @@ fn clause(
 
 /// The guard gives `p(x0)`.
 fn rule(rt: &impl Abort, alloc: Global, guard: Form) -> Clause {
-    clause(rt, alloc, 1, guard, 0, Some(atom(rt, alloc, 0)))
+    let head = atom(rt, alloc, 0, 0);
+    clause(rt, alloc, 1, guard, Items::new(alloc), Some(head))
 }
 
 /// Where `x1 = x0 + 1`, `p(x0)` gives `p(x1)`.
 fn step(rt: &impl Abort, alloc: Global) -> Clause {
     let guard = Form::Lit(next(rt, alloc));
-    clause(rt, alloc, 2, guard, 1, Some(atom(rt, alloc, 1)))
+    let (body, head) = (body(rt, alloc, 1), atom(rt, alloc, 0, 1));
+    clause(rt, alloc, 2, guard, body, Some(head))
 }
 
 /// Under the guard `p(x0)` gives false.
 fn query(rt: &impl Abort, alloc: Global, guard: Form) -> Clause {
-    clause(rt, alloc, 1, guard, 1, None)
+    let body = body(rt, alloc, 1);
+    clause(rt, alloc, 1, guard, body, None)
 }
 
-fn system(rt: &impl Abort, alloc: Global, clauses: Items<Clause>) -> System {
+/// The system of these clauses over the given number of predicates of an integer.
+fn system(rt: &impl Abort, alloc: Global, clauses: Items<Clause>, count: u32) -> System {
     let mut preds = Items::new(alloc);
-    preds.push(integers(rt, alloc, 1)).expect(rt, "memory");
+    for _ in 0..count {
+        preds.push(integers(rt, alloc, 1)).expect(rt, "memory");
+    }
     System::new(clauses, preds).expect(rt, "a system")
 }
 
-/// The book of these clauses, of which there are few.
-fn book(rt: &impl Abort, alloc: Global, clauses: Items<Clause>, units: u32) -> Book {
-    let system = system(rt, alloc, clauses);
-    assert!(rt; system.clauses().len() <= 3, "too many clauses");
-    assert!(rt; system.preds().len() <= 1, "too many predicates");
+/// The book of these clauses over the given number of predicates; there are few of both.
+pub(crate) fn book(
+    rt: &impl Abort,
+    alloc: Global,
+    clauses: Items<Clause>,
+    count: u32,
+    units: u32,
+) -> Book {
+    let system = system(rt, alloc, clauses, count);
+    assert!(rt; system.clauses().len() <= 30, "too many clauses");
+    assert!(rt; system.preds().len() <= 10, "too many predicates");
     assert!(rt; units <= 50_000, "too many units");
     Book::new(alloc, system, units).expect(rt, "memory")
 }
@@ -120,7 +132,7 @@ fn counting_clauses(rt: &impl Abort, alloc: Global) -> Items<Clause> {
 
 /// The book of the clauses that count to 3.
 pub(crate) fn counting(rt: &impl Abort, alloc: Global, units: u32) -> Book {
-    book(rt, alloc, counting_clauses(rt, alloc), units)
+    book(rt, alloc, counting_clauses(rt, alloc), 1, units)
 }
 
 /// `p(0)` and `p(7)`; and `p(0)` up to `p(5)` each give false.
@@ -135,16 +147,16 @@ fn choice_clauses(rt: &impl Abort, alloc: Global) -> Items<Clause> {
 
 /// The book of the two clauses with choices.
 pub(crate) fn choices(rt: &impl Abort, alloc: Global) -> Book {
-    book(rt, alloc, choice_clauses(rt, alloc), 50_000)
+    book(rt, alloc, choice_clauses(rt, alloc), 1, 50_000)
 }
 
 /// The book of one clause, which is false by itself.
 pub(crate) fn contradiction(rt: &impl Abort, alloc: Global) -> Book {
     let mut clauses = Items::new(alloc);
     clauses
-        .push(clause(rt, alloc, 0, Form::True, 0, None))
+        .push(clause(rt, alloc, 0, Form::True, Items::new(alloc), None))
         .expect(rt, "memory");
-    book(rt, alloc, clauses, 50_000)
+    book(rt, alloc, clauses, 1, 50_000)
 }
 
 /// `p` of all, of which each gives false.
@@ -161,5 +173,5 @@ fn any_clauses(rt: &impl Abort, alloc: Global) -> Items<Clause> {
 
 /// The book of the clauses in which every value is a fact.
 pub(crate) fn anything(rt: &impl Abort, alloc: Global) -> Book {
-    book(rt, alloc, any_clauses(rt, alloc), 50_000)
+    book(rt, alloc, any_clauses(rt, alloc), 1, 50_000)
 }

@@ -11,11 +11,19 @@ mod clauses;
 #[cfg(test)]
 mod copies;
 #[cfg(test)]
+mod counted;
+#[cfg(test)]
+mod counters;
+#[cfg(test)]
 mod cubes;
 #[cfg(test)]
 mod facts;
 #[cfg(test)]
+mod finds;
+#[cfg(test)]
 mod frames;
+#[cfg(test)]
+mod long_runs;
 #[cfg(test)]
 mod lookups;
 #[cfg(test)]

@@ -12,15 +12,20 @@ use step_rules::has_fact_in;
 const TUPLES: [[i64; 2]; 7] = [[4, 2], [4, 0], [4, -3], [7, 2], [-1, 2], [0, 9], [0, 0]];
 
 /// Adds a fact without premises, if it isn't there.
-fn put(alloc: Global, facts: &mut Facts, tuple: &[i64]) -> Result<(), Memory> {
-    if facts.count() >= 1000 || facts.find(1, tuple).is_some() {
+pub(crate) fn put(
+    alloc: Global,
+    facts: &mut Facts,
+    pred: u32,
+    tuple: &[i64],
+) -> Result<(), Memory> {
+    if facts.count() >= 1_000_000 || facts.find(pred, tuple).is_some() {
         return Ok(());
     }
     facts.add(Fact {
         clause: 0,
         point: Items::new(alloc),
         premises: Items::new(alloc),
-        pred: Some(1),
+        pred: Some(pred),
         tuple: Tuple::from_slice(alloc, tuple)?,
     })?;
     Ok(())
@@ -29,7 +34,7 @@ fn put(alloc: Global, facts: &mut Facts, tuple: &[i64]) -> Result<(), Memory> {
 fn made(rt: &impl Abort, alloc: Global) -> Facts {
     let mut facts = Facts::new(alloc).expect(rt, "memory");
     for tuple in TUPLES {
-        put(alloc, &mut facts, &tuple).expect(rt, "memory");
+        put(alloc, &mut facts, 1, &tuple).expect(rt, "memory");
     }
     facts
 }

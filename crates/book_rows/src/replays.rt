@@ -43,12 +43,12 @@ fn open(rt: &impl Abort, alloc: Global, sys: &System, number: u32) -> Step
         atom: 0,
         seen: instance(rt, alloc, sys, 1, &[value]),
         cube: cube_of(rt, alloc, number),
-        area: projected(rt, alloc, &[], &[value]),
+        area: projected(rt, alloc, &[], &[value], 0),
     })
 }
 
 /// Hands a step in, which is taken.
-fn take(rt: &impl Abort, book: &mut Book, step: Step)
+pub(crate) fn take(rt: &impl Abort, book: &mut Book, step: Step)
     requires { IsMadeFor book.old.system step }
     ensures { book.new.system ≡ book.old.system }
 {
@@ -100,7 +100,7 @@ fn take_entry(rt: &impl Abort, alloc: Global, book: &Book, number: u64, again: &
 }
 
 /// The book to which the journal leads.
-fn replayed(rt: &impl Abort, alloc: Global, book: &Book) -> Book {
+pub(crate) fn replayed(rt: &impl Abort, alloc: Global, book: &Book) -> Book {
     book.is_replayed();
     let system = book.system().copy(alloc).expect(rt, "memory");
     let mut again = Book::new(alloc, system, 50_000).expect(rt, "memory");
@@ -110,20 +110,28 @@ fn replayed(rt: &impl Abort, alloc: Global, book: &Book) -> Book {
     again
 }
 
-fn is_same_fact(one: &Book, other: &Book, id: u32) -> bool {
+pub(crate) fn is_same_fact(one: &Book, other: &Book, id: u32) -> bool {
     let (facts, others) = (one.facts(), other.facts());
-    id < facts.count()
-        && id < others.count()
-        && facts.fact(id).tuple.equals(&others.fact(id).tuple)
-        && facts.find(0, facts.fact(id).tuple.as_slice()) == Some(id)
+    if id >= facts.count() || id >= others.count() {
+        return false;
+    }
+    let (fact, same) = (facts.fact(id), others.fact(id));
+    match fact.pred {
+        Some(pred) => {
+            fact.pred == same.pred
+                && fact.tuple.equals(&same.tuple)
+                && others.find(pred, fact.tuple.as_slice()) == Some(id)
+        }
+        None => false,
+    }
 }
 
-fn is_same_obligation(one: &Book, other: &Book, id: u32) -> bool {
+pub(crate) fn is_same_obligation(one: &Book, other: &Book, id: u32) -> bool {
     let (tree, others) = (one.tree(), other.tree());
     id < tree.count() && id < others.count() && tree.closed_by(id) == others.closed_by(id)
 }
 
-fn are_as_long(one: &Book, other: &Book) -> bool {
+pub(crate) fn are_as_long(one: &Book, other: &Book) -> bool {
     one.length() == other.length()
         && one.units() == other.units()
         && one.facts().count() == other.facts().count()

@@ -57,7 +57,7 @@ pub(crate) fn instance(
 
 // proofs
 
-fn leaf(rt: &impl Abort, alloc: Global, multipliers: &[(u32, i64)]) -> Refutation {
+pub(crate) fn leaf(rt: &impl Abort, alloc: Global, multipliers: &[(u32, i64)]) -> Refutation {
     Refutation::Leaf {
         multipliers: Items::from_slice(alloc, multipliers).expect(rt, "memory"),
     }
@@ -77,7 +77,7 @@ fn by_cases(
 }
 
 /// The token of a query of the clause, with this refutation.
-fn token(
+pub(crate) fn token(
     rt: &impl Abort,
     alloc: Global,
     sys: &System,
@@ -124,15 +124,25 @@ pub(crate) fn through_last(rt: &impl Abort, alloc: Global, sys: &System) -> Show
     token(rt, alloc, sys, 2, Goal::Query, used, &proof)
 }
 
-/// That the lemma is broken by an instance of the second clause.
-fn broken_by(rt: &impl Abort, alloc: Global, sys: &System, lemma: Lemma, point: &[i64]) -> NoLift
+/// That the lemma is broken by an instance of a clause.
+pub(crate) fn broken_by(
+    rt: &impl Abort,
+    alloc: Global,
+    sys: &System,
+    clause: u32,
+    lemma: Lemma,
+    point: &[i64],
+) -> NoLift
     ensures { IsNoLift sys.now result }
 {
-    assert!(rt; has_head(sys, 1, &lemma), "no head");
+    assert!(rt; has_head(sys, clause, &lemma), "no head");
     let point = Vec::from_slice(alloc, point).expect(rt, "memory");
-    assert!(rt; has_values(sys, 1, point.as_slice()), "other variables");
+    assert!(rt;
+        has_values(sys, clause, point.as_slice()),
+        "other variables"
+    );
     assert!(rt; are_short(point.as_slice()), "a value of -2^63");
-    match seen(sys, 1, point) {
+    match seen(sys, clause, point) {
         Ok(seen) => no_lift(alloc, sys, lemma, Why::Broken(seen)).expect(rt, "broken"),
         Err(_) => rt.panic("no instance"),
     }
@@ -143,7 +153,7 @@ pub(crate) fn broken(rt: &impl Abort, alloc: Global, sys: &System, value: i64) -
     ensures { IsNoLift sys.now result }
 {
     let lemma = not(rt, alloc, value);
-    broken_by(rt, alloc, sys, lemma, &[value.wrapping_sub(1), value])
+    broken_by(rt, alloc, sys, 1, lemma, &[value.wrapping_sub(1), value])
 }
 
 // evidence: a form with a disjunction may be split at once

@@ -98,17 +98,23 @@ fn all_below(lits: &[Lit], n: usize) -> bool
     lits.iter().all(|lit| lit.is_below(n))
 }
 
-/// The projection of these at a model, where x0 is kept.
-pub(crate) fn projected(rt: &impl Abort, alloc: Global, lits: &[Lit], model: &[i64]) -> Projected {
+/// The projection of these at a model, where one variable is kept.
+pub(crate) fn projected(
+    rt: &impl Abort,
+    alloc: Global,
+    lits: &[Lit],
+    model: &[i64],
+    kept: u32,
+) -> Projected {
     assert!(rt; all_hold(lits, model), "no model");
     assert!(rt; all_below(lits, model.len()), "a variable without a value");
-    project(alloc, lits, model, &[0]).expect(rt, "memory")
+    project(alloc, lits, model, &[kept]).expect(rt, "memory")
 }
 
 /// The area of one value.
 fn point_area(rt: &impl Abort, alloc: Global, value: i64) -> Projected {
     let lit = is(rt, alloc, 0, value);
-    projected(rt, alloc, &[lit], &[value])
+    projected(rt, alloc, &[lit], &[value], 0)
 }
 
 /// `x1 = x0 + 1` and `x1 = 3`, and with them `x0 <= 2` or not.
@@ -126,7 +132,7 @@ fn area_lits(rt: &impl Abort, alloc: Global, knows: bool) -> Vec<Lit> {
 /// The area of the second clause at 2 and 3 for the head 3, with 'at most 2' on the body or without.
 fn area(rt: &impl Abort, alloc: Global, knows: bool) -> Projected {
     let lits = area_lits(rt, alloc, knows);
-    projected(rt, alloc, lits.as_slice(), &[2, 3])
+    projected(rt, alloc, lits.as_slice(), &[2, 3], 0)
 }
 
 fn cube_of(rt: &impl Abort, alloc: Global, lits: &[Lit]) -> Cube {

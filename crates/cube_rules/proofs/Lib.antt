@@ -4,6 +4,7 @@ pub mod ViewLemmas
 pub mod WalkLemmas
 pub mod LiteralLemmas
 pub mod GatherLemmas
+pub mod UpperLemmas
 pub mod BoundLemmas
 pub mod PlacedLemmas
 pub mod AreaLemmas

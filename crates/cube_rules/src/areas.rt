@@ -8,6 +8,7 @@ ghost use Rattle.book_rules.specs.Same.{same_tuple};
 ghost use Rattle.cube_rules.specs.Views.{framed_at, lemmas_of};
 ghost use Rattle.cube_rules.specs.machinery.Literals.{are_placed, atom_lits, frame_lits, lemma_lits, roomy_denials};
 
+use crate::framed::is_free;
 use crate::literals::{any_among, are_among, cover, have_room, is_among, push_roomy, stands_in};
 use crate::same::same_tuple;
 use base::{Items, Memory};
@@ -67,6 +68,9 @@ fn push_lemmas(
 ) -> Result<(), Memory>
     ensures { OnOk result (lits.new.items ≡ lits.old.items ++ atom_lits (lemmas_of frames.now.lemmas) k atom.now) }
 {
+    if is_free(frames, k, atom.pred) {
+        return Ok(());
+    }
     for id in 0..frames.count() {
         push_lemma(alloc, lits, frames, id, k, atom)?;
     }

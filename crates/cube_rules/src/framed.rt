@@ -1,9 +1,11 @@
-ghost use Rattle.std.specs.Prelude.{◌≡◌, ◌<◌, ◌&&◌, length, nat_le, IfOk};
+ghost use Rattle.std.specs.Prelude.{◌≡◌, ◌<◌, ◌&&◌, ◌==◌, length, nat_le, true, false, None, IfOk};
+ghost use Rattle.std.specs.List.{list_any};
 ghost use Rattle.book_rules.specs.Frames.{excludes, frame_has, same_lemma};
 ghost use Rattle.book_rules.specs.Instances.{body_at};
 ghost use Rattle.book_rules.specs.OpenRules.{shut_out};
 ghost use Rattle.book_rules.specs.Walks.{first_told};
 ghost use Rattle.cube_rules.specs.Views.{framed_at, lemmas_of};
+ghost use Rattle.cube_rules.specs.machinery.Walks.{equals, is_on, passes_at, shuts};
 
 use crate::instances::atom_at;
 use crate::same::same_lemma;
@@ -24,10 +26,37 @@ fn shuts_out(frames: &Frames, id: u32, k: u32, pair: &(u32, Tuple)) -> bool
         && frames.lemma(id).excludes(pair.1.as_slice())
 }
 
+/// Whether one of the lemmas of these numbers is there and does.
+fn any_shuts(frames: &Frames, numbers: &[u32], k: u32, pair: &(u32, Tuple)) -> bool
+    ensures { result ≡ list_any (passes_at (shuts k pair.now) frames.now.lemmas) numbers.now }
+{
+    for id in numbers {
+        if *id < frames.count() && shuts_out(frames, *id, k, pair) {
+            return true;
+        }
+    }
+    false
+}
+
+/// Whether no lemma of this level or more shuts the tuple out, by a look at those on its predicate. It
+/// is false, too, of level 0 and of a predicate that isn't there.
+fn none_shuts(frames: &Frames, k: u32, pair: &(u32, Tuple)) -> bool
+    ensures { result ≡ true → shut_out (lemmas_of frames.now.lemmas) k pair.now ≡ None }
+{
+    if k == 0 || pair.0 as usize >= frames.preds() {
+        return false;
+    }
+    let numbers = frames.upper(pair.0, k);
+    !any_shuts(frames, numbers, k, pair)
+}
+
 /// The first lemma of this level or more that shuts the tuple out.
 pub(crate) fn shut_out(frames: &Frames, k: u32, pair: &(u32, Tuple)) -> Option<By>
     ensures { result ≡ shut_out (lemmas_of frames.now.lemmas) k pair.now }
 {
+    if none_shuts(frames, k, pair) {
+        return None;
+    }
     for id in 0..frames.count() {
         if shuts_out(frames, id, k, pair) {
             return Some(By::Lemma(id));
@@ -65,8 +94,20 @@ fn is_same(frames: &Frames, id: u32, k: u32, pred: u32, lemma: &Lemma) -> bool
     frames.level_of(id) >= k && frames.pred_of(id) == pred && same_lemma(frames.lemma(id), lemma)
 }
 
-/// Whether the lemma, on this predicate, is among those of this level or more.
-pub fn frame_has(frames: &Frames, k: u32, pred: u32, lemma: &Lemma) -> bool
+/// Whether one of the lemmas of these numbers is there and is such a one.
+fn any_same(frames: &Frames, numbers: &[u32], k: u32, pred: u32, lemma: &Lemma) -> bool
+    ensures { result ≡ list_any (passes_at (equals k (record { pred = pred; cube = lemma.now })) frames.now.lemmas) numbers.now }
+{
+    for id in numbers {
+        if *id < frames.count() && is_same(frames, *id, k, pred, lemma) {
+            return true;
+        }
+    }
+    false
+}
+
+/// Whether any lemma is.
+fn is_anywhere(frames: &Frames, k: u32, pred: u32, lemma: &Lemma) -> bool
     ensures { result ≡ frame_has (lemmas_of frames.now.lemmas) k (record { pred = pred; cube = lemma.now }) }
 {
     for id in 0..frames.count() {
@@ -75,4 +116,27 @@ pub fn frame_has(frames: &Frames, k: u32, pred: u32, lemma: &Lemma) -> bool
         }
     }
     false
+}
+
+/// Whether the lemma, on this predicate, is among those of this level or more. It looks at those on the
+/// predicate alone, where the level isn't 0 and the predicate is there.
+pub fn frame_has(frames: &Frames, k: u32, pred: u32, lemma: &Lemma) -> bool
+    ensures { result ≡ frame_has (lemmas_of frames.now.lemmas) k (record { pred = pred; cube = lemma.now }) }
+{
+    if k == 0 || pred as usize >= frames.preds() {
+        return is_anywhere(frames, k, pred, lemma);
+    }
+    let numbers = frames.upper(pred, k);
+    any_same(frames, numbers, k, pred, lemma)
+}
+
+/// Whether no lemma of this level or more is on the predicate. It is false, too, of level 0 and of a
+/// predicate that isn't there.
+pub(crate) fn is_free(frames: &Frames, k: u32, pred: u32) -> bool
+    ensures { result ≡ true → list_any (is_on k pred) (lemmas_of frames.now.lemmas) ≡ false }
+{
+    if k == 0 || pred as usize >= frames.preds() {
+        return false;
+    }
+    frames.upper(pred, k).is_empty()
 }

@@ -77,6 +77,22 @@ run_more T row front low high before within mine k d after less = by (cases_lt k
   by (inl low') = before k d after low'
   by (inr more) = (let same : high ≡ k = omega arith in subst (λ i. Begins front (T (get_or row i d))) same here)
 
+-- a part of a row is in order where the row is
+pub run_order : (R : ℕ → ℕ → Type 0) (row : List ℕ) (low high : ℕ) → low ≤ high → high ≤ length row → AllPairs R row → AllPairs R (take (high - low) (drop low row))
+run_order R row low high after within pairs i j d less inside =
+    subst (λ y. R (get_or (take (high - low) (drop low row)) i d) y) (sym (at j below)) (subst (λ x. R x (get_or row (low + j) d)) (sym (at i (omega (arith, less, below)))) (pairs (low + i) (low + j) d (omega arith) (omega (arith, below, after, within))))
+  where
+    long : length (take (high - low) (drop low row)) ≡ high - low
+    long =
+        let rest = length-drop low row in
+        length-take-le (high - low) (drop low row) (omega (arith, rest, after, within))
+
+    below : j < high - low
+    below = omega (arith, inside, long)
+
+    at : (k : ℕ) → k < high - low → get_or (take (high - low) (drop low row)) k d ≡ get_or row (low + k) d
+    at k l = get_or-take (high - low) (drop low row) k d l ∙ get_or-drop low row k d
+
 -- the run is what begins with the values
 pub run_is : (T : ℕ → List ℤ) (row : List ℕ) (front : List ℤ) (low high : ℕ) → AllPairs (IsBelow T) row → IsRank T row front low → IsRun T row front low high
     → (n : ℕ) → Contains (take (high - low) (drop low row)) n ↔ (Contains row n × Begins front (T n))

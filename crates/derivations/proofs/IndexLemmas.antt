@@ -200,10 +200,13 @@ find_is rows fs pred row tuple r index is same n = (λ found. front ((same n).0 
 
 -- what a part of a row says of the facts
 pub under_is : (rows : List Row) (fs : List Fact) (pred : ℕ) (row : List ℕ) (front : List ℤ) (numbers : List ℕ) → IsIndexed rows fs → row ≡ (get_or rows pred empty).by_tuple
-    → ((n : ℕ) → Contains numbers n ↔ (Contains row n × Begins front (tuple_of fs n))) → AreUnder fs pred front numbers
-under_is rows fs pred row front numbers index is same n = (λ has. there ((same n).0 has), λ told. (same n).1 (subst (λ xs. Contains xs n) (sym is) (((index.each pred).exact n).1 (told.0, told.1)), told.2)) where
-  there : Contains row n × Begins front (tuple_of fs n) → (n < length fs) × (pred_of fs n ≡ Some pred) × Begins front (tuple_of fs n)
-  there both = (let of = ((index.each pred).exact n).0 (subst (λ xs. Contains xs n) is both.0) in (of.0, of.1, both.1))
+    → AllPairs (IsBelow (tuple_of fs)) numbers → ((n : ℕ) → Contains numbers n ↔ (Contains row n × Begins front (tuple_of fs n))) → AreUnder fs pred front numbers
+under_is rows fs pred row front numbers index is order same = record {
+  order = order;
+  exact = λ n. (λ has. there n ((same n).0 has), λ told. (same n).1 (subst (λ xs. Contains xs n) (sym is) (((index.each pred).exact n).1 (told.0, told.1)), told.2));
+} where
+  there : (n : ℕ) → Contains row n × Begins front (tuple_of fs n) → (n < length fs) × (pred_of fs n ≡ Some pred) × Begins front (tuple_of fs n)
+  there n both = (let of = ((index.each pred).exact n).0 (subst (λ xs. Contains xs n) is both.0) in (of.0, of.1, both.1))
 
 pub row_is : (ns ms ts us : List ℕ) (at n m : ℕ) → ns ≡ ms → ts ≡ us → n ≡ m → ◌≡◌ {A = Row} (record { by_number = ns ++ n ∷ []; by_tuple = insert ts at n }) (record { by_number = ms ++ m ∷ []; by_tuple = insert us at m })
 row_is ns ms ts us at n m a b c = rw (a, b, c) refl

@@ -12,6 +12,8 @@ use Rattle.std.specs.FinMap.{slice_cmp-IsAntisymmetric, int_cmp-IsAntisymmetric}
 use Rattle.std.proofs.lemmas.Bool.{cases_lt, cases_order}
 use Rattle.std.proofs.lemmas.List.{get_or_default}
 use Rattle.std.proofs.lemmas.List.Elements.{Contains-get_or}
+use Rattle.derivations.specs.declared.fact.Fact.{Fact}
+use Rattle.derivations.specs.Facts.{AreUnder, tuple_of}
 use Rattle.derivations.specs.machinery.Index.{IsBelow, IsRank}
 use Rattle.derivations.proofs.InsertLemmas.{pairs_insert}
 
@@ -21,6 +23,11 @@ total = lists_total int_cmp_total
 -- a tuple doesn't stand before itself
 not_itself : (t : List ℤ) → slice_cmp int_cmp t t ≡ Less → ⊥
 not_itself t less = (let other : slice_cmp int_cmp t t ≡ Greater = total.antisymm t t ∙ ap ordering_reverse less in absurd (cc))
+
+-- so in a row in order of tuple no number stands twice
+pub none_twice : (facts : List Fact) (pred : ℕ) (front : List ℤ) (numbers : List ℕ) → AreUnder facts pred front numbers → AllPairs (λ m n. m ≢ n) numbers
+none_twice facts pred front numbers under i j d less inside same =
+    not_itself (tuple_of facts (get_or numbers i d)) (subst (λ m. slice_cmp int_cmp (tuple_of facts (get_or numbers i d)) (tuple_of facts m) ≡ Less) (sym same) (under.order i j d less inside))
 
 -- of two different tuples one stands before the other
 apart : (s t : List ℤ) → (slice_cmp int_cmp s t ≢ Less) → (s ≡ t → ⊥) → slice_cmp int_cmp t s ≡ Less

@@ -2,6 +2,9 @@
 -- section 2): each fact is the head of an instance of a clause, and names for each body atom an earlier fact.
 use Rattle.std.specs.Prelude.{ℕ, ℤ, ◌≡◌, ◌<◌, ◌+◌, ◌↔◌, max, List, [], ◌∷◌, ◌++◌, map, length, get_or, take, Option, Some, None}
 use Rattle.std.specs.List.{All, AllPairs, Contains, fold}
+use Rattle.std.specs.Ordering.{int_cmp}
+use Rattle.std.specs.declared.cmp.Ordering.TheVariants.{Less}
+use Rattle.std.specs.Cmp.Lexicographic.{slice_cmp}
 use Rattle.derivations.specs.declared.fact.Fact.{Fact}
 
 -- the predicate of fact n, none for false
@@ -33,9 +36,14 @@ pub record AreOf (facts : List Fact) (pred : ℕ) (numbers : List ℕ) : Type 0 
   pub order : AllPairs (λ x y. x < y) numbers
   pub exact : (n : ℕ) → Contains numbers n ↔ ((n < length facts) × (pred_of facts n ≡ Some pred))
 
--- exactly the facts of the predicate whose tuples begin with these values
-abbrev pub AreUnder : List Fact → ℕ → List ℤ → List ℕ → Type 0
-AreUnder facts pred front numbers = (n : ℕ) → Contains numbers n ↔ ((n < length facts) × (pred_of facts n ≡ Some pred) × (take (length front) (tuple_of facts n) ≡ front))
+-- the tuple of fact m stands before that of fact n: it is less at the first place that differs, or fact n's begins with it
+abbrev pub StandsBefore : List Fact → ℕ → ℕ → Type 0
+StandsBefore facts m n = slice_cmp int_cmp (tuple_of facts m) (tuple_of facts n) ≡ Less
+
+-- exactly the facts of the predicate whose tuples begin with these values, in order of tuple
+pub record AreUnder (facts : List Fact) (pred : ℕ) (front : List ℤ) (numbers : List ℕ) : Type 0 where
+  pub order : AllPairs (StandsBefore facts) numbers
+  pub exact : (n : ℕ) → Contains numbers n ↔ ((n < length facts) × (pred_of facts n ≡ Some pred) × (take (length front) (tuple_of facts n) ≡ front))
 
 abbrev pub greatest : List ℕ → ℕ
 greatest = fold max 0

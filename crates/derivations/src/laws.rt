@@ -1,8 +1,8 @@
 //! Laws of the definitions, as contracts of functions that do nothing.
 
-ghost use Rattle.std.specs.Prelude.{◌≡◌, ◌<◌, ◌+◌, ◌-◌, ℕ, List, None, length, map, get_or};
-ghost use Rattle.std.specs.List.{Contains};
-ghost use Rattle.derivations.specs.Facts.{AreRecorded, AreSteps, greatest, height_of, pred_of, fact_premises};
+ghost use Rattle.std.specs.Prelude.{◌≡◌, ◌≢◌, ◌<◌, ◌+◌, ◌-◌, ℕ, ℤ, List, None, length, map, get_or};
+ghost use Rattle.std.specs.List.{AllPairs, Contains};
+ghost use Rattle.derivations.specs.Facts.{AreRecorded, AreSteps, AreUnder, greatest, height_of, pred_of, fact_premises};
 ghost use Rattle.derivations.specs.declared.fact.Fact.{Fact};
 
 /// False is recorded once at most.
@@ -23,4 +23,9 @@ pub fn steps_end_in_the_fact()
 /// With each step its premises are among the steps.
 pub fn steps_have_their_premises()
     ensures { (facts : List Fact) (n m p : ℕ) (steps : List ℕ) → AreSteps facts n steps → Contains steps m → Contains (fact_premises facts m) p → Contains steps p }
+{}
+
+/// Among the facts whose tuples begin with given values none stands twice.
+pub fn no_fact_stands_twice()
+    ensures { (facts : List Fact) (pred : ℕ) (front : List ℤ) (numbers : List ℕ) → AreUnder facts pred front numbers → AllPairs (λ m n. m ≢ n) numbers }
 {}

@@ -14,5 +14,6 @@ mod search;
 pub use fact::Fact;
 pub use facts::Facts;
 pub use laws::{
-    a_height_is_one_more, false_is_recorded_once, steps_end_in_the_fact, steps_have_their_premises,
+    a_height_is_one_more, false_is_recorded_once, no_fact_stands_twice, steps_end_in_the_fact,
+    steps_have_their_premises,
 };

@@ -79,7 +79,8 @@ fn behind(notes: &Notes, row: &[u32], front: &[i64], low: usize) -> usize
 pub(crate) fn begun<'a>(notes: &Notes, row: &'a [u32], front: &[i64]) -> &'a [u32]
     requires order { AllPairs (IsBelow (tuple_of notes.now)) row.now }
     requires there { All (λ n. n < length notes.now) row.now }
-    ensures { (n : ℕ) → Contains result.now n ↔ (Contains row.now n × Begins front.now (tuple_of notes.now n)) }
+    ensures order { AllPairs (IsBelow (tuple_of notes.now)) result.now }
+    ensures exact { (n : ℕ) → Contains result.now n ↔ (Contains row.now n × Begins front.now (tuple_of notes.now n)) }
 {
     let low = rank(notes, row, front);
     let high = behind(notes, row, front, low);

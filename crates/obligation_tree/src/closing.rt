@@ -11,6 +11,9 @@ use base::Memory;
 use cube_forms::Table;
 use std::alloc::Global;
 
+/// So many live obligations are held against each other; of more, a mark is made for each number.
+const FEW: usize = 16;
+
 /// Whether the obligation of that number is there and closed.
 fn is_closed_at(nodes: &Table<Node>, number: u32) -> bool
     ensures { result ≡ is_closed_at nodes.now number }
@@ -79,12 +82,50 @@ fn parents_of(alloc: Global, nodes: &Table<Node>, numbers: &[u32]) -> Result<Vec
     Ok(flags)
 }
 
+/// Whether an obligation hangs right under a number.
+fn is_child(nodes: &Table<Node>, number: u32, child: u32) -> bool
+    requires { child < length nodes.now }
+    ensures { result ≡ is_child_of nodes.now number child }
+{
+    child > 0 && nodes.get(child).obligation.get().parent == number
+}
+
+/// Whether one of these obligations does.
+fn has_child(nodes: &Table<Node>, numbers: &[u32], number: u32) -> bool
+    requires { (k : ℕ) → k < length numbers.now → slice_index numbers.now k < length nodes.now }
+    ensures { result ≡ list_any (is_child_of nodes.now number) numbers.now }
+{
+    for child in numbers {
+        if is_child(nodes, number, *child) {
+            return true;
+        }
+    }
+    false
+}
+
+/// Those of a few numbers under which none of these obligations hangs: each is held against each.
+fn childless_of_few(alloc: Global, nodes: &Table<Node>, numbers: &[u32]) -> Result<Vec<u32>, Memory>
+    requires { (k : ℕ) → k < length numbers.now → slice_index numbers.now k < length nodes.now }
+    ensures { IfOk result (λ leaves. leaves.items ≡ filter (λ number. not (list_any (is_child_of nodes.now number) numbers.now)) numbers.now) }
+{
+    let mut leaves = Vec::with_capacity(alloc, numbers.len())?;
+    for number in numbers {
+        if !has_child(nodes, numbers, *number) {
+            leaves.push(*number)?;
+        }
+    }
+    Ok(leaves)
+}
+
 /// Those of the numbers under which none of these obligations hangs.
 fn childless(alloc: Global, nodes: &Table<Node>, numbers: &[u32]) -> Result<Vec<u32>, Memory>
     requires within { (k : ℕ) → k < length numbers.now → slice_index numbers.now k < length nodes.now }
     requires parents { (k : ℕ) → k < length numbers.now → parent_at nodes.now (slice_index numbers.now k) < length nodes.now }
     ensures { IfOk result (λ leaves. leaves.items ≡ filter (λ number. not (list_any (is_child_of nodes.now number) numbers.now)) numbers.now) }
 {
+    if numbers.len() <= FEW {
+        return childless_of_few(alloc, nodes, numbers);
+    }
     let flags = parents_of(alloc, nodes, numbers)?;
     let mut leaves = Vec::with_capacity(alloc, numbers.len())?;
     for number in numbers {

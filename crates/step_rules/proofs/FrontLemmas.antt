@@ -228,4 +228,4 @@ under-all facts pred cube front numbers under begins = least-first (lies_in pred
       let item = passing (lies_in pred cube) (slice_get (facts_of facts) m) passes in
       let is = is-at facts m item.0 item.1 in
       let told = held pred cube is.kept.pred is.kept.tuple (ap (holds_of (Some pred) cube) (sym is.conclusion) ∙ item.2) in
-      (under m).1 (is.less, is.pred ∙ told.0, ap (take (length front)) is.tuple ∙ begins is.kept.tuple told.1)
+      (under.exact m).1 (is.less, is.pred ∙ told.0, ap (take (length front)) is.tuple ∙ begins is.kept.tuple told.1)

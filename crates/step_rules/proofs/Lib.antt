@@ -1,5 +1,6 @@
 pub mod ViewLemmas
 pub mod WalkLemmas
+pub mod KnownLemmas
 pub mod OnLemmas
 pub mod CubeLemmas
 pub mod FactLemmas

@@ -13,6 +13,7 @@ ghost use Rattle.step_rules.specs.machinery.Walks.{fails_plainly_at, is_plain, i
 ghost use Rattle.step_rules.specs.machinery.Told.{low_told, misfit_told, shut_told, unheld_told, unknown_told};
 ghost use Rattle.step_rules.specs.Taken.{open_of};
 ghost use Rattle.cube_rules.specs.Views.{framed_at, lemmas_of};
+ghost use Rattle.cube_rules.specs.machinery.Walks.{passes_at};
 ghost use Rattle.step_rules.specs.Views.{ground_conclusion, facts_of, fresh_of};
 ghost use Rattle.step_rules.specs.Standing.{standing_state};
 ghost use Rattle.cube_forms.specs.Cubes.{cube_holds};
@@ -333,6 +334,44 @@ fn is_unknown(
     Ok(!known)
 }
 
+/// Whether one of the lemmas of these numbers is there and is such a one.
+fn any_unknown(
+    alloc: Global,
+    frames: &Frames,
+    numbers: &[u32],
+    k: u32,
+    step: &OpenPart,
+    atom: &Atom,
+) -> Result<bool, Memory>
+    ensures { IfOk result (λ b. b ≡ list_any (passes_at (is_unknown k step.now.area atom.now) frames.now.lemmas) numbers.now) }
+{
+    for id in numbers {
+        let is_one = *id < frames.count() && is_unknown(alloc, frames, *id, k, step, atom)?;
+        if is_one {
+            return Ok(true);
+        }
+    }
+    Ok(false)
+}
+
+/// Whether no lemma is such a one, by a look at those on the atom's predicate. It is false, too, of level
+/// 0 and of a predicate that isn't there.
+fn none_unknown(
+    alloc: Global,
+    frames: &Frames,
+    k: u32,
+    step: &OpenPart,
+    atom: &Atom,
+) -> Result<bool, Memory>
+    ensures { IfOk result (λ b. b ≡ true → unknown (lemmas_of frames.now.lemmas) k (open_of step.now) atom.now ≡ None) }
+{
+    if k == 0 || atom.pred as usize >= frames.preds() {
+        return Ok(false);
+    }
+    let any = any_unknown(alloc, frames, frames.upper(atom.pred, k), k, step, atom)?;
+    Ok(!any)
+}
+
 /// The first lemma of this level or more on the atom's predicate that the area doesn't know on it.
 fn unknown(
     alloc: Global,
@@ -343,6 +382,9 @@ fn unknown(
 ) -> Result<Option<By>, Memory>
     ensures { IfOk result (λ by. by ≡ unknown (lemmas_of frames.now.lemmas) k (open_of step.now) atom.now) }
 {
+    if none_unknown(alloc, frames, k, step, atom)? {
+        return Ok(None);
+    }
     for id in 0..frames.count() {
         let unknown = is_unknown(alloc, frames, id, k, step, atom)?;
         if unknown {

@@ -12,4 +12,4 @@ begun-requires-clause-there c = tuples_there c.self.inside.rows.items c.self.ins
 pub returns : goal.returns
 returns c =
     subst (λ fs. AreUnder fs c.args.pred c.args.front.now c.begun.result.now) c.self.view_is
-    (under_is c.self.inside.rows.items c.self.inside.notes c.args.pred c.by_tuple-row.result.now c.args.front.now c.begun.result.now c.self.invariant c.by_tuple-row.ensures c.begun.ensures)
+    (under_is c.self.inside.rows.items c.self.inside.notes c.args.pred c.by_tuple-row.result.now c.args.front.now c.begun.result.now c.self.invariant c.by_tuple-row.ensures c.begun.ensures.order c.begun.ensures.exact)

@@ -1,7 +1,7 @@
 use Rattle.std.proofs.Common.{◌≡◌, drop}
 use Rattle.book_rules.specs.Frames.{frame_has}
 use Rattle.cube_rules.specs.Views.{lemmas_of}
-use Rattle.cube_rules.proofs.framed.frame_has.Given as goal
+use Rattle.cube_rules.proofs.framed.is_anywhere.Given as goal
 
 -- the rest decides
 abbrev pub invariant-loop-id : goal.invariant-loop-id
