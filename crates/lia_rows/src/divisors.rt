@@ -1,71 +1,7 @@
 //! Conjunctions over unbounded variables that branches don't end: a common divisor of a row or of
 //! equations does, or a point at which equations hold.
 
-ghost use Rattle.std.specs.Prelude.{◌<◌};
-
-use lia_branch::{Decision, are_below, decide_all, have_short_constants};
-use lin_atoms::{Divisor, Lin, Lit};
-use std::alloc::Global;
-use std::process::Abort;
-
-/// A literal: its kind, its divisor, the coefficients of four variables, and the constant.
-type Row = (u32, i64, [i64; 4], i128);
-
-fn add_term(rt: &impl Abort, terms: &mut Vec<(u32, i64)>, variable: u32, coefficient: i64) {
-    if coefficient != 0 {
-        terms.push((variable, coefficient)).expect(rt, "memory");
-    }
-}
-
-fn form(rt: &impl Abort, alloc: Global, coefficients: [i64; 4], constant: i128) -> Lin {
-    let [x, y, z, u] = coefficients;
-    let mut terms = Vec::new(alloc);
-    add_term(rt, &mut terms, 0, x);
-    add_term(rt, &mut terms, 1, y);
-    add_term(rt, &mut terms, 2, z);
-    add_term(rt, &mut terms, 3, u);
-    Lin::new(terms, constant).expect(rt, "a form")
-}
-
-/// A literal: `<=`, `=`, a divisibility or one denied, of a form.
-fn lit(kind: u32, n: Divisor, lin: Lin) -> Lit {
-    match kind {
-        0 => Lit::Le(lin),
-        1 => Lit::Eq(lin),
-        2 => Lit::Div(n, lin),
-        _ => Lit::NDiv(n, lin),
-    }
-}
-
-fn add_row(rt: &impl Abort, alloc: Global, lits: &mut Vec<Lit>, row: Row) {
-    let (kind, n, coefficients, constant) = row;
-    let n = Divisor::new(n).expect(rt, "a divisor");
-    lits.push(lit(kind, n, form(rt, alloc, coefficients, constant)))
-        .expect(rt, "memory");
-}
-
-/// What is decided of the rows with at most `nodes` inner nodes.
-fn decided(rt: &impl Abort, alloc: Global, rows: &[Row], nodes: u32) -> Decision
-    requires { 0 < nodes }
-{
-    let mut lits = Vec::new(alloc);
-    for row in rows {
-        add_row(rt, alloc, &mut lits, *row);
-    }
-    assert!(rt; are_below(lits.as_slice(), 4));
-    assert!(rt; have_short_constants(lits.as_slice()));
-    decide_all(alloc, lits.as_slice(), 4, nodes).expect(rt, "memory")
-}
-
-fn is_refuted(rt: &impl Abort, alloc: Global, rows: &[Row]) -> bool {
-    let decision = decided(rt, alloc, rows, 1);
-    matches!(decision, Decision::Refuted(_))
-}
-
-fn has_point(rt: &impl Abort, alloc: Global, rows: &[Row]) -> bool {
-    let decision = decided(rt, alloc, rows, 8);
-    matches!(decision, Decision::Model(_))
-}
+use crate::conjunctions::{Row, is_refuted, point};
 
 /// x is twice y, and one more than twice z.
 const PARITY: [Row; 2] = [(1, 1, [1, -2, 0, 0], 0), (1, 1, [1, 0, -2, 0], -1)];
@@ -165,13 +101,13 @@ const POINTS: [&[Row]; 2] = [&LINE, &REMAINDERS];
 #[test]
 fn common_divisors_end(rt: HostRuntime) {
     for rows in ALL {
-        assert!(rt; is_refuted(&rt, rt.alloc(), rows));
+        assert!(rt; is_refuted(&rt, rt.alloc(), rows, 1));
     }
 }
 
 #[test]
 fn equations_have_points(rt: HostRuntime) {
     for rows in POINTS {
-        assert!(rt; has_point(&rt, rt.alloc(), rows));
+        assert!(rt; point(&rt, rt.alloc(), rows, 8).is_some());
     }
 }

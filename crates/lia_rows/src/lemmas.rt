@@ -1,6 +1,7 @@
 //! Formulas with lemmas that were worked out by hand.
 
 use base::Items;
+use farkas_proof::{Refutation, Refuted, check};
 use lia_cases::{Decision, are_below, decide, have_short_multiples};
 use lia_search::has_short_multiples;
 use lin_atoms::{Form, Lin, Lit, holds};
@@ -48,40 +49,133 @@ fn pair(rt: &impl Abort, alloc: Global, first: Form, second: Form) -> Items<Form
     Items::from_vec(Vec::from_array(alloc, [first, second]).expect(rt, "memory"))
 }
 
-/// x is from 0 to 20.
-fn bounds(rt: &impl Abort, alloc: Global) -> Form {
-    let (low, high) = (le(rt, alloc, -1, 0), le(rt, alloc, 1, -20));
+/// x is from 0 to `most`.
+fn bounds(rt: &impl Abort, alloc: Global, most: u16) -> Form {
+    let high = -i128::from(most);
+    let (low, high) = (le(rt, alloc, -1, 0), le(rt, alloc, 1, high));
     Form::And(pair(rt, alloc, low, high))
 }
 
 /// x isn't n.
-fn other_than(rt: &impl Abort, alloc: Global, n: i128) -> Form {
-    let low = le(rt, alloc, 1, 1i128.wrapping_sub(n));
-    let high = le(rt, alloc, -1, 1i128.wrapping_add(n));
+fn other_than(rt: &impl Abort, alloc: Global, n: u16) -> Form {
+    let low = le(rt, alloc, 1, 1 - i128::from(n));
+    let high = le(rt, alloc, -1, 1 + i128::from(n));
     Form::Or(pair(rt, alloc, low, high))
 }
 
 /// x is none of the numbers from 0 to `n - 1`.
-fn excluded(rt: &impl Abort, alloc: Global, n: u8) -> Vec<Form> {
+fn excluded(rt: &impl Abort, alloc: Global, n: u16) -> Vec<Form> {
     let mut lemmas = Vec::new(alloc);
     for i in 0..n {
-        lemmas
-            .push(other_than(rt, alloc, i128::from(i)))
-            .expect(rt, "memory");
+        lemmas.push(other_than(rt, alloc, i)).expect(rt, "memory");
     }
     lemmas
 }
 
-/// What is told of x from 0 to 20 where the first `n` numbers are excluded.
-fn decided(rt: &impl Abort, alloc: Global, n: u8, nodes: u32) -> u32 {
-    let (bounds, lemmas) = (bounds(rt, alloc), excluded(rt, alloc, n));
+/// x is above each of the numbers from 0 to `n - 1`.
+fn risen(rt: &impl Abort, alloc: Global, n: u16) -> Vec<Form> {
+    let mut lemmas = Vec::new(alloc);
+    for i in 0..n {
+        let above = le(rt, alloc, -1, 1 + i128::from(i));
+        lemmas.push(above).expect(rt, "memory");
+    }
+    lemmas
+}
+
+/// What is told of x from 0 to `most` where the first `n` numbers are excluded.
+fn decided(rt: &impl Abort, alloc: Global, most: u16, n: u16, nodes: u32) -> u32 {
+    let (bounds, lemmas) = (bounds(rt, alloc, most), excluded(rt, alloc, n));
     kind(rt, alloc, &bounds, lemmas.as_slice(), nodes)
 }
 
-/// The lemmas exclude numbers one by one: up to 19, so that 20 is left, and then 20 as well.
+/// What is told of x from 0 to 300 that is above the first `n` numbers.
+fn decided_above(rt: &impl Abort, alloc: Global, n: u16, nodes: u32) -> u32 {
+    let (bounds, lemmas) = (bounds(rt, alloc, 300), risen(rt, alloc, n));
+    kind(rt, alloc, &bounds, lemmas.as_slice(), nodes)
+}
+
+/// The lemmas exclude numbers one by one: all but the last one, and then that one as well.
+const CASES: [(u16, u16, u32, u32); 5] = [
+    (20, 20, 100, 1),
+    (20, 20, 5, 3),
+    (20, 21, 100, 2),
+    (300, 300, 1000, 1),
+    (300, 301, 1000, 2),
+];
+
 #[test]
 fn lemmas_are_taken_in(rt: HostRuntime) {
-    for (n, nodes, wanted) in [(20, 100, 1), (20, 5, 3), (21, 100, 2)] {
-        assert!(rt; decided(&rt, rt.alloc(), n, nodes) == wanted);
+    for (most, n, nodes, wanted) in CASES {
+        assert!(rt; decided(&rt, rt.alloc(), most, n, nodes) == wanted);
     }
+}
+
+/// Literals as lemmas, each of which the point breaks that meets those before it: no node is split.
+#[test]
+fn literals_are_taken_in(rt: HostRuntime) {
+    for (n, wanted) in [(300, 1), (301, 2)] {
+        assert!(rt; decided_above(&rt, rt.alloc(), n, 1) == wanted);
+    }
+}
+
+/// x is at most -5 or at least 5, and isn't negative.
+#[test]
+fn a_case_is_left(rt: HostRuntime) {
+    let form = Form::Or(pair(
+        &rt,
+        rt.alloc(),
+        le(&rt, rt.alloc(), 1, 5),
+        le(&rt, rt.alloc(), -1, 5),
+    ));
+    let lemmas = vec![in rt.alloc(); le(&rt, rt.alloc(), -1, 0)].expect(&rt, "memory");
+    assert!(rt; kind(&rt, rt.alloc(), &form, lemmas.as_slice(), 2000) == 1);
+}
+
+/// How many nodes a tree has, and the ones before it.
+#[cycle(count)]
+fn count(tree: &Refutation, before: u64) -> u64 {
+    let total = before.saturating_add(1);
+    match tree {
+        Refutation::Leaf { .. } => total,
+        Refutation::Round { sub, .. } => count(sub.get(), total),
+        Refutation::Split { below, above, .. } => count(above.get(), count(below.get(), total)),
+        Refutation::Cases { subs, .. } => count_all(subs.as_slice(), total),
+        Refutation::Quotient { sub, .. } => count(sub.get(), total),
+    }
+}
+
+#[cycle(count)]
+fn count_all(subs: &[Refutation], before: u64) -> u64 {
+    let mut total = before;
+    for sub in subs {
+        total = count(sub, total);
+    }
+    total
+}
+
+/// How many nodes the tree of a refutation has, where a check takes it.
+fn checked(alloc: Global, refuted: &Refuted) -> Option<u64> {
+    match check(alloc, refuted.form(), refuted.proof()) {
+        Ok(_) => Some(count(refuted.proof(), 0)),
+        Err(_) => None,
+    }
+}
+
+/// The nodes of the tree that refutes x from 0 to 999 where all these numbers are excluded.
+fn nodes_of_chain(rt: &impl Abort, alloc: Global) -> Option<u64> {
+    let (bounds, lemmas) = (bounds(rt, alloc, 999), excluded(rt, alloc, 1000));
+    assert!(rt; bounds.is_below(1));
+    assert!(rt; has_short_multiples(&bounds));
+    assert!(rt; are_below(lemmas.as_slice(), 1));
+    assert!(rt; have_short_multiples(lemmas.as_slice()));
+    match decide(alloc, &bounds, lemmas.as_slice(), 1, 2000).expect(rt, "memory") {
+        Decision::Refuted(refuted) => checked(alloc, &refuted),
+        _ => None,
+    }
+}
+
+/// A node for each number, a leaf for what is below it, and one for what is above all.
+#[test]
+fn a_large_tree_is_checked(rt: HostRuntime) {
+    assert!(rt; nodes_of_chain(&rt, rt.alloc()) == Some(2001));
 }

@@ -5,6 +5,8 @@
 #[cfg(test)]
 mod boxes;
 #[cfg(test)]
+mod conjunctions;
+#[cfg(test)]
 mod divisors;
 #[cfg(test)]
 mod lemmas;
@@ -12,3 +14,5 @@ mod lemmas;
 mod literals;
 #[cfg(test)]
 mod parts;
+#[cfg(test)]
+mod rows;

@@ -1,0 +1,12 @@
+#!/bin/sh
+# Measures the integer solver against z3 on the same queries, and against a search of all points, in one run.
+set -e
+top=$(cd "$(dirname "$0")/.." && pwd)
+kit=$(dirname "$(dirname "$(readlink -f "$(command -v rt)")")")
+(cd "$top/crates/lia_cases_c" && rt lib >/dev/null)
+work=$(mktemp -d)
+trap 'rm -rf "$work"' EXIT
+rustc -O -o "$work/solver" "$top/bench/solver.rs" \
+    -C link-arg="$top/crates/lia_cases_c/out/liblia_cases_c.a" \
+    -C link-arg="$kit/c/liblibc_c.a" -C link-arg="$kit/c/libos_c.a"
+"$work/solver"
