@@ -9,12 +9,13 @@ asks for it, and then an Open and a Lemma for each counter: 501 steps (`counted.
 off at 2,500 and at 5,000 units, and its journal is committed to a second book.
 
 What is measured are tests of `book_rows`, each run alone by its name, in pairs: one makes the book, the other
-makes it and goes on. A figure is the difference of the least processor times of both, and, where there is
-`valgrind`, of their instructions. The look-ups are held against plain hashed maps that rustc compiles
-(`finds.rs`).
+makes it and goes on. A figure is the difference of the least processor times of both, and for the journals,
+where there is `valgrind`, of their counted instructions, which other work on the machine doesn't change. The
+look-ups are held against plain hashed maps that rustc compiles (`finds.rs`).
 
-It fails where twice the units take more than 2.3 times as long, where a version takes more than 1/50 of a copy
-of the journal's steps alone, or where a look-up takes more than three times as long as in a hashed map."""
+It fails where twice the units take more than 2.3 times the instructions (the time, where they aren't counted),
+where a version takes more than 1/50 of a copy of the journal's steps alone, or where a look-up takes more than
+three times as long as in a hashed map."""
 
 import argparse
 import os
@@ -73,11 +74,15 @@ def replays(program, runs):
     small, large = times[1] - times[0], times[3] - times[2]
     print(f"journals committed again: 2,500 entries {1e3 * small:.1f} ms, 5,000 entries {1e3 * large:.1f} ms")
     ratio = large / small
-    print(f"  twice the units take {ratio:.2f} times as long{is_within(ratio, MOST_REPLAY)}")
-    if shutil.which("valgrind"):
-        counts = [instructions(words) for words in commands]
-        small, large = counts[1] - counts[0], counts[3] - counts[2]
-        print(f"  and {large / small:.2f} times as many instructions ({small / 1e6:.0f} and {large / 1e6:.0f} million)")
+    if not shutil.which("valgrind"):
+        print(f"  twice the units take {ratio:.2f} times as long{is_within(ratio, MOST_REPLAY)}")
+        return ratio <= MOST_REPLAY
+    print(f"  twice the units take {ratio:.2f} times as long")
+    counts = [instructions(words) for words in commands]
+    small, large = counts[1] - counts[0], counts[3] - counts[2]
+    ratio = large / small
+    counted = f"{small / 1e6:.0f} and {large / 1e6:.0f} million"
+    print(f"  and {ratio:.2f} times the instructions, {counted}{is_within(ratio, MOST_REPLAY)}")
     return ratio <= MOST_REPLAY
 
 
