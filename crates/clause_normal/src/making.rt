@@ -172,6 +172,9 @@ fn judged_own(
 {
     has_number(top);
     script.terms.is_arena();
+    if tables.rooms.has_room(top) {
+        return Ok(());
+    }
     judged(alloc, &script.terms, tables, names, known, top)
 }
 

@@ -1,8 +1,9 @@
-//! First terms without room, found by hand.
+//! First terms without room, and terms with bounds, found by hand.
 
 use base::Items;
 use std::alloc::Global;
 use std::process::Abort;
+use term_bounds::RoomTable;
 use term_forms::nothing_read;
 use term_tables::ConstantTable;
 use term_tree::{Node, OpKind, Sort, TermId, Terms};
@@ -63,5 +64,28 @@ fn integer_terms_come_before_comparisons_and_parts_before_the_whole(rt: HostRunt
     ];
     for (top, place) in awaited {
         assert!(rt; found(&rt, alloc, top) == place.map(TermId), "{top}");
+    }
+}
+
+#[test]
+fn a_term_has_a_bound_where_the_magnitudes_in_it_have_a_sum_below_2_to_63(rt: HostRuntime) {
+    let alloc = rt.alloc();
+    let terms = samples(&rt, alloc);
+    let constants = ConstantTable::of(alloc, &terms).expect(&rt, "memory");
+    let rooms = RoomTable::of(alloc, &terms, &constants).expect(&rt, "memory");
+    // nothing in m * x <= x is wide, but the magnitudes of its sides have the sum 2^63
+    let awaited = [
+        (0, true),
+        (1, true),
+        (2, true),
+        (3, true),
+        (4, false),
+        (5, false),
+        (7, false),
+        (8, false),
+        (11, false),
+    ];
+    for (id, bounded) in awaited {
+        assert!(rt; rooms.has_room(TermId(id)) == bounded, "{id}");
     }
 }

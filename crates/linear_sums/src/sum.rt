@@ -41,21 +41,6 @@ pub fn sum_form(alloc: Global, forms: &[Lin]) -> Result<Lin, WideStop>
     Ok(made)
 }
 
-/// The terms of two forms, one after the other.
-fn both_terms(alloc: Global, a: &Lin, b: &Lin) -> Result<Vec<(u32, i64)>, Memory>
-    ensures { IfOk result (λ terms. terms.items ≡ a.now.terms ++ b.now.terms) }
-{
-    let mut terms = Vec::from_slice(alloc, a.terms())?;
-    terms.extend_from_slice(b.terms())?;
-    Ok(terms)
-}
-
-fn both_constants(a: &Lin, b: &Lin) -> i128
-    ensures { result ≡ a.now.constant +ℤ b.now.constant }
-{
-    a.constant() + b.constant()
-}
-
 /// The difference of the two forms, the first less the second, where it is narrow.
 pub fn less(alloc: Global, a: &Lin, b: &Lin) -> Result<Lin, WideStop>
     ensures made { IfOk result (λ made. made ≡ less a.now b.now) }
@@ -63,10 +48,10 @@ pub fn less(alloc: Global, a: &Lin, b: &Lin) -> Result<Lin, WideStop>
     ensures wide { IsErrOf result WideStop.Wide → is_narrow (less a.now b.now) ≡ false }
 {
     let turned = b.negated(alloc)?;
-    let terms = both_terms(alloc, a, &turned)?;
-    let constant = both_constants(a, &turned);
-    let made = summed(alloc, terms.as_slice(), constant)?;
-    Ok(made)
+    match a.added(alloc, &turned) {
+        Ok(difference) => judged(difference),
+        Err(stop) => Err(stop),
+    }
 }
 
 /// The first form as it is, and each of the others with the other sign.

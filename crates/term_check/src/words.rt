@@ -4,27 +4,39 @@ ghost use Rattle.std.specs.Prelude.{◌≡◌};
 ghost use Rattle.term_check.specs.Words.{is_word_among, reserved_words};
 ghost use Rattle.term_check.specs.machinery.WordLengths.{between};
 
-/// Whether it is a reserved word of one to three bytes.
-fn is_of_1_to_3(word: &[u8]) -> bool
-    ensures { result ≡ is_word_among (between 0 4 reserved_words) word.now }
+/// Whether it is a reserved word of one byte.
+fn is_of_1(word: &[u8]) -> bool
+    ensures { result ≡ is_word_among (between 0 2 reserved_words) word.now }
 {
-    word == b"_".as_slice()
-        || word == b"!".as_slice()
-        || word == b"as".as_slice()
-        || word == b"let".as_slice()
-        || word == b"par".as_slice()
-        || word == b"pop".as_slice()
+    word == b"_".as_slice() || word == b"!".as_slice()
 }
 
-/// Whether it is a reserved word of four or five bytes.
-fn is_of_4_or_5(word: &[u8]) -> bool
-    ensures { result ≡ is_word_among (between 3 6 reserved_words) word.now }
+/// Whether it is a reserved word of two bytes.
+fn is_of_2(word: &[u8]) -> bool
+    ensures { result ≡ is_word_among (between 1 3 reserved_words) word.now }
 {
-    word == b"match".as_slice()
-        || word == b"echo".as_slice()
-        || word == b"exit".as_slice()
-        || word == b"push".as_slice()
-        || word == b"reset".as_slice()
+    word == b"as".as_slice()
+}
+
+/// Whether it is a reserved word of three bytes.
+fn is_of_3(word: &[u8]) -> bool
+    ensures { result ≡ is_word_among (between 2 4 reserved_words) word.now }
+{
+    word == b"let".as_slice() || word == b"par".as_slice() || word == b"pop".as_slice()
+}
+
+/// Whether it is a reserved word of four bytes.
+fn is_of_4(word: &[u8]) -> bool
+    ensures { result ≡ is_word_among (between 3 5 reserved_words) word.now }
+{
+    word == b"echo".as_slice() || word == b"exit".as_slice() || word == b"push".as_slice()
+}
+
+/// Whether it is a reserved word of five bytes.
+fn is_of_5(word: &[u8]) -> bool
+    ensures { result ≡ is_word_among (between 4 6 reserved_words) word.now }
+{
+    word == b"match".as_slice() || word == b"reset".as_slice()
 }
 
 /// Whether it is a reserved word of six or seven bytes.
@@ -88,8 +100,11 @@ pub fn is_reserved(word: &[u8]) -> bool
     ensures { result ≡ is_word_among reserved_words word.now }
 {
     match word.len() {
-        1..=3 => is_of_1_to_3(word),
-        4..=5 => is_of_4_or_5(word),
+        1 => is_of_1(word),
+        2 => is_of_2(word),
+        3 => is_of_3(word),
+        4 => is_of_4(word),
+        5 => is_of_5(word),
         6..=7 => is_of_6_or_7(word),
         8..=9 => is_of_8_or_9(word),
         10..=13 => is_of_10_to_13(word),

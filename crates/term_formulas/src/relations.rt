@@ -143,7 +143,7 @@ fn related_neighbours(
     requires { IsTrue (is_relation op) → list_any is_wide_pair (neighbours forms.now) ≡ false }
     ensures { IfOk result (λ parts. parts ≡ map (λ p. related op sign (less p.0 p.1)) (neighbours forms.now)) }
 {
-    let mut parts = Items::new(alloc);
+    let mut parts = Items::from_vec(Vec::with_capacity(alloc, forms.len().saturating_sub(1))?);
     for i in 1..forms.len() {
         parts.push(related(alloc, op, sign, &forms[i - 1], &forms[i])?)?;
     }
@@ -232,7 +232,7 @@ fn same_neighbours(alloc: Global, sign: bool, bits: &[Lin]) -> Result<Items<Form
     requires { AreBits bits.now }
     ensures { IfOk result (λ parts. parts ≡ map (λ p. same_bits sign p.0 p.1) (neighbours bits.now)) }
 {
-    let mut parts = Items::new(alloc);
+    let mut parts = Items::from_vec(Vec::with_capacity(alloc, bits.len().saturating_sub(1))?);
     for i in 1..bits.len() {
         parts.push(same_bits(alloc, sign, &bits[i - 1], &bits[i])?)?;
     }

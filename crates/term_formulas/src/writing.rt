@@ -266,7 +266,7 @@ fn each(
     ensures is { IfOk result (λ forms. forms ≡ each (formula_by (constant_in constants.now) (sort_in sorts.now) (naming_by names.now) terms.now.nodes) sign ids.now) }
     ensures known { OnOk result (AreFound (constant_in constants.now) (naming_by names.now) terms.now.nodes known.new) }
 {
-    let mut forms = Items::new(alloc);
+    let mut forms = Items::from_vec(Vec::with_capacity(alloc, ids.len())?);
     for id in ids {
         let form = formula(alloc, terms, sorts, constants, names, known, *id, sign)?;
         forms.push(form)?;

@@ -3,7 +3,7 @@
 ghost use Rattle.std.specs.Prelude.{◌≡◌, ◌<◌, ◌*ℤ◌, nat_abs, pos, map, option_map, IfOk};
 ghost use Rattle.std.specs.Int.{int_div_euclid, int_rem_euclid};
 ghost use Rattle.base.specs.Widths.{long_limit};
-ghost use Rattle.term_tree.specs.Constants.{all_constant};
+ghost use Rattle.term_tree.specs.Constants.{all_constant, is_arithmetic};
 ghost use Rattle.term_tree.specs.Operators.{difference_of, on_two, first_of_all, sum_of};
 ghost use Rattle.term_tables.specs.machinery.Table.{constant_in, short_integer, short_applied, short_constant, short_kept, short_operation, short_product, signed_sum};
 
@@ -192,6 +192,17 @@ fn short_applied(op: OpKind, constants: &[i64]) -> Option<i64>
     }
 }
 
+/// Whether the operator gives integers for integers.
+fn is_arithmetic(op: OpKind) -> bool
+    ensures { result ≡ is_arithmetic op }
+{
+    match op {
+        OpKind::Add | OpKind::Mul | OpKind::Sub => true,
+        OpKind::Abs | OpKind::Div | OpKind::Mod => true,
+        _ => false,
+    }
+}
+
 /// What the operator gives for terms that are all constant.
 fn short_operation(
     alloc: Global,
@@ -201,6 +212,9 @@ fn short_operation(
 ) -> Result<Option<i64>, Memory>
     ensures { IfOk result (λ constant. constant ≡ short_operation op (all_constant (map (λ arg. constant_in known.now arg.0) args.now))) }
 {
+    if !is_arithmetic(op) {
+        return Ok(None);
+    }
     let given = constants_of(alloc, known, args)?;
     match all_constant(alloc, given.as_slice())? {
         None => Ok(None),

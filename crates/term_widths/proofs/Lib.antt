@@ -3,6 +3,7 @@ pub mod ApartLemmas
 pub mod ConstantLemmas
 pub mod FirstLemmas
 pub mod FormLemmas
+pub mod NarrowLemmas
 pub mod OrderLemmas
 pub mod PositionLemmas
 pub mod RenamingLemmas

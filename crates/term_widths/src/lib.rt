@@ -5,6 +5,7 @@
 mod apart;
 mod first;
 mod laws;
+mod narrow;
 mod relation;
 mod seek;
 mod sides;
@@ -12,5 +13,6 @@ mod sides;
 pub use apart::apart_names;
 pub use first::first_wide;
 pub use laws::{alike_names_judge_alike, kept_constants_judge};
-pub use relation::{is_relation, narrow_form, narrow_forms};
+pub use narrow::{narrow_form, narrow_forms};
+pub use relation::is_relation;
 pub use sides::has_wide_difference;

@@ -1,21 +1,21 @@
 //! Whether a node is a comparison with a wide difference.
 
-ghost use Rattle.std.specs.Prelude.{◌≡◌, ◌<◌, ◌≤◌, ℕ, length, map, Some, IfOk, OnOk, IsTrue};
-ghost use Rattle.std.specs.List.{list_all};
-ghost use Rattle.term_tree.specs.Arena.{has_parts_below, is_below};
+ghost use Rattle.std.specs.Prelude.{◌≡◌, length, Some, IfOk, OnOk, IsTrue};
+ghost use Rattle.term_tree.specs.Arena.{has_parts_below};
 ghost use Rattle.linear_terms.specs.Width.{is_relation, is_wide_relation, text_parts};
 ghost use Rattle.term_tables.specs.machinery.Table.{constant_in};
 ghost use Rattle.term_forms.specs.Found.{AreFound, form_by, naming_in};
-ghost use Rattle.term_widths.specs.machinery.Seen.{AreNarrowTerms, IsNarrowTerm};
+ghost use Rattle.term_widths.specs.machinery.Seen.{AreNarrowTerms};
 
+use crate::narrow::narrow_forms;
 use crate::sides::has_wide_difference;
 use base::Memory;
 use lin_atoms::Lin;
 use std::alloc::Global;
 use std::collections::BTreeMap;
-use term_forms::{FormStop, Names, linear_form};
+use term_forms::Names;
 use term_tables::ConstantTable;
-use term_tree::{Node, OpKind, TermId, Terms};
+use term_tree::{Node, OpKind, Terms};
 
 /// Whether the operator compares its sides.
 pub fn is_relation(op: OpKind) -> bool
@@ -26,51 +26,6 @@ pub fn is_relation(op: OpKind) -> bool
         OpKind::Le | OpKind::Lt | OpKind::Ge | OpKind::Gt => true,
         _ => false,
     }
-}
-
-/// The linear form of a term that has one, with all its subterms.
-pub fn narrow_form(
-    alloc: Global,
-    terms: &Terms,
-    constants: &ConstantTable,
-    names: &Names,
-    known: &mut BTreeMap<u32, Lin>,
-    id: TermId,
-) -> Result<Lin, Memory>
-    requires there { id.0 < length terms.now.nodes }
-    requires narrow { IsNarrowTerm (constant_in constants.now) (naming_in names.now.own.items names.now.auxiliary) terms.now.nodes id.0 }
-    requires known { AreFound (constant_in constants.now) (naming_in names.now.own.items names.now.auxiliary) terms.now.nodes known.old }
-    ensures is { IfOk result (λ form. form ≡ form_by (constant_in constants.now) (naming_in names.now.own.items names.now.auxiliary) terms.now.nodes id.0) }
-    ensures known { OnOk result (AreFound (constant_in constants.now) (naming_in names.now.own.items names.now.auxiliary) terms.now.nodes known.new) }
-{
-    match linear_form(alloc, terms, constants, names, known, id) {
-        Ok(form) => Ok(form),
-        Err(FormStop::Memory) => Err(Memory),
-        Err(FormStop::Wide { .. }) => unreachable!(),
-    }
-}
-
-/// The linear forms of terms that have them, in order.
-pub fn narrow_forms(
-    alloc: Global,
-    terms: &Terms,
-    constants: &ConstantTable,
-    names: &Names,
-    known: &mut BTreeMap<u32, Lin>,
-    ids: &[TermId],
-) -> Result<Vec<Lin>, Memory>
-    requires there { IsTrue (list_all (is_below (length terms.now.nodes)) ids.now) }
-    requires narrow { AreNarrowTerms (constant_in constants.now) (naming_in names.now.own.items names.now.auxiliary) terms.now.nodes ids.now }
-    requires known { AreFound (constant_in constants.now) (naming_in names.now.own.items names.now.auxiliary) terms.now.nodes known.old }
-    ensures are { IfOk result (λ forms. forms.items ≡ map (λ id. form_by (constant_in constants.now) (naming_in names.now.own.items names.now.auxiliary) terms.now.nodes id.0) ids.now) }
-    ensures known { OnOk result (AreFound (constant_in constants.now) (naming_in names.now.own.items names.now.auxiliary) terms.now.nodes known.new) }
-{
-    let mut forms = Vec::with_capacity(alloc, ids.len())?;
-    for id in ids {
-        let form = narrow_form(alloc, terms, constants, names, known, *id)?;
-        forms.push(form)?;
-    }
-    Ok(forms)
 }
 
 /// Whether the node is a comparison of which a difference of sides is wide.

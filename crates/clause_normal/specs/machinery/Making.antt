@@ -13,7 +13,8 @@ use Rattle.horn_shape.specs.declared.clause.HornClause.{HornClause}
 use Rattle.lin_atoms.specs.declared.form.Form.{Form}
 use Rattle.linear_terms.specs.Text.{Sorting}
 use Rattle.linear_terms.specs.Linear.{Naming}
-use Rattle.term_tables.specs.machinery.Table.{AreConstants, AreSorts}
+use Rattle.term_tables.specs.machinery.Table.{AreConstants, AreSorts, constant_in}
+use Rattle.term_bounds.specs.machinery.Room.{AreBounds}
 use Rattle.term_formulas.specs.Written.{HasRoom, formula_by, place_forms_by}
 use Rattle.term_formulas.specs.machinery.Parts.{ArePlaces}
 use Rattle.clause_form.specs.declared.clause.Clause.{Clause}
@@ -78,6 +79,7 @@ pub record HasRoomFor (constant : ℕ → Option ℤ) (naming : Naming) (nodes :
 pub record AreTablesOf (script : Script) (tables : Tables) : Type 0 where
   pub sorts : AreSorts script.preds script.terms.nodes tables.sorts
   pub constants : AreConstants script.terms.nodes tables.constants
+  pub rooms : AreBounds (constant_in tables.constants) script.terms.nodes tables.rooms
 
 -- a clause of the script, with what is kept of its terms
 pub record IsGiven (script : Script) (tables : Tables) (clause : HornClause) : Type 0 where
