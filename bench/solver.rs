@@ -24,8 +24,9 @@ extern "C" {
     fn getrusage(who: i32, usage: *mut [i64; 18]) -> i32;
 }
 
-/// As many inner nodes as the program allows where nothing else is said.
+/// As many inner nodes as the program allows where nothing else is said, and at the most.
 const NODES: u32 = 2000;
+const MOST_NODES: u32 = 10_000;
 
 /// How often all queries are decided and handed to z3; the least time counts.
 const ROUNDS: usize = 2;
@@ -93,11 +94,11 @@ fn rows(query: &Query) -> Vec<i64> {
     rows
 }
 
-fn decided(rows: &[i64], vars: usize) -> Answer {
+fn decided(rows: &[i64], vars: usize, nodes: u32) -> Answer {
     let mut point = vec![0; vars];
     // Both slices live through the call, and are as long as is said.
     let answer = unsafe {
-        lia_cases_decide(rows.as_ptr(), rows.len(), vars as u32, NODES, point.as_mut_ptr(), vars)
+        lia_cases_decide(rows.as_ptr(), rows.len(), vars as u32, nodes, point.as_mut_ptr(), vars)
     };
     match answer {
         0 => Answer::Refuted,
@@ -189,7 +190,7 @@ fn all_decided(queries: &[Query]) -> Vec<(Answer, f64)> {
     let taken = |query: &Query| {
         let rows = rows(query);
         let begun = own_seconds();
-        let answer = decided(&rows, query.vars);
+        let answer = decided(&rows, query.vars, NODES);
         (answer, own_seconds() - begun)
     };
     let mut all: Vec<_> = queries.iter().map(taken).collect();
@@ -223,13 +224,19 @@ fn count(answers: &[(Answer, f64)], which: impl Fn(&Answer) -> bool) -> usize {
     answers.iter().filter(|(answer, _)| which(answer)).count()
 }
 
+/// The milliseconds of half of the queries at most, of all but a hundredth, and of all.
+fn spread(answers: &[(Answer, f64)]) -> String {
+    let mut times: Vec<f64> = answers.iter().map(|(_, seconds)| seconds * 1e3).collect();
+    times.sort_by(f64::total_cmp);
+    let last = times.len() - 1;
+    let [half, most, all] = [last / 2, last - last / 100, last].map(|at| times[at]);
+    format!("takes {half:.3} ms or less for half of them, {most:.1} ms for all but a hundredth, {all:.0} ms at most")
+}
+
 /// Whether all answers are right, and the time is at most `most` of z3's.
 fn measure(name: &str, queries: Vec<Query>, most: f64) -> bool {
     let answers = all_decided(&queries);
     let own: f64 = answers.iter().map(|(_, seconds)| seconds).sum();
-    let mut times: Vec<f64> = answers.iter().map(|(_, seconds)| *seconds).collect();
-    times.sort_by(f64::total_cmp);
-    let [half, hundredth, longest] = [2, 100, times.len()].map(|n| times[times.len() - 1 - (times.len() - 1) / n] * 1e3);
     let script = script(queries.iter());
     let (said, first) = z3(&script);
     let other = (1..ROUNDS).map(|_| z3(&script).1).fold(first, f64::min);
@@ -242,9 +249,10 @@ fn measure(name: &str, queries: Vec<Query>, most: f64) -> bool {
         count(&answers, |answer| *answer == Answer::GivenUp)
     );
     println!(
-        "  decide {own:.3} s, a query {half:.3} ms in the middle, {hundredth:.2} ms for one of a hundred, at most {longest:.1} ms; z3 {other:.3} s, of which reading takes {reading:.3} s; ratio {:.2}",
+        "  decide {own:.3} s; z3 {other:.3} s, of which reading takes {reading:.3} s; ratio {:.2}",
         own / other
     );
+    println!("  a query of decide {}", spread(&answers));
     assert!(said.len() == queries.len(), "z3 says: {}", said[0]);
     let pairs = queries.iter().zip(&answers).zip(&said);
     let wrong = pairs.filter(|((query, (answer, _)), word)| !is_right(query, answer, word)).count();
@@ -268,7 +276,7 @@ fn has_point(query: &Query, point: &mut [i64], from: usize) -> bool {
 }
 
 fn is_told(query: &Query) -> bool {
-    match decided(&rows(query), query.vars) {
+    match decided(&rows(query), query.vars, MOST_NODES) {
         Answer::Model(point) => query.holds(&point),
         Answer::Refuted => !has_point(query, &mut vec![0; query.vars], 0),
         Answer::GivenUp => false,

@@ -9,4 +9,4 @@ trap 'rm -rf "$work"' EXIT
 rustc -O -o "$work/solver" "$top/bench/solver.rs" \
     -C link-arg="$top/crates/lia_cases_c/out/liblia_cases_c.a" \
     -C link-arg="$kit/c/liblibc_c.a" -C link-arg="$kit/c/libos_c.a"
-"$work/solver"
+"$work/solver" "$@"

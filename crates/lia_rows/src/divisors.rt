@@ -81,8 +81,26 @@ const WEDGE: [Row; 3] = [
     (0, 1, [0, 0, -1, 0], 1),
 ];
 
-const ALL: [&[Row]; 12] = [
+/// 9 divides x and 6 divides y, so 3 divides x + y, which is 1 or 2. No cut is made of a row in which a free
+/// quotient has 9 or 6 as its entry, and the fraction the other.
+const NINES: [Row; 4] = [
+    (2, 9, [1, 0, 0, 0], 0),
+    (2, 6, [0, 1, 0, 0], 0),
+    (0, 1, [-1, -1, 0, 0], 1),
+    (0, 1, [1, 1, 0, 0], -2),
+];
+
+/// 15 divides x and 10 divides y, and x - y is from 1 to 4.
+const FIFTEENS: [Row; 4] = [
+    (2, 15, [1, 0, 0, 0], 0),
+    (2, 10, [0, 1, 0, 0], 0),
+    (0, 1, [-1, 1, 0, 0], 1),
+    (0, 1, [1, -1, 0, 0], -4),
+];
+
+const ALL: [&[Row]; 14] = [
     &PARITY, &EVEN, &TIMES, &SUM, &FIVE, &KEPT, &PAIRS, &BOX, &TWICE, &MODULI, &TOGETHER, &WEDGE,
+    &NINES, &FIFTEENS,
 ];
 
 /// 1009x is 1 more than 1013y, and x + y is at least 100.
