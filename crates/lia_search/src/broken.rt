@@ -51,3 +51,26 @@ pub(crate) fn first_disjunction(cases: &[Shared<Items<Form>>], point: &[i64]) ->
     }
     None
 }
+
+/// Of the disjunctions that are false at the point one with the fewest parts, where `known` is one that is
+/// false there.
+pub(crate) fn fewest_parts(
+    cases: &[Shared<Items<Form>>],
+    point: &[i64],
+    known: usize,
+) -> usize
+    requires within { known < length cases.now }
+    requires broken { option_map (list_any (truth point.now)) (slice_get cases.now known) ≡ Some false }
+    ensures within { result < length cases.now }
+    ensures broken { option_map (list_any (truth point.now)) (slice_get cases.now result) ≡ Some false }
+{
+    let (mut found, mut fewest) = (known, cases[known].get().len());
+    for (at, parts) in cases.iter().enumerate() {
+        let parts = parts.get().as_slice();
+        if parts.len() < fewest && !any_holds(parts, point) {
+            found = at;
+            fewest = parts.len();
+        }
+    }
+    found
+}
