@@ -124,7 +124,7 @@ ready-div q n p lin some long h = div-cases q n p lin (length lin.terms == 0) re
 pub ready-ndiv : (q n : ℕ) (p : List ℤ) (lin : Linear) → 0 < n → length p ≡ q → lin_is_below q lin ≡ true → (lit_truth p (NDiv n lin) ≡ true) ↔ HasQuotient q p (NDiv n lin)
 ready-ndiv q n p lin some long h = ndiv-cases q n p lin (length lin.terms == 0) refl some long h
 
-over-one : (z : ℤ) → int_div_euclid z (pos 1) ≡ z
+pub over-one : (z : ℤ) → int_div_euclid z (pos 1) ≡ z
 over-one (pos a) = ap pos (div-one a)
 over-one (negsuc a) = ap negsuc (div-one a)
 

@@ -29,8 +29,8 @@ loop-i-preserved c =
     let number : c.unsigned_abs.result ≡ nat_abs (get_or (combined p q xs ys) i (pos 0)) = size ∙ ap nat_abs (value ∙ sym (combined-at p q xs ys i (pos 0) here same)) in
     let small : c.unsigned_abs.result < 2 ^ 127 = omega (arith, size, c.combination-entry.ensures.bound) in
     simp to_z-of_z (record {
-      told = common-more (combined p q xs ys) i (pos 0) c.loop-i.divisor c.gcd-divisor.result within before (subst (λ n. IsGcd c.loop-i.divisor n c.gcd-divisor.result) number c.gcd-divisor.ensures);
-      bound = gcd-below c.loop-i.divisor c.unsigned_abs.result c.gcd-divisor.result (2 ^ 127) c.gcd-divisor.ensures c.loop-i.invariant.bound small;
+      told = common-more (combined p q xs ys) i (pos 0) c.loop-i.divisor c.common-divisor.result within before (subst (λ n. IsGcd c.loop-i.divisor n c.common-divisor.result) number c.common-divisor.ensures);
+      bound = gcd-below c.loop-i.divisor c.unsigned_abs.result c.common-divisor.result (2 ^ 127) c.common-divisor.ensures c.loop-i.invariant.bound small;
     })
 
 pub returns-then-divisor-eq1-clause-is : goal.returns-then-divisor-eq1-clause-is

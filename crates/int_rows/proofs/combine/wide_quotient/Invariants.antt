@@ -1,7 +1,7 @@
 use Rattle.std.proofs.Common.{◌≡◌, drop}
 use Rattle.int_rows.specs.Rows.{are_short}
 use Rattle.int_rows.specs.Pivot.{combined, reduced}
-use Rattle.int_rows.proofs.combine.wide_entry.Given as goal
+use Rattle.int_rows.proofs.combine.wide_quotient.Given as goal
 
 -- the entries to come decide
 abbrev pub invariant-loop-i : goal.invariant-loop-i

@@ -4,7 +4,7 @@ use Rattle.std.specs.Int.{w64, w128, int_div_euclid}
 use Rattle.std.proofs.lemmas.Int.{to_z-of_z}
 use Rattle.int_rows.specs.Pivot.{combined, reduced}
 use Rattle.int_rows.proofs.CombineLemmas.{length-reduced, reduced-at, rest-read, rest-written, small-at, written-all}
-use Rattle.int_rows.proofs.combine.combine.Goals as goal
+use Rattle.int_rows.proofs.combine.put_quotients.Goals as goal
 
 pub narrow-requires : goal.narrow-requires
 narrow-requires c =

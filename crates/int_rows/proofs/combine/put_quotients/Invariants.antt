@@ -1,6 +1,6 @@
 use Rattle.std.proofs.Common.{◌≡◌, ◌++◌, drop, take}
 use Rattle.int_rows.specs.Pivot.{combined, reduced}
-use Rattle.int_rows.proofs.combine.combine.Given as goal
+use Rattle.int_rows.proofs.combine.put_quotients.Given as goal
 
 -- the entries so far are the combination's, those to come are the row's
 abbrev pub invariant-loop-i : goal.invariant-loop-i

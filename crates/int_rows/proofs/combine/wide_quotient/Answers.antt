@@ -7,7 +7,7 @@ use Rattle.lin_atoms.specs.Linear.{is_short}
 use Rattle.int_rows.specs.Pivot.{combined, reduced}
 use Rattle.int_rows.specs.Rows.{are_short}
 use Rattle.int_rows.proofs.CombineLemmas.{length-reduced, reduced-at, small-end, small-more, small-test}
-use Rattle.int_rows.proofs.combine.wide_entry.Goals as goal
+use Rattle.int_rows.proofs.combine.wide_quotient.Goals as goal
 
 pub returns-then-unsigned_abs-clause-some : goal.returns-then-unsigned_abs-clause-some
 returns-then-unsigned_abs-clause-some c =
