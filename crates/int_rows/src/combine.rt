@@ -79,17 +79,35 @@ fn narrow(n: i128) -> i64
     n as i64
 }
 
-/// The greatest common divisor. Mostly the second number is 0 or 1, and nothing is divided.
+/// The greatest common divisor. Mostly the first number is 0 or the second is 1, and nothing is
+/// divided.
 fn common(a: u128, b: u128) -> u128
     ensures { IsGcd a b result }
 {
-    if b == 0 {
-        a
+    if a == 0 {
+        b
     } else if b == 1 {
         1
     } else {
         gcd(a, b)
     }
+}
+
+/// The greatest common divisor of a number and an entry of a combination, which mostly is 0 because
+/// both rows are.
+fn with_entry(divisor: u128, p: i64, x: i64, q: i64, y: i64) -> u128
+    requires divisor { divisor < numerator_limit }
+    requires p { nat_abs p < 2 ^ 63 }
+    requires x { nat_abs x < 2 ^ 63 }
+    requires q { nat_abs q < 2 ^ 63 }
+    requires y { nat_abs y < 2 ^ 63 }
+    ensures common { IsGcd divisor (nat_abs (p *ℤ x -ℤ q *ℤ y)) result }
+    ensures bound { result < numerator_limit }
+{
+    if x == 0 && y == 0 {
+        return divisor;
+    }
+    common(divisor, combination(p, x, q, y).unsigned_abs())
 }
 
 /// The greatest common divisor of the entries of a combination. It ends early at 1.
@@ -107,8 +125,7 @@ pub(crate) fn combined_content(p: i64, row: &[i64], q: i64, other: &[i64]) -> u1
         if divisor == 1 {
             return 1;
         }
-        let entry = combination(p, *x, q, other[i]);
-        divisor = common(divisor, entry.unsigned_abs());
+        divisor = with_entry(divisor, p, *x, q, other[i]);
     }
     divisor
 }

@@ -1,10 +1,10 @@
 use Rattle.std.proofs.Common.{◌≡◌, ◌<◌, ◌≤◌, ◌^◌, arith, sym, ap, ◌∙◌, subst, FitsSigned, rules, List, ℤ, get_or, nat_abs, length}
-use Rattle.std.specs.Prelude.{pos}
+use Rattle.std.specs.Prelude.{pos, ◌-ℤ◌, ◌*ℤ◌}
 use Rattle.std.specs.Int.{w64, w128, IsGcd}
 use Rattle.std.proofs.lemmas.Int.{to_z-of_z}
 use Rattle.int_rows.specs.Pivot.{combined}
 use Rattle.int_rows.proofs.CombineLemmas.{combined-at, length-combined}
-use Rattle.int_rows.proofs.ContentLemmas.{common-end, common-more, common-one, gcd-below}
+use Rattle.int_rows.proofs.ContentLemmas.{common-end, common-more, common-one}
 use Rattle.int_rows.proofs.combine.combined_content.Goals as goal
 
 pub loop-i-preserved : goal.loop-i-preserved
@@ -22,15 +22,12 @@ loop-i-preserved c =
     let within : i < length (combined p q xs ys) = omega (arith, here, length-combined p q xs ys same) in
     let x_fits : FitsSigned w64 (get_or xs i (pos 0)) = search rules in
     let y_fits : FitsSigned w64 (get_or ys i (pos 0)) = search rules in
-    let e_fits : FitsSigned w128 c.combination-entry.result = search rules in
-    let value = simp to_z-of_z at c.combination-entry.ensures.value in
-    let size = simp to_z-of_z at c.unsigned_abs.ensures.value in
     let before = simp to_z-of_z at c.loop-i.invariant.told in
-    let number : c.unsigned_abs.result ≡ nat_abs (get_or (combined p q xs ys) i (pos 0)) = size ∙ ap nat_abs (value ∙ sym (combined-at p q xs ys i (pos 0) here same)) in
-    let small : c.unsigned_abs.result < 2 ^ 127 = omega (arith, size, c.combination-entry.ensures.bound) in
+    let told = simp to_z-of_z at c.with_entry-divisor.ensures.common in
+    let number : nat_abs (p *ℤ get_or xs i (pos 0) -ℤ q *ℤ get_or ys i (pos 0)) ≡ nat_abs (get_or (combined p q xs ys) i (pos 0)) = ap nat_abs (sym (combined-at p q xs ys i (pos 0) here same)) in
     simp to_z-of_z (record {
-      told = common-more (combined p q xs ys) i (pos 0) c.loop-i.divisor c.common-divisor.result within before (subst (λ n. IsGcd c.loop-i.divisor n c.common-divisor.result) number c.common-divisor.ensures);
-      bound = gcd-below c.loop-i.divisor c.unsigned_abs.result c.common-divisor.result (2 ^ 127) c.common-divisor.ensures c.loop-i.invariant.bound small;
+      told = common-more (combined p q xs ys) i (pos 0) c.loop-i.divisor c.with_entry-divisor.result within before (subst (λ n. IsGcd c.loop-i.divisor n c.with_entry-divisor.result) number told);
+      bound = c.with_entry-divisor.ensures.bound;
     })
 
 pub returns-then-divisor-eq1-clause-is : goal.returns-then-divisor-eq1-clause-is
