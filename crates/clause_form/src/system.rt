@@ -46,6 +46,15 @@ impl System {
         Some(System { clauses, preds })
     }
 
+    /// The system of clauses of which is known that they are as a system needs them, so that nothing is
+    /// looked at again.
+    pub fn of_legal(clauses: Items<Clause>, preds: Items<Items<Sort>>) -> System
+        requires { are_clauses preds clauses ≡ true }
+        ensures { result ≡ record { clauses = clauses; preds = preds } }
+    {
+        System { clauses, preds }
+    }
+
     /// The clauses, one for each assertion, in their order.
     pub fn clauses(&self) -> &[Clause]
         ensures is { result.now ≡ self.now.clauses }

@@ -87,6 +87,19 @@ fn put_guards(
     Ok(())
 }
 
+/// How many formulas a guard has: two for each Bool variable of the assertion's own, and one for each
+/// auxiliary variable and each guard. It is no promise.
+fn room_for(vars: &[Sort], placed: &[u32], guards: &[Part]) -> usize {
+    let mut bits: usize = 0;
+    for sort in vars {
+        if let Sort::Bool = sort {
+            bits = bits.saturating_add(2);
+        }
+    }
+    bits.saturating_add(placed.len())
+        .saturating_add(guards.len())
+}
+
 /// The guard: the bits, what determines the auxiliary variables, and the guards of the clause.
 pub(crate) fn guard_of(
     alloc: Global,
@@ -103,8 +116,11 @@ pub(crate) fn guard_of(
     requires known { AreFound (constant_in tables.now.constants) (naming_by names.now) terms.now.nodes known.old }
     ensures { IfOk result (λ guard. guard ≡ conjunction (parts_by (constant_in tables.now.constants) (sort_in tables.now.sorts) (naming_by names.now) terms.now.nodes clause.now placed.now)) }
 {
-    let mut parts = Items::new(alloc);
-    put_bits(alloc, clause.vars.as_slice(), &mut parts)?;
+    let vars = clause.vars.as_slice();
+    let guards = clause.guards.as_slice();
+    let room = room_for(vars, placed, guards);
+    let mut parts = Items::from_vec(Vec::with_capacity(alloc, room)?);
+    put_bits(alloc, vars, &mut parts)?;
     place_forms(
         alloc,
         terms,
@@ -112,18 +128,10 @@ pub(crate) fn guard_of(
         &tables.constants,
         names,
         known,
-        clause.vars.len() as u32,
+        vars.len() as u32,
         placed,
         &mut parts,
     )?;
-    put_guards(
-        alloc,
-        terms,
-        tables,
-        names,
-        known,
-        clause.guards.as_slice(),
-        &mut parts,
-    )?;
+    put_guards(alloc, terms, tables, names, known, guards, &mut parts)?;
     Ok(conjunction(parts))
 }

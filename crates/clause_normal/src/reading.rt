@@ -164,8 +164,5 @@ pub fn read_clauses(alloc: Global, checked: &Checked) -> Result<System, ClauseSt
         return Err(ClauseStop::Refused(refusal));
     }
     let preds = argument_sorts(alloc, checked.script.preds.as_slice())?;
-    match System::new(clauses, preds) {
-        Some(system) => Ok(system),
-        None => unreachable!(),
-    }
+    Ok(System::of_legal(clauses, preds))
 }

@@ -1,5 +1,5 @@
 -- Bound names found in a map.
-use Rattle.std.proofs.Common.{◌≡◌, ℕ, List, [], ◌∷◌, ◌++◌, map, Bool, true, false, cond, ◌||◌, if◌then◌else◌, Some, None, Option, Result, Ok, Err, OnErr, IsOk, refl, sym, ap, subst, ◌∙◌, Bor, Ordering, nat_cmp, is_eq}
+use Rattle.std.proofs.Common.{◌≡◌, ℕ, List, [], ◌∷◌, ◌++◌, map, Bool, true, false, cond, if◌then◌else◌, Some, None, Option, Result, Ok, Err, OnErr, IsOk, refl, sym, ap, subst, ◌∙◌, Bor, Ordering, nat_cmp, is_eq}
 use Rattle.std.proofs.lemmas.List.{append-nil, append_assoc, map-append}
 use Rattle.std.proofs.lemmas.Slice.Eq.{bytes_eq-Decides}
 use Rattle.std.specs.Map.{lookup}

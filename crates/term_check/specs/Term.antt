@@ -1,6 +1,6 @@
 -- Terms as the text spells them (SMT-LIB 2.6, section 3.6): each part has the offset at which it starts. Quantified variables are
 -- numbered in order of the text; the terms that let binds are numbered from the outermost let inwards.
-use Rattle.std.specs.Prelude.{◌≡◌, ℕ, ℤ, pos, List, [], ◌∷◌, ◌++◌, Bool, true, false, Some, slice_get, length}
+use Rattle.std.specs.Prelude.{◌≡◌, ℕ, ℤ, pos, List, [], ◌∷◌, ◌++◌, Bool, true, false, Some, slice_get}
 use Rattle.term_tree.specs.declared.sort.Sort.{Sort}
 use Rattle.term_tree.specs.declared.node.OpKind.{OpKind}
 use Rattle.term_tree.specs.declared.node.TermId.{TermId}

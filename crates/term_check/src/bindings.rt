@@ -4,6 +4,7 @@ ghost use Rattle.term_check.specs.machinery.Meanings.{named, named_as};
 ghost use Rattle.term_check.specs.Spelling.{bound_to, variables_from, lets_from};
 
 use crate::binders::{name_bound, sort_bound};
+use crate::bytes::are_same;
 use crate::mapped::Mapped;
 use crate::part::Part;
 use crate::scope::{Bound, Meaning};
@@ -14,7 +15,7 @@ use std::marker::Model;
 use term_tree::{Name, Sort};
 
 /// How many names are found by comparing each.
-pub const FEW: usize = 16;
+pub const FEW: usize = 64;
 
 /// The names that are bound around a term, the innermost last. The outermost ones are found by
 /// comparing each, and those after them by their order.
@@ -41,7 +42,7 @@ fn last_named<'a>(few: &[Meaning<'a>], name: &[u8]) -> Option<Bound>
     let mut i = few.len();
     while i > 0 {
         let last = &few[i - 1];
-        if last.name == name {
+        if are_same(last.name, name) {
             return Some(last.bound);
         }
         i -= 1;

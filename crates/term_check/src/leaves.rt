@@ -5,6 +5,7 @@ ghost use Rattle.sexp_read.specs.declared.tree.Tree.TheVariants.{Leaf};
 ghost use Rattle.term_check.specs.Spelling.{numeral_if_short, numeral_atom, bare_predicate, free_symbol, bound_symbol, symbol_atom, leaf_atom, atom_part};
 
 use crate::atom::Atom;
+use crate::bytes::are_same;
 use crate::context::Context;
 use crate::names::sorts_of;
 use crate::part::{Fault, Part};
@@ -34,9 +35,9 @@ fn bare_predicate(preds: &[Pred], start: u32, number: Option<u32>) -> Result<Ato
 fn free_symbol(signature: &Signature, start: u32, name: &[u8]) -> Result<Atom, Fault>
     ensures { result ≡ free_symbol signature.now start name.now }
 {
-    if name == b"true".as_slice() {
+    if are_same(name, b"true") {
         Ok(Atom::Truth(true))
-    } else if name == b"false".as_slice() {
+    } else if are_same(name, b"false") {
         Ok(Atom::Truth(false))
     } else {
         bare_predicate(signature.preds(), start, signature.number_of(name))

@@ -6,6 +6,7 @@ mod apply;
 mod atom;
 mod binders;
 mod bindings;
+mod bytes;
 mod check;
 mod context;
 mod found;

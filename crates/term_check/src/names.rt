@@ -3,6 +3,7 @@
 ghost use Rattle.std.specs.Prelude.{◌≡◌, codes, zero};
 ghost use Rattle.term_check.specs.Spelling.{sorts_of, symbol_head, name_head};
 
+use crate::bytes::are_same;
 use crate::head::Head;
 use crate::operators::operator_named;
 use crate::part::Fault;
@@ -22,7 +23,7 @@ pub fn sorts_of(preds: &[Pred], number: u32) -> &[Sort]
 fn name_head(signature: &Signature, start: u32, name: &[u8]) -> Result<Head, Fault>
     ensures { result ≡ name_head signature.now start name.now }
 {
-    if name == b"true".as_slice() || name == b"false".as_slice() {
+    if are_same(name, b"true") || are_same(name, b"false") {
         return Ok(Head::Constant);
     }
     match signature.number_of(name) {

@@ -5,6 +5,7 @@ ghost use Rattle.term_tree.specs.Constants.{is_arithmetic};
 ghost use Rattle.term_tree.specs.Operators.{is_distinct};
 ghost use Rattle.term_check.specs.Operators.{core_operator, number_operator, order_operator, operator_named, least_operands, most_operands, wanted, is_division, is_product, is_choice};
 
+use crate::bytes::are_same;
 use term_tree::OpKind;
 
 /// Which sorts the arguments of an operator have.
@@ -21,21 +22,21 @@ pub enum Sorts {
 fn core_operator(name: &[u8]) -> Option<OpKind>
     ensures { result ≡ core_operator name.now }
 {
-    if name == b"not".as_slice() {
+    if are_same(name, b"not") {
         Some(OpKind::Not)
-    } else if name == b"and".as_slice() {
+    } else if are_same(name, b"and") {
         Some(OpKind::And)
-    } else if name == b"or".as_slice() {
+    } else if are_same(name, b"or") {
         Some(OpKind::Or)
-    } else if name == b"xor".as_slice() {
+    } else if are_same(name, b"xor") {
         Some(OpKind::Xor)
-    } else if name == b"=>".as_slice() {
+    } else if are_same(name, b"=>") {
         Some(OpKind::Implies)
-    } else if name == b"=".as_slice() {
+    } else if are_same(name, b"=") {
         Some(OpKind::Eq)
-    } else if name == b"distinct".as_slice() {
+    } else if are_same(name, b"distinct") {
         Some(OpKind::Distinct)
-    } else if name == b"ite".as_slice() {
+    } else if are_same(name, b"ite") {
         Some(OpKind::Ite)
     } else {
         None
@@ -45,17 +46,17 @@ fn core_operator(name: &[u8]) -> Option<OpKind>
 fn number_operator(name: &[u8]) -> Option<OpKind>
     ensures { result ≡ number_operator name.now }
 {
-    if name == b"+".as_slice() {
+    if are_same(name, b"+") {
         Some(OpKind::Add)
-    } else if name == b"*".as_slice() {
+    } else if are_same(name, b"*") {
         Some(OpKind::Mul)
-    } else if name == b"-".as_slice() {
+    } else if are_same(name, b"-") {
         Some(OpKind::Sub)
-    } else if name == b"abs".as_slice() {
+    } else if are_same(name, b"abs") {
         Some(OpKind::Abs)
-    } else if name == b"div".as_slice() {
+    } else if are_same(name, b"div") {
         Some(OpKind::Div)
-    } else if name == b"mod".as_slice() {
+    } else if are_same(name, b"mod") {
         Some(OpKind::Mod)
     } else {
         None
@@ -65,13 +66,13 @@ fn number_operator(name: &[u8]) -> Option<OpKind>
 fn order_operator(name: &[u8]) -> Option<OpKind>
     ensures { result ≡ order_operator name.now }
 {
-    if name == b"<=".as_slice() {
+    if are_same(name, b"<=") {
         Some(OpKind::Le)
-    } else if name == b"<".as_slice() {
+    } else if are_same(name, b"<") {
         Some(OpKind::Lt)
-    } else if name == b">=".as_slice() {
+    } else if are_same(name, b">=") {
         Some(OpKind::Ge)
-    } else if name == b">".as_slice() {
+    } else if are_same(name, b">") {
         Some(OpKind::Gt)
     } else {
         None

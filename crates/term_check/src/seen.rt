@@ -2,6 +2,7 @@ ghost use Rattle.std.specs.Prelude.{◌≡◌, ◌++◌, [], ◌∷◌, false, m
 ghost use Rattle.term_check.specs.Words.{is_word_among};
 
 use crate::bindings::FEW;
+use crate::bytes::are_same;
 use crate::sorted::Sorted;
 use base::Memory;
 use std::alloc::Global;
@@ -28,7 +29,7 @@ fn has_name<'a>(few: &[&'a [u8]], name: &[u8]) -> bool
     ensures { result ≡ is_word_among (map (λ one. one.now) few.now) name.now }
 {
     for one in few {
-        if name == *one {
+        if are_same(name, *one) {
             return true;
         }
     }

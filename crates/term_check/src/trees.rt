@@ -4,6 +4,7 @@ ghost use Rattle.std.specs.Prelude.{◌≡◌};
 ghost use Rattle.std.specs.Option.{option_copied};
 ghost use Rattle.term_check.specs.Spelling.{is_symbol, is_word, name_of, sort_named, start_of};
 
+use crate::bytes::are_same;
 use crate::words::is_reserved;
 use sexp_read::{LeafKind, Tree, symbol_bytes};
 use term_tree::Sort;
@@ -23,7 +24,7 @@ pub fn is_symbol(text: &[u8], tree: &Tree, name: &[u8]) -> bool
     ensures { result ≡ is_symbol text.now tree.now name.now }
 {
     match symbol_bytes(text, tree) {
-        Some(bytes) => bytes == name,
+        Some(bytes) => are_same(bytes, name),
         None => false,
     }
 }

@@ -26,10 +26,28 @@ fn moved(lin: Lin, k: i64) -> Lin
     lin.plus(k).unwrap()
 }
 
+fn turned_term(alloc: Global, v: u32) -> Result<Vec<(u32, i64)>, Memory>
+    ensures { IfOk result (λ terms. terms.items ≡ (v, negsuc 0) ∷ []) }
+{
+    let terms = Vec::from_array(alloc, [(v, -1)])?;
+    Ok(terms)
+}
+
+/// A constant less the variable.
+fn constant_less(alloc: Global, v: u32, constant: i64) -> Result<Lin, Memory>
+    ensures { IfOk result (λ lin. lin ≡ record { terms = (v, negsuc 0) ∷ []; constant = constant }) }
+{
+    let terms = turned_term(alloc, v)?;
+    match Lin::new(terms, i128::from(constant)) {
+        Ok(lin) => Ok(lin),
+        Err(_) => unreachable!(),
+    }
+}
+
 fn not_negative(alloc: Global, v: u32) -> Result<Form, Memory>
     ensures { IfOk result (λ form. form ≡ le (negated (variable_form v))) }
 {
-    Ok(le(variable_form(alloc, v)?.negated(alloc)?))
+    Ok(le(constant_less(alloc, v, 0)?))
 }
 
 fn at_most_one(alloc: Global, v: u32) -> Result<Form, Memory>
@@ -41,8 +59,7 @@ fn at_most_one(alloc: Global, v: u32) -> Result<Form, Memory>
 fn where_true(alloc: Global, v: u32, holds: Form) -> Result<Form, Memory>
     ensures { IfOk result (λ form. form ≡ And (le (complement_of (variable_form v)) ∷ holds ∷ [])) }
 {
-    let one = one_minus(alloc, &variable_form(alloc, v)?)?;
-    both(alloc, le(one), holds)
+    both(alloc, le(constant_less(alloc, v, 1)?), holds)
 }
 
 fn where_false(alloc: Global, v: u32, fails: Form) -> Result<Form, Memory>

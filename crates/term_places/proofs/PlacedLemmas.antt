@@ -104,14 +104,43 @@ placed_at sorts nodes node spot is below =
     ∙ ap (λ (ns : List ℕ). (if needs_one spot.standing (sorts spot.id) (Some node) then spot.id ∷ [] else []) ++ ns) (all_marked sorts nodes (inner_spots sorts node))
 
 -- those of one more part
-pub placed_more : (sorts : Sorting) (nodes : List Node) (before new : List ℕ) (parts : List Spot) (i : ℕ) (d : Spot) (whole : List ℕ) → i < length parts
-    → before ++ all_placed sorts nodes (drop i parts) ≡ whole → new ≡ before ++ placed sorts nodes (get_or parts i d) → new ++ all_placed sorts nodes (drop (i + 1) parts) ≡ whole
-placed_more sorts nodes before new parts i d whole h is pushed =
-    ap (λ (ns : List ℕ). ns ++ all_placed sorts nodes (drop (i + 1) parts)) pushed ∙ append_assoc before (placed sorts nodes (get_or parts i d)) (all_placed sorts nodes (drop (i + 1) parts))
-    ∙ ap (λ (xs : List Spot). before ++ all_placed sorts nodes xs) (sym (drop_more parts i d h)) ∙ is
+pub placed_more : (sorts : Sorting) (nodes : List Node) (standing : Standing) (before new : List ℕ) (ids : List TermId) (i : ℕ) (d : TermId) (whole : List ℕ) → i < length ids
+    → before ++ all_placed sorts nodes (map (spot_as standing) (drop i ids)) ≡ whole → new ≡ before ++ placed sorts nodes (spot_as standing (get_or ids i d))
+    → new ++ all_placed sorts nodes (map (spot_as standing) (drop (i + 1) ids)) ≡ whole
+placed_more sorts nodes standing before new ids i d whole h is pushed =
+    let later : List ℕ = all_placed sorts nodes (map (spot_as standing) (drop (i + 1) ids)) in
+    ap (λ (ns : List ℕ). ns ++ later) pushed ∙ append_assoc before (placed sorts nodes (spot_as standing (get_or ids i d))) later
+    ∙ ap (λ (xs : List TermId). before ++ all_placed sorts nodes (map (spot_as standing) xs)) (sym (drop_more ids i d h)) ∙ is
 
-pub part_at : (n : ℕ) (parts : List Spot) (i : ℕ) (d : Spot) → i < length parts → IsTrue (are_below n (drop i parts)) → ((get_or parts i d).id < n) × IsTrue (are_below n (drop (i + 1) parts))
-part_at n parts i d h below =
-    let split : are_below n (get_or parts i d ∷ drop (i + 1) parts) ≡ true = ap (are_below n) (sym (drop_more parts i d h)) ∙ below in
-    let both = both_true (nat_lt (get_or parts i d).id n) (are_below n (drop (i + 1) parts)) split in
-    (below_from (get_or parts i d).id n both.0, both.1)
+pub part_at : (n : ℕ) (ids : List TermId) (i : ℕ) (d : TermId) → i < length ids → IsTrue (list_all (is_below n) (drop i ids)) → ((get_or ids i d).0 < n) × IsTrue (list_all (is_below n) (drop (i + 1) ids))
+part_at n ids i d h below =
+    let split : list_all (is_below n) (get_or ids i d ∷ drop (i + 1) ids) ≡ true = ap (list_all (is_below n)) (sym (drop_more ids i d h)) ∙ below in
+    let both = both_true (nat_lt (get_or ids i d).0 n) (list_all (is_below n) (drop (i + 1) ids)) split in
+    (below_from (get_or ids i d).0 n both.0, both.1)
+
+-- those of parts and of one behind them
+pub placed_last : (sorts : Sorting) (nodes : List Node) (parts : List Spot) (part : Spot) → all_placed sorts nodes (parts ++ part ∷ []) ≡ all_placed sorts nodes parts ++ all_placed sorts nodes (part ∷ [])
+placed_last sorts nodes [] part = refl
+placed_last sorts nodes (first ∷ parts) part =
+    ap (λ (ns : List ℕ). placed sorts nodes first ++ ns) (placed_last sorts nodes parts part) ∙ sym (append_assoc (placed sorts nodes first) (all_placed sorts nodes parts) (all_placed sorts nodes (part ∷ [])))
+
+-- those of the parts behind what there was, and then those of one behind them
+pub put_last : (sorts : Sorting) (nodes : List Node) (before middle new : List ℕ) (parts : List Spot) (part : Spot) → middle ≡ before ++ all_placed sorts nodes parts
+    → new ≡ middle ++ all_placed sorts nodes (part ∷ []) → new ≡ before ++ all_placed sorts nodes (parts ++ part ∷ [])
+put_last sorts nodes before middle new parts part first last =
+    last ∙ ap (λ (ns : List ℕ). ns ++ all_placed sorts nodes (part ∷ [])) first ∙ append_assoc before (all_placed sorts nodes parts) (all_placed sorts nodes (part ∷ []))
+    ∙ ap (λ (ns : List ℕ). before ++ ns) (sym (placed_last sorts nodes parts part))
+
+-- those of one part, and then those of more
+pub put_first : (sorts : Sorting) (nodes : List Node) (before middle new : List ℕ) (part : Spot) (parts : List Spot) → middle ≡ before ++ placed sorts nodes part → new ≡ middle ++ all_placed sorts nodes parts
+    → new ≡ before ++ all_placed sorts nodes (part ∷ parts)
+put_first sorts nodes before middle new part parts first rest =
+    rest ∙ ap (λ (ns : List ℕ). ns ++ all_placed sorts nodes parts) first ∙ append_assoc before (placed sorts nodes part) (all_placed sorts nodes parts)
+
+nothing_behind : (xs : List ℕ) → xs ++ [] ≡ xs
+nothing_behind [] = refl
+nothing_behind (x ∷ xs) = ap (λ (ys : List ℕ). x ∷ ys) (nothing_behind xs)
+
+-- those of one part alone
+pub put_only : (sorts : Sorting) (nodes : List Node) (before new : List ℕ) (part : Spot) → new ≡ before ++ placed sorts nodes part → new ≡ before ++ all_placed sorts nodes (part ∷ [])
+put_only sorts nodes before new part is = is ∙ ap (λ (ns : List ℕ). before ++ ns) (sym (nothing_behind (placed sorts nodes part)))

@@ -1,18 +1,19 @@
 //! The walk through a text.
 
-ghost use Rattle.std.specs.Prelude.{◌≡◌, ◌<◌, ◌++◌, ◌∷◌, [], length, slice_get, IsTrue, IfOk, OnOk, if◌then◌else◌, nat_lt};
+ghost use Rattle.std.specs.Prelude.{◌≡◌, ◌<◌, ◌++◌, ◌∷◌, [], length, slice_get, map, IsTrue, IfOk, OnOk, if◌then◌else◌};
 ghost use Rattle.std.specs.List.{list_all};
-ghost use Rattle.linear_terms.specs.Text.{needs_one, places};
+ghost use Rattle.term_tree.specs.Arena.{has_parts_below, is_below};
+ghost use Rattle.linear_terms.specs.Text.{chosen, inner_spots, needs_one, operands, places, spot_as};
 ghost use Rattle.term_tables.specs.machinery.Table.{sort_in};
 ghost use Rattle.term_places.specs.machinery.Placed.{all_placed, placed};
 
 use crate::needs::needs_one;
-use crate::parts::inner;
+use crate::parts::{operands, spot_as};
 use base::Memory;
 use linear_terms::{Spot, Standing};
 use std::alloc::Global;
 use term_tables::SortTable;
-use term_tree::{TermId, Terms};
+use term_tree::{Node, OpKind, TermId, Terms};
 
 fn put_if(test: bool, id: u32, out: &mut Vec<u32>) -> Result<(), Memory>
     ensures { OnOk result (out.new.items ≡ out.old.items ++ (if test then id ∷ [] else [])) }
@@ -26,7 +27,6 @@ fn put_if(test: bool, id: u32, out: &mut Vec<u32>) -> Result<(), Memory>
 /// Puts the terms of the text of this one that have an auxiliary variable behind others.
 #[cycle(place)]
 fn put_places(
-    alloc: Global,
     terms: &Terms,
     sorts: &SortTable,
     spot: Spot,
@@ -38,27 +38,125 @@ fn put_places(
     let id = TermId(spot.id);
     let node = terms.node(id);
     put_if(needs_one(spot.standing, sorts.sort(id), node), spot.id, out)?;
-    let parts = inner(alloc, sorts, node)?;
-    put_all(alloc, terms, sorts, spot.id, parts.as_slice(), out)?;
+    put_parts(terms, sorts, spot.id, node, out)?;
     Ok(())
 }
 
-/// The same of some parts of the term of that number, in order.
+/// The same of the parts of a node, which stands at that number, in order.
 #[cycle(place)]
-fn put_all(
-    alloc: Global,
+fn put_parts(
     terms: &Terms,
     sorts: &SortTable,
     above: u32,
-    parts: &[Spot],
+    node: &Node,
     out: &mut Vec<u32>,
 ) -> Result<(), Memory>
     requires there { above < length terms.now.nodes }
-    requires below { IsTrue (list_all (λ s. nat_lt s.id above) parts.now) }
-    ensures { OnOk result (out.new.items ≡ out.old.items ++ all_placed (sort_in sorts.now) terms.now.nodes parts.now) }
+    requires below { IsTrue (has_parts_below above node.now) }
+    ensures { OnOk result (out.new.items ≡ out.old.items ++ all_placed (sort_in sorts.now) terms.now.nodes (inner_spots (sort_in sorts.now) node.now)) }
 {
-    for part in parts {
-        put_places(alloc, terms, sorts, *part, out)?;
+    match node {
+        Node::Num(_) => Ok(()),
+        Node::True => Ok(()),
+        Node::False => Ok(()),
+        Node::Var { .. } => Ok(()),
+        Node::LetVar { .. } => Ok(()),
+        Node::Pred { args, .. } => {
+            put_all(
+                terms,
+                sorts,
+                above,
+                Standing::Argument,
+                args.as_slice(),
+                out,
+            )
+        }
+        Node::Op { op, args } => put_operands(terms, sorts, above, *op, args.as_slice(), out),
+        Node::Divisible { arg, .. } => put_one(terms, sorts, above, *arg, out),
+        Node::Let { bound, body } => {
+            put_all(terms, sorts, above, Standing::Bit, bound.as_slice(), out)?;
+            put_one(terms, sorts, above, *body, out)?;
+            Ok(())
+        }
+        Node::Forall { body, .. } => put_one(terms, sorts, above, *body, out),
+        Node::Exists { body, .. } => put_one(terms, sorts, above, *body, out),
+    }
+}
+
+/// The same of the arguments of an operation.
+#[cycle(place)]
+fn put_operands(
+    terms: &Terms,
+    sorts: &SortTable,
+    above: u32,
+    op: OpKind,
+    args: &[TermId],
+    out: &mut Vec<u32>,
+) -> Result<(), Memory>
+    requires there { above < length terms.now.nodes }
+    requires below { IsTrue (list_all (is_below above) args.now) }
+    ensures { OnOk result (out.new.items ≡ out.old.items ++ all_placed (sort_in sorts.now) terms.now.nodes (operands (sort_in sorts.now) op args.now)) }
+{
+    match operands(sorts, op, args) {
+        Some(standing) => put_all(terms, sorts, above, standing, args, out),
+        None => put_choice(terms, sorts, above, args, out),
+    }
+}
+
+/// The same of the condition of a choice and its branches.
+#[cycle(place)]
+fn put_choice(
+    terms: &Terms,
+    sorts: &SortTable,
+    above: u32,
+    args: &[TermId],
+    out: &mut Vec<u32>,
+) -> Result<(), Memory>
+    requires there { above < length terms.now.nodes }
+    requires below { IsTrue (list_all (is_below above) args.now) }
+    ensures { OnOk result (out.new.items ≡ out.old.items ++ all_placed (sort_in sorts.now) terms.now.nodes (chosen args.now)) }
+{
+    match args {
+        [] => Ok(()),
+        [condition, branches @ ..] => {
+            put_places(terms, sorts, spot_as(Standing::Bit, *condition), out)?;
+            put_all(terms, sorts, above, Standing::Plain, branches, out)
+        }
+    }
+}
+
+/// The same of a part that stands for itself.
+#[cycle(place)]
+fn put_one(
+    terms: &Terms,
+    sorts: &SortTable,
+    above: u32,
+    id: TermId,
+    out: &mut Vec<u32>,
+) -> Result<(), Memory>
+    requires there { above < length terms.now.nodes }
+    requires below { id.0 < above }
+    ensures { OnOk result (out.new.items ≡ out.old.items ++ all_placed (sort_in sorts.now) terms.now.nodes (spot_as Standing.Plain id ∷ [])) }
+{
+    put_places(terms, sorts, spot_as(Standing::Plain, id), out)
+}
+
+/// The same of some parts that stand as the same, in order.
+#[cycle(place)]
+fn put_all(
+    terms: &Terms,
+    sorts: &SortTable,
+    above: u32,
+    standing: Standing,
+    ids: &[TermId],
+    out: &mut Vec<u32>,
+) -> Result<(), Memory>
+    requires there { above < length terms.now.nodes }
+    requires below { IsTrue (list_all (is_below above) ids.now) }
+    ensures { OnOk result (out.new.items ≡ out.old.items ++ all_placed (sort_in sorts.now) terms.now.nodes (map (spot_as standing) ids.now)) }
+{
+    for id in ids {
+        put_places(terms, sorts, spot_as(standing, *id), out)?;
     }
     Ok(())
 }
@@ -79,6 +177,6 @@ pub fn places(
         id: top.0,
         standing: Standing::Plain,
     };
-    put_places(alloc, terms, sorts, spot, &mut ids)?;
+    put_places(terms, sorts, spot, &mut ids)?;
     Ok(ids)
 }

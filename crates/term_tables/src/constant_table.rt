@@ -27,12 +27,18 @@ impl ConstantTable {
     pub fn of(alloc: Global, terms: &Terms) -> Result<ConstantTable, Memory>
         ensures { IfOk result (λ table. AreConstants terms.now.nodes table) }
     {
-        let mut constants = Vec::new(alloc);
+        let mut constants = Vec::with_capacity(alloc, terms.len())?;
+        let mut given = Vec::new(alloc);
         for i in 0..terms.len() {
             let Ok(number) = u32::try_from(i) else {
                 return Ok(ConstantTable { constants });
             };
-            let constant = node_constant(alloc, terms.node(TermId(number)), constants.as_slice())?;
+            let constant = node_constant(
+                alloc,
+                terms.node(TermId(number)),
+                constants.as_slice(),
+                &mut given,
+            )?;
             constants.push(constant)?;
         }
         Ok(ConstantTable { constants })

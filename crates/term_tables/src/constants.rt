@@ -1,6 +1,6 @@
 //! The value of a node that is a constant, over the values of its parts.
 
-ghost use Rattle.std.specs.Prelude.{◌≡◌, ◌<◌, ◌*ℤ◌, nat_abs, pos, map, option_map, IfOk};
+ghost use Rattle.std.specs.Prelude.{◌≡◌, ◌<◌, ◌*ℤ◌, nat_abs, pos, map, option_map, IfOk, OnOk};
 ghost use Rattle.std.specs.Int.{int_div_euclid, int_rem_euclid};
 ghost use Rattle.base.specs.Widths.{long_limit};
 ghost use Rattle.term_tree.specs.Constants.{all_constant, is_arithmetic};
@@ -23,25 +23,26 @@ pub(crate) fn constant_in(known: &[Option<i64>], id: TermId) -> Option<i64>
     }
 }
 
+/// Puts what is known of these terms into a list, in place of what is in it.
 fn constants_of(
-    alloc: Global,
     known: &[Option<i64>],
     ids: &[TermId],
-) -> Result<Vec<Option<i64>>, Memory>
-    ensures { IfOk result (λ constants. constants.items ≡ map (λ id. constant_in known.now id.0) ids.now) }
+    constants: &mut Vec<Option<i64>>,
+) -> Result<(), Memory>
+    ensures { OnOk result (constants.new.items ≡ map (λ id. constant_in known.now id.0) ids.now) }
 {
-    let mut constants = Vec::with_capacity(alloc, ids.len())?;
+    constants.clear();
     for id in ids {
         constants.push(constant_in(known, *id))?;
     }
-    Ok(constants)
+    Ok(())
 }
 
 /// All of them, where each is constant.
 fn all_constant(alloc: Global, given: &[Option<i64>]) -> Result<Option<Vec<i64>>, Memory>
     ensures { IfOk result (λ all. option_map (λ ns. ns.items) all ≡ all_constant given.now) }
 {
-    let mut constants = Vec::with_capacity(alloc, given.len())?;
+    let mut constants = Vec::new(alloc);
     for constant in given {
         match constant {
             Some(n) => constants.push(*n)?,
@@ -209,24 +210,27 @@ fn short_operation(
     op: OpKind,
     args: &[TermId],
     known: &[Option<i64>],
+    given: &mut Vec<Option<i64>>,
 ) -> Result<Option<i64>, Memory>
     ensures { IfOk result (λ constant. constant ≡ short_operation op (all_constant (map (λ arg. constant_in known.now arg.0) args.now))) }
 {
     if !is_arithmetic(op) {
         return Ok(None);
     }
-    let given = constants_of(alloc, known, args)?;
+    constants_of(known, args, given)?;
     match all_constant(alloc, given.as_slice())? {
         None => Ok(None),
         Some(constants) => Ok(short_applied(op, constants.as_slice())),
     }
 }
 
-/// The value of a node that is a constant, where it and the parts that it is made of are short.
+/// The value of a node that is a constant, where it and the parts that it is made of are short. The
+/// list serves one node after the other.
 pub(crate) fn node_constant(
     alloc: Global,
     node: &Node,
     known: &[Option<i64>],
+    given: &mut Vec<Option<i64>>,
 ) -> Result<Option<i64>, Memory>
     ensures { IfOk result (λ constant. constant ≡ short_constant (constant_in known.now) node.now) }
 {
@@ -234,7 +238,7 @@ pub(crate) fn node_constant(
         Node::Num(n) => if_short(i128::from(*n)),
         Node::LetVar { bound } => short_kept(constant_in(known, *bound)),
         Node::Let { body, .. } => short_kept(constant_in(known, *body)),
-        Node::Op { op, args } => short_operation(alloc, *op, args.as_slice(), known)?,
+        Node::Op { op, args } => short_operation(alloc, *op, args.as_slice(), known, given)?,
         _ => None,
     };
     Ok(constant)

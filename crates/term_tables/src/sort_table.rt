@@ -28,12 +28,18 @@ impl SortTable {
     pub fn of(alloc: Global, preds: &[Pred], terms: &Terms) -> Result<SortTable, Memory>
         ensures { IfOk result (λ table. AreSorts preds.now terms.now.nodes table) }
     {
-        let mut sorts = Vec::new(alloc);
+        let mut sorts = Vec::with_capacity(alloc, terms.len())?;
+        let mut given = Vec::new(alloc);
         for i in 0..terms.len() {
             let Ok(number) = u32::try_from(i) else {
                 return Ok(SortTable { sorts });
             };
-            let sort = node_sort(alloc, preds, terms.node(TermId(number)), sorts.as_slice())?;
+            let sort = node_sort(
+                preds,
+                terms.node(TermId(number)),
+                sorts.as_slice(),
+                &mut given,
+            )?;
             sorts.push(sort)?;
         }
         Ok(SortTable { sorts })

@@ -1,6 +1,6 @@
 //! The sort of a node over the sorts of its parts.
 
-ghost use Rattle.std.specs.Prelude.{◌≡◌, map, IfOk, slice_get, nat_le, length, ◌&&◌, None, if◌then◌else◌};
+ghost use Rattle.std.specs.Prelude.{◌≡◌, map, IfOk, OnOk, slice_get, nat_le, length, ◌&&◌, None, if◌then◌else◌};
 ghost use Rattle.std.specs.List.{list_all};
 ghost use Rattle.base.specs.Limits.{most_distinct};
 ghost use Rattle.term_tree.specs.Sorts.{all_of, are_alike, choice_sort, has_sort, have_sorts, is_sorted, node_sort, operation_sort, predicate_sort, sort_if};
@@ -8,7 +8,6 @@ ghost use Rattle.term_tree.specs.declared.sort.Sort.TheVariants.{Bool as Truth};
 ghost use Rattle.term_tables.specs.machinery.Table.{sort_in};
 
 use base::{MOST_DISTINCT, Memory};
-use std::alloc::Global;
 use term_tree::{Node, OpKind, Pred, Sort, TermId};
 
 /// What is known of the term of that number; nothing of one that isn't there.
@@ -23,18 +22,19 @@ pub(crate) fn sort_in(known: &[Option<Sort>], id: TermId) -> Option<Sort>
     }
 }
 
+/// Puts what is known of these terms into a list, in place of what is in it.
 fn sorts_of(
-    alloc: Global,
     known: &[Option<Sort>],
     ids: &[TermId],
-) -> Result<Vec<Option<Sort>>, Memory>
-    ensures { IfOk result (λ sorts. sorts.items ≡ map (λ id. sort_in known.now id.0) ids.now) }
+    sorts: &mut Vec<Option<Sort>>,
+) -> Result<(), Memory>
+    ensures { OnOk result (sorts.new.items ≡ map (λ id. sort_in known.now id.0) ids.now) }
 {
-    let mut sorts = Vec::with_capacity(alloc, ids.len())?;
+    sorts.clear();
     for id in ids {
         sorts.push(sort_in(known, *id))?;
     }
-    Ok(sorts)
+    Ok(())
 }
 
 fn has_sort(sort: Sort, given: Option<Sort>) -> bool
@@ -159,43 +159,48 @@ fn body_sort(sorted: bool, body: Option<Sort>) -> Option<Sort>
 }
 
 fn application_sort(
-    alloc: Global,
     preds: &[Pred],
     pred: u32,
     args: &[TermId],
     known: &[Option<Sort>],
+    given: &mut Vec<Option<Sort>>,
 ) -> Result<Option<Sort>, Memory>
     ensures { IfOk result (λ sort. sort ≡ predicate_sort (slice_get preds.now pred) (map (λ arg. sort_in known.now arg.0) args.now)) }
 {
-    let given = sorts_of(alloc, known, args)?;
+    sorts_of(known, args, given)?;
     Ok(predicate_sort(preds, pred, given.as_slice()))
 }
 
 fn sort_of_operation(
-    alloc: Global,
     op: OpKind,
     args: &[TermId],
     known: &[Option<Sort>],
+    given: &mut Vec<Option<Sort>>,
 ) -> Result<Option<Sort>, Memory>
     ensures { IfOk result (λ sort. sort ≡ operation_sort op (map (λ arg. sort_in known.now arg.0) args.now)) }
 {
-    let given = sorts_of(alloc, known, args)?;
+    sorts_of(known, args, given)?;
     Ok(operation_sort(op, given.as_slice()))
 }
 
-fn are_bound_sorted(alloc: Global, bound: &[TermId], known: &[Option<Sort>]) -> Result<bool, Memory>
+fn are_bound_sorted(
+    bound: &[TermId],
+    known: &[Option<Sort>],
+    given: &mut Vec<Option<Sort>>,
+) -> Result<bool, Memory>
     ensures { IfOk result (λ sorted. sorted ≡ list_all is_sorted (map (λ b. sort_in known.now b.0) bound.now)) }
 {
-    let given = sorts_of(alloc, known, bound)?;
+    sorts_of(known, bound, given)?;
     Ok(are_sorted(given.as_slice()))
 }
 
-/// The sort of a node, where it is well sorted over parts of the sorts that are known.
+/// The sort of a node, where it is well sorted over parts of the sorts that are known. The list serves
+/// one node after the other.
 pub(crate) fn node_sort(
-    alloc: Global,
     preds: &[Pred],
     node: &Node,
     known: &[Option<Sort>],
+    given: &mut Vec<Option<Sort>>,
 ) -> Result<Option<Sort>, Memory>
     ensures { IfOk result (λ sort. sort ≡ node_sort preds.now (sort_in known.now) node.now) }
 {
@@ -205,11 +210,11 @@ pub(crate) fn node_sort(
         Node::False => Some(Sort::Bool),
         Node::Var { sort, .. } => Some(*sort),
         Node::LetVar { bound } => sort_in(known, *bound),
-        Node::Pred { pred, args } => application_sort(alloc, preds, *pred, args.as_slice(), known)?,
-        Node::Op { op, args } => sort_of_operation(alloc, *op, args.as_slice(), known)?,
+        Node::Pred { pred, args } => application_sort(preds, *pred, args.as_slice(), known, given)?,
+        Node::Op { op, args } => sort_of_operation(*op, args.as_slice(), known, given)?,
         Node::Divisible { arg, .. } => truth_sort(known, Sort::Int, *arg),
         Node::Let { bound, body } => {
-            let sorted = are_bound_sorted(alloc, bound.as_slice(), known)?;
+            let sorted = are_bound_sorted(bound.as_slice(), known, given)?;
             body_sort(sorted, sort_in(known, *body))
         }
         Node::Forall { body, .. } => truth_sort(known, Sort::Bool, *body),

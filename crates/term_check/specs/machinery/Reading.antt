@@ -2,7 +2,6 @@
 use Rattle.std.specs.Prelude.{◌≡◌, ℕ, ℤ, Option, ◌+◌, List, [], ◌∷◌, length, Bool, true, false, Result, Ok, Err, slice_get, Some, if◌then◌else◌, codes, pos}
 use Rattle.sexp_read.specs.declared.tree.Tree.{Tree}
 use Rattle.term_tree.specs.declared.sort.Sort.{Sort}
-use Rattle.term_tree.specs.declared.script.Pred.{Pred as Predicates}
 use Rattle.term_tree.specs.declared.node.Node.{Node}
 use Rattle.term_tree.specs.declared.node.Node.TheVariants.{Num, True, False, Var, LetVar, Pred, Forall, Exists}
 use Rattle.term_tree.specs.declared.node.TermId.{TermId}
@@ -16,10 +15,9 @@ use Rattle.term_check.specs.declared.found.Found.{Found}
 use Rattle.term_check.specs.declared.found.FoundAll.{FoundAll}
 use Rattle.term_check.specs.declared.stop.TermStop.{TermStop}
 use Rattle.term_check.specs.declared.stop.TermStop.TheVariants.{Memory as OutOfMemory, Fault as Broken}
-use Rattle.term_check.specs.declared.scope.Named.{Named}
 use Rattle.term_check.specs.Found.{IsFoundUnder}
 use Rattle.term_check.specs.Rules.{fault, unless, divisible_fault}
-use Rattle.term_check.specs.Term.{IsNodeAt, IsTermAt, AreTermsAt}
+use Rattle.term_check.specs.Term.{IsNodeAt, AreTermsAt}
 use Rattle.term_check.specs.Spelling.{SpellingScope, Spelled, Gathered, ◌>>=◌, spelled, with_spelled, nothing_yet, application, spelled_head, head_fault, is_word, items_of, binder_fault, let_names_fault, variables_fault, with_lets, with_read_variables, let_spelled, quantified, quantifier, quantifier_fault, sorts_bound, number_or_0}
 
 -- The forms of terms by the list of their trees.

@@ -2,7 +2,6 @@ use Rattle.std.proofs.Common.{◌≡◌, ◌++◌, [], ◌∷◌, ℕ, length, N
 use Rattle.std.specs.Map.{lookup}
 use Rattle.std.specs.Str.{bytes_eq}
 use Rattle.term_tree.specs.declared.script.Pred.{Pred}
-use Rattle.term_check.specs.machinery.Numbers.{AreNumbered}
 use Rattle.term_check.specs.Spelling.{pred_from}
 use Rattle.term_check.proofs.NumberLemmas.{pred_added}
 use Rattle.term_check.proofs.OrderLemmas.{lookup_inserted}

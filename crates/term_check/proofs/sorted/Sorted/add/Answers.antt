@@ -1,4 +1,4 @@
-use Rattle.std.proofs.Common.{◌≡◌, ◌++◌, [], ◌∷◌, List, ℕ, map, sym, ap, ◌∙◌, Bor, rules}
+use Rattle.std.proofs.Common.{◌≡◌, ◌++◌, [], ◌∷◌, List, ℕ, map, ap, ◌∙◌, Bor, rules}
 use Rattle.std.proofs.lemmas.List.{map-append}
 use Rattle.term_check.proofs.OrderLemmas.{name_added}
 use Rattle.term_check.proofs.sorted.Sorted.add.Goals as goal
