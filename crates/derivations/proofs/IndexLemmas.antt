@@ -9,8 +9,8 @@ use Rattle.std.proofs.lemmas.List.Quantifiers.{all_pairs_push}
 use Rattle.derivations.specs.declared.fact.Fact.{Fact}
 use Rattle.derivations.specs.declared.row.Row.{Row}
 use Rattle.derivations.specs.Facts.{pred_of, tuple_of, fact_premises, AreRecorded, AreUnder, Concludes, IsBare}
-use Rattle.derivations.specs.machinery.Index.{Begins, IsBelow, IsIndexed, IsRank, IsRow, empty}
-use Rattle.derivations.proofs.InsertLemmas.{inserted, insert_has, insert_keeps, pairs_weaker}
+use Rattle.derivations.specs.machinery.Index.{Begins, IsBelow, IsIndexed, IsRank, IsRow, empty, key_of}
+use Rattle.derivations.proofs.InsertLemmas.{inserted, insert_has, insert_keeps, map_insert, map_members, pairs_weaker}
 use Rattle.derivations.proofs.SearchLemmas.{row_insert}
 
 -- fields of the facts after a push
@@ -81,6 +81,7 @@ row_other fs f pred row other is = record {
   numbers = record { order = is.numbers.order; exact = λ n. (λ has. of_push fs f pred n ((is.numbers.exact n).0 has), λ new. (is.numbers.exact n).1 (old n new (split fs f n new.0))) };
   order = pairs_weaker (IsBelow (tuple_of fs)) (IsBelow (tuple_of (fs ++ f ∷ []))) row.by_tuple same is.order;
   exact = λ n. (λ has. of_push fs f pred n ((is.exact n).0 has), λ new. (is.exact n).1 (old n new (split fs f n new.0)));
+  keyed = is.keyed ∙ map_members (λ n. key_of (tuple_of fs n)) (λ n. key_of (tuple_of (fs ++ f ∷ []) n)) row.by_tuple (λ x has. ap key_of (field_push (λ g. g.tuple) [] fs f x ((is.exact x).0 has).0));
 } where
   old : (n : ℕ) → IsOf (fs ++ f ∷ []) pred n → (n ≡ length fs) ⊎ (n < length fs) → IsOf fs pred n
   old n new (inl e) = absurd (other (sym (field_new (λ g. g.pred) None fs f n e) ∙ new.1))
@@ -91,7 +92,7 @@ row_other fs f pred row other is = record {
 
 -- the row of its own predicate
 row_own : (fs : List Fact) (f : Fact) (pred : ℕ) (row : Row) (rank : ℕ) → f.pred ≡ Some pred → ((n : ℕ) → Concludes fs n f.pred f.tuple → ⊥) → IsRow fs pred row → IsRank (tuple_of fs) row.by_tuple f.tuple rank
-    → IsRow (fs ++ f ∷ []) pred (record { by_number = row.by_number ++ length fs ∷ []; by_tuple = insert row.by_tuple rank (length fs) })
+    → IsRow (fs ++ f ∷ []) pred (record { by_number = row.by_number ++ length fs ∷ []; by_tuple = insert row.by_tuple rank (length fs); keys = insert row.keys rank (key_of f.tuple) })
 row_own fs f pred row rank own fresh is at = record {
   numbers = record {
     order = all_pairs_push (λ x y. x < y) row.by_number (length fs) is.numbers.order (λ j d l. ((is.numbers.exact (get_or row.by_number j d)).0 (Contains-get_or row.by_number j d l)).0);
@@ -99,6 +100,9 @@ row_own fs f pred row rank own fresh is at = record {
   };
   order = row_insert (tuple_of more) row.by_tuple (length fs) rank order rank_more apart;
   exact = λ n. (λ has. tuples n (inserted row.by_tuple rank (length fs) n has), λ new. placed n new (split fs f n new.0));
+  keyed =
+      ap (λ ks. insert ks rank (key_of f.tuple)) (is.keyed ∙ map_members (λ n. key_of (tuple_of fs n)) (λ n. key_of (tuple_of more n)) row.by_tuple (λ x has. ap key_of (same x has)))
+      ∙ ap (λ k. insert (map (λ n. key_of (tuple_of more n)) row.by_tuple) rank k) (ap key_of (sym mine)) ∙ sym (map_insert (λ n. key_of (tuple_of more n)) row.by_tuple rank (length fs));
 } where
   more : List Fact
   more = fs ++ f ∷ []
@@ -142,7 +146,7 @@ row_own fs f pred row rank own fresh is at = record {
 
 pub index_of : (rows : List Row) (fs : List Fact) (f : Fact) (pred rank : ℕ) (row : Row) → IsIndexed rows fs → f.pred ≡ Some pred → pred < length rows → All (λ p. p < length fs) f.premises → ((n : ℕ) → Concludes fs n f.pred f.tuple → ⊥) → IsBare f
     → IsRank (tuple_of fs) (get_or rows pred empty).by_tuple f.tuple rank
-    → row ≡ record { by_number = (get_or rows pred empty).by_number ++ length fs ∷ []; by_tuple = insert (get_or rows pred empty).by_tuple rank (length fs) }
+    → row ≡ record { by_number = (get_or rows pred empty).by_number ++ length fs ∷ []; by_tuple = insert (get_or rows pred empty).by_tuple rank (length fs); keys = insert (get_or rows pred empty).keys rank (key_of f.tuple) }
     → IsIndexed (set rows pred row) (fs ++ f ∷ [])
 index_of rows fs f pred rank row index own within there fresh bare at is = record { recorded = recorded_push fs f index.recorded there fresh bare; each = λ other. each other (cases_eq other pred) } where
   each : (other : ℕ) → (other ≡ pred) ⊎ (other ≡ pred → ⊥) → IsRow (fs ++ f ∷ []) other (get_or (set rows pred row) other empty)
@@ -167,6 +171,7 @@ index_none = record {
     numbers = record { order = λ i j d l in'. absurd (omega arith); exact = λ n. (none pred n, λ new. (let l = new.0 in absurd (omega arith))) };
     order = λ i j d l in'. absurd (omega arith);
     exact = λ n. (none pred n, λ new. (let l = new.0 in absurd (omega arith)));
+    keyed = refl;
   };
 } where
   none : (pred n : ℕ) → Contains {X = ℕ} [] n → IsOf [] pred n
@@ -182,6 +187,9 @@ tuples_order rows fs pred row index is = subst (λ r. AllPairs (IsBelow (tuple_o
 
 pub tuples_there : (rows : List Row) (fs : List Fact) (pred : ℕ) (row : List ℕ) → IsIndexed rows fs → row ≡ (get_or rows pred empty).by_tuple → All (λ n. n < length fs) row
 tuples_there rows fs pred row index is = subst (λ r. All (λ n. n < length fs) r) (sym is) (λ k d l. (((index.each pred).exact (get_or (get_or rows pred empty).by_tuple k d)).0 (Contains-get_or (get_or rows pred empty).by_tuple k d l)).0)
+
+pub tuples_keyed : (rows : List Row) (fs : List Fact) (pred : ℕ) (row : List ℕ) (keys : List ℤ) → IsIndexed rows fs → row ≡ (get_or rows pred empty).by_tuple → keys ≡ (get_or rows pred empty).keys → keys ≡ map (λ n. key_of (tuple_of fs n)) row
+tuples_keyed rows fs pred row keys index is same = same ∙ (index.each pred).keyed ∙ ap (map (λ n. key_of (tuple_of fs n))) (sym is)
 
 -- one empty row more
 pub more_same : (rows : List Row) (k : ℕ) → get_or (rows ++ empty ∷ []) k empty ≡ get_or rows k empty
@@ -208,5 +216,6 @@ under_is rows fs pred row front numbers index is order same = record {
   there : (n : ℕ) → Contains row n × Begins front (tuple_of fs n) → (n < length fs) × (pred_of fs n ≡ Some pred) × Begins front (tuple_of fs n)
   there n both = (let of = ((index.each pred).exact n).0 (subst (λ xs. Contains xs n) is both.0) in (of.0, of.1, both.1))
 
-pub row_is : (ns ms ts us : List ℕ) (at n m : ℕ) → ns ≡ ms → ts ≡ us → n ≡ m → ◌≡◌ {A = Row} (record { by_number = ns ++ n ∷ []; by_tuple = insert ts at n }) (record { by_number = ms ++ m ∷ []; by_tuple = insert us at m })
-row_is ns ms ts us at n m a b c = rw (a, b, c) refl
+pub row_is : (old row : Row) (at n m : ℕ) (k l : ℤ) → old ≡ row → n ≡ m → k ≡ l
+    → ◌≡◌ {A = Row} (record { by_number = old.by_number ++ n ∷ []; by_tuple = insert old.by_tuple at n; keys = insert old.keys at k }) (record { by_number = row.by_number ++ m ∷ []; by_tuple = insert row.by_tuple at m; keys = insert row.keys at l })
+row_is old row at n m k l a b c = rw (a, b, c) refl

@@ -1,8 +1,9 @@
 -- Lists with one item more at a place.
-use Rattle.std.proofs.Common.{◌≡◌, ℕ, zero, suc, ◌+◌, ◌-◌, ◌<◌, ◌≤◌, List, [], ◌∷◌, length, get_or, refl, ap, arith, ◌∙◌, inl, inr}
+use Rattle.std.proofs.Common.{◌≡◌, ℕ, zero, suc, ◌+◌, ◌-◌, ◌<◌, ◌≤◌, List, [], ◌∷◌, ◌++◌, map, length, get_or, take, drop, refl, ap, ap₂, sym, arith, ◌∙◌, inl, inr}
 use Rattle.std.specs.Prelude.{◌⊎◌}
 use Rattle.std.specs.List.{AllPairs, Contains, insert}
 use Rattle.std.proofs.lemmas.Bool.{cases_order}
+use Rattle.std.proofs.lemmas.List.{map-append, take-map, drop-map}
 use Rattle.std.proofs.lemmas.List.Edits.{length-insert, get_or-insert_below, get_or-insert_at, get_or-insert_above}
 use Rattle.std.proofs.lemmas.List.Sorted.{IsPermutation-insert, IsPermutation-sym, Contains-permutation}
 use Rattle.std.proofs.lemmas.List.Elements.{Contains-append_cases, Contains-append_right, Contains-get_or}
@@ -40,6 +41,15 @@ pairs_insert R xs i y pairs within below above a b d less in' = by (cases_order 
 pub pairs_weaker : {X : Type 0} (R S : X → X → Type 0) (xs : List X) → ((x y : X) → Contains xs x → Contains xs y → R x y → S x y) → AllPairs R xs → AllPairs S xs
 pairs_weaker R S xs weaker pairs a b d less in' =
     weaker (get_or xs a d) (get_or xs b d) (Contains-get_or xs a d (omega arith)) (Contains-get_or xs b d in') (pairs a b d less in')
+
+-- what is the same of each member is the same list
+pub map_members : {X Y : Type 0} (g h : X → Y) (xs : List X) → ((x : X) → Contains xs x → g x ≡ h x) → map g xs ≡ map h xs
+map_members g h [] same = refl
+map_members g h (x ∷ xs) same = ap (λ y. y ∷ map g xs) (same x (0, omega arith, refl)) ∙ ap (λ ys. h x ∷ ys) (map_members g h xs (λ z has. same z (suc has.0, (let l = has.1 in omega arith), has.2)))
+
+-- of each, after an insert
+pub map_insert : {X Y : Type 0} (g : X → Y) (xs : List X) (i : ℕ) (y : X) → map g (insert xs i y) ≡ insert (map g xs) i (g y)
+map_insert g xs i y = map-append g (take i xs) (y ∷ drop i xs) ∙ ap₂ (λ low high. low ++ g y ∷ high) (sym (take-map g i xs)) (sym (drop-map g i xs))
 
 -- members after an insert
 pub inserted : {X : Type 0} (xs : List X) (i : ℕ) (y z : X) → Contains (insert xs i y) z → (y ≡ z) ⊎ Contains xs z

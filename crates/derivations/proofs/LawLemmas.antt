@@ -8,14 +8,11 @@ use Rattle.std.proofs.lemmas.List.Elements.{All-contains, Contains-get_or}
 use Rattle.derivations.specs.declared.fact.Fact.{Fact}
 use Rattle.derivations.specs.Facts.{greatest, height_of, pred_of, fact_premises, with_height, AreRecorded, AreSteps, RestsOn}
 use Rattle.derivations.specs.Facts.RestsOn.{itself, through}
+use Rattle.derivations.proofs.InsertLemmas.{map_members}
 use Rattle.derivations.proofs.MarkLemmas.{rests_more}
 
 pub once : (facts : List Fact) (m n : ℕ) → AreRecorded facts → m < length facts → n < length facts → pred_of facts m ≡ None → pred_of facts n ≡ None → m ≡ n
 once facts m n recorded lm ln pm pn = recorded.distinct m n lm ln (pm ∙ sym pn) (recorded.bare m lm pm ∙ sym (recorded.bare n ln pn))
-
-map_agree : (g h : ℕ → ℕ) (ps : List ℕ) → ((p : ℕ) → Contains ps p → g p ≡ h p) → map g ps ≡ map h ps
-map_agree g h [] same = refl
-map_agree g h (p ∷ ps) same = ap (λ x. x ∷ map g ps) (same p (0, omega arith, refl)) ∙ ap (λ xs. h p ∷ xs) (map_agree g h ps (λ q has. same q (suc has.0, (let l = has.1 in omega arith), has.2)))
 
 -- later facts change no height
 keeps : (hs : List ℕ) (fs : List Fact) (k : ℕ) → k < length hs → get_or (fold with_height hs fs) k 0 ≡ get_or hs k 0
@@ -33,7 +30,7 @@ above hs (f ∷ fs) zero m l at earlier =
     let all = fold with_height (with_height hs f) fs in
     let long = length-append hs (h ∷ []) in
     let here : get_or all m 0 ≡ h = keeps (with_height hs f) fs m (omega (arith, long)) ∙ get_or_push hs h 0 m (omega arith) in
-    here ∙ ap (λ xs. 1 + greatest xs) (map_agree (λ p. get_or hs p 0) (λ p. get_or all p 0) f.premises (λ p has. (let less = All-contains (λ q. q < m) f.premises p earlier has in sym (keeps hs (f ∷ fs) p (omega arith)))))
+    here ∙ ap (λ xs. 1 + greatest xs) (map_members (λ p. get_or hs p 0) (λ p. get_or all p 0) f.premises (λ p has. (let less = All-contains (λ q. q < m) f.premises p earlier has in sym (keeps hs (f ∷ fs) p (omega arith)))))
 above hs (f ∷ fs) (suc n) m l at earlier =
     let h = 1 + greatest (map (λ p. get_or hs p 0) f.premises) in
     let long = length-append hs (h ∷ []) in

@@ -5,7 +5,7 @@ ghost use Rattle.derivations.specs.Facts.{AreOf, AreRecorded, AreSteps, AreUnder
 use crate::fact::Fact;
 use crate::marks::steps;
 use crate::notes::Notes;
-use crate::rows::{Rows, add_in, by_number, by_tuple};
+use crate::rows::{Rows, add_in, by_number, by_tuple, keys_by_tuple};
 use crate::search::{begun, found};
 use base::Memory;
 use cube_forms::share_all;
@@ -73,7 +73,8 @@ impl Facts {
         ensures { (n : ℕ) → (result ≡ Some n) ↔ Concludes self.now n (Some pred) tuple.now }
     {
         let row = by_tuple(&self.rows, pred);
-        found(&self.notes, row, tuple)
+        let keys = keys_by_tuple(&self.rows, pred);
+        found(&self.notes, row, keys, tuple)
     }
 
     /// The facts of a predicate, in order of number. They are lent.
@@ -89,7 +90,8 @@ impl Facts {
         ensures { AreUnder self.now pred front.now result.now }
     {
         let row = by_tuple(&self.rows, pred);
-        begun(&self.notes, row, front)
+        let keys = keys_by_tuple(&self.rows, pred);
+        begun(&self.notes, row, keys, front)
     }
 
     /// Exactly the facts on which a fact rests, itself the last, in order of number.

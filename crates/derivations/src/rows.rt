@@ -6,7 +6,7 @@ ghost use Rattle.derivations.specs.machinery.Index.{IsIndexed, empty};
 use crate::fact::Fact;
 use crate::notes::Notes;
 use crate::row::{Row, empty_row, with};
-use crate::search::rank;
+use crate::search::{key_of, rank};
 use base::Memory;
 use cube_forms::Held;
 use std::alloc::Global;
@@ -34,6 +34,25 @@ pub(crate) fn by_tuple(rows: &Rows, pred: u32) -> &[u32]
         return rows[pred].get().by_tuple.as_slice();
     }
     &[]
+}
+
+/// The keys of a predicate's facts, in order of tuple.
+pub(crate) fn keys_by_tuple(rows: &Rows, pred: u32) -> &[i64]
+    ensures { result.now ≡ (slice_index_or rows.now.items pred empty).keys }
+{
+    let pred = pred as usize;
+    if pred < rows.len() {
+        return rows[pred].get().keys.as_slice();
+    }
+    &[]
+}
+
+/// The row of a predicate that has one.
+fn row_of(rows: &Rows, pred: u32) -> &Row
+    requires { pred < length rows.now.items }
+    ensures { result.now ≡ slice_index_or rows.now.items pred empty }
+{
+    rows[pred as usize].get()
 }
 
 /// Adds an empty row.
@@ -85,9 +104,10 @@ pub(crate) fn add_of(
 {
     grow(alloc, rows, pred)?;
     let id = notes.count();
-    let tuples = by_tuple(rows, pred);
-    let at = rank(notes, tuples, fact.tuple.as_slice());
-    let row = with(alloc, by_number(rows, pred), tuples, at, id)?;
+    let old = row_of(rows, pred);
+    let tuple = fact.tuple.as_slice();
+    let at = rank(notes, old.by_tuple.as_slice(), old.keys.as_slice(), tuple);
+    let row = with(alloc, old, at, id, key_of(tuple))?;
     let row = Held::new(alloc, row)?;
     notes.add(fact)?;
     put(rows, pred, row);

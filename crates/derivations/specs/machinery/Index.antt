@@ -1,5 +1,5 @@
 -- The rows of the predicates, beside the facts.
-use Rattle.std.specs.Prelude.{ℕ, ℤ, ◌≡◌, ◌≢◌, ◌<◌, ◌≤◌, ◌↔◌, List, [], length, get_or, take, Some}
+use Rattle.std.specs.Prelude.{ℕ, ℤ, negsuc, ◌≡◌, ◌≢◌, ◌<◌, ◌≤◌, ◌↔◌, ◌-◌, ◌^◌, List, [], length, map, get_or, take, Some}
 use Rattle.std.specs.List.{AllPairs, Contains}
 use Rattle.std.specs.Ordering.{int_cmp}
 use Rattle.std.specs.declared.cmp.Ordering.TheVariants.{Less}
@@ -11,6 +11,10 @@ use Rattle.derivations.specs.Facts.{pred_of, tuple_of, AreOf, AreRecorded}
 -- x stands before y by its tuple, where T gives the tuple of a number
 abbrev pub IsBelow : (ℕ → List ℤ) → ℕ → ℕ → Type 0
 IsBelow T x y = slice_cmp int_cmp (T x) (T y) ≡ Less
+
+-- the first value of a tuple, and - 2 ^ 63 for none: where the keys of two tuples differ, they stand as their keys
+abbrev pub key_of : List ℤ → ℤ
+key_of tuple = get_or tuple 0 (negsuc (2 ^ 63 - 1))
 
 -- exactly the first rank numbers of a row have tuples below this one
 pub record IsRank (T : ℕ → List ℤ) (row : List ℕ) (tuple : List ℤ) (rank : ℕ) : Type 0 where
@@ -34,9 +38,10 @@ pub record IsRow (facts : List Fact) (pred : ℕ) (row : Row) : Type 0 where
   pub numbers : AreOf facts pred row.by_number
   pub order : AllPairs (IsBelow (tuple_of facts)) row.by_tuple
   pub exact : (n : ℕ) → Contains row.by_tuple n ↔ ((n < length facts) × (pred_of facts n ≡ Some pred))
+  pub keyed : row.keys ≡ map (λ n. key_of (tuple_of facts n)) row.by_tuple
 
 abbrev pub empty : Row
-empty = record { by_number = []; by_tuple = [] }
+empty = record { by_number = []; by_tuple = []; keys = [] }
 
 -- a predicate past the last row has no fact
 pub record IsIndexed (rows : List Row) (facts : List Fact) : Type 0 where

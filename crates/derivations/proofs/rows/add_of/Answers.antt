@@ -1,18 +1,23 @@
-use Rattle.std.proofs.Common.{◌≡◌, ◌∷◌, ◌++◌, [], length, get_or, Some, None, sym, subst, ◌∙◌}
+use Rattle.std.proofs.Common.{◌≡◌, ◌∷◌, ◌++◌, [], length, get_or, Some, None, FitsSigned, rules, ap, sym, subst, ◌∙◌}
+use Rattle.std.specs.Int.{w64}
+use Rattle.std.proofs.lemmas.Int.{to_z-of_z}
 use Rattle.std.specs.List.{insert}
 use Rattle.derivations.specs.Facts.{tuple_of}
-use Rattle.derivations.specs.machinery.Index.{IsIndexed, IsRank, empty}
-use Rattle.derivations.proofs.IndexLemmas.{index_of, index_same, row_is, tuples_order, tuples_there}
+use Rattle.derivations.specs.machinery.Index.{IsIndexed, IsRank, empty, key_of}
+use Rattle.derivations.proofs.IndexLemmas.{index_of, index_same, row_is, tuples_keyed, tuples_order, tuples_there}
 use Rattle.derivations.proofs.rows.add_of.Goals as goal
 
 pub returns-in_err-grow-clause-index : goal.returns-in_err-grow-clause-index
 returns-in_err-grow-clause-index c = index_same c.args.rows.now.items c.grow.new.rows.items c.args.notes.now c.in_err-grow.ensures.same c.requires.index
 
 pub rank-at-requires-clause-order : goal.rank-at-requires-clause-order
-rank-at-requires-clause-order c = tuples_order c.grow.new.rows.items c.args.notes.now c.args.pred c.by_tuple-tuples.result.now (index_same c.args.rows.now.items c.grow.new.rows.items c.args.notes.now c.in_ok-grow.ensures.same c.requires.index) c.by_tuple-tuples.ensures
+rank-at-requires-clause-order c = tuples_order c.grow.new.rows.items c.args.notes.now c.args.pred c.as_slice.result.now (index_same c.args.rows.now.items c.grow.new.rows.items c.args.notes.now c.in_ok-grow.ensures.same c.requires.index) (c.as_slice.ensures ∙ ap (λ r. r.by_tuple) c.row_of-old.ensures)
 
 pub rank-at-requires-clause-there : goal.rank-at-requires-clause-there
-rank-at-requires-clause-there c = tuples_there c.grow.new.rows.items c.args.notes.now c.args.pred c.by_tuple-tuples.result.now (index_same c.args.rows.now.items c.grow.new.rows.items c.args.notes.now c.in_ok-grow.ensures.same c.requires.index) c.by_tuple-tuples.ensures
+rank-at-requires-clause-there c = tuples_there c.grow.new.rows.items c.args.notes.now c.args.pred c.as_slice.result.now (index_same c.args.rows.now.items c.grow.new.rows.items c.args.notes.now c.in_ok-grow.ensures.same c.requires.index) (c.as_slice.ensures ∙ ap (λ r. r.by_tuple) c.row_of-old.ensures)
+
+pub rank-at-requires-clause-keyed : goal.rank-at-requires-clause-keyed
+rank-at-requires-clause-keyed c = tuples_keyed c.grow.new.rows.items c.args.notes.now c.args.pred c.as_slice.result.now c.as_slice-2.result.now (index_same c.args.rows.now.items c.grow.new.rows.items c.args.notes.now c.in_ok-grow.ensures.same c.requires.index) (c.as_slice.ensures ∙ ap (λ r. r.by_tuple) c.row_of-old.ensures) (c.as_slice-2.ensures ∙ ap (λ r. r.keys) c.row_of-old.ensures)
 
 pub returns-in_err-row-clause-index : goal.returns-in_err-row-clause-index
 returns-in_err-row-clause-index c = index_same c.args.rows.now.items c.grow.new.rows.items c.args.notes.now c.in_ok-grow.ensures.same c.requires.index
@@ -29,9 +34,12 @@ returns-clause-index c =
     let fs = c.args.notes.now in
     let old = get_or rows c.args.pred empty in
     let at = c.rank-at.result in
+    let tuple = c.args.fact.tuple in
     let index = index_same c.args.rows.now.items rows fs c.in_ok-grow.ensures.same c.requires.index in
-    let rank : IsRank (tuple_of fs) old.by_tuple c.args.fact.tuple at =
-    subst (λ r. IsRank (tuple_of fs) r c.args.fact.tuple at) c.by_tuple-tuples.ensures (subst (λ t. IsRank (tuple_of fs) c.by_tuple-tuples.result.now t at) c.as_slice.ensures c.rank-at.ensures) in
-    let is : c.in_ok-row-2.row ≡ record { by_number = old.by_number ++ length fs ∷ []; by_tuple = insert old.by_tuple at (length fs) } =
-    c.in_ok-row-2.ensures ∙ c.in_ok-row.ensures ∙ row_is c.by_number.result.now old.by_number c.by_tuple-tuples.result.now old.by_tuple at c.count-id.result (length fs) c.by_number.ensures c.by_tuple-tuples.ensures c.count-id.ensures in
+    let rank : IsRank (tuple_of fs) old.by_tuple tuple at =
+    subst (λ r. IsRank (tuple_of fs) r tuple at) (c.as_slice.ensures ∙ ap (λ r. r.by_tuple) c.row_of-old.ensures) (subst (λ t. IsRank (tuple_of fs) c.as_slice.result.now t at) c.as_slice-tuple.ensures c.rank-at.ensures) in
+    let fits : FitsSigned w64 c.key_of.result = search rules in
+    let longer = simp to_z-of_z at c.in_ok-row.ensures in
+    let is : c.in_ok-row-2.row ≡ record { by_number = old.by_number ++ length fs ∷ []; by_tuple = insert old.by_tuple at (length fs); keys = insert old.keys at (key_of tuple) } =
+    c.in_ok-row-2.ensures ∙ longer ∙ row_is c.row_of-old.result.now old at c.count-id.result (length fs) c.key_of.result (key_of tuple) c.row_of-old.ensures c.count-id.ensures (c.key_of.ensures ∙ ap key_of c.as_slice-tuple.ensures) in
     rw (c.put.ensures, c.in_ok-add.ensures.ok) (index_of rows fs c.args.fact c.args.pred at c.in_ok-row-2.row index c.requires.pred c.in_ok-grow.ensures.there c.requires.there c.requires.fresh (λ none. (let both : Some c.args.pred ≡ None = sym c.requires.pred ∙ none in absurd (cc))) rank is)
