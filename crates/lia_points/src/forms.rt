@@ -27,7 +27,7 @@ fn has_column(tableau: &Tableau, column: usize) -> bool
 }
 
 /// What the column is at least and at most.
-fn sides(tableau: &Tableau, column: usize) -> (Option<i128>, Option<i128>) {
+pub(crate) fn sides(tableau: &Tableau, column: usize) -> (Option<i128>, Option<i128>) {
     if has_column(tableau, column) {
         return (tableau.lower(column), tableau.upper(column));
     }
@@ -35,7 +35,7 @@ fn sides(tableau: &Tableau, column: usize) -> (Option<i128>, Option<i128>) {
 }
 
 /// The value that the bounds leave alone.
-fn one_value(lower: Option<i128>, upper: Option<i128>) -> Option<i128> {
+pub(crate) fn one_value(lower: Option<i128>, upper: Option<i128>) -> Option<i128> {
     match (lower, upper) {
         (Some(lower), Some(upper)) => { if lower == upper { Some(lower) } else { None } }
         _ => None,
@@ -53,7 +53,11 @@ fn put_term(terms: &mut Vec<(u32, i128)>, variable: usize, entry: i64) -> Result
 }
 
 /// The form whose slack is the basic variable of a row before the first pivot.
-fn form(alloc: Global, entries: &[i64], variables: usize) -> Result<Vec<(u32, i128)>, Memory> {
+pub(crate) fn form(
+    alloc: Global,
+    entries: &[i64],
+    variables: usize,
+) -> Result<Vec<(u32, i128)>, Memory> {
     let mut terms = Vec::new(alloc);
     for (variable, entry) in entries.iter().take(variables).enumerate() {
         put_term(&mut terms, variable, *entry)?;

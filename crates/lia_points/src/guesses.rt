@@ -6,6 +6,8 @@ ghost use Rattle.node_rows.specs.Known.{are_known, has_short_constant};
 
 use crate::column::Column;
 use crate::forms::equations;
+use crate::limits::{Limit, limits};
+use crate::moves::{are_many, moved, moves};
 use crate::near::{Way, scaled};
 use crate::solving::{Met, Solving, solved};
 use crate::unknowns::unknowns;
@@ -149,6 +151,29 @@ fn put_guess(
     Ok(())
 }
 
+/// The nearest point, moved until it meets the limits, where that succeeds.
+fn put_moved(
+    alloc: Global,
+    guesses: &mut Vec<Vec<i64>>,
+    near: &[i128],
+    unknowns: &[u32],
+    solving: &Solving,
+    limits: Vec<Limit>,
+) -> Result<(), Memory> {
+    if are_many(limits.as_slice(), near.len()) {
+        return Ok(());
+    }
+    let Some(point) = guess(alloc, near, unknowns, solving, Way::Near)? else {
+        return Ok(());
+    };
+    let free = solving.free.as_slice();
+    let moves = moves(alloc, limits.as_slice(), unknowns, free, near.len())?;
+    if let Some(point) = moved(point, limits, moves.as_slice()) {
+        guesses.push(point)?;
+    }
+    Ok(())
+}
+
 /// The points near a vertex, the last the nearest.
 fn from_vertex(
     alloc: Global,
@@ -156,6 +181,7 @@ fn from_vertex(
     guesses: &mut Vec<Vec<i64>>,
 ) -> Result<(), Memory> {
     let equations = equations(alloc, tableau)?;
+    let limits = limits(alloc, tableau)?;
     let Some(near) = vertex(alloc, tableau)? else {
         return Ok(());
     };
@@ -166,6 +192,7 @@ fn from_vertex(
     let unknowns = unknowns.as_slice();
     let (solving, met) = solved(alloc, equations.as_slice(), unknowns, Some(near))?;
     if let Met::Solved = met {
+        put_moved(alloc, guesses, near, unknowns, &solving, limits)?;
         put_guess(alloc, guesses, near, unknowns, &solving, Way::Down)?;
         put_guess(alloc, guesses, near, unknowns, &solving, Way::Up)?;
         put_guess(alloc, guesses, near, unknowns, &solving, Way::Near)?;

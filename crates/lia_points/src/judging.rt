@@ -109,7 +109,8 @@ fn last_point(lits: &[Lit], long: u32, guesses: Vec<Vec<i64>>) -> Option<Vec<i64
 /// A point at which all literals are true, where one is found: a value for each variable below `end`
 /// and each quotient, each below 2^63 in magnitude. Quotients are numbered on from `end`, in order of
 /// the literals. A vertex of the literals is taken, and in what variables, quotients and forms with one
-/// value leave free it is rounded, to the nearest integer, up and down.
+/// value leave free it is rounded, to the nearest integer, up and down, and then moved until it meets the
+/// bounds.
 pub fn point_near(alloc: Global, lits: &[Lit], end: u32) -> Result<Option<Vec<i64>>, Memory>
     requires known { are_known end lits.now ≡ true }
     requires short { list_all has_short_constant lits.now ≡ true }

@@ -7,6 +7,8 @@ mod equation;
 mod forms;
 mod guesses;
 mod judging;
+mod limits;
+mod moves;
 mod multipliers;
 mod near;
 mod solving;

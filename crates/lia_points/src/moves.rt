@@ -1,0 +1,252 @@
+//! A point at which equations hold is moved along what they leave free, until it meets bounds: each time a
+//! bound that is broken is met, by the move after which all bounds together lack least, or counts more where
+//! no move makes that less (P. Morris, The Breakout Method for Escaping from Local Minima, 1993).
+
+use crate::column::Column;
+use crate::limits::Limit;
+use base::Memory;
+use std::alloc::Global;
+
+/// So often a point is moved, or a bound counts more.
+const MOST_STEPS: usize = 200;
+
+/// With more limits times variables than this a point isn't moved.
+const MOST_EFFECTS: usize = 5000;
+
+/// By how much each variable rises, and each limit's form.
+#[derive(Drop)]
+pub(crate) struct Move {
+    parts: Vec<i64>,
+    effects: Vec<i64>,
+}
+
+/// A move that is made so often, and what the limits lack then.
+#[derive(Clone, Copy, Debug)]
+struct Choice {
+    at: usize,
+    times: i64,
+    cost: u64,
+}
+
+fn put_move(
+    alloc: Global,
+    moves: &mut Vec<Move>,
+    limits: &[Limit],
+    parts: Vec<i64>,
+) -> Result<(), Memory> {
+    let mut effects = Vec::with_capacity(alloc, limits.len())?;
+    for limit in limits {
+        effects.push(limit.value_at(parts.as_slice()))?;
+    }
+    moves.push(Move { parts, effects })?;
+    Ok(())
+}
+
+/// `count` zeros.
+fn zeros(alloc: Global, count: usize) -> Result<Vec<i64>, Memory> {
+    let mut made = Vec::with_capacity(alloc, count)?;
+    for _ in 0..count {
+        made.push(0)?;
+    }
+    Ok(made)
+}
+
+fn set(parts: &mut [i64], at: usize, value: i128) {
+    if let (Some(own), Ok(value)) = (parts.get_mut(at), i64::try_from(value)) {
+        *own = value;
+    }
+}
+
+/// The parts that a column has of the unknowns.
+fn parts_of(
+    alloc: Global,
+    unknowns: &[u32],
+    column: &Column,
+    variables: usize,
+) -> Result<Vec<i64>, Memory> {
+    let mut parts = zeros(alloc, variables)?;
+    for (unknown, part) in unknowns.iter().zip(column.parts.as_slice()) {
+        set(parts.as_mut_slice(), *unknown as usize, *part);
+    }
+    Ok(parts)
+}
+
+/// The move of one variable, where no equation has it.
+fn put_single(
+    alloc: Global,
+    moves: &mut Vec<Move>,
+    limits: &[Limit],
+    unknowns: &[u32],
+    variable: usize,
+    variables: usize,
+) -> Result<(), Memory> {
+    if unknowns.iter().all(|unknown| *unknown as usize != variable) {
+        let mut parts = zeros(alloc, variables)?;
+        set(parts.as_mut_slice(), variable, 1);
+        put_move(alloc, moves, limits, parts)?;
+    }
+    Ok(())
+}
+
+/// Whether there are too many effects of moves.
+pub(crate) fn are_many(limits: &[Limit], variables: usize) -> bool {
+    limits.len().saturating_mul(variables) > MOST_EFFECTS
+}
+
+/// The moves that keep the equations: the columns that are free, and the variables that no equation has.
+pub(crate) fn moves(
+    alloc: Global,
+    limits: &[Limit],
+    unknowns: &[u32],
+    free: &[Column],
+    variables: usize,
+) -> Result<Vec<Move>, Memory> {
+    let mut moves = Vec::new(alloc);
+    for column in free {
+        let parts = parts_of(alloc, unknowns, column, variables)?;
+        put_move(alloc, &mut moves, limits, parts)?;
+    }
+    for variable in 0..variables {
+        put_single(alloc, &mut moves, limits, unknowns, variable, variables)?;
+    }
+    Ok(moves)
+}
+
+/// How often a change by `each` is made until it is at least `lack`, or at most a `lack` below 0.
+fn times_for(lack: i64, each: i64) -> Option<i64> {
+    let times = lack.unsigned_abs().checked_add(each.unsigned_abs())?;
+    let times = times.checked_sub(1)?.checked_div(each.unsigned_abs())?;
+    let times = i64::try_from(times).ok()?;
+    if (lack < 0) == (each < 0) {
+        Some(times)
+    } else {
+        times.checked_neg()
+    }
+}
+
+/// What the limits lack after a move that is made so often.
+fn cost(limits: &[Limit], own: &Move, times: i64) -> u64 {
+    let mut cost: u64 = 0;
+    for (limit, effect) in limits.iter().zip(own.effects.as_slice()) {
+        let value = limit.value.saturating_add(effect.saturating_mul(times));
+        let lack = limit.lack(value).unsigned_abs();
+        cost = cost.saturating_add(lack.saturating_mul(limit.weight));
+    }
+    cost
+}
+
+/// The next limit that isn't met, from the one of that number on.
+fn next_broken(limits: &[Limit], from: usize) -> Option<usize> {
+    for (at, limit) in limits.iter().enumerate().skip(from) {
+        if limit.lack(limit.value) != 0 {
+            return Some(at);
+        }
+    }
+    None
+}
+
+fn broken(limits: &[Limit], from: usize) -> Option<usize> {
+    match next_broken(limits, from) {
+        Some(at) => Some(at),
+        None => next_broken(limits, 0),
+    }
+}
+
+/// The choice that costs less.
+fn better(one: Option<Choice>, other: Option<Choice>) -> Option<Choice> {
+    match (one, other) {
+        (Some(a), Some(b)) => { if b.cost < a.cost { Some(b) } else { Some(a) } }
+        (None, other) => other,
+        (one, None) => one,
+    }
+}
+
+/// The move as often as the limit of that number wants it.
+fn offered(limits: &[Limit], own: &Move, at: usize, wanted: usize) -> Option<Choice> {
+    let limit = limits.get(wanted)?;
+    let times = times_for(
+        limit.lack(limit.value),
+        *own.effects.as_slice().get(wanted)?,
+    )?;
+    let cost = cost(limits, own, times);
+    Some(Choice { at, times, cost })
+}
+
+/// The move that meets the limit of that number and costs least.
+fn best(limits: &[Limit], moves: &[Move], wanted: usize) -> Option<Choice> {
+    let mut found = None;
+    for (at, own) in moves.iter().enumerate() {
+        found = better(found, offered(limits, own, at, wanted));
+    }
+    found
+}
+
+/// A number rises.
+fn raise(values: &mut [i64], parts: &[i64], times: i64) {
+    for (own, part) in values.iter_mut().zip(parts) {
+        *own = own.saturating_add(part.saturating_mul(times));
+    }
+}
+
+fn raise_limits(limits: &mut [Limit], effects: &[i64], times: i64) {
+    for (limit, effect) in limits.iter_mut().zip(effects) {
+        limit.value = limit.value.saturating_add(effect.saturating_mul(times));
+    }
+}
+
+/// What the limits lack.
+fn lacking(limits: &[Limit]) -> u64 {
+    let mut sum: u64 = 0;
+    for limit in limits {
+        let lack = limit.lack(limit.value).unsigned_abs();
+        sum = sum.saturating_add(lack.saturating_mul(limit.weight));
+    }
+    sum
+}
+
+/// A limit counts more.
+fn weigh(limits: &mut [Limit], at: usize) {
+    if let Some(limit) = limits.get_mut(at) {
+        limit.weight = limit.weight.saturating_add(1);
+    }
+}
+
+/// The point is moved so that the limit of that number is met, where the limits then don't lack more. Where
+/// they don't lack less, that limit counts more.
+fn step(point: &mut [i64], limits: &mut [Limit], moves: &[Move], wanted: usize) {
+    let Some(choice) = best(limits, moves, wanted) else {
+        return;
+    };
+    if choice.cost >= lacking(limits) {
+        weigh(limits, wanted);
+    }
+    if choice.cost > lacking(limits) {
+        return;
+    }
+    if let Some(own) = moves.get(choice.at) {
+        raise(point, own.parts.as_slice(), choice.times);
+        raise_limits(limits, own.effects.as_slice(), choice.times);
+    }
+}
+
+/// The limits get their values at the point.
+fn value_all(limits: &mut [Limit], point: &[i64]) {
+    for limit in limits.iter_mut() {
+        limit.value = limit.value_at(point);
+    }
+}
+
+/// The point is moved until it meets all limits.
+pub(crate) fn moved(point: Vec<i64>, limits: Vec<Limit>, moves: &[Move]) -> Option<Vec<i64>> {
+    let (mut point, mut limits) = (point, limits);
+    value_all(limits.as_mut_slice(), point.as_slice());
+    let mut from: usize = 0;
+    for _ in 0..MOST_STEPS {
+        let Some(wanted) = broken(limits.as_slice(), from) else {
+            return Some(point);
+        };
+        step(point.as_mut_slice(), limits.as_mut_slice(), moves, wanted);
+        from = wanted.saturating_add(1);
+    }
+    None
+}
