@@ -6,7 +6,7 @@
 # answer `unknown` too; where the script has no answer it is that of `solve`. CHC names another program
 # than the launcher at the top of the repository.
 if [ $# -eq 0 ]; then
-    echo 'usage: certify.sh SCRIPT [--units N] [--nodes N]' >&2
+    echo 'usage: certify.sh SCRIPT [--workers N] [--units N] [--nodes N]' >&2
     exit 2
 fi
 top=$(CDPATH='' cd -P -- "$(dirname -- "$0")" && cd ../../.. && pwd) || exit 125

@@ -21,4 +21,6 @@ mod same;
 #[cfg(test)]
 mod spelling;
 #[cfg(test)]
+mod spellings;
+#[cfg(test)]
 mod values;

@@ -91,67 +91,189 @@ fn check(rt: &impl Abort, alloc: Global, shows: &str, text: &[u8], expected: &st
 
 /// What a case shows, its text and its reading.
 const RULES: &str = "\
-    kinds of white space§a\tb\nc\rd e§s0-1 s2-3 s4-5 s6-7 s8-9¶\
-    white space alone§ \t\n\r§¶\
-    no text§§¶\
-    byte 11 is no white space§a\x0bb§s0-1 bad 1¶\
-    byte 12 is no white space§\x0c§ bad 0¶\
-    a comment ends with a line feed§;x\na§s3-4¶\
-    a comment ends with a carriage return§;x\ra§s3-4¶\
-    a comment ends with the text§a;b c)§s0-1¶\
-    a comment holds any byte§;\x00(|\"#\n§¶\
-    a comment ends a word§ab;c\nd§s0-2 s5-6¶\
-    symbol bytes are one word§azAZ09~!@$%^&*_-+=<>.?/§s0-23¶\
-    a sign is a symbol byte§-5§s0-2¶\
-    a point may begin a symbol§.5§s0-2¶\
-    zero§0§n0-1¶\
-    a numeral§1024§n0-4¶\
-    a long numeral§18446744073709551616§n0-20¶\
-    a zero in front§007§ bad 0¶\
-    two zeros§00§ bad 0¶\
-    a letter behind a digit§a (b 1a) c§s0-1 bad 5¶\
-    a sign behind a digit§1-§ bad 0¶\
-    a decimal§1.5§d0-3¶\
-    a decimal below one§0.50§d0-4¶\
-    no digit behind the point§1.§ bad 0¶\
-    two points§1.5.2§ bad 0¶\
-    a zero in front of a decimal§01.5§ bad 0¶\
-    a keyword§:k§k0-2¶\
-    a keyword of any word§:007§k0-4¶\
-    a colon alone§:§ bad 0¶\
-    a colon apart from its word§: a§ bad 0¶\
-    two keywords§:a:b§k0-2 k2-4¶\
-    two colons§::a§ bad 0¶\
-    a colon before bars§:|a|§ bad 0¶\
-    a quoted symbol§|abc|§q0-5¶\
-    an empty quoted symbol§||§q0-2¶\
-    bars hold other bytes§|a b\n;\"(|§q0-9¶\
-    a backslash between bars§|a\\b|§ bad 2¶\
-    a backslash behind an open bar§(|a\\§ bad 3¶\
-    an open bar§|ab§ unclosed 0¶\
-    a text literal§\"a\"§t0-3¶\
-    an empty text literal§\"\"§t0-2¶\
-    a doubled quote§\"a\"\"b\"§t0-6¶\
-    a doubled quote alone§\"\"\"\"§t0-4¶\
-    a doubled quote and no end§\"\"\"§ unclosed 0¶\
-    an open quote§\"a§ unclosed 0¶\
-    a backslash in a text literal§\"\\\"§t0-3¶\
-    an empty list§()§()0-2¶\
-    lists in lists§(a (b))§(s1-2 (s4-5)3-6)0-7¶\
-    space around§ ( a ) §(s3-4)1-6¶\
-    a bracket that closes nothing§a)§s0-1 bad 1¶\
-    one bracket too many§(a)) b§(s1-2)0-3 bad 3¶\
-    tokens side by side§a|b|\"c\":d(e)§s0-1 q1-4 t4-7 k7-9 (s10-11)9-12¶\
-    no hexadecimal§#xff§ bad 0¶\
-    a word before a bad byte§foo#§s0-3 bad 3¶\
-    a bad byte in an open list§(#§ bad 1¶\
-    a bad byte behind a tree§(a (b) ,)§ bad 7¶\
-    trees behind the stop§(a) , (b)§(s1-2)0-3 bad 4¶\
-    an open list§(§ unclosed 0¶\
-    the outermost open list§a (b (c§s0-1 unclosed 2¶\
-    an open bar in a list§(a |b§ unclosed 0¶\
-    an open quote behind trees§(a) (b \"c§(s1-2)0-3 unclosed 4¶\
-    a closed list in an open one§((a) b§ unclosed 0¶\
+    kinds of white space§\
+        a\tb\nc\rd e§\
+        s0-1 s2-3 s4-5 s6-7 s8-9¶\
+    white space alone§\
+        \u{20}\t\n\r§\
+        ¶\
+    no text§\
+        §\
+        ¶\
+    byte 11 is no white space§\
+        a\x0bb§\
+        s0-1 bad 1¶\
+    byte 12 is no white space§\
+        \x0c§\
+        \u{20}bad 0¶\
+    a comment ends with a line feed§\
+        ;x\na§\
+        s3-4¶\
+    a comment ends with a carriage return§\
+        ;x\ra§\
+        s3-4¶\
+    a comment ends with the text§\
+        a;b c)§\
+        s0-1¶\
+    a comment holds any byte§\
+        ;\x00(|\"#\n§\
+        ¶\
+    a comment ends a word§\
+        ab;c\nd§\
+        s0-2 s5-6¶\
+    symbol bytes are one word§\
+        azAZ09~!@$%^&*_-+=<>.?/§\
+        s0-23¶\
+    a sign is a symbol byte§\
+        -5§\
+        s0-2¶\
+    a point may begin a symbol§\
+        .5§\
+        s0-2¶\
+    zero§\
+        0§\
+        n0-1¶\
+    a numeral§\
+        1024§\
+        n0-4¶\
+    a long numeral§\
+        18446744073709551616§\
+        n0-20¶\
+    a zero in front§\
+        007§\
+        \u{20}bad 0¶\
+    two zeros§\
+        00§\
+        \u{20}bad 0¶\
+    a letter behind a digit§\
+        a (b 1a) c§\
+        s0-1 bad 5¶\
+    a sign behind a digit§\
+        1-§\
+        \u{20}bad 0¶\
+    a decimal§\
+        1.5§\
+        d0-3¶\
+    a decimal below one§\
+        0.50§\
+        d0-4¶\
+    no digit behind the point§\
+        1.§\
+        \u{20}bad 0¶\
+    two points§\
+        1.5.2§\
+        \u{20}bad 0¶\
+    a zero in front of a decimal§\
+        01.5§\
+        \u{20}bad 0¶\
+    a keyword§\
+        :k§\
+        k0-2¶\
+    a keyword of any word§\
+        :007§\
+        k0-4¶\
+    a colon alone§\
+        :§\
+        \u{20}bad 0¶\
+    a colon apart from its word§\
+        : a§\
+        \u{20}bad 0¶\
+    two keywords§\
+        :a:b§\
+        k0-2 k2-4¶\
+    two colons§\
+        ::a§\
+        \u{20}bad 0¶\
+    a colon before bars§\
+        :|a|§\
+        \u{20}bad 0¶\
+    a quoted symbol§\
+        |abc|§\
+        q0-5¶\
+    an empty quoted symbol§\
+        ||§\
+        q0-2¶\
+    bars hold other bytes§\
+        |a b\n;\"(|§\
+        q0-9¶\
+    a backslash between bars§\
+        |a\\b|§\
+        \u{20}bad 2¶\
+    a backslash behind an open bar§\
+        (|a\\§\
+        \u{20}bad 3¶\
+    an open bar§\
+        |ab§\
+        \u{20}unclosed 0¶\
+    a text literal§\
+        \"a\"§\
+        t0-3¶\
+    an empty text literal§\
+        \"\"§\
+        t0-2¶\
+    a doubled quote§\
+        \"a\"\"b\"§\
+        t0-6¶\
+    a doubled quote alone§\
+        \"\"\"\"§\
+        t0-4¶\
+    a doubled quote and no end§\
+        \"\"\"§\
+        \u{20}unclosed 0¶\
+    an open quote§\
+        \"a§\
+        \u{20}unclosed 0¶\
+    a backslash in a text literal§\
+        \"\\\"§\
+        t0-3¶\
+    an empty list§\
+        ()§\
+        ()0-2¶\
+    lists in lists§\
+        (a (b))§\
+        (s1-2 (s4-5)3-6)0-7¶\
+    space around§\
+        \u{20}( a ) §\
+        (s3-4)1-6¶\
+    a bracket that closes nothing§\
+        a)§\
+        s0-1 bad 1¶\
+    one bracket too many§\
+        (a)) b§\
+        (s1-2)0-3 bad 3¶\
+    tokens side by side§\
+        a|b|\"c\":d(e)§\
+        s0-1 q1-4 t4-7 k7-9 (s10-11)9-12¶\
+    no hexadecimal§\
+        #xff§\
+        \u{20}bad 0¶\
+    a word before a bad byte§\
+        foo#§\
+        s0-3 bad 3¶\
+    a bad byte in an open list§\
+        (#§\
+        \u{20}bad 1¶\
+    a bad byte behind a tree§\
+        (a (b) ,)§\
+        \u{20}bad 7¶\
+    trees behind the stop§\
+        (a) , (b)§\
+        (s1-2)0-3 bad 4¶\
+    an open list§\
+        (§\
+        \u{20}unclosed 0¶\
+    the outermost open list§\
+        a (b (c§\
+        s0-1 unclosed 2¶\
+    an open bar in a list§\
+        (a |b§\
+        \u{20}unclosed 0¶\
+    an open quote behind trees§\
+        (a) (b \"c§\
+        (s1-2)0-3 unclosed 4¶\
+    a closed list in an open one§\
+        ((a) b§\
+        \u{20}unclosed 0¶\
     ";
 
 /// The parts of a case.
