@@ -1,7 +1,9 @@
 //! The queries of all clauses with a head.
 
-ghost use Rattle.std.specs.Prelude.{◌≡◌, ◌<◌, ◌^◌, length, IfOk};
+ghost use Rattle.std.specs.Prelude.{◌≡◌, ◌<◌, ◌^◌, length, true, IfOk};
+ghost use Rattle.std.specs.List.{list_all};
 ghost use Rattle.clause_queries.specs.Answers.{IsFound, MayAskAll};
+ghost use Rattle.clause_queries.specs.Kept.{lemma_is_kept};
 ghost use Rattle.clause_queries.specs.Uses.{IsAskedAt};
 ghost use Rattle.clause_queries.specs.machinery.Choices.{AreAsked};
 ghost use Rattle.clause_queries.specs.machinery.Asking.{IsAnswerAt, IsNoted, first_lost, found_of};
@@ -53,10 +55,10 @@ fn ask_clause(
 ) -> Result<Asked, Memory>
     requires asks { MayAskAll sys.now frames.now.lemmas pred goal.now }
     requires asked { IsAskedAt sys.now pred k number }
+    requires kept { list_all lemma_is_kept frames.now.lemmas ≡ true }
     requires some { 0 < nodes }
     ensures { IfOk result (IsAnswerAt sys.now frames.now.lemmas pred goal.now k nodes number) }
 {
-    frames_are_kept(frames);
     goal_is_kept(goal);
     let clause = sys.clause(number as usize);
     let used = frame_used(alloc, frames, k, clause.atoms.as_slice())?;
@@ -136,6 +138,7 @@ pub fn ask_all_by(
     requires some { 0 < nodes }
     ensures { IfOk result (IsFound sys.now frames.now.lemmas pred goal.now k nodes) }
 {
+    frames_are_kept(frames);
     let mut trees = all_carried(alloc, sys, goal, old)?;
     let numbers = in_order(alloc, sys, pred, k, trees.as_slice())?;
     let mut gathered = Gathered {

@@ -11,7 +11,7 @@ use Rattle.clause_queries.proofs.finding.ask_clause.Goals as goal
 pub ask_by-requires-clause-asks : goal.ask_by-requires-clause-asks
 ask_by-requires-clause-asks c =
     may-ask-at c.args.sys.now c.args.frames.now.lemmas c.args.pred c.args.goal.now c.in_ok-goal.goal c.args.k c.args.number c.in_ok-used.used.items c.clause-clause.result.now c.requires.asked c.requires.asks c.clause-clause.ensures.is c.clause-clause.ensures.legal
-    c.frames_are_kept.ensures c.goal_is_kept.ensures c.in_ok-goal.ensures
+    c.requires.kept c.goal_is_kept.ensures c.in_ok-goal.ensures
     (are-uses c.args.k c.args.frames.now.lemmas c.clause-clause.result.now c.in_ok-used.used.items (subst (λ (atoms : List Atom). AreEnough (uses_from c.args.k c.args.frames.now.lemmas 0 atoms) c.in_ok-used.used.items) c.as_slice.ensures c.in_ok-used.ensures))
 
 pub returns : goal.returns
