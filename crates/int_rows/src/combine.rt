@@ -47,7 +47,18 @@ fn sparse_combination(p: i64, x: i64, q: i64, y: i64) -> i128
     }
 }
 
-/// A number divided by a positive one and rounded down. Mostly that is 1, and nothing is divided.
+/// A number divided by a positive one and rounded down, in 64 bits where both have room there.
+fn divided_by(n: i128, divisor: i128) -> i128
+    requires { pos 0 <ℤ divisor }
+    ensures { result ≡ int_div_euclid n divisor }
+{
+    match (i64::try_from(n), i64::try_from(divisor)) {
+        (Ok(n), Ok(divisor)) => i128::from(n.div_euclid(divisor)),
+        _ => n.div_euclid(divisor),
+    }
+}
+
+/// The same. Mostly the divisor is 1, and nothing is divided.
 fn divided(n: i128, divisor: i128) -> i128
     requires { pos 0 <ℤ divisor }
     ensures { result ≡ int_div_euclid n divisor }
@@ -55,7 +66,7 @@ fn divided(n: i128, divisor: i128) -> i128
     if divisor == 1 {
         n
     } else {
-        n.div_euclid(divisor)
+        divided_by(n, divisor)
     }
 }
 
