@@ -1,6 +1,6 @@
 -- A column that a pivot doesn't change keeps its value.
 use Rattle.std.proofs.Common.{◌≡◌, ℕ, suc, zero, List, [], ◌∷◌, refl, ap, sym, ◌∙◌, arith, ◌<◌, ◌≤◌, ◌+◌, true, false, Bool, cond, length, get_or, set, map, below_more, eqb, ◌==◌, ⊎_elim}
-use Rattle.std.specs.Prelude.{ℤ, pos, neg_ℤ, ◌*ℤ◌, nat_abs, not, ◌&&◌, ◌||◌}
+use Rattle.std.specs.Prelude.{ℤ, find, pos, neg_ℤ, ◌*ℤ◌, nat_abs, not, ◌&&◌, ◌||◌}
 use Rattle.std.proofs.lemmas.Bool.{cond-true, eq-eqb, ne_eqb, eqb-true}
 use Rattle.std.proofs.lemmas.Int.{ints}
 use Rattle.std.proofs.lemmas.List.{get_or-set_other, get_or-set_same, length-set}
@@ -13,7 +13,7 @@ use Rattle.int_rows.proofs.Public.{length-pivoted, pivoted-other}
 use Rattle.simplex_core.specs.Coordinate.{coordinate, others}
 use Rattle.simplex_core.specs.Standings.{AreStandings}
 use Rattle.simplex_core.specs.machinery.Refresh.{changes}
-use Rattle.simplex_core.specs.Run.{Moment, after, after_pivot, coordinate_at, coordinates, is_basic, moment, restood, row_of, row_value, settled, standing_at, stood, stood_at, values}
+use Rattle.simplex_core.specs.Run.{Moment, after, after_pivot, are_crossed_at, coordinate_at, coordinates, crossed, is_basic, moment, restood, row_of, row_value, settled, standing_at, stood, stood_at, values}
 use Rattle.simplex_core.specs.declared.standing.Standing.{Standing}
 use Rattle.simplex_core.specs.declared.standing.Standing.TheVariants.{Basic}
 use Rattle.simplex_core.specs.declared.turn.Side.{Side}
@@ -25,6 +25,11 @@ use Rattle.simplex_core.proofs.SumLemmas.{dot-total, total-same}
 
 pub width-kept : (t : Table) (i c : ℕ) → width (after_pivot t i c) ≡ width t
 width-kept t i c = ap (λ n. t.variables + n) (length-pivoted i c t.rows)
+
+-- a pivot changes no bounds
+pub crossed-kept : (t : Table) (i c : ℕ) → crossed (after_pivot t i c) ≡ crossed t
+unfolding crossed
+crossed-kept t i c = ap (λ n. find (are_crossed_at t) (range_with_len 0 n)) (width-kept t i c)
 
 or-none : (a b : Bool) → (a || b) ≡ false → (a ≡ false) × (b ≡ false)
 or-none true b e = absurd (cc)

@@ -1,6 +1,6 @@
 //! What a moment of the run is: which column leaves, which enters, or which end it is.
 
-ghost use Rattle.std.specs.Prelude.{◌≡◌, ◌<◌, ◌≤◌, ◌-ℤ◌, length, nat_abs, position, take, true};
+ghost use Rattle.std.specs.Prelude.{◌≡◌, ◌<◌, ◌≤◌, ◌-ℤ◌, length, nat_abs, position, take, true, None};
 ghost use Rattle.base.specs.Widths.{short_limit};
 ghost use Rattle.int_rows.specs.Ready.{bound_fits};
 ghost use Rattle.int_rows.specs.Table.{row_at, width};
@@ -43,6 +43,18 @@ fn crossed(t: &Tableau, columns: usize) -> Option<usize>
         }
     }
     None
+}
+
+/// The same, where it isn't known already that no bounds are crossed.
+fn crossed_unless(t: &Tableau, columns: usize, ordered: bool) -> Option<usize>
+    requires columns { columns ≡ width t.now }
+    requires ordered { ordered ≡ true → crossed t.now ≡ None }
+    ensures { result ≡ crossed t.now }
+{
+    if ordered {
+        return None;
+    }
+    crossed(t, columns)
 }
 
 /// The first value without room.
@@ -257,13 +269,19 @@ fn settle(t: &Tableau, standings: &[Standing], values: &[Coordinate]) -> Turn
     }
 }
 
-/// What the moment is.
-pub(crate) fn turn(t: &Tableau, standings: &[Standing], values: &[Coordinate]) -> Turn
+/// What the moment is. Bounds that are known to be in order aren't looked at.
+pub(crate) fn turn(
+    t: &Tableau,
+    standings: &[Standing],
+    values: &[Coordinate],
+    ordered: bool,
+) -> Turn
     requires legal { AreStandings t.now standings.now }
     requires values { values.now ≡ coordinates (moment t.now standings.now) }
+    requires ordered { ordered ≡ true → crossed t.now ≡ None }
     ensures { result ≡ turn (moment t.now standings.now) }
 {
-    match crossed(t, standings.len()) {
+    match crossed_unless(t, standings.len(), ordered) {
         Some(column) => Turn::Crossed { column },
         None => match wide(values) {
             Some(column) => Turn::Wide { column },

@@ -29,10 +29,18 @@ fn follow(alloc: Global, t: &mut Tableau, columns: usize) -> Result<Feasible, Me
         Ok(kept) => kept,
         Err(stop) => return Err(stop),
     };
+    let mut ordered = false;
     'run: loop {
-        if let Some(answer) = step(alloc, t, standings.as_mut_slice(), kept.as_mut_slice())? {
+        if let Some(answer) = step(
+            alloc,
+            t,
+            standings.as_mut_slice(),
+            kept.as_mut_slice(),
+            ordered,
+        )? {
             return Ok(answer);
         }
+        ordered = true;
     }
 }
 

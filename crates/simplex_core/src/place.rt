@@ -8,7 +8,7 @@ ghost use Rattle.int_rows.specs.Basis.{is_in};
 ghost use Rattle.int_rows.specs.Table.{basic_at, row_at, width};
 ghost use Rattle.simplex_core.specs.Coordinate.{coordinate, held};
 ghost use Rattle.simplex_core.specs.Standings.{AreStandings};
-ghost use Rattle.simplex_core.specs.Run.{coordinate_at, coordinates, first_standing, first_standing_at, first_standings, moment, row_of, stood, stood_at, values};
+ghost use Rattle.simplex_core.specs.Run.{coordinate_at, coordinates, first_standing, first_standing_at, first_standings, moment, row_of, stood_at, values};
 
 use crate::coordinate::{Coordinate, held};
 use crate::standing::Standing;
@@ -103,18 +103,6 @@ pub(crate) fn first_standings(
     Ok(made)
 }
 
-/// The value of a column that stands there.
-fn stood(lower: Option<i128>, upper: Option<i128>, standing: Standing) -> i128
-    ensures { result ≡ stood lower upper standing }
-{
-    match standing {
-        Standing::Basic => 0,
-        Standing::AtLower => lower.unwrap_or(0),
-        Standing::AtUpper => upper.unwrap_or(0),
-        Standing::AtZero => 0,
-    }
-}
-
 /// The value of a column outside the basis, and 0 for a basic one.
 pub(crate) fn stood_at(t: &Tableau, standings: &[Standing], column: usize) -> i128
     requires each { length standings.now ≡ width t.now }
@@ -123,7 +111,12 @@ pub(crate) fn stood_at(t: &Tableau, standings: &[Standing], column: usize) -> i1
     ensures long { nat_abs result < long_limit }
 {
     t.is_table();
-    stood(t.lower(column), t.upper(column), standings[column])
+    match standings[column] {
+        Standing::Basic => 0,
+        Standing::AtLower => t.lower(column).unwrap_or(0),
+        Standing::AtUpper => t.upper(column).unwrap_or(0),
+        Standing::AtZero => 0,
+    }
 }
 
 /// The values of the columns outside the basis, and 0 for each basic one.

@@ -5,7 +5,7 @@ ghost use Rattle.int_rows.specs.Rows.{entry};
 ghost use Rattle.int_rows.specs.Table.{basic_at, row_at, width};
 ghost use Rattle.simplex_core.specs.Answer.{IsEnd, Steps};
 ghost use Rattle.simplex_core.specs.Standings.{AreStandings};
-ghost use Rattle.simplex_core.specs.Run.{coordinates, moment, restood, settled, turn};
+ghost use Rattle.simplex_core.specs.Run.{coordinates, crossed, moment, restood, settled, turn};
 ghost use Rattle.simplex_core.specs.declared.turn.Turn.TheVariants.{Pivot, Wide};
 
 use crate::answer::{Feasible, WideEvidence};
@@ -65,6 +65,7 @@ fn pivot(
     requires turn { turn (moment t.old standings.old) ≡ Pivot row column side }
     ensures steps { Steps (moment t.old standings.old) (moment t.new standings.new) result }
     ensures kept { IfOk result (λ answer. answer ≡ None → kept.new ≡ coordinates (moment t.new standings.new)) }
+    ensures ordered { IfOk result (λ answer. answer ≡ None → crossed t.new ≡ None) }
 {
     t.is_table();
     let leaver = t.basic(row);
@@ -115,20 +116,23 @@ fn wide_point(
 }
 
 /// One step of the run: the next moment, or the answer where it ends. The values of all columns are
-/// kept from step to step.
+/// kept from step to step, and a step that isn't the end has found no bounds crossed, which stays so.
 pub(crate) fn step(
     alloc: Global,
     t: &mut Tableau,
     standings: &mut [Standing],
     kept: &mut [Coordinate],
+    ordered: bool,
 ) -> Result<Option<Feasible>, Memory>
     requires legal { AreStandings t.old standings.old }
     requires kept { kept.old ≡ coordinates (moment t.old standings.old) }
+    requires ordered { ordered ≡ true → crossed t.old ≡ None }
     ensures steps { Steps (moment t.old standings.old) (moment t.new standings.new) result }
     ensures kept { IfOk result (λ answer. answer ≡ None → kept.new ≡ coordinates (moment t.new standings.new)) }
+    ensures ordered { IfOk result (λ answer. answer ≡ None → crossed t.new ≡ None) }
 {
     t.is_table();
-    match turn(t, standings, kept) {
+    match turn(t, standings, kept, ordered) {
         Turn::Crossed { column } => {
             let made = crossing(alloc, t, standings.len(), column)?;
             Ok(Some(Feasible::Conflict(made)))

@@ -4,7 +4,7 @@ use Rattle.int_rows.proofs.Public.{refilled}
 use Rattle.base.specs.declared.memory.Memory.{Memory}
 use Rattle.simplex_core.specs.Answer.{Steps}
 use Rattle.simplex_core.specs.machinery.Following.{IsFollowing, left}
-use Rattle.simplex_core.specs.Run.{Next, coordinates, first_standings, moment, next}
+use Rattle.simplex_core.specs.Run.{Next, coordinates, crossed, first_standings, moment, next}
 use Rattle.simplex_core.specs.declared.answer.Feasible.{Feasible}
 use Rattle.simplex_core.specs.declared.standing.Standing.{Standing}
 use Rattle.simplex_core.proofs.FollowingLemmas.{fewer-left, following-more, started, stopped}
@@ -23,6 +23,7 @@ run-init c =
         reached = started t ∙ ap (λ (s : List Standing). Next (moment t s)) (sym stands);
       };
       kept = c.in-Ok-coordinates.ensures ∙ ap (λ (s : List Standing). coordinates (moment t s)) c.as_slice-begun.ensures.value;
+      ordered = λ e. cc;
     }
 
 pub run-preserved : goal.run-preserved
@@ -41,6 +42,7 @@ run-preserved c =
           let values : c.step.new.kept ≡ coordinates new = (subst (λ (r : Result (Option Feasible) Memory). IfOk r (λ answer. answer ≡ None → c.step.new.kept ≡ coordinates new)) (c.in_ok-answer.was ∙ ap (λ (o : Option Feasible). Ok o) c.in_default.is) c.step.ensures.kept) refl in
           let size : length c.step.new.kept ≡ c.run.kept.len = omega (arith, c.step.auto.kept, c.as_mut_slice-in-run.ensures.len, ap length c.as_mut_slice-in-run.ensures.value, c.run.kept.ok.0) in
           refilled c.run.kept.len c.step.new.kept c.run.kept.items size (sym c.run.kept.ok.0) ∙ values ∙ ap (λ (s : List Standing). coordinates (moment c.step.new.t s)) (sym whole);
+      ordered = λ _. (subst (λ (r : Result (Option Feasible) Memory). IfOk r (λ answer. answer ≡ None → crossed c.step.new.t ≡ None)) (c.in_ok-answer.was ∙ ap (λ (o : Option Feasible). Ok o) c.in_default.is) c.step.ensures.ordered) refl;
     }
 
 pub run-smaller : goal.run-smaller

@@ -7,12 +7,12 @@ use Rattle.int_rows.specs.Table.{Table, basic_at, width}
 use Rattle.simplex_core.specs.Answer.{basis}
 use Rattle.simplex_core.specs.Standings.{AreStandings}
 use Rattle.simplex_core.specs.machinery.Refresh.{changes}
-use Rattle.simplex_core.specs.Run.{after_pivot, columns, coordinate_at, moment, restood, values}
+use Rattle.simplex_core.specs.Run.{after_pivot, columns, coordinate_at, crossed, moment, restood, values}
 use Rattle.simplex_core.specs.declared.standing.Standing.{Standing}
 use Rattle.simplex_core.proofs.GoodLemmas.{pivots-row, restood-legal}
 use Rattle.simplex_core.proofs.MomentLemmas.{coordinates-at, coordinates-length}
-use Rattle.simplex_core.proofs.RefreshLemmas.{coordinate-same, values-kept, width-kept}
-use Rattle.simplex_core.proofs.TurnLemmas.{next-wide, wide-list}
+use Rattle.simplex_core.proofs.RefreshLemmas.{coordinate-same, crossed-kept, values-kept, width-kept}
+use Rattle.simplex_core.proofs.TurnLemmas.{next-wide, turn-pivots, wide-list}
 use Rattle.simplex_core.proofs.stepping.pivot.Goals as goal
 
 pub basic-leaver-requires : goal.basic-leaver-requires
@@ -98,3 +98,10 @@ returns-clause-steps c =
     let stands : c.restand.new.standings ≡ restood t c.args.standings.now (basic_at t.basic c.args.row) c.args.column c.args.side =
     c.restand.ensures ∙ ap (λ l. restood t c.args.standings.now l c.args.column c.args.side) c.basic-leaver.ensures in
     ((c.args.row, c.args.column, c.args.side, c.in-Err.wide.row, next-wide m c.args.row c.args.column c.args.side c.requires.turn (wide-list _ c.in-Err.wide.row c.in-Err.wide.entry wide), c.in_ok-basis-in-Err.ensures ∙ ap (λ (t' : Table). basis (columns t') c.restand.new.standings) same ∙ ap (λ (s : List Standing). basis (columns t) s) stands, simp to_z-of_z wide), same)
+
+pub returns-in-Ok-clause-ordered : goal.returns-in-Ok-clause-ordered
+returns-in-Ok-clause-ordered c _ =
+    let t : Table = c.args.t.now in
+    let made : Table = c.pivot.new.self in
+    let tables : made ≡ after_pivot t c.args.row c.args.column = c.in-Ok.ensures.pivoted in
+    ap crossed tables ∙ crossed-kept t c.args.row c.args.column ∙ (turn-pivots (moment t c.args.standings.now) c.args.row c.args.column c.args.side c.requires.turn).ordered
