@@ -1,6 +1,6 @@
-use Rattle.std.proofs.Common.{◌≡◌, ◌<◌, ◌≤◌, arith, sym, ap, subst, FitsSigned, rules, List, ℤ, get_or, nat_abs, length}
+use Rattle.std.proofs.Common.{◌≡◌, ◌<◌, ◌≤◌, ◌^◌, arith, sym, ap, ◌∙◌, subst, FitsSigned, rules, List, ℤ, get_or, nat_abs, length}
 use Rattle.std.specs.Prelude.{pos, ◌-ℤ◌, ◌*ℤ◌}
-use Rattle.std.specs.Int.{w64, IsGcd}
+use Rattle.std.specs.Int.{w64, w128, IsGcd}
 use Rattle.std.proofs.lemmas.Int.{to_z-of_z}
 use Rattle.int_rows.specs.Pivot.{combined}
 use Rattle.int_rows.proofs.CombineLemmas.{combined-at, length-combined}
