@@ -15,7 +15,7 @@ use std::marker::Model;
 use term_tree::{Name, Sort};
 
 /// How many names are found by comparing each.
-const FEW: usize = 64;
+pub const FEW: usize = 64;
 
 /// The names that are bound around a term, the innermost last. The outermost ones are found by
 /// comparing each, and those after them by their order.

@@ -1,14 +1,12 @@
 ghost use Rattle.std.specs.Prelude.{◌≡◌, ◌++◌, [], ◌∷◌, false, map, IfOk, OnOk};
 ghost use Rattle.term_check.specs.Words.{is_word_among};
 
+use crate::bindings::FEW;
 use crate::bytes::are_same;
 use crate::sorted::Sorted;
 use base::Memory;
 use std::alloc::Global;
 use std::marker::Model;
-
-/// How many names of one binder are found by comparing each.
-const FEW: usize = 16;
 
 /// The names that stand in a binder before, in their order. The first ones are found by comparing
 /// each, and those after them by a set, so that no choice of names makes it slow.
