@@ -51,3 +51,36 @@ pub(crate) fn first_disjunction(cases: &[Shared<Items<Form>>], point: &[i64]) ->
     }
     None
 }
+
+/// The disjunction at `at`, where it has fewer parts than the one at `known` and is false at the point,
+/// too.
+fn fewer(cases: &[Shared<Items<Form>>], point: &[i64], known: usize, at: usize) -> usize
+    requires known { known < length cases.now }
+    requires there { at < length cases.now }
+    requires broken { option_map (list_any (truth point.now)) (slice_get cases.now known) ≡ Some false }
+    ensures within { result < length cases.now }
+    ensures broken { option_map (list_any (truth point.now)) (slice_get cases.now result) ≡ Some false }
+{
+    if cases[at].get().len() >= cases[known].get().len() {
+        return known;
+    }
+    if any_holds(cases[at].get().as_slice(), point) {
+        return known;
+    }
+    at
+}
+
+/// Of the disjunctions that are false at the point the first of those with the fewest parts, where
+/// `known` is the first one that is false there.
+pub(crate) fn fewest_parts(cases: &[Shared<Items<Form>>], point: &[i64], known: usize) -> usize
+    requires within { known < length cases.now }
+    requires broken { option_map (list_any (truth point.now)) (slice_get cases.now known) ≡ Some false }
+    ensures within { result < length cases.now }
+    ensures broken { option_map (list_any (truth point.now)) (slice_get cases.now result) ≡ Some false }
+{
+    let mut found = known;
+    'fewest: for at in 0..cases.len() {
+        found = fewer(cases, point, found, at);
+    }
+    found
+}

@@ -14,7 +14,7 @@ ghost use Rattle.lia_node.specs.Tells.{IsEvidenceAt, is_of_node};
 ghost use Rattle.lia_search.specs.machinery.Opened.{left_lits};
 ghost use Rattle.lia_search.specs.machinery.Searched.{Closes, Ends, Goes, IsSearch, Named, Splits, StopsAt, Turns, Waits};
 
-use crate::broken::{first_disjunction, first_literal};
+use crate::broken::{fewest_parts, first_disjunction, first_literal};
 use crate::closing::by_literal;
 use crate::names::name_all;
 use crate::parts::{push_parts, push_sides, side};
@@ -206,8 +206,8 @@ impl<'a> Search<'a> {
         Ok(())
     }
 
-    /// All literals are true at a point, also those that are left out. The first disjunction that is
-    /// false there is split; otherwise the form is true.
+    /// All literals are true at a point, also those that are left out. Of the disjunctions that are false
+    /// there one with the fewest parts is split; without one the form is true.
     fn meet_cases(&mut self, alloc: Global, waiting: Open, point: Vec<i64>) -> Result<Turn, Memory>
         requires is { Waits self.old waiting }
         requires solution { HasSolution self.old.end waiting.lits }
@@ -220,7 +220,8 @@ impl<'a> Search<'a> {
         ensures { Turns self.old waiting self.new result }
     {
         match first_disjunction(waiting.cases.as_slice(), point.as_slice()) {
-            Some(which) => {
+            Some(first) => {
+                let which = fewest_parts(waiting.cases.as_slice(), point.as_slice(), first);
                 self.split(alloc, waiting, which)?;
                 Ok(Turn::Split)
             }
