@@ -1,32 +1,25 @@
 //! Cuts: combinations of bounds that a vertex meets, divided by the entry of a basic variable with a
 //! fraction, and rounded.
 
-ghost use Rattle.std.specs.Prelude.{◌<◌, ◌^◌};
-
 use crate::chain::Chain;
-use crate::columns::forms;
 use crate::conflicts::of_conflict_under;
+use crate::joining::join_all;
 use crate::parts::set_sides;
 use crate::rows::take;
 use crate::said::Said;
 use crate::sides::{Bound, Sides, all_sides};
 use base::{Copied, Memory};
-use int_rows::{RowStop, Tableau};
+use int_rows::Tableau;
 use lin_atoms::{Lin, Lit, Ratio};
-use node_rows::{are_known, have_short_constants, node_tableau};
 use simplex_core::{Feasible, feasible};
 use std::alloc::Global;
-
-/// So often cuts are added.
-const MOST_ROUNDS: u32 = 6;
 
 /// A bound on how many cuts are added at once.
 const MOST_CUTS: usize = 4;
 
-/// The literals of a node and cuts, and how these are derived.
+/// What is known at a node and cuts, and how these are derived.
 #[derive(Drop)]
 struct Cuts {
-    lits: Vec<Lit>,
     said: Vec<Said>,
     chain: Chain,
 }
@@ -260,7 +253,6 @@ impl Cuts {
             return Ok(false);
         };
         let number = self.chain.round(sum.multipliers, divisor)?;
-        self.lits.push(Lit::Le(lin.copy(alloc)?))?;
         self.said.push(Said {
             number,
             lit: Lit::Le(lin),
@@ -307,45 +299,33 @@ impl Cuts {
         Ok(count > 0)
     }
 
-    /// One round: the bounds contradict, or cuts of the vertex join.
-    fn round(&mut self, alloc: Global, tableau: &mut Tableau) -> Result<Told, Memory> {
-        let forms = forms(alloc, tableau)?;
-        let sides = all_sides(
-            alloc,
-            self.said.as_slice(),
-            forms.as_slice(),
-            tableau.columns(),
-        )?;
+    /// One round: the bounds contradict, or cuts of the vertex join the tableau and its forms.
+    fn round(
+        &mut self,
+        alloc: Global,
+        tableau: &mut Tableau,
+        forms: &mut Vec<Vec<(u32, i128)>>,
+    ) -> Result<Told, Memory> {
+        let known = self.said.len();
+        let (said, variables) = (self.said.as_slice(), tableau.columns());
+        let sides = all_sides(alloc, said, forms.as_slice(), variables)?;
         set_sides(tableau, sides.as_slice());
-        match feasible(alloc, tableau)? {
-            Feasible::Vertex(ratios) => {
-                let vertex = Vertex {
-                    forms: forms.as_slice(),
-                    sides: sides.as_slice(),
-                    ratios: ratios.as_slice(),
-                };
-                match self.put_rows(alloc, tableau, &vertex)? {
-                    true => Ok(Told::More),
-                    false => Ok(Told::Nothing),
-                }
-            }
-            Feasible::Conflict(multipliers) => Ok(Told::Conflict(multipliers, sides)),
-            Feasible::Wide(_) => Ok(Told::Nothing),
-        }
-    }
-
-    /// One round over a tableau of all literals.
-    fn turn(&mut self, alloc: Global, end: u32) -> Result<Told, Memory>
-        requires { end < 2 ^ 31 }
-    {
-        let lits = self.lits.as_slice();
-        if !are_known(lits, end) || !have_short_constants(lits) {
+        let ratios = match feasible(alloc, tableau)? {
+            Feasible::Vertex(ratios) => ratios,
+            Feasible::Conflict(multipliers) => return Ok(Told::Conflict(multipliers, sides)),
+            Feasible::Wide(_) => return Ok(Told::Nothing),
+        };
+        let vertex = Vertex {
+            forms: forms.as_slice(),
+            sides: sides.as_slice(),
+            ratios: ratios.as_slice(),
+        };
+        if !self.put_rows(alloc, tableau, &vertex)? {
             return Ok(Told::Nothing);
         }
-        match node_tableau(alloc, lits, end) {
-            Ok(mut tableau) => self.round(alloc, &mut tableau),
-            Err(RowStop::Memory) => Err(Memory),
-            Err(RowStop::TooMany) => Ok(Told::Nothing),
+        match self.said.as_slice().get(known..) {
+            Some(cuts) => Ok(after_joining(join_all(alloc, tableau, forms, cuts)?)),
+            None => Ok(Told::Nothing),
         }
     }
 }
@@ -358,12 +338,9 @@ enum Told {
     Nothing,
 }
 
-fn copies(alloc: Global, lits: &[Lit]) -> Result<Vec<Lit>, Memory> {
-    let mut made = Vec::with_capacity(alloc, lits.len())?;
-    for lit in lits {
-        made.push(lit.copy(alloc)?)?;
-    }
-    Ok(made)
+/// What cuts come to, where there may have been no room for them.
+fn after_joining(have_room: bool) -> Told {
+    if have_room { Told::More } else { Told::Nothing }
 }
 
 fn copies_of(alloc: Global, said: &[Said]) -> Result<Vec<Said>, Memory> {
@@ -377,23 +354,23 @@ fn copies_of(alloc: Global, said: &[Said]) -> Result<Vec<Said>, Memory> {
     Ok(made)
 }
 
-/// Cuts and bounds that contradict, where a few rounds of cuts lead to them.
+/// Cuts and bounds that contradict, where so many rounds of cuts at most lead to them. The tableau has rows of the
+/// forms, and may have been pivoted.
 pub(crate) fn of_cuts(
     alloc: Global,
-    lits: &[Lit],
-    end: u32,
+    tableau: &mut Tableau,
+    forms: Vec<Vec<(u32, i128)>>,
     said: &[Said],
     known: usize,
-) -> Result<Option<Chain>, Memory>
-    requires { end < 2 ^ 31 }
-{
+    rounds: u32,
+) -> Result<Option<Chain>, Memory> {
+    let mut forms = forms;
     let mut cuts = Cuts {
-        lits: copies(alloc, lits)?,
         said: copies_of(alloc, said)?,
         chain: Chain::new(alloc, known),
     };
-    'rounds: for _ in 0..MOST_ROUNDS {
-        match cuts.turn(alloc, end)? {
+    'rounds: for _ in 0..rounds {
+        match cuts.round(alloc, tableau, &mut forms)? {
             Told::More => {}
             Told::Nothing => return Ok(None),
             Told::Conflict(multipliers, sides) => {

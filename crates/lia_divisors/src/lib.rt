@@ -9,6 +9,7 @@ mod conflicts;
 mod cuts;
 mod equations;
 mod filled;
+mod joining;
 mod parts;
 mod rows;
 mod said;

@@ -26,6 +26,12 @@ use node_rows::node_tableau;
 use simplex_core::{Feasible, feasible};
 use std::alloc::Global;
 
+/// So often cuts are added, where a tree of parts is looked for.
+const MOST_ROUNDS: u32 = 6;
+
+/// So often they are added where the node is only looked at whole.
+const FEW_ROUNDS: u32 = 3;
+
 /// What a part comes to.
 #[derive(Drop)]
 enum Told {
@@ -174,7 +180,12 @@ fn all_met(
     Ok(None)
 }
 
-/// The tableau's forms, and what the literals say of its columns.
+/// How often cuts are added, where the node may be split into so many parts.
+fn rounds(most: u32) -> u32 {
+    if most > 1 { MOST_ROUNDS } else { FEW_ROUNDS }
+}
+
+/// The parts of the tableau's node are met, and where they aren't all closed, cuts are tried.
 fn from_tableau(
     alloc: Global,
     tableau: &mut Tableau,
@@ -184,13 +195,14 @@ fn from_tableau(
 ) -> Result<Option<Vec<Move>>, Memory> {
     let forms = forms(alloc, tableau)?;
     let sides = all_sides(alloc, said, forms.as_slice(), tableau.columns())?;
-    all_met(
-        alloc,
-        tableau,
-        forms.as_slice(),
-        Part { sides, known },
-        most,
-    )
+    let first = Part { sides, known };
+    if let Some(moves) = all_met(alloc, tableau, forms.as_slice(), first, most)? {
+        return Ok(Some(moves));
+    }
+    match of_cuts(alloc, tableau, forms, said, known, rounds(most))? {
+        Some(chain) => Ok(Some(vec![in alloc; Move::Closed(chain)]?)),
+        None => Ok(None),
+    }
 }
 
 /// What a tree is written in that may refute the literals.
@@ -206,29 +218,9 @@ pub(crate) fn guessed(
     requires short { list_all has_short_constant lits.now ≡ true }
     requires few { end < 2 ^ 31 }
 {
-    let found = match node_tableau(alloc, lits, end) {
-        Ok(mut tableau) => from_tableau(alloc, &mut tableau, said, known, most)?,
-        Err(RowStop::Memory) => return Err(Memory),
-        Err(RowStop::TooMany) => return Ok(None),
-    };
-    match found {
-        Some(moves) => Ok(Some(moves)),
-        None => by_cuts(alloc, lits, end, said, known),
-    }
-}
-
-/// What the tree of cuts is written in, where they lead to one.
-fn by_cuts(
-    alloc: Global,
-    lits: &[Lit],
-    end: u32,
-    said: &[Said],
-    known: usize,
-) -> Result<Option<Vec<Move>>, Memory>
-    requires { end < 2 ^ 31 }
-{
-    match of_cuts(alloc, lits, end, said, known)? {
-        Some(chain) => Ok(Some(vec![in alloc; Move::Closed(chain)]?)),
-        None => Ok(None),
+    match node_tableau(alloc, lits, end) {
+        Ok(mut tableau) => from_tableau(alloc, &mut tableau, said, known, most),
+        Err(RowStop::Memory) => Err(Memory),
+        Err(RowStop::TooMany) => Ok(None),
     }
 }
