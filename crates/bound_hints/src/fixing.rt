@@ -5,6 +5,7 @@ use crate::asking::{Answer, visit};
 use crate::bound::{Bound, Limit, Memo, Use, first_of, stands};
 use crate::conditions::thresholds;
 use crate::table::{About, Table};
+use crate::unmoved::unmoved;
 use base::Memory;
 use clause_form::{Atom, Clause, System};
 use cube_forms::{Lemma, Tuple};
@@ -237,6 +238,7 @@ fn ask_of(
     clause: &Clause,
     arm: (usize, &Arm),
     head: &Atom,
+    at: usize,
     bound: &Bound,
     left: &mut u32,
 ) -> Result<Answer, Memory> {
@@ -248,6 +250,9 @@ fn ask_of(
         Some(goal) => goal,
         None => return Ok(Answer::GivenUp),
     };
+    if let Some(uses) = unmoved(alloc, clause, at, bound, lemma, goal.as_slice())? {
+        return Ok(Answer::Refuted(uses));
+    }
     let first = first_uses(alloc, bounds, bound, arm.0)?;
     visit(alloc, clause, arm.1, bounds, goal.as_slice(), first, left)
 }
@@ -298,7 +303,7 @@ fn ask_once(
             if bound.pred != head.pred || !stands(bounds, bound) || is_kept(bounds, bound, number) {
                 return Ok(false);
             }
-            ask_of(alloc, bounds, clause, (number, arm), head, bound, left)?
+            ask_of(alloc, bounds, clause, (number, arm), head, at, bound, left)?
         }
         _ => return Ok(false),
     };

@@ -15,7 +15,9 @@ mod parts;
 mod places;
 mod rounds;
 mod table;
+mod unmoved;
 mod walking;
 
 pub use candidates::Needed;
 pub use rounds::Bounds;
+pub use walking::{Met, Walk, walked};

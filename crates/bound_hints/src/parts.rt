@@ -20,7 +20,7 @@ const MOST_PARTS: usize = 250;
 const MOST_IN_PAIRS: usize = 8;
 
 /// How many forms that are handed in give parts.
-const MOST_SHARED: usize = 8;
+const MOST_SHARED: usize = 12;
 
 /// How many places that no clause moves stand in parts of three places.
 const MOST_FIXED: usize = 3;

@@ -2,10 +2,10 @@
 
 use crate::bound::Bound;
 use crate::candidates::{Needed, cubes_at, needed_of};
-use crate::fixing::fix;
+use crate::fixing::{fix, raise};
 use crate::needing::{Needs, needs_of};
 use crate::table::{Size, Table, table_of};
-use crate::walking::walk;
+use crate::walking::Walk;
 use base::Memory;
 use clause_form::System;
 use cube_forms::Cube;
@@ -90,12 +90,18 @@ fn work_of(round: u32, units: u32) -> u32 {
         .min(MOST_WORK)
 }
 
-/// What a round over the table finds.
-fn found_in(alloc: Global, table: Table, sys: &System, left: u32) -> Result<Outcome, Memory> {
+/// What a round over the table finds, whose bounds first rise by what was met.
+fn found_in(
+    alloc: Global,
+    table: Table,
+    sys: &System,
+    walk: &Walk,
+    left: u32,
+) -> Result<Outcome, Memory> {
     let mut table = table;
     let mut left = left;
-    if walk(alloc, &mut table, sys, &mut left)? {
-        return Ok(Outcome::Broken);
+    for one in walk.met.as_slice() {
+        raise(alloc, &mut table, one.pred, one.tuple.as_slice(), None)?;
     }
     if !fix(alloc, &mut table, sys, &mut left)? {
         return Ok(Outcome::Dropped);
@@ -111,11 +117,15 @@ fn round_of(
     alloc: Global,
     sys: &System,
     shared: &[Vec<Lin>],
+    walk: &Walk,
     size: Size,
     left: u32,
 ) -> Result<Outcome, Memory> {
+    if walk.is_broken {
+        return Ok(Outcome::Broken);
+    }
     match table_of(alloc, sys, shared, size)? {
-        Some(table) => found_in(alloc, table, sys, left),
+        Some(table) => found_in(alloc, table, sys, walk, left),
         None => Ok(Outcome::Dropped),
     }
 }
@@ -149,12 +159,13 @@ impl Bounds {
 
     /// Looks for more bounds, where the level of the book and the units that were spent say so. The
     /// work is at most what `units`, the number of units spent, allows for. For each predicate forms are
-    /// handed in that may be worth a bound.
+    /// handed in that may be worth a bound, and what running clauses forward met.
     pub fn renew(
         &mut self,
         alloc: Global,
         sys: &System,
         shared: &[Vec<Lin>],
+        walk: &Walk,
         level: u32,
         units: u32,
     ) -> Result<(), Memory> {
@@ -163,7 +174,7 @@ impl Bounds {
         }
         let size = size_of(self.round);
         let work = work_of(self.round, units);
-        match round_of(alloc, sys, shared, size, work)? {
+        match round_of(alloc, sys, shared, walk, size, work)? {
             Outcome::Broken => {
                 self.found = None;
                 self.round = ROUNDS;

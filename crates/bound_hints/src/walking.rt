@@ -1,10 +1,8 @@
 //! Tuples that are met by running clauses forward, before bounds are asked for: each is a tuple of its
 //! predicate, so bounds rise by it as far as they have to, and most needn't be asked for to rise.
 
-use crate::arms::Arm;
+use crate::arms::{Arm, arms_of};
 use crate::asking::point_of;
-use crate::fixing::raise;
-use crate::table::Table;
 use base::Memory;
 use clause_form::{Atom, Clause, System};
 use cube_forms::Tuple;
@@ -14,16 +12,24 @@ use std::alloc::Global;
 /// How many tuples are met.
 const MOST_MET: usize = 160;
 
-/// How many times rules are asked for that.
-const MOST_QUERIES: u32 = 640;
+/// How much work is spent on that.
+const MOST_WORK: u32 = 640;
 
 /// A tuple of a predicate.
 #[derive(Drop)]
-struct Met {
-    pred: u32,
-    tuple: Vec<i64>,
+pub struct Met {
+    pub pred: u32,
+    pub tuple: Vec<i64>,
     /// Whether clauses were asked for what follows from it.
     is_followed: bool,
+}
+
+/// What was met by running clauses forward.
+#[derive(Drop)]
+pub struct Walk {
+    pub met: Vec<Met>,
+    /// Whether false follows from one of these tuples.
+    pub is_broken: bool,
 }
 
 fn are_equal(first: &[i64], second: &[i64]) -> bool {
@@ -60,19 +66,12 @@ fn values(alloc: Global, tuple: &[i64]) -> Result<Vec<i64>, Memory> {
     Ok(made)
 }
 
-/// Takes the head's tuple at the point in, and raises bounds by it.
-fn meet(
-    alloc: Global,
-    table: &mut Table,
-    met: &mut Vec<Met>,
-    head: &Atom,
-    point: &[i64],
-) -> Result<(), Memory> {
+/// Takes the head's tuple at the point in.
+fn meet(alloc: Global, met: &mut Vec<Met>, head: &Atom, point: &[i64]) -> Result<(), Memory> {
     let tuple = Tuple::at(alloc, point, head.args.as_slice())?;
     if has(met.as_slice(), head.pred, tuple.as_slice()) {
         return Ok(());
     }
-    raise(alloc, table, head.pred, tuple.as_slice(), None)?;
     met.push(Met {
         pred: head.pred,
         tuple: values(alloc, tuple.as_slice())?,
@@ -138,17 +137,12 @@ fn follow_by(
 /// Asks one arm for a tuple that follows; whether false does.
 fn follow_arm(
     alloc: Global,
-    table: &mut Table,
+    arm: &Arm,
     sys: &System,
     met: &mut Vec<Met>,
-    number: usize,
     from: Option<usize>,
     left: &mut u32,
 ) -> Result<bool, Memory> {
-    let arm = match table.arms.as_slice().get(number) {
-        Some(arm) => arm,
-        None => return Ok(false),
-    };
     let clause = match sys.clauses().get(arm.clause) {
         Some(clause) => clause,
         None => return Ok(false),
@@ -160,7 +154,7 @@ fn follow_arm(
     match &clause.head {
         Some(head) => {
             if let Some(point) = follow_by(alloc, clause, arm, one, left)? {
-                meet(alloc, table, met, head, point.as_slice())?;
+                meet(alloc, met, head, point.as_slice())?;
             }
             Ok(false)
         }
@@ -176,14 +170,14 @@ fn follow_arm(
 /// Asks each arm for a tuple that follows; whether false does.
 fn follow(
     alloc: Global,
-    table: &mut Table,
+    arms: &[Arm],
     sys: &System,
     met: &mut Vec<Met>,
     from: Option<usize>,
     left: &mut u32,
 ) -> Result<bool, Memory> {
-    for number in 0..table.arms.len() {
-        if *left > 0 && follow_arm(alloc, table, sys, met, number, from, left)? {
+    for arm in arms {
+        if *left > 0 && follow_arm(alloc, arm, sys, met, from, left)? {
             return Ok(true);
         }
     }
@@ -207,26 +201,24 @@ fn mark(met: &mut Vec<Met>, at: usize) {
     }
 }
 
-/// Runs clauses with at most one body atom forward, from the last tuple and from the first in turns, and
-/// raises bounds by the tuples that are met; whether false follows from one of them.
-pub(crate) fn walk(
+/// Runs clauses with at most one body atom forward, from the last tuple and from the first in turns;
+/// whether false follows from one of the tuples that are met.
+fn run(
     alloc: Global,
-    table: &mut Table,
+    arms: &[Arm],
     sys: &System,
+    met: &mut Vec<Met>,
     left: &mut u32,
 ) -> Result<bool, Memory> {
-    let mut own = MOST_QUERIES.min(*left / 2);
-    *left = left.saturating_sub(own);
-    let mut met = Vec::new(alloc);
-    follow(alloc, table, sys, &mut met, None, &mut own)?;
+    follow(alloc, arms, sys, met, None, left)?;
     for turn in 0..MOST_MET {
-        if own == 0 || met.len() >= MOST_MET {
+        if *left == 0 || met.len() >= MOST_MET {
             return Ok(false);
         }
         match next(met.as_slice(), turn % 4 != 3) {
             Some(at) => {
-                mark(&mut met, at);
-                if follow(alloc, table, sys, &mut met, Some(at), &mut own)? {
+                mark(met, at);
+                if follow(alloc, arms, sys, met, Some(at), left)? {
                     return Ok(true);
                 }
             }
@@ -234,4 +226,16 @@ pub(crate) fn walk(
         }
     }
     Ok(false)
+}
+
+/// The tuples that are met by running clauses with at most one body atom forward; none where the system has
+/// too many ways through its clauses.
+pub fn walked(alloc: Global, sys: &System) -> Result<Walk, Memory> {
+    let mut met = Vec::new(alloc);
+    let mut left = MOST_WORK;
+    let is_broken = match arms_of(alloc, sys)? {
+        Some(arms) => run(alloc, arms.as_slice(), sys, &mut met, &mut left)?,
+        None => false,
+    };
+    Ok(Walk { met, is_broken })
 }

@@ -31,7 +31,12 @@ fn are_reached(known: &[Known], atoms: &[Atom]) -> bool {
 }
 
 /// Takes a tuple of the predicate in.
-fn take(alloc: Global, known: &mut Vec<Known>, pred: u32, tuple: &[i64]) -> Result<(), Memory> {
+pub(crate) fn take(
+    alloc: Global,
+    known: &mut Vec<Known>,
+    pred: u32,
+    tuple: &[i64],
+) -> Result<(), Memory> {
     if let Some(place) = known.as_mut_slice().get_mut(pred as usize) {
         match place {
             Known::Nothing => *place = Known::Common(hull_of(alloc, tuple)?),
@@ -169,7 +174,8 @@ fn rounds(
     Ok(false)
 }
 
-fn unknown(alloc: Global, sys: &System) -> Result<Vec<Known>, Memory> {
+/// Nothing is known of any predicate.
+pub(crate) fn unknown(alloc: Global, sys: &System) -> Result<Vec<Known>, Memory> {
     let mut known = Vec::new(alloc);
     for _ in sys.preds() {
         known.push(Known::Nothing)?;

@@ -1,11 +1,11 @@
 //! What is guessed of a system before its search.
 
 use crate::bounds::cube_of;
-use crate::hinting::{Known, hulls};
+use crate::hinting::{Known, hulls, take, unknown};
 use crate::hulls::Hull;
 use crate::tightening::residue;
 use base::{Copied, Memory};
-use bound_hints::Bounds;
+use bound_hints::{Bounds, Walk, walked};
 use clause_form::System;
 use cube_forms::Cube;
 use lin_atoms::{Lin, Lit, WideStop, denied};
@@ -17,6 +17,8 @@ use std::alloc::Global;
 pub struct Hints {
     known: Vec<Known>,
     bounds: Bounds,
+    /// What running clauses forward met, once that was wanted.
+    walk: Option<Walk>,
 }
 
 /// What is guessed of the tuples of each predicate of the system: equations and residues that they have
@@ -25,6 +27,7 @@ pub fn hints_of(alloc: Global, sys: &System) -> Result<Hints, Memory> {
     Ok(Hints {
         known: hulls(alloc, sys)?,
         bounds: Bounds::new(),
+        walk: None,
     })
 }
 
@@ -91,6 +94,29 @@ fn long_forms(alloc: Global, known: &[Known]) -> Result<Vec<Vec<Lin>>, Memory> {
     Ok(made)
 }
 
+/// The same of the tuples that running clauses forward met: that they have them in common may rest on bounds,
+/// so that no clause keeps them by themselves.
+fn met_forms(alloc: Global, sys: &System, walk: &Walk) -> Result<Vec<Vec<Lin>>, Memory> {
+    let mut known = unknown(alloc, sys)?;
+    for met in walk.met.as_slice() {
+        take(alloc, &mut known, met.pred, met.tuple.as_slice())?;
+    }
+    long_forms(alloc, known.as_slice())
+}
+
+/// For each predicate the forms of both.
+fn joined(first: Vec<Vec<Lin>>, second: Vec<Vec<Lin>>) -> Result<Vec<Vec<Lin>>, Memory> {
+    let mut made = first;
+    for (at, forms) in second.into_iter().enumerate() {
+        if let Some(own) = made.as_mut_slice().get_mut(at) {
+            for form in forms {
+                own.push(form)?;
+            }
+        }
+    }
+    Ok(made)
+}
+
 impl Hints {
     /// Looks for bounds that hold together, where the level of the book and the units that were spent say
     /// so.
@@ -104,9 +130,16 @@ impl Hints {
         if !self.bounds.are_due(level, units) {
             return Ok(());
         }
-        let shared = long_forms(alloc, self.known.as_slice())?;
+        let met = match self.walk.take() {
+            Some(met) => met,
+            None => walked(alloc, sys)?,
+        };
+        let known = long_forms(alloc, self.known.as_slice())?;
+        let shared = joined(known, met_forms(alloc, sys, &met)?)?;
         self.bounds
-            .renew(alloc, sys, shared.as_slice(), level, units)
+            .renew(alloc, sys, shared.as_slice(), &met, level, units)?;
+        self.walk = Some(met);
+        Ok(())
     }
 
     /// The bounds that were found so far.
