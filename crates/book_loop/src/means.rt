@@ -24,15 +24,15 @@ pub struct Means {
     pub lifts: bool,
 }
 
-/// The means of the worker of this number, from 1. The first one, and each of an odd number, uses those that
-/// alone solve the most in the least time: it begins with what the proofs use. The others differ in the order
-/// of what they try, since one book takes the lemmas of all: they try all of a cube, and leave its literals
-/// out in the other order. A worker without hints would learn weak lemmas, which lead the others away.
+/// The means of the worker of this number, from 1. The first one uses those that alone solve the most. The
+/// others differ from it in the order of what they try, since one book takes the lemmas of all: those of
+/// even numbers leave out literals in the other order, and those of odd ones begin with what the proofs
+/// use. A worker without hints would learn weak lemmas, which lead the others away.
 pub fn means_of(worker: u32) -> Means {
     Means {
         again: true,
         bounds: true,
-        cores_first: worker % 2 == 1,
+        cores_first: worker > 1 && worker % 2 == 1,
         reversed: worker % 2 == 1,
         hulls: true,
         sums: true,

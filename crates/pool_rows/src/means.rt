@@ -100,7 +100,7 @@ fn the_first_worker_uses_what_serves_alone(rt: HostRuntime) {
     let first = means_of(1);
     let tries = first.again && first.bounds && first.hulls && first.sums && first.widens;
     let goes_on = first.raises && first.lifts;
-    let orders = first.reversed && first.cores_first;
+    let orders = first.reversed && !first.cores_first;
     assert!(&rt; tries && goes_on && orders, "the first worker");
     for worker in [2, 3, 4] {
         let means = means_of(worker);
