@@ -85,7 +85,7 @@ fn a_derivation_is_valid_or_wrong_at_a_step(rt: HostRuntime) {
 }
 
 /// Checks what is printed for the script, unless it is unknown.
-pub fn check_printed<W: Threads + Wait + Abort + Sync>(
+fn check_printed<W: Threads + Wait + Abort + Sync>(
     rt: &W,
     alloc: Global,
     script: &str,

@@ -29,8 +29,6 @@ mod scripts;
 #[cfg(test)]
 mod searches;
 #[cfg(test)]
-mod terms;
-#[cfg(test)]
 mod trees;
 #[cfg(test)]
 mod usage;
