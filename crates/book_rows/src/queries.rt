@@ -8,7 +8,7 @@ ghost use Rattle.farkas_proof.specs.Kept.{form_of};
 use base::{Copied, Items, Memory, Same};
 use chc_tokens::{
     Goal, NoLift, Shown, TokenStop, Used, Why, are_short, base_of, checked_base_of,
-    checked_forms_of, checked_query_of, forms_of, has_head, has_values, no_lift, query_of, seen,
+    checked_forms_of, checked_query_of, forms_of, fits_head, has_values, no_lift, query_of, seen,
     shown, shown_by,
 };
 use clause_form::{Atom, Clause, System};
@@ -378,7 +378,7 @@ fn broken(
     lemma: Lemma,
     point: Vec<i64>,
 ) -> Result<NoLift, TokenStop> {
-    assert!(rt; has_head(sys, 1, &lemma), "no head");
+    assert!(rt; fits_head(sys, 1, &lemma), "no head");
     assert!(rt;
         has_values(sys, 1, point.as_slice()),
         "a point of other variables"

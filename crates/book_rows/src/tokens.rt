@@ -8,7 +8,7 @@ ghost use Rattle.chc_tokens.specs.Tokens.{IsNoLift, IsShownToken, is_seen};
 use crate::clauses::{is, lin, next, values};
 use base::Items;
 use chc_tokens::{
-    Goal, NoLift, Seen, Shown, Used, Why, are_short, checked_query_of, has_head, has_values,
+    Goal, NoLift, Seen, Shown, Used, Why, are_short, checked_query_of, fits_head, has_values,
     no_lift, seen, shown,
 };
 use clause_form::System;
@@ -135,7 +135,7 @@ pub(crate) fn broken_by(
 ) -> NoLift
     ensures { IsNoLift sys.now result }
 {
-    assert!(rt; has_head(sys, clause, &lemma), "no head");
+    assert!(rt; fits_head(sys, clause, &lemma), "no head");
     let point = Vec::from_slice(alloc, point).expect(rt, "memory");
     assert!(rt;
         has_values(sys, clause, point.as_slice()),

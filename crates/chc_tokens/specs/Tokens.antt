@@ -48,9 +48,9 @@ abbrev pub is_seen : Clauses → Seen → Bool
 is_seen sys seen = is_instance_of sys (seen_clause seen) (seen_point seen) && list_all is_short (seen_point seen)
 
 -- whether the head of a clause is there, with each place of the lemma
-abbrev pub has_head : Option Clause → List Lit → Bool
-has_head None lemma = false
-has_head (Some clause) lemma = has_places clause.head lemma
+abbrev pub fits_head : Option Clause → List Lit → Bool
+fits_head None lemma = false
+fits_head (Some clause) lemma = has_places clause.head lemma
 
 -- whether the head's tuple at a point breaks the lemma
 abbrev pub breaks_in : Option Clause → List ℤ → List Lit → Bool
@@ -62,7 +62,7 @@ breaks sys seen lemma = breaks_in (slice_get sys.clauses (seen_clause seen)) (se
 
 -- an instance whose head's tuple breaks the lemma, or evidence that the query whether there is one was given up
 abbrev pub IsKept : Clauses → List Lit → Why → Type 0
-IsKept sys lemma (Broken seen) = (is_seen sys seen ≡ true) × (has_head (slice_get sys.clauses (seen_clause seen)) lemma ≡ true) × (breaks sys seen lemma ≡ true)
+IsKept sys lemma (Broken seen) = (is_seen sys seen ≡ true) × (fits_head (slice_get sys.clauses (seen_clause seen)) lemma ≡ true) × (breaks sys seen lemma ≡ true)
 IsKept sys lemma (Unknown clause used evidence) = query_at sys clause (Holds lemma) used ≡ Some (given_form evidence)
 
 abbrev pub IsNoLift : Clauses → NoLift → Type 0
@@ -70,7 +70,7 @@ IsNoLift sys no_lift = IsKept sys (kept_lemma no_lift) (kept_why no_lift)
 
 -- what `no_lift` may be asked: the instance is one of the system's, or there is such a query
 abbrev pub MayKeep : Clauses → List Lit → Why → Type 0
-MayKeep sys lemma (Broken seen) = (is_seen sys seen ≡ true) × (has_head (slice_get sys.clauses (seen_clause seen)) lemma ≡ true)
+MayKeep sys lemma (Broken seen) = (is_seen sys seen ≡ true) × (fits_head (slice_get sys.clauses (seen_clause seen)) lemma ≡ true)
 MayKeep sys lemma (Unknown clause used evidence) = is_some (query_at sys clause (Holds lemma) used) ≡ true
 
 -- an instance whose head's tuple satisfies the lemma

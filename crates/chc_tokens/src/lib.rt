@@ -30,6 +30,6 @@ pub use making::{seen, shown, shown_by};
 pub use refuting::Shown;
 pub use seeing::Seen;
 pub use stop::TokenStop;
-pub use there::{are_short, has_head, has_values};
+pub use there::{are_short, fits_head, has_values};
 pub use used::Used;
 pub use why::Why;

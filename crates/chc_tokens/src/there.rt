@@ -2,7 +2,7 @@ ghost use Rattle.std.specs.Prelude.{◌≡◌, slice_get};
 ghost use Rattle.std.specs.List.{list_all};
 ghost use Rattle.base.specs.Widths.{is_short};
 ghost use Rattle.chc_tokens.specs.Instances.{is_point_of};
-ghost use Rattle.chc_tokens.specs.Tokens.{has_head};
+ghost use Rattle.chc_tokens.specs.Tokens.{fits_head};
 
 use crate::atoms::has_places;
 use clause_form::System;
@@ -27,8 +27,8 @@ pub fn are_short(point: &[i64]) -> bool
 
 /// Whether the clause is there and has a head with each place of the lemma: what `no_lift` asks of
 /// an instance.
-pub fn has_head(sys: &System, clause: u32, lemma: &Lemma) -> bool
-    ensures { result ≡ has_head (slice_get sys.now.clauses clause) lemma.now }
+pub fn fits_head(sys: &System, clause: u32, lemma: &Lemma) -> bool
+    ensures { result ≡ fits_head (slice_get sys.now.clauses clause) lemma.now }
 {
     match sys.clauses().get(clause as usize) {
         Some(clause) => has_places(&clause.head, lemma),

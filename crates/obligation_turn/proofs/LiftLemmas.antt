@@ -15,7 +15,7 @@ use Rattle.lemma_frames.specs.declared.framed.Framed.{Framed as KeptLemma}
 use Rattle.chc_tokens.specs.Instances.{accepts, token_atom_at, is_broken}
 use Rattle.chc_tokens.specs.Kept.{kept_lemma, kept_why, seen_clause, seen_point}
 use Rattle.chc_tokens.specs.Queries.{has_places, query_at}
-use Rattle.chc_tokens.specs.Tokens.{IsKept, IsNoLift, breaks_in, has_head, is_passed}
+use Rattle.chc_tokens.specs.Tokens.{IsKept, IsNoLift, breaks_in, fits_head, is_passed}
 use Rattle.chc_tokens.specs.declared.goal.Goal.TheVariants.{Holds}
 use Rattle.chc_tokens.specs.declared.keeping.NoLift.{NoLift as NoLiftToken}
 use Rattle.chc_tokens.specs.declared.refuting.Shown.{Shown}
@@ -67,7 +67,7 @@ hit-keeps sys fs pred lemma k seen hit =
     let is = hit.instance in
     let point = seen_point seen in (
       is.seen_is,
-      ap (λ (o : Option Clause). has_head o lemma) is.there ∙ is.placed,
+      ap (λ (o : Option Clause). fits_head o lemma) is.there ∙ is.placed,
       ap (λ (o : Option Clause). breaks_in o point lemma) is.there ∙ broken-of lemma point (is.clause).head is.placed is.head,
     )
 
