@@ -7,8 +7,8 @@ use crate::stack::take_stack;
 use chc_cli::chc_main;
 use outside_io::{StdSink, StdSource};
 use std::env::{self, Args};
-use std::io;
 use std::process::ExitCode;
+use std::{io, mem};
 
 /// The program's words, once the stack has room for the deepest text.
 fn words(rt: &HostRuntime) -> io::Result<Args> {
@@ -20,5 +20,9 @@ fn main(rt: HostRuntime) -> ExitCode {
     let mut source = StdSource::new(rt.stdin());
     let mut sink = StdSink::new(rt.stdout());
     let report = chc_main(&rt, rt.alloc(), words(&rt), &mut source, &mut sink);
-    ExitCode::from(report.status)
+    let status = report.status;
+    // The process ends here and gives its memory back as a whole: letting the clauses and the book go
+    // part by part would only take time.
+    mem::forget(report);
+    ExitCode::from(status)
 }
