@@ -29,6 +29,8 @@ mod scripts;
 #[cfg(test)]
 mod searches;
 #[cfg(test)]
+mod terms;
+#[cfg(test)]
 mod trees;
 #[cfg(test)]
 mod usage;

@@ -19,7 +19,8 @@ const SAT: &str = "\
     a fact and a rule§\
         (set-logic HORN)(declare-fun p (Int) Bool)(assert (p 0))(assert (forall ((x Int)) (=> (and (p x) (< x 10)) (p (+ x 1)))))(check-sat)§\
         (define-fun p ((x0 Int)) Bool true)\n¶\
-    two predicates laid out at will§ ( set-logic\tHORN )\r\n(declare-fun edge(Int Int)Bool)(assert(edge 1 20))\n(declare-fun <-a.b (Int) Bool)(assert (<-a.b 7))(assert (edge 20 1))(check-sat)\n§\
+    two predicates laid out at will§\
+        \u{20}( set-logic\tHORN )\r\n(declare-fun edge(Int Int)Bool)(assert(edge 1 20))\n(declare-fun <-a.b (Int) Bool)(assert (<-a.b 7))(assert (edge 20 1))(check-sat)\n§\
         (define-fun edge ((x0 Int) (x1 Int)) Bool true)\n(define-fun <-a.b ((x0 Int)) Bool true)\n¶\
     comments between and inside commands§\
         ; a script\n(set-logic HORN)(declare-fun p ; (Real)\n (Int) Bool);)\n(check-sat); the end§\

@@ -8,13 +8,27 @@ use term_tree::Sort;
 
 /// What a case shows, its assertion, and the clause: the sorts of its variables, I or B for each, and its atoms and head at the numbers of variables.
 const CLAUSES: &str = "\
-    variables of two quantifiers§(assert (forall ((x Int) (b Bool)) (forall ((c Bool) (y Int)) (=> (r c x) q (r b y) (p y)))))§IBBI: r 2 0, q, r 1 3 -> p 3¶\
-    a body under a denied existential term§(assert (not (exists ((b Bool) (x Int)) (and (p x) (and q (r b x)) q))))§BI: p 1, q, r 0 1, q -> false¶\
-    bodies of disjuncts around a head§(assert (forall ((x Int)) (or (not (and (p x) q)) (p (+ x 1)) (not (r (< x 0) x)))))§IIB: p 0, q, r 2 0 -> p 1¶\
-    a bound term before the body, and each use as an argument§(assert (forall ((x Int)) (let ((a (abs x)) (c (< x 0))) (=> (r c a) (p a)))))§IIBBII: r 3 4 -> p 5¶\
-    a term before its parts§(assert (forall ((x Int)) (r (let ((a (< x 1))) a) (abs (+ x 1)))))§IBBI: -> r 1 3¶\
-    bodies of an implication in an implication§(assert (forall ((x Int)) (=> (p x) q (=> (and (p 1) q) (p x)))))§II: p 0, q, p 1, q -> p 0¶\
-    a quantifier under an implication§(assert (=> q (forall ((b Bool)) (let ((a b)) (=> (r b 5) (forall ((x Int)) (r a x)))))))§BIIB: q, r 0 2 -> r 3 1";
+    variables of two quantifiers§\
+        (assert (forall ((x Int) (b Bool)) (forall ((c Bool) (y Int)) (=> (r c x) q (r b y) (p y)))))§\
+        IBBI: r 2 0, q, r 1 3 -> p 3¶\
+    a body under a denied existential term§\
+        (assert (not (exists ((b Bool) (x Int)) (and (p x) (and q (r b x)) q))))§\
+        BI: p 1, q, r 0 1, q -> false¶\
+    bodies of disjuncts around a head§\
+        (assert (forall ((x Int)) (or (not (and (p x) q)) (p (+ x 1)) (not (r (< x 0) x)))))§\
+        IIB: p 0, q, r 2 0 -> p 1¶\
+    a bound term before the body, and each use as an argument§\
+        (assert (forall ((x Int)) (let ((a (abs x)) (c (< x 0))) (=> (r c a) (p a)))))§\
+        IIBBII: r 3 4 -> p 5¶\
+    a term before its parts§\
+        (assert (forall ((x Int)) (r (let ((a (< x 1))) a) (abs (+ x 1)))))§\
+        IBBI: -> r 1 3¶\
+    bodies of an implication in an implication§\
+        (assert (forall ((x Int)) (=> (p x) q (=> (and (p 1) q) (p x)))))§\
+        II: p 0, q, p 1, q -> p 0¶\
+    a quantifier under an implication§\
+        (assert (=> q (forall ((b Bool)) (let ((a b)) (=> (r b 5) (forall ((x Int)) (r a x)))))))§\
+        BIIB: q, r 0 2 -> r 3 1";
 
 fn name(pred: u32) -> &'static str {
     match pred {

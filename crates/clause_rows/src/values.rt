@@ -13,22 +13,38 @@ use term_tree::{Checked, Script, Sort, TermId, Value, ValueStop, value};
 
 /// What a case shows, and an assertion over two variables with two auxiliary ones at most.
 const CASES: &str = "\
-    quotients by a positive number§(forall ((x Int) (y Int)) (=> (= (div x 3) y) q))¶\
-    quotients by a negative number§(forall ((x Int) (y Int)) (=> (= (div x (- 3)) y) q))¶\
-    remainders§(forall ((x Int) (y Int)) (=> (< (mod (+ x y) (- 2)) 1) q))¶\
-    magnitudes§(forall ((x Int) (y Int)) (=> (<= (abs (- x y)) 2) q))¶\
-    a choice by a comparison§(forall ((x Int) (y Int)) (=> (> (ite (< x y) x (- y)) 0) q))¶\
-    an argument§(forall ((x Int) (y Int)) (=> (p (- (* 2 x) y)) (< x 3) q))¶\
-    a remainder as a head's argument§(forall ((x Int) (y Int)) (=> (distinct x y 1) (p (mod x 3))))¶\
-    a quotient of a remainder§(forall ((x Int) (y Int)) (=> (= (div (mod x 4) 2) y) q))¶\
-    multiples§(forall ((x Int) (y Int)) (=> ((_ divisible 3) (+ x (* 2 y))) (not (= x y)) q))¶\
-    chains of relations§(forall ((x Int) (y Int)) (=> (<= (- 3) x y 2) (>= y x 0) q))¶\
-    an exclusive or of comparisons§(forall ((x Int) (y Int)) (=> (xor (< x 0) (= y 1)) q))¶\
-    equal truth values§(forall ((b Bool) (y Int)) (=> (= b (< y 2)) q))¶\
-    distinct truth values§(forall ((b Bool) (y Int)) (=> (distinct b (not b)) (< y 0) q))¶\
-    a name for a truth value§(forall ((b Bool) (y Int)) (=> (let ((c (or b (< y 0)))) (=> c b)) (r b y)))¶\
-    a choice between truth values§(forall ((b Bool) (y Int)) (=> (ite b (< y 0) (> y 0)) q))¶\
-    a negated guard§(forall ((b Bool) (y Int)) (or (not b) (and b (< y 1)) q))";
+    quotients by a positive number§\
+        (forall ((x Int) (y Int)) (=> (= (div x 3) y) q))¶\
+    quotients by a negative number§\
+        (forall ((x Int) (y Int)) (=> (= (div x (- 3)) y) q))¶\
+    remainders§\
+        (forall ((x Int) (y Int)) (=> (< (mod (+ x y) (- 2)) 1) q))¶\
+    magnitudes§\
+        (forall ((x Int) (y Int)) (=> (<= (abs (- x y)) 2) q))¶\
+    a choice by a comparison§\
+        (forall ((x Int) (y Int)) (=> (> (ite (< x y) x (- y)) 0) q))¶\
+    an argument§\
+        (forall ((x Int) (y Int)) (=> (p (- (* 2 x) y)) (< x 3) q))¶\
+    a remainder as a head's argument§\
+        (forall ((x Int) (y Int)) (=> (distinct x y 1) (p (mod x 3))))¶\
+    a quotient of a remainder§\
+        (forall ((x Int) (y Int)) (=> (= (div (mod x 4) 2) y) q))¶\
+    multiples§\
+        (forall ((x Int) (y Int)) (=> ((_ divisible 3) (+ x (* 2 y))) (not (= x y)) q))¶\
+    chains of relations§\
+        (forall ((x Int) (y Int)) (=> (<= (- 3) x y 2) (>= y x 0) q))¶\
+    an exclusive or of comparisons§\
+        (forall ((x Int) (y Int)) (=> (xor (< x 0) (= y 1)) q))¶\
+    equal truth values§\
+        (forall ((b Bool) (y Int)) (=> (= b (< y 2)) q))¶\
+    distinct truth values§\
+        (forall ((b Bool) (y Int)) (=> (distinct b (not b)) (< y 0) q))¶\
+    a name for a truth value§\
+        (forall ((b Bool) (y Int)) (=> (let ((c (or b (< y 0)))) (=> c b)) (r b y)))¶\
+    a choice between truth values§\
+        (forall ((b Bool) (y Int)) (=> (ite b (< y 0) (> y 0)) q))¶\
+    a negated guard§\
+        (forall ((b Bool) (y Int)) (or (not b) (and b (< y 1)) q))";
 
 /// The values of two variables and of two more.
 type Point = [i64; 4];
