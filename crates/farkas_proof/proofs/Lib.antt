@@ -18,5 +18,6 @@ pub mod FloorLemmas
 pub mod OneRowLemmas
 pub mod LoneLemmas
 pub mod ForestLemmas
+pub mod PointLemmas
 pub mod NothingLemmas
 pub mod KnownLemmas

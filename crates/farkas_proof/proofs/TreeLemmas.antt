@@ -34,20 +34,20 @@ sound-followed (Sound n) judge h = (n, (refl, h))
 sound-followed (Illegal n) judge h = absurd (cc)
 sound-followed (Wide n) judge h = absurd (cc)
 
-all_taken : {X : Type 0} (p : X → Bool) (n : ℕ) (xs : List X) → list_all p xs ≡ true → list_all p (take n xs) ≡ true
+pub all_taken : {X : Type 0} (p : X → Bool) (n : ℕ) (xs : List X) → list_all p xs ≡ true → list_all p (take n xs) ≡ true
 all_taken p zero xs h = refl
 all_taken p (suc n) [] h = refl
 all_taken p (suc n) (x ∷ xs) h = let both = both_true (p x) _ h in ap (λ b. b && list_all p (take n xs)) both.0 ∙ all_taken p n xs both.1
 
-all_dropped : {X : Type 0} (p : X → Bool) (n : ℕ) (xs : List X) → list_all p xs ≡ true → list_all p (drop n xs) ≡ true
+pub all_dropped : {X : Type 0} (p : X → Bool) (n : ℕ) (xs : List X) → list_all p xs ≡ true → list_all p (drop n xs) ≡ true
 all_dropped p zero xs h = h
 all_dropped p (suc n) [] h = refl
 all_dropped p (suc n) (x ∷ xs) h = all_dropped p n xs (both_true (p x) _ h).1
 
-all_joined : {X : Type 0} (p : X → Bool) (xs ys : List X) → list_all p xs ≡ true → list_all p ys ≡ true → list_all p (xs ++ ys) ≡ true
+pub all_joined : {X : Type 0} (p : X → Bool) (xs ys : List X) → list_all p xs ≡ true → list_all p ys ≡ true → list_all p (xs ++ ys) ≡ true
 all_joined p xs ys h t = list_all-append p xs ys ∙ ap (λ b. b && list_all p ys) h ∙ t
 
-all_replaced : (p : List Form → Bool) (which : ℕ) (cases new : List (List Form)) → list_all p cases ≡ true → list_all p new ≡ true → list_all p (take which cases ++ (new ++ drop (which + 1) cases)) ≡ true
+pub all_replaced : (p : List Form → Bool) (which : ℕ) (cases new : List (List Form)) → list_all p cases ≡ true → list_all p new ≡ true → list_all p (take which cases ++ (new ++ drop (which + 1) cases)) ≡ true
 all_replaced p which cases new h t = all_joined p (take which cases) _ (all_taken p which cases h) (all_joined p new _ t (all_dropped p (which + 1) cases h))
 
 -- the disjunction that is split
@@ -75,7 +75,7 @@ Sub room end = (tree : Refutation) × Leaves room end tree
 abbrev judges : (room : Lit → Bool) (end : ℕ) → List (Sub room end) → List Judge
 judges room end es = map (judged_at room end) (map (λ (e : Sub room end). e.0) es)
 
-or_true : (a b : Bool) → (a || b) ≡ true → a ≡ false → b ≡ true
+pub or_true : (a b : Bool) → (a || b) ≡ true → a ≡ false → b ≡ true
 or_true true b h t = absurd (cc)
 or_true false b h t = h
 

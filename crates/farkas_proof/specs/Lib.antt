@@ -1,4 +1,5 @@
 pub mod Combination
+pub mod Derived
 pub mod Flatten
 pub mod GivenUp
 pub mod Instances

@@ -1,7 +1,7 @@
 -- Split trees, as branch and bound makes them: a node is split by a bound on an integer variable with a fractional value (Land and Doig, An Automatic Method of Solving Discrete Programming Problems; Dakin, A Tree-Search Algorithm for Mixed Integer Programming Problems), or by the parts of a disjunction (Balas, Disjunctive Programming).
-use Rattle.std.specs.Prelude.{◌≡◌, ℕ, suc, ◌+◌, ◌<◌, List, [], ◌∷◌, ◌++◌, map, take, drop, ℤ, pos, neg_ℤ, ◌+ℤ◌, ◌*ℤ◌, ◌<ℤ◌, Bool, true, not, ◌||◌, Some, slice_get, length}
-use Rattle.std.specs.List.{Contains, list_all}
-use Rattle.lin_atoms.specs.Truth.{lit_truth}
+use Rattle.std.specs.Prelude.{◌≡◌, ℕ, suc, ◌+◌, ◌<◌, List, [], ◌∷◌, ◌++◌, map, take, drop, ℤ, pos, neg_ℤ, ◌+ℤ◌, ◌*ℤ◌, ◌<ℤ◌, Bool, true, not, ◌||◌, ◌&&◌, Some, slice_get, length}
+use Rattle.std.specs.List.{Contains, list_all, list_any}
+use Rattle.lin_atoms.specs.Truth.{lit_truth, truth}
 use Rattle.lin_atoms.specs.declared.lit.Lit.{Lit}
 use Rattle.lin_atoms.specs.declared.lit.Lit.TheVariants.{Le}
 use Rattle.lin_atoms.specs.declared.form.Form.{Form}
@@ -17,6 +17,10 @@ pub record Node : Type 0 where
   pub lits : List Lit
   pub left_out : List Lit
   pub open_cases : List (List Form)
+
+-- the integer points of a node: its literals are true, those that are left out too, and of each open disjunction some part
+abbrev pub is_point_of : List ℤ → Node → Bool
+is_point_of point node = list_all (lit_truth point) node.lits && (list_all (lit_truth point) node.left_out && list_all (list_any (truth point)) node.open_cases)
 
 -- where a tree starts: the flattened form, of which no literal has joined yet. That a disjunction of it is left out needs no word, since an open one that isn't split says nothing
 abbrev pub start : Form → Node

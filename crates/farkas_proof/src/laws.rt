@@ -1,10 +1,11 @@
 //! Laws of the definitions, as contracts of functions that do nothing.
 
-ghost use Rattle.std.specs.Prelude.{◌≡◌, true, false, ℕ, List, [], ◌∷◌, ◌++◌, ◌+◌, ◌*◌, ◌-◌, ◌<◌, ◌≤◌, length, ℤ, pos};
+ghost use Rattle.std.specs.Prelude.{◌≡◌, true, false, ℕ, List, [], ◌∷◌, ◌++◌, ◌+◌, ◌*◌, ◌-◌, ◌<◌, ◌≤◌, length, ℤ, pos, Some, slice_get};
+ghost use Rattle.lin_atoms.specs.Truth.{truth};
 ghost use Rattle.lin_atoms.specs.declared.form.Form.{Form};
 ghost use Rattle.farkas_proof.specs.Refutation.{HasNoPoint, is_refutation, form_end};
 ghost use Rattle.farkas_proof.specs.declared.tree.Refutation.{Refutation};
-ghost use Rattle.std.specs.List.{list_all};
+ghost use Rattle.std.specs.List.{Contains, list_all};
 ghost use Rattle.base.specs.Limits.{most_rows};
 ghost use Rattle.lin_atoms.specs.declared.lit.Lit.{Lit};
 ghost use Rattle.int_rows.specs.Node.{all_bounds, end_of_quotients, in_rows};
@@ -12,7 +13,7 @@ ghost use Rattle.int_rows.specs.Ready.{ready, ready_fits};
 ghost use Rattle.farkas_proof.specs.Flatten.{disjunctions, literals};
 ghost use Rattle.farkas_proof.specs.GivenUp.{AreOfNode, IsEvidence, IsGivenUp};
 ghost use Rattle.farkas_proof.specs.Instances.{both, first_is_one, is_double, is_even, is_multiple_of_second, is_one, is_two, large, large_on_first, large_on_second};
-ghost use Rattle.farkas_proof.specs.Split.{HaveTrees, IsNode, Node};
+ghost use Rattle.farkas_proof.specs.Split.{HaveTrees, IsInner, IsNode, Node, is_point_of, joined, start};
 ghost use Rattle.farkas_proof.specs.declared.evidence.Evidence.{Evidence};
 ghost use Rattle.farkas_proof.specs.declared.evidence.Evidence.TheVariants.{Coordinate, Nodes, Row, Rows};
 
@@ -31,6 +32,15 @@ pub fn quotients_keep_their_numbers()
 /// A tree may begin with all literals of the flattened form, in their order.
 pub fn all_literals_may_join()
     ensures { (form : Form) → IsNode form (record { lits = literals form; left_out = []; open_cases = disjunctions form }) }
+{}
+
+/// Split trees lose no integer point: one of a form is a point of the node where its trees start,
+/// one of a node is a point of the node that a literal joins, and one of an inner node is a point of
+/// a node below it.
+pub fn points_go_on_below()
+    ensures first { (form : Form) (point : List ℤ) → truth point form ≡ true → is_point_of point (start form) ≡ true }
+    ensures joins { (node : Node) (k : ℕ) (lit : Lit) (point : List ℤ) → slice_get node.left_out k ≡ Some lit → is_point_of point node ≡ true → is_point_of point (joined k lit node) ≡ true }
+    ensures inner { (q : ℕ) (node : Node) (below : List Node) (point : List ℤ) → IsInner q node below → is_point_of point node ≡ true → (b : Node) × Contains below b × (is_point_of point b ≡ true) }
 {}
 
 /// Trees may end at any node, and those on some nodes don't depend on those on others.

@@ -4,10 +4,11 @@ ghost use Rattle.std.specs.Prelude.{◌≡◌, ◌+◌, ◌&&◌, ◌<ℤ◌, If
 ghost use Rattle.lin_atoms.specs.Linear.{are_ordered, fits};
 ghost use Rattle.lin_atoms.specs.declared.lit.Lit.TheVariants.{Le};
 ghost use Rattle.farkas_proof.specs.Combination.{are_multipliers, combined, is_above_zero, is_divided_by, one_minus};
+ghost use Rattle.farkas_proof.specs.Derived.{Derives};
 ghost use Rattle.int_rows.specs.Ready.{rounded};
 ghost use Rattle.farkas_proof.specs.Refutation.{Sound, checked};
 ghost use Rattle.farkas_proof.specs.machinery.Sum.{seen, standing};
-ghost use Rattle.farkas_proof.specs.machinery.Tells.{Derives, Tells};
+ghost use Rattle.farkas_proof.specs.machinery.Tells.{Tells};
 
 use crate::narrow::Narrow;
 use crate::rounding::rounded;
@@ -46,7 +47,7 @@ pub(crate) fn leaf(
 }
 
 /// Whether the multiples are found to be a number above 0, and the multipliers in order.
-fn narrow_leaf(narrow: &mut Narrow, lits: &[Lit], multipliers: &[(u32, i64)]) -> bool
+pub(crate) fn narrow_leaf(narrow: &mut Narrow, lits: &[Lit], multipliers: &[(u32, i64)]) -> bool
     ensures { IsTrue result → (are_multipliers lits.now multipliers.now && is_above_zero (combined lits.now multipliers.now)) ≡ true }
 {
     narrow.combine(lits, multipliers) && narrow.is_above_zero()

@@ -30,6 +30,8 @@ mod runs;
 #[cfg(test)]
 mod solving;
 #[cfg(test)]
+mod steps;
+#[cfg(test)]
 mod tableaux;
 #[cfg(test)]
 mod trees;

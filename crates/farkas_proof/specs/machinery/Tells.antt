@@ -14,13 +14,6 @@ Tells found (Err OutOfMemory) = Unit {0}
 Tells found (Err (NoProof node)) = found ≡ Illegal node
 Tells found (Err (SumWide node)) = found ≡ Wide node
 
--- a node that derives a literal
-abbrev pub Derives : Bool → Lit → ℕ → Result Lit CheckStop → Type 0
-Derives legal derived at (Ok lit) = (legal ≡ true) × (lit_fits derived ≡ true) × (lit ≡ derived)
-Derives legal derived at (Err OutOfMemory) = Unit {0}
-Derives legal derived at (Err (NoProof node)) = (legal ≡ false) × (node ≡ at)
-Derives legal derived at (Err (SumWide node)) = (legal ≡ true) × (lit_fits derived ≡ false) × (node ≡ at)
-
 -- a node that derives literals
 abbrev pub DerivesAll : Bool → List Lit → ℕ → Result (List Lit) CheckStop → Type 0
 DerivesAll legal derived at (Ok lits) = (legal ≡ true) × (list_all lit_fits derived ≡ true) × (lits ≡ derived)

@@ -6,9 +6,9 @@ use Rattle.lin_atoms.specs.Linear.{Linear}
 use Rattle.lin_atoms.specs.declared.lit.Lit.{Lit}
 use Rattle.lin_atoms.specs.declared.lit.Lit.TheVariants.{Le}
 use Rattle.farkas_proof.specs.Combination.{are_multipliers, combined, is_divided_by}
+use Rattle.farkas_proof.specs.Derived.{Derives}
 use Rattle.int_rows.specs.Ready.{rounded}
 use Rattle.farkas_proof.specs.machinery.Sum.{standing}
-use Rattle.farkas_proof.specs.machinery.Tells.{Derives}
 use Rattle.farkas_proof.specs.declared.stop.CheckStop.{CheckStop}
 use Rattle.farkas_proof.proofs.nodes.wide_round.Goals as goal
 
