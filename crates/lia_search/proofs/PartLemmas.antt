@@ -1,7 +1,7 @@
 -- The node below for a part of an open disjunction.
-use Rattle.std.proofs.Common.{◌≡◌, ℕ, zero, suc, ◌+◌, ◌<◌, ◌≤◌, max, List, [], ◌∷◌, ◌++◌, map, length, take, drop, refl, ap, sym, ◌∙◌, subst, arith, append_assoc, append-nil, true, Bool, Some}
+use Rattle.std.proofs.Common.{◌≡◌, ℕ, zero, suc, ◌+◌, ◌<◌, ◌≤◌, max, List, [], ◌∷◌, ◌++◌, map, length, take, drop, get_or, refl, ap, sym, ◌∙◌, subst, arith, append_assoc, append-nil, true, Bool, Some}
 use Rattle.std.specs.Prelude.{slice_get, slice_index_or}
-use Rattle.std.specs.List.{Contains, list_all, range_with_len}
+use Rattle.std.specs.List.{Contains, flat_map, list_all, range_with_len}
 use Rattle.std.proofs.lemmas.Bool.{and_from}
 use Rattle.std.proofs.lemmas.List.{length-append, length-map, take-append-le}
 use Rattle.std.proofs.lemmas.List.Folds.{list_all-append}
@@ -133,3 +133,24 @@ open-part form o place which parts part is solution full there inside =
       few = subst (λ (ls : List Lit). end_of_quotients q ls ≤ q + most_rows) (sym same) is.few;
     } in
     subst (λ (w : Open). IsOpen form (record w { cases = cases }) (in_part which place part)) (sym (lits-at-once o more)) made
+
+with_lits-++ : (o : Open) (these those : List Lit) → with_lits o (these ++ those) ≡ with_lits (with_lits o these) those
+with_lits-++ o [] those = refl
+with_lits-++ o (lit ∷ these) those = with_lits-++ (with_lit o lit) these those
+
+-- one part more has joined
+pub joined-more : (o now new : Open) (parts : List Form) (part : Form) (i : ℕ) → i < length parts → part ≡ get_or parts i part → now ≡ with_lits o (flat_map literals (take i parts)) → new ≡ with_lits now (literals part) → new ≡ with_lits o (flat_map literals (take (i + 1) parts))
+joined-more o now new [] part i less is at joined = absurd (omega (arith, less))
+joined-more o now new (p ∷ parts) part zero less is at joined =
+    joined ∙ ap (λ (w : Open). with_lits w (literals part)) at ∙ ap (λ (f : Form). with_lits o (literals f)) is ∙ ap (with_lits o) (sym (append-nil (literals p)))
+joined-more o now new (p ∷ parts) part (suc i) less is at joined =
+    let next : suc i + 1 ≡ suc (i + 1) = omega arith in
+    let first = literals p in
+    joined-more (with_lits o first) now new parts part i (omega (arith, less)) is (at ∙ with_lits-++ o first (flat_map literals (take i parts))) joined
+    ∙ sym (with_lits-++ o first (flat_map literals (take (i + 1) parts)))
+    ∙ ap (λ (k : ℕ). with_lits o (flat_map literals (take k (p ∷ parts)))) (sym next)
+
+-- literals may join before or after the disjunctions are replaced
+pub with-cases : (o : Open) (cases : List (List Form)) (lits : List Lit) → with_lits (record o { cases = cases }) lits ≡ record (with_lits o lits) { cases = cases }
+with-cases o cases [] = refl
+with-cases o cases (lit ∷ lits) = with-cases (with_lit o lit) cases lits

@@ -5,7 +5,7 @@ ghost use Rattle.std.specs.List.{list_all, list_any};
 ghost use Rattle.lin_atoms.specs.Truth.{lit_truth, truth};
 ghost use Rattle.lia_search.specs.machinery.Opened.{left_lits};
 
-use crate::shared::Shared;
+use crate::lent::Lent;
 use crate::waiting::LeftOut;
 use base::Items;
 use lin_atoms::{Form, holds};
@@ -38,7 +38,7 @@ pub(crate) fn first_literal(left_out: &[LeftOut], point: &[i64]) -> Option<usize
 }
 
 /// The first of the disjunctions that is false at the point.
-pub(crate) fn first_disjunction(cases: &[Shared<Items<Form>>], point: &[i64]) -> Option<usize>
+pub(crate) fn first_disjunction(cases: &[Lent<Items<Form>>], point: &[i64]) -> Option<usize>
     ensures within { IfSome result (λ at. at < length cases.now) }
     ensures broken { IfSome result (λ at. option_map (list_any (truth point.now)) (slice_get cases.now at) ≡ Some false) }
     ensures before { IfSome result (λ at. list_all (list_any (truth point.now)) (take at cases.now) ≡ true) }
@@ -54,7 +54,7 @@ pub(crate) fn first_disjunction(cases: &[Shared<Items<Form>>], point: &[i64]) ->
 
 /// The disjunction at `at`, where it has fewer parts than the one at `known` and is false at the point,
 /// too.
-fn fewer(cases: &[Shared<Items<Form>>], point: &[i64], known: usize, at: usize) -> usize
+fn fewer(cases: &[Lent<Items<Form>>], point: &[i64], known: usize, at: usize) -> usize
     requires known { known < length cases.now }
     requires there { at < length cases.now }
     requires broken { option_map (list_any (truth point.now)) (slice_get cases.now known) ≡ Some false }
@@ -72,7 +72,7 @@ fn fewer(cases: &[Shared<Items<Form>>], point: &[i64], known: usize, at: usize) 
 
 /// Of the disjunctions that are false at the point the first of those with the fewest parts, where
 /// `known` is the first one that is false there.
-pub(crate) fn fewest_parts(cases: &[Shared<Items<Form>>], point: &[i64], known: usize) -> usize
+pub(crate) fn fewest_parts(cases: &[Lent<Items<Form>>], point: &[i64], known: usize) -> usize
     requires within { known < length cases.now }
     requires broken { option_map (list_any (truth point.now)) (slice_get cases.now known) ≡ Some false }
     ensures within { result < length cases.now }

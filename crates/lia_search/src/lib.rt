@@ -7,11 +7,12 @@ mod closing;
 mod decision;
 mod ends;
 mod finishing;
+mod flat;
+mod lent;
 mod names;
 mod parts;
 mod running;
 mod searching;
-mod shared;
 mod short;
 mod waiting;
 

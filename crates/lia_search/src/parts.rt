@@ -1,40 +1,26 @@
 //! The nodes below one that is split.
 
 ghost use Rattle.std.specs.Prelude.{◌≡◌, ◌+◌, ◌+ℤ◌, ◌++◌, ◌∷◌, [], ◌<◌, drop, length, map, neg_ℤ, pos, reverse, slice_index_or, take, IfOk, OnOk};
+ghost use Rattle.std.specs.List.{flat_map};
+ghost use Rattle.farkas_proof.specs.Flatten.{disjunctions, literals};
 ghost use Rattle.farkas_proof.specs.Split.{at_least, at_most};
 ghost use Rattle.lia_search.specs.machinery.Opened.{opened_part, with_lit, with_lits};
 
-use crate::shared::Shared;
+use crate::flat::{falsehood, push_disjunctions};
+use crate::lent::Lent;
 use crate::waiting::Open;
 use base::{Copied, Items, Memory};
-use farkas_proof::{Flat, flattened};
 use lia_node::{above, at_most};
 use lin_atoms::{Form, Lin, Lit};
 use std::alloc::Global;
 
-/// Disjunctions that nodes can share.
-pub(crate) fn shared(
-    alloc: Global,
-    cases: Items<Items<Form>>,
-) -> Result<Items<Shared<Items<Form>>>, Memory>
-    ensures { IfOk result (λ made. made ≡ cases) }
-{
-    let mut left = cases;
-    let mut made = Vec::with_capacity(alloc, left.len())?;
-    'share: while let Some(parts) = left.pop() {
-        made.push(Shared::new(alloc, parts)?)?;
-    }
-    made.reverse();
-    Ok(Items::from_vec(made))
-}
-
 /// Disjunctions after others.
-fn push_all(
+fn push_all<'a>(
     alloc: Global,
-    made: &mut Items<Shared<Items<Form>>>,
-    cases: &[Shared<Items<Form>>],
+    made: &mut Vec<Lent<'a, Items<Form>>>,
+    cases: &[Lent<'a, Items<Form>>],
 ) -> Result<(), Memory>
-    ensures { OnOk result (made.new ≡ made.old ++ cases.now) }
+    ensures { OnOk result (made.new.items ≡ made.old.items ++ cases.now) }
 {
     for parts in cases {
         made.push(parts.copy(alloc)?)?;
@@ -42,52 +28,68 @@ fn push_all(
     Ok(())
 }
 
-/// The disjunctions with others in place of one of them.
-fn replaced(
+/// The disjunctions with those of a part in place of one of them.
+fn replaced<'a>(
     alloc: Global,
-    cases: &[Shared<Items<Form>>],
+    cases: &[Lent<'a, Items<Form>>],
     which: usize,
-    new: &[Shared<Items<Form>>],
-) -> Result<Items<Shared<Items<Form>>>, Memory>
+    part: &'a Form,
+) -> Result<Items<Lent<'a, Items<Form>>>, Memory>
     requires { which < length cases.now }
-    ensures { IfOk result (λ made. made ≡ take which cases.now ++ (new.now ++ drop (which + 1) cases.now)) }
+    ensures { IfOk result (λ made. made ≡ take which cases.now ++ (disjunctions part.now ++ drop (which + 1) cases.now)) }
 {
-    let mut made = Items::new(alloc);
+    let mut made = Vec::new(alloc);
     push_all(alloc, &mut made, &cases[..which])?;
-    push_all(alloc, &mut made, new)?;
+    push_disjunctions(part, &mut made)?;
     push_all(alloc, &mut made, &cases[which + 1..])?;
-    Ok(made)
+    Ok(Items::from_vec(made))
 }
 
-/// Literals that become known join as the last, in order.
-fn add_all(alloc: Global, waiting: &mut Open, lits: &[Lit]) -> Result<(), Memory>
-    ensures { OnOk result (waiting.new ≡ with_lits waiting.old lits.now) }
+/// The literals of a form become known and join as the last, in order.
+#[cycle(joining)]
+fn add_literals(alloc: Global, waiting: &mut Open, form: &Form) -> Result<(), Memory>
+    ensures { OnOk result (waiting.new ≡ with_lits waiting.old (literals form.now)) }
 {
-    for lit in lits {
-        waiting.add(lit.copy(alloc)?)?;
+    match form {
+        Form::True => Ok(()),
+        Form::False => waiting.add(falsehood(alloc)),
+        Form::Lit(lit) => waiting.add(lit.copy(alloc)?),
+        Form::And(parts) => add_all_literals(alloc, waiting, parts.as_slice()),
+        Form::Or(_) => Ok(()),
+    }
+}
+
+#[cycle(joining)]
+fn add_all_literals(alloc: Global, waiting: &mut Open, parts: &[Form]) -> Result<(), Memory>
+    ensures { OnOk result (waiting.new ≡ with_lits waiting.old (flat_map literals parts.now)) }
+{
+    for part in parts {
+        add_literals(alloc, waiting, part)?;
     }
     Ok(())
 }
 
 /// The node below for a part of an open disjunction.
-fn in_part(alloc: Global, waiting: &Open, which: usize, part: &Form) -> Result<Open, Memory>
+fn in_part<'a>(
+    alloc: Global,
+    waiting: &Open<'a>,
+    which: usize,
+    part: &'a Form,
+) -> Result<Open<'a>, Memory>
     requires { which < length waiting.now.cases }
     ensures { IfOk result (λ below. below ≡ opened_part which waiting.now part.now) }
 {
-    let Flat { lits, cases } = flattened(alloc, part)?;
-    let new = shared(alloc, cases)?;
-    let cases = replaced(alloc, waiting.cases.as_slice(), which, new.as_slice())?;
-    let mut below = waiting.copy(alloc)?;
-    add_all(alloc, &mut below, lits.as_slice())?;
-    below.cases = cases;
+    let cases = replaced(alloc, waiting.cases.as_slice(), which, part)?;
+    let mut below = waiting.with_cases(alloc, cases)?;
+    add_literals(alloc, &mut below, part)?;
     Ok(below)
 }
 
 /// The nodes below for the parts of an open disjunction: the first on top.
-pub(crate) fn push_parts(
+pub(crate) fn push_parts<'a>(
     alloc: Global,
-    stack: &mut Vec<Open>,
-    waiting: &Open,
+    stack: &mut Vec<Open<'a>>,
+    waiting: &Open<'a>,
     which: usize,
 ) -> Result<usize, Memory>
     requires { which < length waiting.now.cases }
@@ -117,14 +119,14 @@ pub(crate) fn side(alloc: Global, variable: u32, floor: i64) -> Result<Lin, Memo
 }
 
 /// The nodes below for the two sides of a branch: that at most the floor on top.
-pub(crate) fn push_sides(
+pub(crate) fn push_sides<'a>(
     alloc: Global,
-    stack: &mut Vec<Open>,
-    waiting: Open,
+    stack: &mut Vec<Open<'a>>,
+    waiting: Open<'a>,
     variable: u32,
     floor: i64,
 ) -> Result<(), Memory>
-    ensures { OnOk result (reverse stack.new.items ≡ with_lit waiting (at_most variable floor) ∷ with_lit waiting (at_least variable (floor +ℤ pos 1)) ∷ reverse stack.old.items) }
+    ensures { OnOk result (reverse stack.new.items ≡ with_lit waiting.entry (at_most variable floor) ∷ with_lit waiting.entry (at_least variable (floor +ℤ pos 1)) ∷ reverse stack.old.items) }
 {
     let mut low = waiting.copy(alloc)?;
     low.add(at_most(alloc, variable, floor)?)?;

@@ -47,7 +47,7 @@ pub(crate) struct Search<'a> {
     /// Whether no node was examined yet.
     pub(crate) is_first: bool,
     /// The nodes that aren't closed, the next at the end.
-    pub(crate) stack: Vec<Open>,
+    pub(crate) stack: Vec<Open<'a>>,
     /// The tree so far.
     pub(crate) steps: Vec<Step>,
     /// The first evidence of a node that couldn't be closed.
@@ -114,7 +114,7 @@ impl<'a> Search<'a> {
     fn close_by_bounds(
         &mut self,
         alloc: Global,
-        waiting: Open,
+        waiting: Open<'a>,
         multipliers: &[i64],
     ) -> Result<(), Memory>
         requires is { Waits self.old waiting }
@@ -141,7 +141,7 @@ impl<'a> Search<'a> {
     fn branch(
         &mut self,
         alloc: Global,
-        waiting: Open,
+        waiting: Open<'a>,
         variable: u32,
         floor: i64,
     ) -> Result<Turn, Memory>
@@ -150,7 +150,7 @@ impl<'a> Search<'a> {
         requires vertex { HasVertexBetween (system self.old.end waiting.lits) variable floor }
         requires few { end_of_quotients self.old.end waiting.lits ≤ self.old.end + most_rows }
         requires room { self.old.count < self.old.nodes }
-        ensures { Turns self.old waiting self.new result }
+        ensures { Turns self.old waiting.entry self.new result }
     {
         let mut waiting = waiting;
         self.name(&mut waiting)?;
@@ -174,7 +174,7 @@ impl<'a> Search<'a> {
     }
 
     /// The node is split by the parts of an open disjunction.
-    fn split(&mut self, alloc: Global, waiting: Open, which: usize) -> Result<(), Memory>
+    fn split(&mut self, alloc: Global, waiting: Open<'a>, which: usize) -> Result<(), Memory>
         requires is { Waits self.old waiting }
         requires solution { HasSolution self.old.end waiting.lits }
         requires there { which < length waiting.cases }
@@ -195,10 +195,10 @@ impl<'a> Search<'a> {
     }
 
     /// A literal of the node that was left out joins.
-    fn take_in(&mut self, alloc: Global, waiting: Open, at: usize) -> Result<(), Memory>
+    fn take_in(&mut self, alloc: Global, waiting: Open<'a>, at: usize) -> Result<(), Memory>
         requires is { Waits self.old waiting }
         requires there { at < length waiting.left_out }
-        ensures { OnOk result (Goes self.old waiting self.new) }
+        ensures { OnOk result (Goes self.old waiting.entry self.new) }
     {
         let mut waiting = waiting;
         waiting.take_in(alloc, at)?;
@@ -208,7 +208,12 @@ impl<'a> Search<'a> {
 
     /// All literals are true at a point, also those that are left out. Of the disjunctions that are false
     /// there one with the fewest parts is split; without one the form is true.
-    fn meet_cases(&mut self, alloc: Global, waiting: Open, point: Vec<i64>) -> Result<Turn, Memory>
+    fn meet_cases(
+        &mut self,
+        alloc: Global,
+        waiting: Open<'a>,
+        point: Vec<i64>,
+    ) -> Result<Turn, Memory>
         requires is { Waits self.old waiting }
         requires solution { HasSolution self.old.end waiting.lits }
         requires each { length point.items ≡ end_of_quotients self.old.end waiting.lits }
@@ -217,7 +222,7 @@ impl<'a> Search<'a> {
         requires left { list_all (lit_truth point.items) (left_lits waiting.left_out) ≡ true }
         requires few { end_of_quotients self.old.end waiting.lits ≤ self.old.end + most_rows }
         requires room { self.old.count < self.old.nodes }
-        ensures { Turns self.old waiting self.new result }
+        ensures { Turns self.old waiting.entry self.new result }
     {
         match first_disjunction(waiting.cases.as_slice(), point.as_slice()) {
             Some(first) => {
@@ -231,7 +236,7 @@ impl<'a> Search<'a> {
 
     /// The literals of the node are true at a point. The first literal that is left out and false there
     /// joins, if there is one.
-    fn meet(&mut self, alloc: Global, waiting: Open, point: Vec<i64>) -> Result<Turn, Memory>
+    fn meet(&mut self, alloc: Global, waiting: Open<'a>, point: Vec<i64>) -> Result<Turn, Memory>
         requires is { Waits self.old waiting }
         requires solution { HasSolution self.old.end waiting.lits }
         requires each { length point.items ≡ end_of_quotients self.old.end waiting.lits }
@@ -239,7 +244,7 @@ impl<'a> Search<'a> {
         requires holds { list_all (lit_truth point.items) waiting.lits ≡ true }
         requires few { end_of_quotients self.old.end waiting.lits ≤ self.old.end + most_rows }
         requires room { self.old.count < self.old.nodes }
-        ensures { Turns self.old waiting self.new result }
+        ensures { Turns self.old waiting.entry self.new result }
     {
         match first_literal(waiting.left_out.as_slice(), point.as_slice()) {
             Some(at) => {
@@ -256,7 +261,7 @@ impl<'a> Search<'a> {
     fn near(
         &mut self,
         alloc: Global,
-        waiting: Open,
+        waiting: Open<'a>,
         variable: u32,
         floor: i64,
     ) -> Result<Turn, Memory>
@@ -265,7 +270,7 @@ impl<'a> Search<'a> {
         requires vertex { HasVertexBetween (system self.old.end waiting.lits) variable floor }
         requires few { end_of_quotients self.old.end waiting.lits ≤ self.old.end + most_rows }
         requires room { self.old.count < self.old.nodes }
-        ensures { Turns self.old waiting self.new result }
+        ensures { Turns self.old waiting.entry self.new result }
     {
         if self.count < FEW_NODES || parts_at(self.count) == 0 {
             return self.branch(alloc, waiting, variable, floor);
@@ -296,10 +301,10 @@ impl<'a> Search<'a> {
     }
 
     /// One node is examined, and closed, split or left with one literal more.
-    fn turn(&mut self, alloc: Global, waiting: Open) -> Result<Turn, Memory>
+    fn turn(&mut self, alloc: Global, waiting: Open<'a>) -> Result<Turn, Memory>
         requires is { Waits self.old waiting }
         requires room { self.old.count < self.old.nodes }
-        ensures { Turns self.old waiting self.new result }
+        ensures { Turns self.old waiting.entry self.new result }
     {
         let is_first = self.is_first;
         self.is_first = false;

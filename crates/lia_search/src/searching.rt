@@ -1,8 +1,10 @@
 //! A search from its start to what is decided.
 
-ghost use Rattle.std.specs.Prelude.{◌≡◌, ◌<◌, ◌≤◌, ◌^◌, drop, IfOk, true};
+ghost use Rattle.std.specs.Prelude.{◌≡◌, ◌<◌, ◌≤◌, ◌^◌, drop, IfOk, pos, true};
 ghost use Rattle.base.specs.Limits.{most_variables};
+ghost use Rattle.lin_atoms.specs.Linear.{of_constant};
 ghost use Rattle.lin_atoms.specs.Truth.{is_below};
+ghost use Rattle.lin_atoms.specs.declared.lit.Lit.TheVariants.{Le};
 ghost use Rattle.farkas_proof.specs.Refutation.{form_end};
 ghost use Rattle.lia_search.specs.Decides.{Decides, has_short_multiples};
 ghost use Rattle.lia_search.specs.machinery.Opened.{first_open, left_from};
@@ -11,25 +13,29 @@ ghost use Rattle.lia_search.specs.machinery.Searched.{IsSearch};
 use crate::decision::Decision;
 use crate::ends::small_end;
 use crate::finishing::decided;
-use crate::parts::shared;
+use crate::flat::{falsehood, lent_disjunctions, lent_literals};
+use crate::lent::Lent;
 use crate::running::Search;
-use crate::shared::Shared;
 use crate::waiting::{LeftOut, Open};
 use base::{Copied, Items, Memory};
-use farkas_proof::{Flat, flattened};
 use lia_close::numbered;
 use lin_atoms::{Form, Lit};
 use std::alloc::Global;
 
 /// The literals of the flattened form from one on, with their numbers, which are left out.
-fn left_out(alloc: Global, lits: &[Lit], from: usize) -> Result<Items<LeftOut>, Memory>
+fn left_out<'a>(
+    alloc: Global,
+    lits: &[Lent<'a, Lit>],
+    from: usize,
+) -> Result<Items<LeftOut<'a>>, Memory>
     ensures { IfOk result (λ made. made ≡ left_from from (drop from lits.now)) }
 {
-    let mut made = Items::new(alloc);
+    let count = lits.len().saturating_sub(from);
+    let mut made = Items::from_vec(Vec::with_capacity(alloc, count)?);
     let mut at = from;
     'left: while at < lits.len() {
         made.push(LeftOut {
-            lit: Shared::new(alloc, lits[at].copy(alloc)?)?,
+            lit: lits[at].copy(alloc)?,
             number: numbered(at)?,
         })?;
         at += 1;
@@ -38,32 +44,43 @@ fn left_out(alloc: Global, lits: &[Lit], from: usize) -> Result<Items<LeftOut>, 
 }
 
 /// The first node: the first `taken` literals of the flattened form have joined.
-fn first(alloc: Global, flat: Flat, taken: usize) -> Result<Open, Memory>
-    ensures { IfOk result (λ waiting. waiting ≡ first_open taken flat.lits flat.cases) }
+fn first<'a>(
+    alloc: Global,
+    lent: &[Lent<'a, Lit>],
+    cases: Items<Lent<'a, Items<Form>>>,
+    taken: usize,
+) -> Result<Open<'a>, Memory>
+    ensures { IfOk result (λ waiting. waiting ≡ first_open taken lent.now cases.entry) }
 {
-    let mut lits = Items::new(alloc);
-    let mut numbers = Items::new(alloc);
+    let count = taken.min(lent.len());
+    let mut lits = Items::from_vec(Vec::with_capacity(alloc, count)?);
+    let mut numbers = Items::from_vec(Vec::with_capacity(alloc, count)?);
     let mut at = 0;
-    'taken: while at < taken && at < flat.lits.len() {
-        lits.push(flat.lits.as_slice()[at].copy(alloc)?)?;
+    'taken: while at < taken && at < lent.len() {
+        lits.push(lent[at].get().copy(alloc)?)?;
         numbers.push(numbered(at)?)?;
         at += 1;
     }
-    let left_out = left_out(alloc, flat.lits.as_slice(), at)?;
-    let Flat { lits: all, cases } = flat;
-    let cases = shared(alloc, cases)?;
+    let left_out = left_out(alloc, lent, at)?;
     Ok(Open {
         lits,
         numbers,
         reasons: Items::new(alloc),
-        known: all.len(),
+        known: lent.len(),
         left_out,
         cases,
     })
 }
 
-/// Where a search begins.
-fn begun<'a>(alloc: Global, form: &'a Form, taken: usize, nodes: u32) -> Result<Search<'a>, Memory>
+/// Where a search begins. `False` in the form is lent by `falsehood`.
+fn begun<'a>(
+    alloc: Global,
+    form: &'a Form,
+    falsehood: &'a Lit,
+    taken: usize,
+    nodes: u32,
+) -> Result<Search<'a>, Memory>
+    requires falsehood { falsehood.now ≡ Le (of_constant (pos 1)) }
     requires short { has_short_multiples form.now ≡ true }
     requires few { form_end form.now < 2 ^ 31 }
     ensures is { IfOk result (λ search. IsSearch search) }
@@ -72,8 +89,9 @@ fn begun<'a>(alloc: Global, form: &'a Form, taken: usize, nodes: u32) -> Result<
     ensures nodes { IfOk result (λ search. search.nodes ≡ nodes) }
 {
     let end = small_end(form);
-    let flat = flattened(alloc, form)?;
-    let waiting = first(alloc, flat, taken)?;
+    let lits = lent_literals(alloc, form, falsehood)?;
+    let cases = lent_disjunctions(alloc, form)?;
+    let waiting = first(alloc, lits.as_slice(), cases, taken)?;
     let mut stack = Vec::new(alloc);
     stack.push(waiting)?;
     let steps = Vec::new(alloc);
@@ -107,7 +125,8 @@ pub fn search(
     requires some { 0 < nodes }
     ensures { IfOk result (λ decision. Decides form vars nodes decision) }
 {
-    let search = begun(alloc, &form, taken, nodes)?;
+    let falsehood = falsehood(alloc);
+    let search = begun(alloc, &form, &falsehood, taken, nodes)?;
     let end = search.run(alloc)?;
     let decision = decided(alloc, form, end, vars, nodes)?;
     Ok(decision)

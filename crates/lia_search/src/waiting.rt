@@ -1,9 +1,9 @@
 //! The nodes of a search that aren't closed yet.
 
-ghost use Rattle.std.specs.Prelude.{◌≡◌, ◌<◌, length, OnOk};
+ghost use Rattle.std.specs.Prelude.{◌≡◌, ◌<◌, length, IfOk, OnOk};
 ghost use Rattle.lia_search.specs.machinery.Opened.{with_left_out, with_lit};
 
-use crate::shared::Shared;
+use crate::lent::Lent;
 use base::{Copied, Items, Memory};
 use lia_close::numbered;
 use lin_atoms::{Form, Lit};
@@ -11,13 +11,13 @@ use std::alloc::Global;
 
 /// A literal of the form that is left out, and its number in the refutation.
 #[derive(Drop)]
-pub(crate) struct LeftOut {
-    pub(crate) lit: Shared<Lit>,
+pub(crate) struct LeftOut<'a> {
+    pub(crate) lit: Lent<'a, Lit>,
     pub(crate) number: u32,
 }
 
-impl Copied for LeftOut {
-    fn copy(&self, alloc: Global) -> Result<LeftOut, Memory> {
+impl<'a> Copied for LeftOut<'a> {
+    fn copy(&self, alloc: Global) -> Result<LeftOut<'a>, Memory> {
         Ok(LeftOut {
             lit: self.lit.copy(alloc)?,
             number: self.number,
@@ -27,7 +27,7 @@ impl Copied for LeftOut {
 
 /// A node that isn't closed, and how its literals are numbered in the refutation.
 #[derive(Drop)]
-pub(crate) struct Open {
+pub(crate) struct Open<'a> {
     /// The literals, in the order in which they joined the node or one above it.
     pub(crate) lits: Items<Lit>,
     /// For each literal its number.
@@ -38,13 +38,13 @@ pub(crate) struct Open {
     /// How many literals are known where the node's tree stands.
     pub(crate) known: usize,
     /// The literals of the form that are left out.
-    pub(crate) left_out: Items<LeftOut>,
+    pub(crate) left_out: Items<LeftOut<'a>>,
     /// The open disjunctions, each as its parts.
-    pub(crate) cases: Items<Shared<Items<Form>>>,
+    pub(crate) cases: Items<Lent<'a, Items<Form>>>,
 }
 
-impl Copied for Open {
-    fn copy(&self, alloc: Global) -> Result<Open, Memory> {
+impl<'a> Copied for Open<'a> {
+    fn copy(&self, alloc: Global) -> Result<Open<'a>, Memory> {
         Ok(Open {
             lits: self.lits.copy(alloc)?,
             numbers: self.numbers.copy(alloc)?,
@@ -56,7 +56,25 @@ impl Copied for Open {
     }
 }
 
-impl Open {
+impl<'a> Open<'a> {
+    /// A copy with other disjunctions.
+    pub(crate) fn with_cases(
+        &self,
+        alloc: Global,
+        cases: Items<Lent<'a, Items<Form>>>,
+    ) -> Result<Open<'a>, Memory>
+        ensures { IfOk result (λ made. made ≡ record self.now { cases = cases.entry }) }
+    {
+        Ok(Open {
+            lits: self.lits.copy(alloc)?,
+            numbers: self.numbers.copy(alloc)?,
+            reasons: self.reasons.copy(alloc)?,
+            known: self.known,
+            left_out: self.left_out.copy(alloc)?,
+            cases,
+        })
+    }
+
     /// A literal that becomes known joins as the last.
     pub(crate) fn add(&mut self, lit: Lit) -> Result<(), Memory>
         ensures { OnOk result (self.new ≡ with_lit self.old lit) }

@@ -3,4 +3,4 @@ use Rattle.lia_search.proofs.parts.push_all.Given as goal
 
 -- those so far
 abbrev pub invariant-loop-parts : goal.invariant-loop-parts
-invariant-loop-parts l = l.made ≡ l.fn.made ++ take l.parts-index l.cases
+invariant-loop-parts l = l.made.items ≡ l.fn.made.items ++ take l.parts-index l.cases

@@ -5,9 +5,9 @@ use Rattle.lia_search.proofs.searching.first.Given as goal
 -- `at` literals have joined
 abbrev pub invariant-taken : goal.invariant-taken
 invariant-taken l = record {
-  within : l.at ≤ length l.flat.lits;
+  within : l.at ≤ length l.lent;
   few : l.at ≤ l.taken;
-  lits : l.lits ≡ take l.at l.flat.lits;
+  lits : l.lits ≡ take l.at l.lent;
   numbers : l.numbers ≡ range_with_len 0 l.at;
 }
 
