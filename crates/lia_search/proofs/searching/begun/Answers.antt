@@ -11,5 +11,5 @@ pub returns-clause-is : goal.returns-clause-is
 returns-clause-is c =
     let form = c.args.form.now in
     let cases = c.in_ok-cases.cases in
-    let is = c.in_ok-waiting.ensures ∙ ap (λ (lits : List Lit). first_open c.args.taken lits cases) (c.as_slice.ensures ∙ c.in_ok-lits.ensures) ∙ ap (λ (cs : List (List Form)). first_open c.args.taken (literals form) cs) c.in_ok-cases.ensures in
+    let is = c.in_ok-waiting.ensures ∙ ap (λ (lits : List Lit). first_open c.args.taken lits cases) (c.as_slice.ensures.value ∙ c.in_ok-lits.ensures) ∙ ap (λ (cs : List (List Form)). first_open c.args.taken (literals form) cs) c.in_ok-cases.ensures in
     begins _ c.in_ok-waiting.waiting c.args.taken c.requires.short c.small_end-end.ensures c.requires.few is (c.in_ok-push.ensures.items ∙ ap (λ (os : List Open). os ++ c.in_ok-waiting.waiting ∷ []) c.new-stack.ensures.items) c.new-steps.ensures.items refl refl
