@@ -11,6 +11,9 @@ use std::alloc::Global;
 /// Columns whose bounds are farther apart aren't looked at.
 const MOST_APART: i128 = 64;
 
+/// With as many columns as these, no more between two bounds are looked at.
+const MOST_COLUMNS: usize = 100;
+
 /// The value of a column whose bounds leave one alone.
 fn one_value(sides: &[Sides], column: usize) -> Option<i128> {
     let (lower, upper) = both(sides, column)?;
@@ -74,6 +77,9 @@ fn put_boxes(
     rows: &mut Vec<Equation>,
 ) -> Result<(), Memory> {
     for column in 0..sides.len() {
+        if rows.len() >= MOST_COLUMNS {
+            return Ok(());
+        }
         if let Some(value) = apart(sides, column) {
             let terms = terms_of(alloc, forms, variables, column)?;
             columns.push(column)?;
@@ -122,6 +128,34 @@ fn set(entries: &mut [i64], at: usize, value: i64) {
     }
 }
 
+/// The column of a residue's form, where `count` columns stand before those of forms.
+fn column_of(columns: &[usize], count: usize, form: usize) -> Option<usize> {
+    let column = columns.get(count.checked_add(form)?)?;
+    Some(*column)
+}
+
+/// The residue as a row, where it leaves nothing between the bounds of its column.
+fn of_residue(
+    alloc: Global,
+    sides: &[Sides],
+    columns: &[usize],
+    count: usize,
+    own: &Residue,
+    known: usize,
+) -> Result<Option<Chain>, Memory> {
+    let Some(column) = column_of(columns, count, own.form) else {
+        return Ok(None);
+    };
+    let more = Some((column, own.times));
+    let multipliers = own.multipliers.as_slice();
+    let entries = entries(alloc, sides.len(), columns, multipliers, more)?;
+    if !is_refuted(entries.as_slice(), sides, own.divisor) {
+        return Ok(None);
+    }
+    let chain = chain_of(alloc, entries.as_slice(), sides, own.divisor, known)?;
+    Ok(Some(chain))
+}
+
 /// The first of the residues that leaves nothing between the bounds of its column.
 fn of_residues(
     alloc: Global,
@@ -132,15 +166,8 @@ fn of_residues(
     known: usize,
 ) -> Result<Option<Chain>, Memory> {
     for own in residues {
-        let column = count.checked_add(own.form).and_then(|at| columns.get(at));
-        if let Some(column) = column {
-            let more = Some((*column, own.times));
-            let multipliers = own.multipliers.as_slice();
-            let entries = entries(alloc, sides.len(), columns, multipliers, more)?;
-            let entries = entries.as_slice();
-            if is_refuted(entries, sides, own.divisor) {
-                return Ok(Some(chain_of(alloc, entries, sides, own.divisor, known)?));
-            }
+        if let Some(chain) = of_residue(alloc, sides, columns, count, own, known)? {
+            return Ok(Some(chain));
         }
     }
     Ok(None)
