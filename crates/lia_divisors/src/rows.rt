@@ -101,7 +101,7 @@ fn added(entries: &[i64], sides: &[Sides], divisor: i64) -> Option<Sum> {
 }
 
 /// Whether no multiple of the number lies between what those columns add up to.
-fn is_refuted(entries: &[i64], sides: &[Sides], divisor: i64) -> bool {
+pub(crate) fn is_refuted(entries: &[i64], sides: &[Sides], divisor: i64) -> bool {
     match added(entries, sides, divisor) {
         Some(sum) => sum.has_no_multiple(divisor),
         None => false,

@@ -9,6 +9,7 @@ use crate::forms::equations;
 use crate::limits::{Limit, limits};
 use crate::moves::{are_many, moved, moves};
 use crate::near::{Way, scaled};
+use crate::short::shorten;
 use crate::solving::{Met, Solving, solved};
 use crate::unknowns::unknowns;
 use base::Memory;
@@ -190,8 +191,10 @@ fn from_vertex(
         return Ok(());
     };
     let unknowns = unknowns.as_slice();
-    let (solving, met) = solved(alloc, equations.as_slice(), unknowns, Some(near))?;
+    let count = equations.len();
+    let (mut solving, met) = solved(alloc, equations.as_slice(), count, unknowns, Some(near))?;
     if let Met::Solved = met {
+        shorten(alloc, &mut solving.free)?;
         put_moved(alloc, guesses, near, unknowns, &solving, limits)?;
         put_guess(alloc, guesses, near, unknowns, &solving, Way::Down)?;
         put_guess(alloc, guesses, near, unknowns, &solving, Way::Up)?;

@@ -11,9 +11,12 @@ mod limits;
 mod moves;
 mod multipliers;
 mod near;
+mod residues;
+mod short;
 mod solving;
 mod unknowns;
 
 pub use equation::Equation;
 pub use judging::point_near;
-pub use multipliers::{Unsolvable, no_solution};
+pub use multipliers::Unsolvable;
+pub use residues::{Residue, Told, equations_tell};

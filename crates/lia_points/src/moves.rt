@@ -10,6 +10,9 @@ use std::alloc::Global;
 /// So often a point is moved, or a bound counts more.
 const MOST_STEPS: usize = 200;
 
+/// So often it is moved without lacking less than ever before.
+const MOST_IN_VAIN: u32 = 40;
+
 /// With more limits times variables than this a point isn't moved.
 const MOST_EFFECTS: usize = 5000;
 
@@ -204,6 +207,15 @@ fn lacking(limits: &[Limit]) -> u64 {
     sum
 }
 
+/// The same, each limit counted once.
+fn lacking_once(limits: &[Limit]) -> u64 {
+    let mut sum: u64 = 0;
+    for limit in limits {
+        sum = sum.saturating_add(limit.lack(limit.value).unsigned_abs());
+    }
+    sum
+}
+
 /// A limit counts more.
 fn weigh(limits: &mut [Limit], at: usize) {
     if let Some(limit) = limits.get_mut(at) {
@@ -241,10 +253,21 @@ pub(crate) fn moved(point: Vec<i64>, limits: Vec<Limit>, moves: &[Move]) -> Opti
     let (mut point, mut limits) = (point, limits);
     value_all(limits.as_mut_slice(), point.as_slice());
     let mut from: usize = 0;
+    let (mut least, mut in_vain): (u64, u32) = (u64::MAX, 0);
     for _ in 0..MOST_STEPS {
         let Some(wanted) = broken(limits.as_slice(), from) else {
             return Some(point);
         };
+        let lack = lacking_once(limits.as_slice());
+        in_vain = if lack < least {
+            0
+        } else {
+            in_vain.saturating_add(1)
+        };
+        least = least.min(lack);
+        if in_vain > MOST_IN_VAIN {
+            return None;
+        }
         step(point.as_mut_slice(), limits.as_mut_slice(), moves, wanted);
         from = wanted.saturating_add(1);
     }

@@ -1,9 +1,7 @@
 //! Multiples of equations whose sum no integers solve.
 
 use crate::column::Column;
-use crate::equation::Equation;
-use crate::solving::{Met, Solving, solved};
-use crate::unknowns::unknowns;
+use crate::solving::Solving;
 use base::Memory;
 use lin_atoms::gcd;
 use std::alloc::Global;
@@ -19,9 +17,9 @@ pub struct Unsolvable {
 
 /// Fractions with one denominator, the last ones of a list.
 #[derive(Drop)]
-struct Fractions {
+pub(crate) struct Fractions {
     /// The numerators, the last of the list first.
-    nums: Vec<i128>,
+    pub(crate) nums: Vec<i128>,
     den: i128,
 }
 
@@ -92,8 +90,8 @@ impl Fractions {
         }
     }
 
-    /// The denominator, divided by what it has in common with all numerators.
-    fn divisor(&self) -> Option<(i128, i128)> {
+    /// What the denominator has in common with all numerators, and the denominator divided by it.
+    pub(crate) fn divisor(&self) -> Option<(i128, i128)> {
         let mut divisor = self.den.unsigned_abs();
         for num in self.nums.iter() {
             divisor = gcd(divisor, num.unsigned_abs());
@@ -103,28 +101,51 @@ impl Fractions {
     }
 }
 
-/// The fraction of each equation, from the last one that was met to the first.
-fn fractions_of(alloc: Global, solving: &Solving) -> Result<Option<Fractions>, Memory> {
+/// What the last column is, as a row that has it once, or what the row of that number has of a column.
+fn share(column: &Column, row: Option<usize>, is_last: bool) -> i128 {
+    match row {
+        Some(row) => column.entry(row),
+        None => { if is_last { 1 } else { 0 } }
+    }
+}
+
+/// The fraction of each equation, from the last one that was met to the first, with which they add up to
+/// what the row of that number has of the columns with a value, or to the last of these columns.
+pub(crate) fn fractions_of(
+    alloc: Global,
+    solving: &Solving,
+    row: Option<usize>,
+) -> Result<Option<Fractions>, Memory> {
     let mut fractions = Fractions {
         nums: Vec::new(alloc),
         den: 1,
     };
     let pivots = solving.pivots.as_slice();
-    let mut first = 1;
-    for (column, row) in solving.done.iter().zip(pivots).rev() {
-        let Some(rest) = fractions.rest(column, pivots, first) else {
+    let mut is_last = true;
+    for (column, own) in solving.done.iter().zip(pivots).rev() {
+        let from = share(column, row, is_last).checked_mul(fractions.den);
+        let Some(rest) = rest_of(&fractions, column, pivots, from) else {
             return Ok(None);
         };
-        if fractions.put(rest, column.entry(*row))?.is_none() {
+        if fractions.put(rest, column.entry(*own))?.is_none() {
             return Ok(None);
         }
-        first = 0;
+        is_last = false;
     }
     Ok(Some(fractions))
 }
 
+fn rest_of(
+    fractions: &Fractions,
+    column: &Column,
+    pivots: &[usize],
+    from: Option<i128>,
+) -> Option<i128> {
+    fractions.rest(column, pivots, from?)
+}
+
 /// The multiplier of a fraction: its numerator over the divisor, modulo it.
-fn multiplier(num: i128, common: i128, divisor: i128) -> Option<i64> {
+pub(crate) fn multiplier(num: i128, common: i128, divisor: i128) -> Option<i64> {
     let own = num.checked_div(common)?.checked_rem_euclid(divisor)?;
     i64::try_from(own).ok()
 }
@@ -148,14 +169,14 @@ fn put_all(
     Some(())
 }
 
-fn set(made: &mut [i64], row: usize, value: i64) {
+pub(crate) fn set(made: &mut [i64], row: usize, value: i64) {
     if let Some(own) = made.get_mut(row) {
         *own = value;
     }
 }
 
 /// `count` zeros.
-fn zeros(alloc: Global, count: usize) -> Result<Vec<i64>, Memory> {
+pub(crate) fn zeros(alloc: Global, count: usize) -> Result<Vec<i64>, Memory> {
     let mut made = Vec::with_capacity(alloc, count)?;
     for _ in 0..count {
         made.push(0)?;
@@ -164,12 +185,12 @@ fn zeros(alloc: Global, count: usize) -> Result<Vec<i64>, Memory> {
 }
 
 /// The multipliers of the equations up to the one that has no solution.
-fn of_solving(
+pub(crate) fn of_solving(
     alloc: Global,
     solving: &Solving,
     count: usize,
 ) -> Result<Option<Unsolvable>, Memory> {
-    let Some(fractions) = fractions_of(alloc, solving)? else {
+    let Some(fractions) = fractions_of(alloc, solving, None)? else {
         return Ok(None);
     };
     let Some((common, divisor)) = fractions.divisor() else {
@@ -192,19 +213,5 @@ fn of_solving(
             divisor: short,
         })),
         None => Ok(None),
-    }
-}
-
-/// Multipliers that show that no integers solve the equations, where such are found. Nothing is
-/// promised of them.
-pub fn no_solution(alloc: Global, equations: &[Equation]) -> Result<Option<Unsolvable>, Memory> {
-    let Some(unknowns) = unknowns(alloc, equations)? else {
-        return Ok(None);
-    };
-    let (solving, met) = solved(alloc, equations, unknowns.as_slice(), None)?;
-    match met {
-        Met::Unsolvable => of_solving(alloc, &solving, equations.len()),
-        Met::Solved => Ok(None),
-        Met::Lost => Ok(None),
     }
 }

@@ -151,10 +151,12 @@ fn with_column(rest: i128, entry: i128, value: Option<&i128>) -> Option<i128> {
     }
 }
 
-/// The equations are met one after the other, until one can't be solved.
+/// The first `count` equations are met one after the other, until one can't be solved. What comes after
+/// them are forms, which the columns keep their entries of.
 pub(crate) fn solved(
     alloc: Global,
     equations: &[Equation],
+    count: usize,
     unknowns: &[u32],
     near: Option<&[i128]>,
 ) -> Result<(Solving, Met), Memory> {
@@ -164,7 +166,7 @@ pub(crate) fn solved(
         values: Vec::new(alloc),
         free: columns(alloc, equations, unknowns, near)?,
     };
-    for (row, equation) in equations.iter().enumerate() {
+    for (row, equation) in equations.iter().take(count).enumerate() {
         match solving.meet(row, equation.value)? {
             Met::Solved => {}
             Met::Unsolvable => return Ok((solving, Met::Unsolvable)),

@@ -98,9 +98,29 @@ const FIFTEENS: [Row; 4] = [
     (0, 1, [1, -1, 0, 0], -4),
 ];
 
-const ALL: [&[Row]; 14] = [
+/// 15 divides x and 10 divides y, and x - y is the sum of z, from 0 to 1, and u, from 1 to 3. Only the
+/// bounds of both together leave no multiple of 5.
+const TWO: [Row; 7] = [
+    (2, 15, [1, 0, 0, 0], 0),
+    (2, 10, [0, 1, 0, 0], 0),
+    (1, 1, [1, -1, -1, -1], 0),
+    (0, 1, [0, 0, -1, 0], 0),
+    (0, 1, [0, 0, 1, 0], -1),
+    (0, 1, [0, 0, 0, -1], 1),
+    (0, 1, [0, 0, 0, 1], -3),
+];
+
+/// 3 divides two sums, and not what both and 3y + 3u add up to. No row of the vertex says so.
+const RESIDUE: [Row; 4] = [
+    (2, 3, [3, 2, 1, 2], 1),
+    (2, 3, [2, 2, 0, 2], 2),
+    (3, 3, [5, 7, 1, 7], 3),
+    (0, 1, [0, 0, 1, 0], 5),
+];
+
+const ALL: [&[Row]; 16] = [
     &PARITY, &EVEN, &TIMES, &SUM, &FIVE, &KEPT, &PAIRS, &BOX, &TWICE, &MODULI, &TOGETHER, &WEDGE,
-    &NINES, &FIFTEENS,
+    &NINES, &FIFTEENS, &TWO, &RESIDUE,
 ];
 
 /// 1009x is 1 more than 1013y, and x + y is at least 100.
@@ -116,6 +136,15 @@ const REMAINDERS: [Row; 4] = [
 
 const POINTS: [&[Row]; 2] = [&LINE, &REMAINDERS];
 
+/// 3x - 2y is 1 or 2, and y isn't below 0. At the vertex x is a third and y is 0, and no rounding of that is
+/// a point: one is moved to (1, 1).
+const STRIP: [Row; 4] = [
+    (0, 1, [-3, 2, 0, 0], 1),
+    (0, 1, [3, -2, 0, 0], -2),
+    (0, 1, [0, -1, 0, 0], 0),
+    (0, 1, [1, 1, 0, 0], -7),
+];
+
 #[test]
 fn common_divisors_end(rt: HostRuntime) {
     for rows in ALL {
@@ -128,4 +157,9 @@ fn equations_have_points(rt: HostRuntime) {
     for rows in POINTS {
         assert!(rt; point(&rt, rt.alloc(), rows, 8).is_some());
     }
+}
+
+#[test]
+fn points_are_moved(rt: HostRuntime) {
+    assert!(rt; point(&rt, rt.alloc(), &STRIP, 1).is_some());
 }

@@ -32,7 +32,7 @@ use std::alloc::Global;
 /// A bound on how many parts a node is split into.
 const MOST_PARTS: u32 = 400;
 
-/// Below this number of inner nodes a node is looked at whole, and not for a point.
+/// Below this number of inner nodes no tree of parts is looked for.
 const FEW_NODES: u32 = 4;
 
 /// A search of a form, and how far it has come.
@@ -256,8 +256,7 @@ impl<'a> Search<'a> {
     }
 
     /// At a vertex with a fraction the node is met at a point near it, where one is looked for and found,
-    /// and otherwise closed or split. None is looked for before a few inner nodes: branches then find
-    /// points at vertices.
+    /// and otherwise closed or split.
     fn near(
         &mut self,
         alloc: Global,
@@ -272,7 +271,7 @@ impl<'a> Search<'a> {
         requires room { self.old.count < self.old.nodes }
         ensures { Turns self.old waiting.entry self.new result }
     {
-        if self.count < FEW_NODES || parts_at(self.count) == 0 {
+        if parts_at(self.count) == 0 {
             return self.branch(alloc, waiting, variable, floor);
         }
         let found = point_near(alloc, waiting.lits.as_slice(), self.end)?;

@@ -1,0 +1,143 @@
+//! What forms leave by a number, where equations of integers hold.
+
+use crate::column::Column;
+use crate::equation::Equation;
+use crate::multipliers::{Unsolvable, fractions_of, multiplier, of_solving, set, zeros};
+use crate::solving::{Met, Solving, solved};
+use crate::unknowns::unknowns;
+use base::Memory;
+use lin_atoms::gcd;
+use std::alloc::Global;
+
+/// A form so many times, and multiples of equations: the divisor divides each coefficient of their sum.
+#[derive(Debug, Drop)]
+pub struct Residue {
+    /// The form's number.
+    pub form: usize,
+    pub times: i64,
+    /// For each equation its multiplier, from 0 up to below the divisor.
+    pub multipliers: Vec<i64>,
+    /// The divisor, above `times`.
+    pub divisor: i64,
+}
+
+/// What equations of integers tell.
+#[derive(Debug, Drop)]
+pub enum Told {
+    Unsolvable(Unsolvable),
+    Residues(Vec<Residue>),
+    Nothing,
+}
+
+/// The greatest common divisor of what a row has of columns.
+fn common(free: &[Column], row: usize) -> u128 {
+    let mut divisor: u128 = 0;
+    for column in free {
+        if divisor != 1 {
+            divisor = gcd(divisor, column.entry(row).unsigned_abs());
+        }
+    }
+    divisor
+}
+
+/// The number times what the free columns have in common, where both have room.
+fn divisor_of(times: i128, common: i128) -> Option<(i64, i64)> {
+    let divisor = times.checked_mul(common)?;
+    Some((i64::try_from(times).ok()?, i64::try_from(divisor).ok()?))
+}
+
+/// Each equation that was met gets its multiplier, with the other sign.
+fn put_all(
+    made: &mut [i64],
+    nums: &[i128],
+    pivots: &[usize],
+    common: i128,
+    divisor: i64,
+) -> Option<()> {
+    let mut at = pivots.len();
+    for num in nums {
+        at = at.saturating_sub(1);
+        match (pivots.get(at), turned(*num, common, divisor)) {
+            (Some(row), Some(own)) => set(made, *row, own),
+            _ => return None,
+        }
+    }
+    Some(())
+}
+
+fn turned(num: i128, common: i128, divisor: i64) -> Option<i64> {
+    multiplier(num.checked_neg()?, common, i128::from(divisor))
+}
+
+/// What a form leaves by a number above how far its bounds are apart.
+fn left_by(
+    alloc: Global,
+    solving: &Solving,
+    count: usize,
+    form: usize,
+    apart: i128,
+) -> Result<Option<Residue>, Memory> {
+    let Some(row) = count.checked_add(form) else {
+        return Ok(None);
+    };
+    let common = common(solving.free.as_slice(), row);
+    let Ok(common) = i128::try_from(common) else {
+        return Ok(None);
+    };
+    if common <= apart {
+        return Ok(None);
+    }
+    let Some(fractions) = fractions_of(alloc, solving, Some(row))? else {
+        return Ok(None);
+    };
+    let Some((shared, den)) = fractions.divisor() else {
+        return Ok(None);
+    };
+    let Some((times, divisor)) = divisor_of(den, common) else {
+        return Ok(None);
+    };
+    let mut multipliers = zeros(alloc, count)?;
+    let (nums, pivots) = (fractions.nums.as_slice(), solving.pivots.as_slice());
+    if put_all(multipliers.as_mut_slice(), nums, pivots, shared, divisor).is_none() {
+        return Ok(None);
+    }
+    Ok(Some(Residue {
+        form,
+        times,
+        multipliers,
+        divisor,
+    }))
+}
+
+/// The residues of the forms that may have none of what their bounds leave.
+fn all_residues(
+    alloc: Global,
+    solving: &Solving,
+    rows: &[Equation],
+    count: usize,
+) -> Result<Vec<Residue>, Memory> {
+    let mut made = Vec::new(alloc);
+    for (form, row) in rows.iter().skip(count).enumerate() {
+        if let Some(found) = left_by(alloc, solving, count, form, row.value)? {
+            made.push(found)?;
+        }
+    }
+    Ok(made)
+}
+
+/// What the first `count` rows tell, as equations of integers, of the others, which are forms that have as
+/// their values how far their bounds are apart. Nothing is promised of it.
+pub fn equations_tell(alloc: Global, rows: &[Equation], count: usize) -> Result<Told, Memory> {
+    let Some(unknowns) = unknowns(alloc, rows)? else {
+        return Ok(Told::Nothing);
+    };
+    let (solving, met) = solved(alloc, rows, count, unknowns.as_slice(), None)?;
+    match met {
+        Met::Unsolvable => match of_solving(alloc, &solving, count)? {
+            Some(found) => Ok(Told::Unsolvable(found)),
+            None => Ok(Told::Nothing),
+        },
+        Met::Solved => Ok(Told::Residues(all_residues(alloc, &solving, rows, count)?)),
+        Met::Lost => Ok(Told::Nothing),
+    }
+}
