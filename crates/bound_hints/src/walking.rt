@@ -3,6 +3,7 @@
 
 use crate::arms::{Arm, arms_of};
 use crate::asking::point_of;
+use crate::forms::lin_of;
 use base::Memory;
 use clause_form::{Atom, Clause, System};
 use cube_forms::Tuple;
@@ -37,8 +38,6 @@ pub struct Met {
     pub tuple: Vec<i64>,
     /// By how many steps it was met, at most; 1 where a clause without body atoms gave it.
     pub depth: i64,
-    /// The place of the tuple from which it follows.
-    pub from: Option<usize>,
     /// Whether clauses were asked for what follows from it.
     is_followed: bool,
 }
@@ -124,7 +123,6 @@ fn meet(
         pred: head.pred,
         tuple: values(alloc, tuple.as_slice())?,
         depth,
-        from,
         is_followed: false,
     })?;
     Ok(())
@@ -203,11 +201,91 @@ fn only_atom(clause: &Clause, pred: u32) -> Option<&Atom> {
     }
 }
 
+/// What variables stand for, as far as a body atom's tuple says so.
+#[derive(Drop)]
+struct Seen {
+    values: Vec<i64>,
+    are_known: Vec<bool>,
+}
+
+/// What the atom's arguments stand for where this is its tuple.
+fn seen_at(alloc: Global, clause: &Clause, atom: &Atom, tuple: &[i64]) -> Result<Seen, Memory> {
+    let mut values = Vec::new(alloc);
+    let mut are_known = Vec::new(alloc);
+    for _ in clause.sorts.as_slice() {
+        values.push(0)?;
+        are_known.push(false)?;
+    }
+    for (place, variable) in atom.args.as_slice().iter().enumerate() {
+        if let Some(value) = tuple.get(place) {
+            let at = *variable as usize;
+            match (
+                values.as_mut_slice().get_mut(at),
+                are_known.as_mut_slice().get_mut(at),
+            ) {
+                (Some(own), Some(known)) => {
+                    *own = *value;
+                    *known = true;
+                }
+                _ => {}
+            }
+        }
+    }
+    Ok(Seen { values, are_known })
+}
+
+/// Whether the literal is false by what is known of variables.
+fn is_false(seen: &Seen, lit: &Lit) -> bool {
+    for (variable, _) in lin_of(lit).terms() {
+        match seen.are_known.as_slice().get(*variable as usize) {
+            Some(true) => {}
+            _ => return false,
+        }
+    }
+    !lit.holds(seen.values.as_slice())
+}
+
+/// Whether a literal of the arm is false where the atom's tuple is this, so that the arm needn't be asked.
+fn is_closed(
+    alloc: Global,
+    clause: &Clause,
+    arm: &Arm,
+    atom: &Atom,
+    tuple: &[i64],
+) -> Result<bool, Memory> {
+    let seen = seen_at(alloc, clause, atom, tuple)?;
+    for lit in arm.lits.as_slice() {
+        if is_false(&seen, lit) {
+            return Ok(true);
+        }
+    }
+    Ok(false)
+}
+
+/// That the atom has this tuple, where no literal of the arm is false then.
+fn goal_at(
+    alloc: Global,
+    clause: &Clause,
+    arm: &Arm,
+    atom: &Atom,
+    tuple: &[i64],
+) -> Result<Option<Vec<Lit>>, Memory> {
+    if is_closed(alloc, clause, arm, atom, tuple)? {
+        return Ok(None);
+    }
+    Ok(Some(equations(alloc, atom, tuple)?))
+}
+
 /// What the arm is asked for: any tuple of a clause without body atoms, or one that follows from this.
-fn goal_of(alloc: Global, clause: &Clause, from: Option<&Met>) -> Result<Option<Vec<Lit>>, Memory> {
+fn goal_of(
+    alloc: Global,
+    clause: &Clause,
+    arm: &Arm,
+    from: Option<&Met>,
+) -> Result<Option<Vec<Lit>>, Memory> {
     match from {
         Some(one) => match only_atom(clause, one.pred) {
-            Some(atom) => Ok(Some(equations(alloc, atom, one.tuple.as_slice())?)),
+            Some(atom) => goal_at(alloc, clause, arm, atom, one.tuple.as_slice()),
             None => Ok(None),
         },
         None => {
@@ -227,7 +305,7 @@ fn follow_by(
     from: Option<&Met>,
     left: &mut u32,
 ) -> Result<Option<Vec<i64>>, Memory> {
-    match goal_of(alloc, clause, from)? {
+    match goal_of(alloc, clause, arm, from)? {
         Some(goal) => point_of(alloc, clause, arm, goal.as_slice(), left),
         None => Ok(None),
     }

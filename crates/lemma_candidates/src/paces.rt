@@ -1,6 +1,6 @@
-//! What the number of a tuple's step says of it: forms that rise by no more than so much a step, as far as
-//! running clauses forward met. In a system whose counterexamples are long such a bound does at each level
-//! for all that lies further off.
+//! What the number of a tuple's step says of it: forms that rise by as much with each step, as far as running
+//! clauses forward met. In a system whose counterexamples are long such a bound does at each level for all
+//! that lies further off.
 
 use crate::bounds::cube_of;
 use crate::hinting::{Known, take, unknown};
@@ -15,9 +15,6 @@ use std::alloc::Global;
 
 /// How many tuples of a predicate have to be met.
 const LEAST_MET: usize = 4;
-
-/// Of how many places all pairs are tried.
-const MOST_IN_PAIRS: u32 = 6;
 
 /// How many cubes are tried for a lemma.
 const MOST_CUBES: usize = 3;
@@ -148,115 +145,6 @@ fn push_equations(
     Ok(())
 }
 
-/// By how much the form rises from the tuple before to this one, where that is of the same predicate.
-fn rise(met: &[Met], one: &Met, lin: &Lin) -> Option<i64> {
-    let before = match one.from {
-        Some(at) => met.get(at)?,
-        None => return None,
-    };
-    if before.pred != one.pred {
-        return None;
-    }
-    let old = value_at(lin, before.tuple.as_slice())?;
-    let new = value_at(lin, one.tuple.as_slice())?;
-    new.checked_sub(old)
-}
-
-/// By how much the form rises at most; 0 where it never does.
-fn greatest_rise(met: &[Met], pred: u32, lin: &Lin) -> i64 {
-    let mut greatest: i64 = 0;
-    for one in met {
-        if one.pred == pred {
-            if let Some(by) = rise(met, one, lin) {
-                greatest = greatest.max(by);
-            }
-        }
-    }
-    greatest
-}
-
-/// How far the form lies above so many times the number of the step, at one tuple.
-fn beyond(one: &Met, lin: &Lin, step: i64) -> Option<i64> {
-    let value = value_at(lin, one.tuple.as_slice())?;
-    value.checked_sub(step.checked_mul(one.depth)?)
-}
-
-/// The least number with which that is a pace at each tuple that was met.
-fn base_of(met: &[Met], pred: u32, lin: &Lin, step: i64) -> Option<i64> {
-    let mut most = None;
-    for one in met {
-        if one.pred == pred {
-            let own = beyond(one, lin, step)?;
-            most = match most {
-                Some(other) => { if own > other { Some(own) } else { Some(other) } }
-                None => Some(own),
-            };
-        }
-    }
-    most
-}
-
-/// Adds the pace of these terms, if their form rises at all.
-fn push_rise(
-    alloc: Global,
-    paces: &mut Vec<Pace>,
-    met: &[Met],
-    pred: u32,
-    terms: &[(u32, i64)],
-) -> Result<(), Memory> {
-    let mut kept = Vec::new(alloc);
-    for term in terms {
-        kept.push(*term)?;
-    }
-    let lin = match Lin::new(kept, 0) {
-        Ok(lin) => lin,
-        Err(_) => return Ok(()),
-    };
-    let step = greatest_rise(met, pred, &lin);
-    if step <= 0 || !is_narrow(step) {
-        return Ok(());
-    }
-    match base_of(met, pred, &lin, step) {
-        Some(base) => {
-            if is_narrow(base) {
-                paces.push(Pace {
-                    pred,
-                    lin,
-                    step,
-                    base,
-                })?;
-            }
-            Ok(())
-        }
-        None => Ok(()),
-    }
-}
-
-/// Adds those of a place and of later ones.
-fn push_place(
-    alloc: Global,
-    paces: &mut Vec<Pace>,
-    met: &[Met],
-    pred: u32,
-    place: u32,
-    places: u32,
-) -> Result<(), Memory> {
-    push_rise(alloc, paces, met, pred, &[(place, 1)])?;
-    push_rise(alloc, paces, met, pred, &[(place, -1)])?;
-    if places > MOST_IN_PAIRS {
-        return Ok(());
-    }
-    for other in 0..places {
-        if place < other {
-            push_rise(alloc, paces, met, pred, &[(place, 1), (other, 1)])?;
-            push_rise(alloc, paces, met, pred, &[(place, 1), (other, -1)])?;
-            push_rise(alloc, paces, met, pred, &[(place, -1), (other, 1)])?;
-            push_rise(alloc, paces, met, pred, &[(place, -1), (other, -1)])?;
-        }
-    }
-    Ok(())
-}
-
 fn count_of(met: &[Met], pred: u32) -> usize {
     let mut count: usize = 0;
     for one in met {
@@ -281,9 +169,6 @@ fn push_all(
     }
     if let Some(Known::Common(hull)) = known {
         push_equations(alloc, paces, pred, places, hull)?;
-    }
-    for place in 0..places {
-        push_place(alloc, paces, met, pred, place, places)?;
     }
     Ok(())
 }
