@@ -10,7 +10,9 @@ use crate::cubes::{with_core, with_turned};
 use crate::means::Means;
 use crate::older::excluding;
 use base::Memory;
-use lemma_candidates::{Hints, propose, propose_alike, propose_hulls, tidy, try_bounds, widen};
+use lemma_candidates::{
+    Hints, propose, propose_alike, propose_hulls, tidy, try_bounds, try_paces, widen,
+};
 use lemma_general::{Tries, generalise, raise};
 use step_rules::{LemmaPart, Lent, Step};
 
@@ -45,8 +47,30 @@ fn again(lent: &Lent, tries: &mut Tries, nodes: u32, means: Means) -> Result<boo
     }
 }
 
-/// Whether a cube that is known holds at the part's level, and so stands in its place: that of an old
-/// lemma, or one that bounds exclude.
+/// Whether a cube that needs more steps than the part's level allows for stands in its place.
+fn paced(
+    lent: &Lent,
+    tries: &mut Tries,
+    hints: Option<&Hints>,
+    nodes: u32,
+    means: Means,
+) -> Result<bool, Memory>
+    requires goes_on { GoesOn lent.now }
+    requires some { 0 < nodes }
+    requires trying { IsTrying lent.now tries.old }
+    ensures { OnOk result (IsTrying lent.now tries.new) }
+{
+    match hints {
+        Some(hints) if means.bounds => {
+            let shown = try_paces(lent, tries, hints, nodes)?;
+            Ok(shown)
+        }
+        _ => Ok(false),
+    }
+}
+
+/// Whether a cube that is known holds at the part's level, and so stands in its place: one that needs more
+/// steps, that of an old lemma, or one that bounds exclude.
 fn ready(
     lent: &Lent,
     tries: &mut Tries,
@@ -59,6 +83,9 @@ fn ready(
     requires trying { IsTrying lent.now tries.old }
     ensures { OnOk result (IsTrying lent.now tries.new) }
 {
+    if paced(lent, tries, hints, nodes, means)? {
+        return Ok(true);
+    }
     if again(lent, tries, nodes, means)? {
         return Ok(true);
     }

@@ -100,7 +100,7 @@ fn found_in(
 ) -> Result<Outcome, Memory> {
     let mut table = table;
     let mut left = left;
-    for one in walk.met.as_slice() {
+    for one in walk.first() {
         raise(alloc, &mut table, one.pred, one.tuple.as_slice(), None)?;
     }
     if !fix(alloc, &mut table, sys, &mut left)? {

@@ -3,6 +3,7 @@
 
 use crate::arms::{Arm, arms_of};
 use crate::asking::point_of;
+use crate::forms::lin_of;
 use base::Memory;
 use clause_form::{Atom, Clause, System};
 use cube_forms::Tuple;
@@ -15,11 +16,28 @@ const MOST_MET: usize = 160;
 /// How much work is spent on that.
 const MOST_WORK: u32 = 640;
 
+/// How many are met where each has one successor at most, so that a long way is soon gone.
+const MOST_IN_CHAIN: usize = 400;
+
+/// How much work is spent on that.
+const CHAIN_WORK: u32 = 1_600;
+
+/// How many tuples wait at most where each has one successor at most: the start, and one that is far.
+const WAITING: usize = 2;
+
+/// Of how many places a far tuple is asked for.
+const MOST_FAR: usize = 10;
+
+/// How great the first place of a far tuple is at least.
+const FAR: usize = 9;
+
 /// A tuple of a predicate.
 #[derive(Drop)]
 pub struct Met {
     pub pred: u32,
     pub tuple: Vec<i64>,
+    /// By how many steps it was met, at most; 1 where a clause without body atoms gave it.
+    pub depth: i64,
     /// Whether clauses were asked for what follows from it.
     is_followed: bool,
 }
@@ -30,6 +48,17 @@ pub struct Walk {
     pub met: Vec<Met>,
     /// Whether false follows from one of these tuples.
     pub is_broken: bool,
+}
+
+impl Walk {
+    /// The first ones that were met.
+    pub fn first(&self) -> &[Met] {
+        let all = self.met.as_slice();
+        if all.len() <= MOST_MET {
+            return all;
+        }
+        &all[..MOST_MET]
+    }
 }
 
 fn are_equal(first: &[i64], second: &[i64]) -> bool {
@@ -66,17 +95,85 @@ fn values(alloc: Global, tuple: &[i64]) -> Result<Vec<i64>, Memory> {
     Ok(made)
 }
 
-/// Takes the head's tuple at the point in.
-fn meet(alloc: Global, met: &mut Vec<Met>, head: &Atom, point: &[i64]) -> Result<(), Memory> {
+/// The number of steps by which what follows from a tuple is met.
+fn depth_from(met: &[Met], from: Option<usize>) -> i64 {
+    match from {
+        Some(at) => match met.get(at) {
+            Some(one) => one.depth.saturating_add(1),
+            None => 1,
+        },
+        None => 1,
+    }
+}
+
+/// Takes the head's tuple at the point in, which follows from one that was met.
+fn meet(
+    alloc: Global,
+    met: &mut Vec<Met>,
+    head: &Atom,
+    point: &[i64],
+    from: Option<usize>,
+) -> Result<(), Memory> {
     let tuple = Tuple::at(alloc, point, head.args.as_slice())?;
     if has(met.as_slice(), head.pred, tuple.as_slice()) {
         return Ok(());
     }
+    let depth = depth_from(met.as_slice(), from);
     met.push(Met {
         pred: head.pred,
         tuple: values(alloc, tuple.as_slice())?,
+        depth,
         is_followed: false,
     })?;
+    Ok(())
+}
+
+/// That the variable is at least so much.
+fn push_least(
+    alloc: Global,
+    goal: &mut Vec<Lit>,
+    variable: u32,
+    least: usize,
+) -> Result<(), Memory> {
+    let mut terms = Vec::new(alloc);
+    terms.push((variable, -1))?;
+    let constant = match i128::try_from(least) {
+        Ok(constant) => constant,
+        Err(_) => 0,
+    };
+    if let Ok(lin) = Lin::new(terms, constant) {
+        goal.push(Lit::Le(lin))?;
+    }
+    Ok(())
+}
+
+/// Meets a tuple of a clause without body atoms whose places are great, each by itself, as far as they can
+/// be together: from one whose limits are 0 nothing much follows.
+fn meet_far(
+    alloc: Global,
+    clause: &Clause,
+    arm: &Arm,
+    head: &Atom,
+    met: &mut Vec<Met>,
+    left: &mut u32,
+) -> Result<(), Memory> {
+    if head.args.len() > MOST_FAR {
+        return Ok(());
+    }
+    let mut goal = Vec::new(alloc);
+    for (place, variable) in head.args.as_slice().iter().enumerate() {
+        let count = goal.len();
+        let least = place.saturating_mul(2).saturating_add(FAR);
+        push_least(alloc, &mut goal, *variable, least)?;
+        match point_of(alloc, clause, arm, goal.as_slice(), left)? {
+            Some(point) => meet(alloc, met, head, point.as_slice(), None)?,
+            None => {
+                if goal.len() > count {
+                    let _last = goal.pop();
+                }
+            }
+        }
+    }
     Ok(())
 }
 
@@ -104,11 +201,91 @@ fn only_atom(clause: &Clause, pred: u32) -> Option<&Atom> {
     }
 }
 
+/// What variables stand for, as far as a body atom's tuple says so.
+#[derive(Drop)]
+struct Seen {
+    values: Vec<i64>,
+    are_known: Vec<bool>,
+}
+
+/// What the atom's arguments stand for where this is its tuple.
+fn seen_at(alloc: Global, clause: &Clause, atom: &Atom, tuple: &[i64]) -> Result<Seen, Memory> {
+    let mut values = Vec::new(alloc);
+    let mut are_known = Vec::new(alloc);
+    for _ in clause.sorts.as_slice() {
+        values.push(0)?;
+        are_known.push(false)?;
+    }
+    for (place, variable) in atom.args.as_slice().iter().enumerate() {
+        if let Some(value) = tuple.get(place) {
+            let at = *variable as usize;
+            match (
+                values.as_mut_slice().get_mut(at),
+                are_known.as_mut_slice().get_mut(at),
+            ) {
+                (Some(own), Some(known)) => {
+                    *own = *value;
+                    *known = true;
+                }
+                _ => {}
+            }
+        }
+    }
+    Ok(Seen { values, are_known })
+}
+
+/// Whether the literal is false by what is known of variables.
+fn is_false(seen: &Seen, lit: &Lit) -> bool {
+    for (variable, _) in lin_of(lit).terms() {
+        match seen.are_known.as_slice().get(*variable as usize) {
+            Some(true) => {}
+            _ => return false,
+        }
+    }
+    !lit.holds(seen.values.as_slice())
+}
+
+/// Whether a literal of the arm is false where the atom's tuple is this, so that the arm needn't be asked.
+fn is_closed(
+    alloc: Global,
+    clause: &Clause,
+    arm: &Arm,
+    atom: &Atom,
+    tuple: &[i64],
+) -> Result<bool, Memory> {
+    let seen = seen_at(alloc, clause, atom, tuple)?;
+    for lit in arm.lits.as_slice() {
+        if is_false(&seen, lit) {
+            return Ok(true);
+        }
+    }
+    Ok(false)
+}
+
+/// That the atom has this tuple, where no literal of the arm is false then.
+fn goal_at(
+    alloc: Global,
+    clause: &Clause,
+    arm: &Arm,
+    atom: &Atom,
+    tuple: &[i64],
+) -> Result<Option<Vec<Lit>>, Memory> {
+    if is_closed(alloc, clause, arm, atom, tuple)? {
+        return Ok(None);
+    }
+    Ok(Some(equations(alloc, atom, tuple)?))
+}
+
 /// What the arm is asked for: any tuple of a clause without body atoms, or one that follows from this.
-fn goal_of(alloc: Global, clause: &Clause, from: Option<&Met>) -> Result<Option<Vec<Lit>>, Memory> {
+fn goal_of(
+    alloc: Global,
+    clause: &Clause,
+    arm: &Arm,
+    from: Option<&Met>,
+) -> Result<Option<Vec<Lit>>, Memory> {
     match from {
         Some(one) => match only_atom(clause, one.pred) {
-            Some(atom) => Ok(Some(equations(alloc, atom, one.tuple.as_slice())?)),
+            Some(atom) => goal_at(alloc, clause, arm, atom, one.tuple.as_slice()),
             None => Ok(None),
         },
         None => {
@@ -128,7 +305,7 @@ fn follow_by(
     from: Option<&Met>,
     left: &mut u32,
 ) -> Result<Option<Vec<i64>>, Memory> {
-    match goal_of(alloc, clause, from)? {
+    match goal_of(alloc, clause, arm, from)? {
         Some(goal) => point_of(alloc, clause, arm, goal.as_slice(), left),
         None => Ok(None),
     }
@@ -154,7 +331,10 @@ fn follow_arm(
     match &clause.head {
         Some(head) => {
             if let Some(point) = follow_by(alloc, clause, arm, one, left)? {
-                meet(alloc, met, head, point.as_slice())?;
+                meet(alloc, met, head, point.as_slice(), from)?;
+                if from.is_none() {
+                    meet_far(alloc, clause, arm, head, met, left)?;
+                }
             }
             Ok(false)
         }
@@ -195,6 +375,26 @@ fn next(met: &[Met], is_last: bool) -> Option<usize> {
     found
 }
 
+/// Whether few tuples wait for their successors.
+fn is_chain(met: &[Met]) -> bool {
+    let mut waiting: usize = 0;
+    for one in met {
+        if !one.is_followed {
+            waiting = waiting.saturating_add(1);
+        }
+    }
+    waiting <= WAITING
+}
+
+/// Whether tuples enough were met, or work enough was spent.
+fn is_enough(met: &[Met], left: u32) -> bool {
+    if is_chain(met) {
+        left == 0 || met.len() >= MOST_IN_CHAIN
+    } else {
+        left <= CHAIN_WORK.saturating_sub(MOST_WORK) || met.len() >= MOST_MET
+    }
+}
+
 fn mark(met: &mut Vec<Met>, at: usize) {
     if let Some(one) = met.as_mut_slice().get_mut(at) {
         one.is_followed = true;
@@ -211,8 +411,8 @@ fn run(
     left: &mut u32,
 ) -> Result<bool, Memory> {
     follow(alloc, arms, sys, met, None, left)?;
-    for turn in 0..MOST_MET {
-        if *left == 0 || met.len() >= MOST_MET {
+    for turn in 0..MOST_IN_CHAIN {
+        if is_enough(met.as_slice(), *left) {
             return Ok(false);
         }
         match next(met.as_slice(), turn % 4 != 3) {
@@ -232,7 +432,7 @@ fn run(
 /// too many ways through its clauses.
 pub fn walked(alloc: Global, sys: &System) -> Result<Walk, Memory> {
     let mut met = Vec::new(alloc);
-    let mut left = MOST_WORK;
+    let mut left = CHAIN_WORK;
     let is_broken = match arms_of(alloc, sys)? {
         Some(arms) => run(alloc, arms.as_slice(), sys, &mut met, &mut left)?,
         None => false,

@@ -3,6 +3,7 @@
 use crate::bounds::cube_of;
 use crate::hinting::{Known, hulls, take, unknown};
 use crate::hulls::Hull;
+use crate::paces::{Pace, paced_at, paces_of};
 use crate::tightening::residue;
 use base::{Copied, Memory};
 use bound_hints::{Bounds, Walk, walked};
@@ -19,6 +20,8 @@ pub struct Hints {
     bounds: Bounds,
     /// What running clauses forward met, once that was wanted.
     walk: Option<Walk>,
+    /// What the number of a tuple's step says of it, by the same, where false follows from one of them.
+    paces: Vec<Pace>,
 }
 
 /// What is guessed of the tuples of each predicate of the system: equations and residues that they have
@@ -28,6 +31,7 @@ pub fn hints_of(alloc: Global, sys: &System) -> Result<Hints, Memory> {
         known: hulls(alloc, sys)?,
         bounds: Bounds::new(),
         walk: None,
+        paces: Vec::new(alloc),
     })
 }
 
@@ -98,7 +102,7 @@ fn long_forms(alloc: Global, known: &[Known]) -> Result<Vec<Vec<Lin>>, Memory> {
 /// so that no clause keeps them by themselves.
 fn met_forms(alloc: Global, sys: &System, walk: &Walk) -> Result<Vec<Vec<Lin>>, Memory> {
     let mut known = unknown(alloc, sys)?;
-    for met in walk.met.as_slice() {
+    for met in walk.first() {
         take(alloc, &mut known, met.pred, met.tuple.as_slice())?;
     }
     long_forms(alloc, known.as_slice())
@@ -118,8 +122,20 @@ fn joined(first: Vec<Vec<Lin>>, second: Vec<Vec<Lin>>) -> Result<Vec<Vec<Lin>>, 
 }
 
 impl Hints {
+    /// Runs clauses forward, the first time.
+    fn walk(&mut self, alloc: Global, sys: &System) -> Result<Walk, Memory> {
+        if let Some(met) = self.walk.take() {
+            return Ok(met);
+        }
+        let met = walked(alloc, sys)?;
+        if met.is_broken {
+            self.paces = paces_of(alloc, sys, &met)?;
+        }
+        Ok(met)
+    }
+
     /// Looks for bounds that hold together, where the level of the book and the units that were spent say
-    /// so.
+    /// so. From the first level on it is known what running clauses forward meets.
     pub fn renew(
         &mut self,
         alloc: Global,
@@ -127,19 +143,31 @@ impl Hints {
         level: u32,
         units: u32,
     ) -> Result<(), Memory> {
-        if !self.bounds.are_due(level, units) {
+        let are_due = self.bounds.are_due(level, units);
+        if !are_due && (level == 0 || self.walk.is_some()) {
             return Ok(());
         }
-        let met = match self.walk.take() {
-            Some(met) => met,
-            None => walked(alloc, sys)?,
-        };
-        let known = long_forms(alloc, self.known.as_slice())?;
-        let shared = joined(known, met_forms(alloc, sys, &met)?)?;
-        self.bounds
-            .renew(alloc, sys, shared.as_slice(), &met, level, units)?;
+        let met = self.walk(alloc, sys)?;
+        if are_due {
+            let known = long_forms(alloc, self.known.as_slice())?;
+            let shared = joined(known, met_forms(alloc, sys, &met)?)?;
+            self.bounds
+                .renew(alloc, sys, shared.as_slice(), &met, level, units)?;
+        }
         self.walk = Some(met);
         Ok(())
+    }
+
+    /// Cubes that hold the point, and in which no tuple of the predicate lies within so many steps, as far
+    /// as is known.
+    pub(crate) fn paced(
+        &self,
+        alloc: Global,
+        pred: u32,
+        point: &[i64],
+        steps: u32,
+    ) -> Result<Vec<Cube>, Memory> {
+        paced_at(alloc, self.paces.as_slice(), pred, point, steps)
     }
 
     /// The bounds that were found so far.

@@ -9,6 +9,7 @@ mod hints;
 mod hull_queries;
 mod hulls;
 mod moving;
+mod paces;
 mod proposing;
 mod shrinking;
 mod sums;
@@ -17,7 +18,7 @@ mod tightening;
 mod values;
 mod widening;
 
-pub use excluding::try_bounds;
+pub use excluding::{try_bounds, try_paces};
 pub use hints::{Hints, hints_of};
 pub use proposing::{propose, propose_alike, propose_hulls};
 pub use tidying::tidy;
