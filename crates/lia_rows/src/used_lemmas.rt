@@ -5,7 +5,7 @@ use farkas_proof::check;
 use lia_cases::{are_below, have_short_multiples};
 use lia_search::has_short_multiples;
 use lia_used::{Outcome, decide_used};
-use lin_atoms::{Divisor, Form, Lin, Lit, holds};
+use lin_atoms::{Divisor, Form, Lin, Lit};
 use std::alloc::Global;
 use std::process::Abort;
 
@@ -148,6 +148,17 @@ fn a_divisibility_is_used(rt: HostRuntime) {
     assert!(rt; is_by(rt, alloc, &even(rt, alloc, 0), lemmas, &[2]));
 }
 
+/// x is 0.
+fn is_zero(found: &Outcome) -> bool {
+    match found {
+        Outcome::Model(point) => match point.as_slice().first() {
+            Some(x) => *x == 0,
+            None => false,
+        },
+        _ => false,
+    }
+}
+
 /// x is from 0 to 2. The first lemma leaves 0 alone, and both leave no number, which takes two splits to see.
 #[test]
 fn points_and_evidence_are_handed_on(rt: HostRuntime) {
@@ -157,11 +168,9 @@ fn points_and_evidence_are_handed_on(rt: HostRuntime) {
         outside(rt, alloc, 1, 0, 0, 3),
         outside(rt, alloc, 1, 0, -1, 1),
     ];
-    match outcome(rt, alloc, &form, &lemmas[..1], 10) {
-        Outcome::Model(point) => assert!(rt;
-            holds(&form, point.as_slice()) && holds(&lemmas[0], point.as_slice())
-        ),
-        _ => assert!(rt; false),
-    }
-    assert!(rt; matches!(outcome(rt, alloc, &form, &lemmas, 1), Outcome::GaveUp(_)));
+    let lemmas = Vec::from_array(alloc, lemmas).expect(rt, "memory");
+    let found = outcome(rt, alloc, &form, &lemmas[..1], 10);
+    assert!(rt; is_zero(&found));
+    let found = outcome(rt, alloc, &form, lemmas.as_slice(), 1);
+    assert!(rt; matches!(found, Outcome::GaveUp(_)));
 }

@@ -29,13 +29,16 @@ lt-told a b h = grind (arith, nat_tests)
 rising-push : (from count : ℕ) (numbers : List ℕ) → from ≤ count → are_rising from numbers ≡ true → list_all (λ n. nat_lt n count) numbers ≡ true → are_rising from (numbers ++ count ∷ []) ≡ true
 rising-push from count [] h rising within = and_from _ _ (le-test from count h) refl
 rising-push from count (n ∷ numbers) h rising within =
-    let up = both_true (nat_le from n) _ rising; below = both_true (nat_lt n count) _ within; next = lt-told n count below.0 in
+    let up = both_true (nat_le from n) _ rising in
+    let below = both_true (nat_lt n count) _ within in
+    let next = lt-told n count below.0 in
     and_from _ _ up.0 (rising-push (n + 1) count numbers (omega (arith, next)) up.1 below.1)
 
 within-more : (count : ℕ) (numbers : List ℕ) → list_all (λ n. nat_lt n count) numbers ≡ true → list_all (λ n. nat_lt n (count + 1)) numbers ≡ true
 within-more count [] within = refl
 within-more count (n ∷ numbers) within =
-    let below = both_true (nat_lt n count) _ within; next = lt-told n count below.0 in
+    let below = both_true (nat_lt n count) _ within in
+    let next = lt-told n count below.0 in
     and_from _ _ (lt-test n (count + 1) (omega (arith, next))) (within-more count numbers below.1)
 
 -- no lemma, and no number
@@ -75,6 +78,6 @@ all-refuted form lemmas used refuted is no_point point = by (truth point (And (f
     by : (b : Bool) → truth point (And (form ∷ lemmas)) ≡ b → truth point (And (form ∷ lemmas)) ≡ false
     by false told = told
     by true told =
-        let both = both_true (truth point form) _ (sym (truth-And point (form ∷ lemmas)) ∙ told);
-            some = truth-And point (form ∷ map (lemma_at lemmas) used) ∙ and_from _ _ both.0 (lemmas-true point lemmas used is.numbers.within both.1) in
+        let both = both_true (truth point form) _ (sym (truth-And point (form ∷ lemmas)) ∙ told) in
+        let some = truth-And point (form ∷ map (lemma_at lemmas) used) ∙ and_from _ _ both.0 (lemmas-true point lemmas used is.numbers.within both.1) in
         absurd (true≢false (sym some ∙ ap (truth point) (sym is.whole) ∙ no_point point))
