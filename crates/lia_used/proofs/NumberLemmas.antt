@@ -1,5 +1,5 @@
 -- Numbers of lemmas, each behind those before it, and the lemmas of these numbers.
-use Rattle.std.proofs.Common.{◌≡◌, ℕ, List, [], ◌∷◌, ◌++◌, ◌+◌, ◌<◌, ◌≤◌, ◌&&◌, Bool, true, false, refl, ap, sym, ◌∙◌, arith, absurd, zero, suc, map, length, take, get_or, slice_index_or}
+use Rattle.std.proofs.Common.{◌≡◌, ℕ, List, [], ◌∷◌, ◌++◌, ◌+◌, ◌<◌, ◌≤◌, Bool, true, false, refl, ap, sym, ◌∙◌, arith, absurd, zero, suc, map, length, take}
 use Rattle.std.specs.Prelude.{ℤ, nat_le, nat_lt}
 use Rattle.std.specs.List.{list_all}
 use Rattle.std.proofs.lemmas.Bool.{and_from, true≢false}
@@ -40,10 +40,6 @@ within-more count (n ∷ numbers) within =
     let below = both_true (nat_lt n count) _ within in
     let next = lt-told n count below.0 in
     and_from _ _ (lt-test n (count + 1) (omega (arith, next))) (within-more count numbers below.1)
-
--- no lemma, and no number
-pub no-numbers : AreNumbers 0 []
-no-numbers = record { rising = refl; within = refl }
 
 -- one lemma more
 pub numbers-skip : (count : ℕ) (numbers : List ℕ) → AreNumbers count numbers → AreNumbers (count + 1) numbers

@@ -1,4 +1,4 @@
-use Rattle.std.proofs.Common.{ℕ, ◌+◌, ◌∙◌, List, ap, arith, map, subst, sym}
+use Rattle.std.proofs.Common.{ℕ, ◌+◌, ◌∙◌, List, ap, map, subst, sym}
 use Rattle.lia_used.specs.Used.{AreNumbers, lemma_at}
 use Rattle.lia_used.proofs.NumberLemmas.{lemmas-push, numbers-push}
 use Rattle.lia_used.proofs.numbers.all_numbers.Goals as goal
