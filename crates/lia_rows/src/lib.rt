@@ -16,3 +16,5 @@ mod literals;
 mod parts;
 #[cfg(test)]
 mod rows;
+#[cfg(test)]
+mod used_lemmas;
