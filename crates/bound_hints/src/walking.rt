@@ -54,10 +54,8 @@ impl Walk {
     /// The first ones that were met.
     pub fn first(&self) -> &[Met] {
         let all = self.met.as_slice();
-        if all.len() <= MOST_MET {
-            return all;
-        }
-        &all[..MOST_MET]
+        let count = MOST_MET.min(all.len());
+        &all[..count]
     }
 }
 
