@@ -8,7 +8,7 @@ ghost use Rattle.farkas_proof.specs.Kept.{form_of};
 use base::{Copied, Items, Memory, Same};
 use chc_tokens::{
     Goal, NoLift, Shown, TokenStop, Used, Why, are_short, base_of, checked_base_of,
-    checked_forms_of, checked_query_of, forms_of, fits_head, has_values, no_lift, query_of, seen,
+    checked_forms_of, checked_query_of, fits_head, forms_of, has_values, no_lift, query_of, seen,
     shown, shown_by,
 };
 use clause_form::{Atom, Clause, System};
