@@ -1,4 +1,4 @@
-ghost use Rattle.std.specs.Prelude.{◌≡◌, ◌++◌, ◌∷◌, [], IfOk, OnOk, pos};
+ghost use Rattle.std.specs.Prelude.{◌≡◌, ◌++◌, ◌∷◌, [], OnOk, pos};
 ghost use Rattle.std.specs.List.{flat_map};
 ghost use Rattle.farkas_proof.specs.Flatten.{disjunctions, literals};
 ghost use Rattle.farkas_proof.specs.machinery.Walk.{opened};
@@ -8,40 +8,6 @@ ghost use Rattle.lin_atoms.specs.declared.lit.Lit.TheVariants.{Le};
 use base::{Copied, Items, Memory};
 use lin_atoms::{Form, Lin, Lit};
 use std::alloc::Global;
-
-/// What a conjunction gives: its literals, and the disjunctions that stay open, each as its parts.
-#[derive(Debug, Drop)]
-pub struct Flat {
-    pub lits: Items<Lit>,
-    pub cases: Items<Items<Form>>,
-}
-
-/// The flattened formula.
-pub fn flattened(alloc: Global, form: &Form) -> Result<Flat, Memory>
-    ensures lits { IfOk result (λ flat. flat.lits ≡ literals form.now) }
-    ensures cases { IfOk result (λ flat. flat.cases ≡ disjunctions form.now) }
-{
-    let mut lits = Vec::new(alloc);
-    push_literals(alloc, form, &mut lits)?;
-    let mut lent = Vec::new(alloc);
-    push_disjunctions(form, &mut lent)?;
-    let cases = copies(alloc, lent.as_slice())?;
-    Ok(Flat {
-        lits: Items::from_vec(lits),
-        cases,
-    })
-}
-
-/// Copies of the disjunctions.
-fn copies(alloc: Global, lent: &[&Items<Form>]) -> Result<Items<Items<Form>>, Memory>
-    ensures { IfOk result (λ copied. copied ≡ opened lent.now) }
-{
-    let mut copied = Items::new(alloc);
-    for parts in lent {
-        copied.push(parts.copy(alloc)?)?;
-    }
-    Ok(copied)
-}
 
 /// Puts copies of the literals of a form after the others.
 #[cycle(literals)]

@@ -24,7 +24,6 @@ mod walk;
 
 pub use checker::{check, check_owned};
 pub use evidence::Evidence;
-pub use flatten::{Flat, flattened};
 pub use gave_up::GaveUp;
 pub use laws::{
     a_half_is_split, a_large_multiple_has_a_wide_floor, a_quotient_is_split, all_literals_may_join,
