@@ -1,0 +1,168 @@
+//! What is found is checked.
+
+ghost use Rattle.std.specs.Prelude.{◌≡◌, ℕ, IfOk, IfSome, length, true};
+ghost use Rattle.std.specs.List.{list_all};
+ghost use Rattle.lin_atoms.specs.Linear.{is_short};
+ghost use Rattle.farkas_proof.specs.Kept.{form_of};
+ghost use Rattle.lia_search.specs.Decides.{Decides};
+
+use crate::back::{End, Search};
+use crate::nodes::Node;
+use crate::numbering::{Flat, flatten, size};
+use crate::writing::written;
+use base::{Copied, Memory};
+use farkas_proof::{CheckStop, Refutation, check};
+use lia_search::Decision;
+use lin_atoms::{Form, Lin, Lit, holds};
+use std::alloc::Global;
+
+/// A form that takes more numbers isn't searched.
+const MOST_NUMBERS: u32 = 1 << 20;
+
+/// One more than the greatest variable of the form, whose variables are below `vars`.
+fn end_of(form: &Form, vars: u32) -> u32 {
+    let mut low = 0;
+    let mut high = vars;
+    'halves: for _ in 0..32 {
+        let middle = low + (high - low) / 2;
+        if form.is_below(middle as usize) {
+            high = middle;
+        } else {
+            low = (middle + 1).min(high);
+        }
+    }
+    high
+}
+
+/// Whether each number is below 2^63 in magnitude.
+fn are_short(point: &[i64]) -> bool
+    ensures { result ≡ list_all is_short point.now }
+{
+    for value in point {
+        if *value == i64::MIN {
+            return false;
+        }
+    }
+    true
+}
+
+/// The values of the variables below `end`, and 0 for those from there on.
+fn cut(alloc: Global, point: &[i64], end: usize, vars: usize) -> Result<Vec<i64>, Memory>
+    ensures { IfOk result (λ made. length made.items ≡ vars) }
+{
+    let mut made = Vec::with_capacity(alloc, vars)?;
+    'cut: for variable in 0..vars {
+        let value = match point.get(variable) {
+            Some(value) => *value,
+            None => 0,
+        };
+        made.push(if variable < end { value } else { 0 })?;
+    }
+    Ok(made)
+}
+
+/// The point, where the form is true at it.
+fn model(
+    alloc: Global,
+    form: &Form,
+    point: &[i64],
+    end: u32,
+    vars: u32,
+) -> Result<Option<Decision>, Memory>
+    ensures { (nodes : ℕ) → IfOk result (λ found. IfSome found (λ decision. Decides form.now vars nodes decision)) }
+{
+    let point = cut(alloc, point, end as usize, vars as usize)?;
+    if are_short(point.as_slice()) && holds(form, point.as_slice()) {
+        return Ok(Some(Decision::Model(point)));
+    }
+    Ok(None)
+}
+
+/// The form with the tree, where that refutes it.
+fn refuted(alloc: Global, form: &Form, tree: &Refutation) -> Result<Option<Decision>, Memory>
+    ensures { (vars nodes : ℕ) → IfOk result (λ found. IfSome found (λ decision. Decides form.now vars nodes decision)) }
+{
+    match check(alloc, form, tree) {
+        Ok(refuted) => Ok(Some(Decision::Refuted(refuted))),
+        Err(CheckStop::Memory) => Err(Memory),
+        Err(CheckStop::NoProof { .. }) => Ok(None),
+        Err(CheckStop::SumWide { .. }) => Ok(None),
+    }
+}
+
+/// The first node: the first `taken` literals have joined.
+fn first<'a>(alloc: Global, flat: Flat<'a>, taken: usize) -> Result<Node<'a>, Memory> {
+    let Flat { lits, cases } = flat;
+    let count = taken.min(lits.len());
+    let mut left_out = Vec::new(alloc);
+    left_out.extend_from_slice(&lits[count..])?;
+    let mut node = Node::new(alloc, left_out, cases);
+    for (lit, number) in &lits[..count] {
+        node.join(lit.copy(alloc)?, *number)?;
+    }
+    Ok(node)
+}
+
+fn zeros(alloc: Global, count: u32) -> Result<Vec<u32>, Memory> {
+    let mut made = Vec::with_capacity(alloc, count as usize)?;
+    'zeros: for _ in 0..count {
+        made.push(0)?;
+    }
+    Ok(made)
+}
+
+/// How a search of the form ends.
+fn searched(
+    alloc: Global,
+    form: &Form,
+    falsehood: &Lit,
+    taken: usize,
+    end: u32,
+    nodes: u32,
+) -> Result<End, Memory> {
+    let mut flat = Flat {
+        lits: Vec::new(alloc),
+        cases: Vec::new(alloc),
+    };
+    flatten(form, falsehood, 0, &mut flat)?;
+    let node = first(alloc, flat, taken)?;
+    let mut search = Search {
+        falsehood,
+        end,
+        frames: Vec::new(alloc),
+        count: 0,
+        weights: zeros(alloc, size(form))?,
+    };
+    search.run(alloc, node, nodes)
+}
+
+/// Decides the form, whose variables are below `vars`, where a search that goes back finds a point or a refutation
+/// with at most `nodes` splits. The first `taken` literals of the flattened form join at once, as for `search`.
+/// What is found is checked; a form of more than 2^18 literals isn't searched.
+pub fn decide_back(
+    alloc: Global,
+    form: &Form,
+    taken: usize,
+    vars: u32,
+    nodes: u32,
+) -> Result<Option<Decision>, Memory>
+    ensures { IfOk result (λ found. IfSome found (λ decision. Decides form.now vars nodes decision)) }
+{
+    if size(form) > MOST_NUMBERS {
+        return Ok(None);
+    }
+    let falsehood = Lit::Le(Lin::of_constant(alloc, 1));
+    let end = end_of(form, vars);
+    match searched(alloc, form, &falsehood, taken, end, nodes)? {
+        End::Point(point) => {
+            let found = model(alloc, form, point.as_slice(), end, vars)?;
+            Ok(found)
+        }
+        End::Refuted(tree) => {
+            let tree = written(alloc, form, &falsehood, &tree, end)?;
+            let found = refuted(alloc, form, &tree)?;
+            Ok(found)
+        }
+        End::Nothing => Ok(None),
+    }
+}

@@ -1,0 +1,16 @@
+//! A search that goes back over cases that a contradiction doesn't need. What it finds is only a guess: a point
+//! counts where the form is true there, and a tree after a check.
+#![tactic(auto)]
+
+mod back;
+mod deciding;
+mod frames;
+mod names;
+mod nodes;
+mod numbering;
+mod ranges;
+mod telling;
+mod used;
+mod writing;
+
+pub use deciding::decide_back;

@@ -1,0 +1,83 @@
+//! Numbers for what a form is made of. Each literal and each disjunction has one, also those in parts of
+//! disjunctions, in the order in which they stand, so that all in a part have numbers in one range.
+
+use base::{Items, Memory};
+use lin_atoms::{Form, Lit};
+
+/// A literal, and its number. Those of the quotient that it may have are known by the next two numbers.
+pub(crate) type Numbered<'a> = (&'a Lit, u32);
+
+/// A disjunction, and its number. Those of its parts come behind it.
+pub(crate) type Case<'a> = (&'a Items<Form>, u32);
+
+/// How many numbers a literal takes.
+const PER_LITERAL: u32 = 3;
+
+/// How many numbers the form takes.
+#[cycle(size)]
+pub(crate) fn size(form: &Form) -> u32 {
+    match form {
+        Form::True => 0,
+        Form::False => PER_LITERAL,
+        Form::Lit(_) => PER_LITERAL,
+        Form::And(parts) => sizes(parts.as_slice()),
+        Form::Or(parts) => sizes(parts.as_slice()).saturating_add(1),
+    }
+}
+
+#[cycle(size)]
+fn sizes(parts: &[Form]) -> u32 {
+    let mut sum: u32 = 0;
+    for part in parts {
+        sum = sum.saturating_add(size(part));
+    }
+    sum
+}
+
+/// What a form gives where it is flattened: its literals and its open disjunctions, with their numbers.
+#[derive(Drop)]
+pub(crate) struct Flat<'a> {
+    pub(crate) lits: Vec<Numbered<'a>>,
+    pub(crate) cases: Vec<Case<'a>>,
+}
+
+/// Puts what the form gives behind the others, with numbers from `first` on. `False` is lent by `falsehood`.
+#[cycle(flattening)]
+pub(crate) fn flatten<'a>(
+    form: &'a Form,
+    falsehood: &'a Lit,
+    first: u32,
+    flat: &mut Flat<'a>,
+) -> Result<(), Memory> {
+    match form {
+        Form::True => Ok(()),
+        Form::False => {
+            flat.lits.push((falsehood, first))?;
+            Ok(())
+        }
+        Form::Lit(lit) => {
+            flat.lits.push((lit, first))?;
+            Ok(())
+        }
+        Form::And(parts) => flatten_all(parts.as_slice(), falsehood, first, flat),
+        Form::Or(parts) => {
+            flat.cases.push((parts, first))?;
+            Ok(())
+        }
+    }
+}
+
+#[cycle(flattening)]
+fn flatten_all<'a>(
+    parts: &'a [Form],
+    falsehood: &'a Lit,
+    first: u32,
+    flat: &mut Flat<'a>,
+) -> Result<(), Memory> {
+    let mut next = first;
+    for part in parts {
+        flatten(part, falsehood, next, flat)?;
+        next = next.saturating_add(size(part));
+    }
+    Ok(())
+}
