@@ -7,7 +7,7 @@ use crate::names::named_lin;
 use crate::nodes::Node;
 use crate::numbering::{Case, Numbered};
 use crate::ranges::Ranges;
-use crate::telling::{Told, told};
+use crate::telling::{Told, tell};
 use crate::used::put_used;
 use base::{Copied, Items, Memory};
 use farkas_proof::Refutation;
@@ -96,12 +96,7 @@ fn any_holds(parts: &[Form], point: &[i64]) -> bool {
 
 /// Of the disjunctions that are false at the point one of which the fewest parts are left; of these one that was
 /// used most often.
-fn fewest_left(
-    cases: &[Case],
-    point: &[i64],
-    ranges: &Ranges,
-    weights: &[u32],
-) -> Option<usize> {
+fn fewest_left(cases: &[Case], point: &[i64], ranges: &Ranges, weights: &[u32]) -> Option<usize> {
     let mut least = (usize::MAX, 0);
     let mut found = None;
     for (at, case) in cases.iter().enumerate() {
@@ -126,7 +121,7 @@ fn weight(weights: &[u32], number: u32) -> u32 {
 }
 
 /// Where a closed node below the frame leads.
-fn up<'a>(
+fn after<'a>(
     alloc: Global,
     frame: Frame<'a>,
     closed: Closed,
@@ -158,7 +153,7 @@ impl<'a> Search<'a> {
             if !frame.is_idle(&closed) {
                 self.count_use(frame.number);
             }
-            match up(alloc, frame, closed, self.falsehood)? {
+            match after(alloc, frame, closed, self.falsehood)? {
                 Up::Beside(frame, node) => {
                     self.frames.push(frame)?;
                     return Ok(Next::Node(node));
@@ -200,12 +195,7 @@ impl<'a> Search<'a> {
     }
 
     /// The literals of the node are true at the point.
-    fn meet(
-        &mut self,
-        alloc: Global,
-        node: Node<'a>,
-        point: Vec<i64>,
-    ) -> Result<Next<'a>, Memory> {
+    fn meet(&mut self, alloc: Global, node: Node<'a>, point: Vec<i64>) -> Result<Next<'a>, Memory> {
         let mut node = node;
         if let Some(at) = first_broken(node.left_out.as_slice(), point.as_slice()) {
             node.take_in(alloc, at)?;
@@ -245,7 +235,7 @@ impl<'a> Search<'a> {
 
     /// The node is looked at.
     fn turn(&mut self, alloc: Global, node: Node<'a>) -> Result<Next<'a>, Memory> {
-        match told(alloc, &node, self.end, parts_at(self.count))? {
+        match tell(alloc, &node, self.end, parts_at(self.count))? {
             Told::Closed(tree) => self.close_by(alloc, tree),
             Told::Point(point) => self.meet(alloc, node, point),
             Told::Fraction(variable, floor) => self.branch(alloc, node, variable, floor),

@@ -20,20 +20,8 @@ pub(crate) fn known_of_quotient(lit: &Lit) -> u32 {
     match lit {
         Lit::Le(_) => 0,
         Lit::Eq(_) => 0,
-        Lit::Div(_, lin) => {
-            if lin.terms().is_empty() {
-                0
-            } else {
-                1
-            }
-        }
-        Lit::NDiv(_, lin) => {
-            if lin.terms().is_empty() {
-                0
-            } else {
-                2
-            }
-        }
+        Lit::Div(_, lin) => { if lin.terms().is_empty() { 0 } else { 1 } }
+        Lit::NDiv(_, lin) => { if lin.terms().is_empty() { 0 } else { 2 } }
     }
 }
 

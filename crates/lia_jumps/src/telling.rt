@@ -106,7 +106,7 @@ fn examined(
 }
 
 /// What the literals of the node tell. Variables of the form are below `end`.
-pub(crate) fn told(alloc: Global, node: &Node, end: u32, parts: u32) -> Result<Told, Memory> {
+pub(crate) fn tell(alloc: Global, node: &Node, end: u32, parts: u32) -> Result<Told, Memory> {
     let lits = node.lits.as_slice();
     let reasons = node.reasons.as_slice();
     if end >= 1 << 31 || reasons.len() != lits.len() {
