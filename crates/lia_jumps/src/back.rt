@@ -6,6 +6,7 @@ use crate::frames::{BRANCHES, Closed, Frame, Kind};
 use crate::names::named_lin;
 use crate::nodes::Node;
 use crate::numbering::{Case, Numbered};
+use crate::past::{Past, Seen};
 use crate::ranges::Ranges;
 use crate::telling::{Told, tell};
 use crate::used::put_used;
@@ -61,6 +62,7 @@ pub(crate) struct Search<'a> {
     pub(crate) count: u32,
     /// For each disjunction, by its number, how often it was used.
     pub(crate) weights: Vec<u32>,
+    pub(crate) past: Past,
 }
 
 /// How many parts a node with a fraction is split into at most, after `count` splits.
@@ -102,7 +104,7 @@ fn fewest_left(cases: &[Case], point: &[i64], ranges: &Ranges, weights: &[u32]) 
     for (at, case) in cases.iter().enumerate() {
         let (parts, number) = case;
         if !any_holds(parts.as_slice(), point) {
-            let own = (ranges.left(case), weight(weights, *number));
+            let own = (ranges.left(case, seen), weight(weights, *number));
             if own.0 < least.0 || own.0 == least.0 && own.1 > least.1 || found.is_none() {
                 least = own;
                 found = Some(at);
@@ -127,9 +129,6 @@ fn after<'a>(
     closed: Closed,
     falsehood: &'a Lit,
 ) -> Result<Up<'a>, Memory> {
-    if frame.is_idle(&closed) {
-        return Ok(Up::Closed(closed));
-    }
     let mut frame = frame;
     frame.add(closed)?;
     match frame.below(alloc, falsehood)? {
@@ -152,13 +151,16 @@ impl<'a> Search<'a> {
         'up: while let Some(frame) = self.frames.pop() {
             if !frame.is_idle(&closed) {
                 self.count_use(frame.number);
-            }
-            match after(alloc, frame, closed, self.falsehood)? {
-                Up::Beside(frame, node) => {
-                    self.frames.push(frame)?;
-                    return Ok(Next::Node(node));
+                match after(alloc, frame, closed, self.falsehood)? {
+                    Up::Beside(frame, node) => {
+                        self.frames.push(frame)?;
+                        return Ok(Next::Node(node));
+                    }
+                    Up::Closed(more) => {
+                        self.past.keep(alloc, &more)?;
+                        closed = more;
+                    }
                 }
-                Up::Closed(more) => closed = more,
             }
         }
         let Closed { tree, .. } = closed;
@@ -169,7 +171,9 @@ impl<'a> Search<'a> {
     fn close_by(&mut self, alloc: Global, tree: Refutation) -> Result<Next<'a>, Memory> {
         let mut used = Vec::new(alloc);
         put_used(&mut used, &tree)?;
-        self.close(alloc, Closed { tree, used })
+        let closed = Closed { tree, used };
+        self.past.keep(alloc, &closed)?;
+        self.close(alloc, closed)
     }
 
     /// A node is split.
@@ -204,7 +208,7 @@ impl<'a> Search<'a> {
         let ranges = Ranges::new(alloc, node.lits.as_slice(), self.end)?;
         let cases = node.cases.as_slice();
         let weights = self.weights.as_slice();
-        let Some(at) = fewest_left(cases, point.as_slice(), &ranges, weights) else {
+        let Some(at) = fewest_left(cases, point.as_slice(), &ranges, seen, weights) else {
             return Ok(Next::Over(End::Point(point)));
         };
         let (parts, number) = node.cases[at];
@@ -235,9 +239,13 @@ impl<'a> Search<'a> {
 
     /// The node is looked at.
     fn turn(&mut self, alloc: Global, node: Node<'a>) -> Result<Next<'a>, Memory> {
+        let (seen, known) = self.past.look(alloc, &node)?;
+        if let Some(closed) = known {
+            return self.close(alloc, closed);
+        }
         match tell(alloc, &node, self.end, parts_at(self.count))? {
             Told::Closed(tree) => self.close_by(alloc, tree),
-            Told::Point(point) => self.meet(alloc, node, point),
+            Told::Point(point) => self.meet(alloc, node, &seen, point),
             Told::Fraction(variable, floor) => self.branch(alloc, node, variable, floor),
             Told::Nothing => Ok(Next::Over(End::Nothing)),
         }

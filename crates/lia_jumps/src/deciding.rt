@@ -9,6 +9,7 @@ ghost use Rattle.lia_search.specs.Decides.{Decides};
 use crate::back::{End, Search};
 use crate::nodes::Node;
 use crate::numbering::{Flat, flatten, size};
+use crate::past::Past;
 use crate::writing::written;
 use base::{Copied, Memory};
 use farkas_proof::{CheckStop, Refutation, check};
@@ -132,6 +133,7 @@ fn searched(
         frames: Vec::new(alloc),
         count: 0,
         weights: zeros(alloc, size(form))?,
+        past: Past::new(alloc, size(form)),
     };
     search.run(alloc, node, nodes)
 }

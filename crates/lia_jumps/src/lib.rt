@@ -8,6 +8,7 @@ mod frames;
 mod names;
 mod nodes;
 mod numbering;
+mod past;
 mod ranges;
 mod telling;
 mod used;

@@ -1,6 +1,7 @@
 //! What variables can be where literals are true, by intervals: a guess of which parts of a disjunction are left.
 
-use crate::numbering::Case;
+use crate::numbering::{Case, size};
+use crate::past::Seen;
 use base::Memory;
 use lin_atoms::{Divisor, Form, Lin, Lit};
 use std::alloc::Global;
@@ -194,13 +195,15 @@ impl Ranges {
     }
 
     /// How many parts of the disjunction are left.
-    pub(crate) fn left(&self, case: &Case) -> usize {
-        let (parts, _) = case;
+    pub(crate) fn left(&self, case: &Case, seen: &Seen) -> usize {
+        let (parts, number) = case;
+        let mut first = number.saturating_add(1);
         let mut count: usize = 0;
         for part in parts.as_slice() {
-            if !self.shuts(part) {
+            if !seen.is_shut(first) && !self.shuts(part) {
                 count = count.saturating_add(1);
             }
+            first = first.saturating_add(size(part));
         }
         count
     }

@@ -261,17 +261,20 @@ fn write_branch<'a>(
     open: &[Case<'a>],
     place: Place,
 ) -> Result<Refutation, Memory> {
+    let before = at(writing.branches.as_slice(), branch);
     set(&mut writing.branches, branch, place.known)?;
-    let place = Place {
+    let inner = Place {
         known: place.known.saturating_add(1),
         end: place.end,
     };
-    match subs.first() {
-        Some(sub) => write(alloc, writing, sub, open, place),
-        None => Ok(Refutation::Leaf {
+    let made = match subs.first() {
+        Some(sub) => write(alloc, writing, sub, open, inner)?,
+        None => Refutation::Leaf {
             multipliers: Items::new(alloc),
-        }),
-    }
+        },
+    };
+    set(&mut writing.branches, branch, before)?;
+    Ok(made)
 }
 
 /// A split of the disjunction with the number.
