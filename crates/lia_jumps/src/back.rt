@@ -98,7 +98,13 @@ fn any_holds(parts: &[Form], point: &[i64]) -> bool {
 
 /// Of the disjunctions that are false at the point one of which the fewest parts are left; of these one that was
 /// used most often.
-fn fewest_left(cases: &[Case], point: &[i64], ranges: &Ranges, weights: &[u32]) -> Option<usize> {
+fn fewest_left(
+    cases: &[Case],
+    point: &[i64],
+    ranges: &Ranges,
+    seen: &Seen,
+    weights: &[u32],
+) -> Option<usize> {
     let mut least = (usize::MAX, 0);
     let mut found = None;
     for (at, case) in cases.iter().enumerate() {
@@ -199,7 +205,13 @@ impl<'a> Search<'a> {
     }
 
     /// The literals of the node are true at the point.
-    fn meet(&mut self, alloc: Global, node: Node<'a>, point: Vec<i64>) -> Result<Next<'a>, Memory> {
+    fn meet(
+        &mut self,
+        alloc: Global,
+        node: Node<'a>,
+        seen: &Seen,
+        point: Vec<i64>,
+    ) -> Result<Next<'a>, Memory> {
         let mut node = node;
         if let Some(at) = first_broken(node.left_out.as_slice(), point.as_slice()) {
             node.take_in(alloc, at)?;
