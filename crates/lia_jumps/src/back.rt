@@ -4,6 +4,7 @@
 
 use crate::frames::{BRANCHES, Closed, Frame, Kind};
 use crate::names::named_lin;
+use crate::near::nearest_first;
 use crate::nodes::Node;
 use crate::numbering::{Case, Numbered};
 use crate::past::{Past, Seen};
@@ -224,7 +225,8 @@ impl<'a> Search<'a> {
             return Ok(Next::Over(End::Point(point)));
         };
         let (parts, number) = node.cases[at];
-        let frame = Frame::new(alloc, node, Kind::Cases(at, parts), number);
+        let order = nearest_first(alloc, parts.as_slice(), number, point.as_slice())?;
+        let frame = Frame::new(alloc, node, Kind::Cases(at, parts, order), number);
         self.split(alloc, frame)
     }
 

@@ -17,6 +17,9 @@ use lia_search::Decision;
 use lin_atoms::{Form, Lin, Lit, holds};
 use std::alloc::Global;
 
+/// So many nodes are split at most for each inner node of a split tree that is allowed.
+const SPLITS: u32 = 4;
+
 /// A form that takes more numbers isn't searched.
 const MOST_NUMBERS: u32 = 1 << 20;
 
@@ -135,11 +138,11 @@ fn searched(
         weights: zeros(alloc, size(form))?,
         past: Past::new(alloc, size(form)),
     };
-    search.run(alloc, node, nodes)
+    search.run(alloc, node, nodes.saturating_mul(SPLITS))
 }
 
 /// Decides the form, whose variables are below `vars`, where a search that goes back finds a point or a refutation
-/// with at most `nodes` splits. The first `taken` literals of the flattened form join at once, as for `search`.
+/// with at most four splits for each of `nodes`. The first `taken` literals of the flattened form join at once, as for `search`.
 /// What is found is checked; a form of more than 2^18 literals isn't searched.
 pub fn decide_back(
     alloc: Global,

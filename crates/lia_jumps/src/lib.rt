@@ -6,6 +6,7 @@ mod back;
 mod deciding;
 mod frames;
 mod names;
+mod near;
 mod nodes;
 mod numbering;
 mod past;
