@@ -2,6 +2,7 @@
 
 ghost use Rattle.std.specs.Prelude.{◌≡◌, ◌<◌, ◌^◌, length, true};
 ghost use Rattle.std.specs.List.{list_all};
+ghost use Rattle.farkas_proof.specs.Split.{is_no_falsehood};
 ghost use Rattle.node_rows.specs.Known.{are_known, has_short_constant};
 
 use crate::names::{Ordered, in_order};
