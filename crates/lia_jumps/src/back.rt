@@ -1,12 +1,12 @@
 //! The search: depth first, over a stack of the nodes that are split. Where a node is closed by a tree that
 //! doesn't use what the node has alone, the tree closes the node above it, too, and what else is below that one
-//! isn't looked at.
+//! isn't looked at. Small trees are kept, and close each later node at which what they use is there.
 
 use crate::frames::{BRANCHES, Closed, Frame, Kind};
 use crate::names::named_lin;
 use crate::near::nearest_first;
 use crate::nodes::Node;
-use crate::numbering::{Case, Numbered};
+use crate::numbering::{Case, Numbered, PER_LITERAL};
 use crate::past::{Past, Seen};
 use crate::ranges::Ranges;
 use crate::telling::{Told, tell};
@@ -246,7 +246,7 @@ impl<'a> Search<'a> {
         let lits = node.lits.as_slice();
         let lin = named_lin(alloc, lin, self.end, lits, node.reasons.as_slice())?;
         let deep = u32::try_from(self.frames.len()).unwrap_or(0);
-        let number = BRANCHES.saturating_add(deep.saturating_mul(3));
+        let number = BRANCHES.saturating_add(deep.saturating_mul(PER_LITERAL));
         let frame = Frame::new(alloc, node, Kind::Branch(lin, low, high), number);
         self.split(alloc, frame)
     }

@@ -8,7 +8,7 @@ ghost use Rattle.lia_search.specs.Decides.{Decides};
 
 use crate::back::{End, Search};
 use crate::nodes::Node;
-use crate::numbering::{Flat, flatten, size};
+use crate::numbering::{Flat, flat_of, size};
 use crate::past::Past;
 use crate::writing::written;
 use base::{Copied, Memory};
@@ -124,11 +124,7 @@ fn searched(
     end: u32,
     nodes: u32,
 ) -> Result<End, Memory> {
-    let mut flat = Flat {
-        lits: Vec::new(alloc),
-        cases: Vec::new(alloc),
-    };
-    flatten(form, falsehood, 0, &mut flat)?;
+    let flat = flat_of(alloc, form, falsehood, 0)?;
     let node = first(alloc, flat, taken)?;
     let mut search = Search {
         falsehood,
@@ -142,8 +138,9 @@ fn searched(
 }
 
 /// Decides the form, whose variables are below `vars`, where a search that goes back finds a point or a refutation
-/// with at most four splits for each of `nodes`. The first `taken` literals of the flattened form join at once, as for `search`.
-/// What is found is checked; a form of more than 2^18 literals isn't searched.
+/// with at most four splits for each of `nodes`. The first `taken` literals of the flattened form join at once, as
+/// for `search`. What is found is checked. A form isn't searched where three for each literal and one for each
+/// disjunction are more than 2^20.
 pub fn decide_back(
     alloc: Global,
     form: &Form,

@@ -1,6 +1,6 @@
 //! The nodes of the search.
 
-use crate::numbering::{Case, Flat, Numbered};
+use crate::numbering::{Case, Flat, Numbered, replaced};
 use base::{Copied, Items, Memory};
 use lin_atoms::Lit;
 use std::alloc::Global;
@@ -98,12 +98,7 @@ impl<'a> Node<'a> {
         at: usize,
         part: &Flat<'a>,
     ) -> Result<Node<'a>, Memory> {
-        let before = at.min(self.cases.len());
-        let behind = at.saturating_add(1).min(self.cases.len());
-        let mut cases = Vec::new(alloc);
-        cases.extend_from_slice(&self.cases[..before])?;
-        cases.extend_from_slice(part.cases.as_slice())?;
-        cases.extend_from_slice(&self.cases[behind..])?;
+        let cases = replaced(alloc, self.cases.as_slice(), at, part.cases.as_slice())?;
         let mut node = self.with_cases(alloc, cases)?;
         for (lit, number) in part.lits.as_slice() {
             node.join(lit.copy(alloc)?, *number)?;

@@ -3,6 +3,7 @@
 
 use base::{Items, Memory};
 use lin_atoms::{Form, Lit};
+use std::alloc::Global;
 
 /// A literal, and its number. Those of the quotient that it may have are known by the next two numbers.
 pub(crate) type Numbered<'a> = (&'a Lit, u32);
@@ -10,8 +11,8 @@ pub(crate) type Numbered<'a> = (&'a Lit, u32);
 /// A disjunction, and its number. Those of its parts come behind it.
 pub(crate) type Case<'a> = (&'a Items<Form>, u32);
 
-/// How many numbers a literal takes.
-const PER_LITERAL: u32 = 3;
+/// How many numbers a literal takes: its own one, and those of what is known of its quotient.
+pub(crate) const PER_LITERAL: u32 = 3;
 
 /// How many numbers the form takes.
 #[cycle(size)]
@@ -43,7 +44,7 @@ pub(crate) struct Flat<'a> {
 
 /// Puts what the form gives behind the others, with numbers from `first` on. `False` is lent by `falsehood`.
 #[cycle(flattening)]
-pub(crate) fn flatten<'a>(
+fn flatten<'a>(
     form: &'a Form,
     falsehood: &'a Lit,
     first: u32,
@@ -80,4 +81,35 @@ fn flatten_all<'a>(
         next = next.saturating_add(size(part));
     }
     Ok(())
+}
+
+/// What a form gives where it is flattened, with numbers from `first` on.
+pub(crate) fn flat_of<'a>(
+    alloc: Global,
+    form: &'a Form,
+    falsehood: &'a Lit,
+    first: u32,
+) -> Result<Flat<'a>, Memory> {
+    let mut flat = Flat {
+        lits: Vec::new(alloc),
+        cases: Vec::new(alloc),
+    };
+    flatten(form, falsehood, first, &mut flat)?;
+    Ok(flat)
+}
+
+/// Open disjunctions with others in place of the one at `at`.
+pub(crate) fn replaced<'a>(
+    alloc: Global,
+    open: &[Case<'a>],
+    at: usize,
+    cases: &[Case<'a>],
+) -> Result<Vec<Case<'a>>, Memory> {
+    let before = at.min(open.len());
+    let behind = at.saturating_add(1).min(open.len());
+    let mut made = Vec::new(alloc);
+    made.extend_from_slice(&open[..before])?;
+    made.extend_from_slice(cases)?;
+    made.extend_from_slice(&open[behind..])?;
+    Ok(made)
 }

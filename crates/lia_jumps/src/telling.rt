@@ -1,12 +1,13 @@
 //! What the literals of a node tell.
 
-ghost use Rattle.std.specs.Prelude.{◌≡◌, ◌<◌, ◌^◌, length, true};
+ghost use Rattle.std.specs.Prelude.{◌≡◌, ◌<◌, ◌^◌, false, length, true};
 ghost use Rattle.std.specs.List.{list_all};
 ghost use Rattle.farkas_proof.specs.Split.{is_no_falsehood};
 ghost use Rattle.node_rows.specs.Known.{are_known, has_short_constant};
 
 use crate::names::{Ordered, in_order};
 use crate::nodes::Node;
+use crate::numbering::PER_LITERAL;
 use crate::used::DERIVED;
 use base::Memory;
 use farkas_proof::Refutation;
@@ -52,7 +53,7 @@ fn at_fraction(
         return Ok(Told::Point(point));
     }
     let ordered = in_order(alloc, lits)?;
-    let known = lits.len().saturating_mul(3);
+    let known = lits.len().saturating_mul(PER_LITERAL as usize);
     let found = close_by_parts(alloc, lits, ordered.as_slice(), known, end, parts)?;
     match found {
         Some(tree) => {

@@ -4,7 +4,7 @@
 use crate::frames::BRANCHES;
 use crate::names::{NAMED, lin_of, put_term};
 use crate::nodes::known_of_quotient;
-use crate::numbering::{Case, Flat, Numbered, flatten, size};
+use crate::numbering::{Case, Numbered, PER_LITERAL, flat_of, replaced, size};
 use crate::used::{DERIVED, put_used};
 use base::{Boxed, Items, Memory};
 use farkas_proof::Refutation;
@@ -57,7 +57,7 @@ impl<'a> Writing<'a> {
             return known.saturating_add(derived);
         }
         if let Some(branch) = own.checked_sub(BRANCHES) {
-            return at(self.branches.as_slice(), branch / 3);
+            return at(self.branches.as_slice(), branch / PER_LITERAL);
         }
         at(self.numbers.as_slice(), own)
     }
@@ -157,21 +157,6 @@ fn under(alloc: Global, named: Vec<u32>, tree: Refutation) -> Result<Refutation,
     Ok(tree)
 }
 
-/// What a form gives, with numbers from `first` on.
-fn flat_of<'a>(
-    alloc: Global,
-    form: &'a Form,
-    falsehood: &'a Lit,
-    first: u32,
-) -> Result<Flat<'a>, Memory> {
-    let mut flat = Flat {
-        lits: Vec::new(alloc),
-        cases: Vec::new(alloc),
-    };
-    flatten(form, falsehood, first, &mut flat)?;
-    Ok(flat)
-}
-
 /// Where the disjunction with the number stands among the open ones.
 fn place_of(open: &[Case], number: u32) -> Option<usize> {
     for (at, (_, own)) in open.iter().enumerate() {
@@ -180,22 +165,6 @@ fn place_of(open: &[Case], number: u32) -> Option<usize> {
         }
     }
     None
-}
-
-/// The open disjunctions with those of a part in place of the one at `at`.
-fn replaced<'a>(
-    alloc: Global,
-    open: &[Case<'a>],
-    at: usize,
-    cases: &[Case<'a>],
-) -> Result<Vec<Case<'a>>, Memory> {
-    let before = at.min(open.len());
-    let behind = at.saturating_add(1).min(open.len());
-    let mut made = Vec::new(alloc);
-    made.extend_from_slice(&open[..before])?;
-    made.extend_from_slice(cases)?;
-    made.extend_from_slice(&open[behind..])?;
-    Ok(made)
 }
 
 #[cycle(writing)]
@@ -236,7 +205,14 @@ fn write<'a>(
         }
         Refutation::Cases { which, subs } => {
             if let Some(branch) = which.checked_sub(BRANCHES) {
-                return write_branch(alloc, writing, branch / 3, subs.as_slice(), open, place);
+                return write_branch(
+                    alloc,
+                    writing,
+                    branch / PER_LITERAL,
+                    subs.as_slice(),
+                    open,
+                    place,
+                );
             }
             write_cases(alloc, writing, *which, subs.as_slice(), open, place)
         }
