@@ -38,12 +38,18 @@ fn end_of(form: &Form, vars: u32) -> u32 {
     high
 }
 
-/// Whether each number is below 2^63 in magnitude.
+/// Whether the number is below 2^63 in magnitude.
+fn is_short(value: i64) -> bool
+    ensures { result ≡ is_short value }
+{
+    value.unsigned_abs() < 1 << 63
+}
+
 fn are_short(point: &[i64]) -> bool
     ensures { result ≡ list_all is_short point.now }
 {
     for value in point {
-        if *value == i64::MIN {
+        if !is_short(*value) {
             return false;
         }
     }
