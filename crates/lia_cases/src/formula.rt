@@ -29,13 +29,7 @@ const FEW_NODES: u32 = 8;
 
 /// A formula that was given up with fewer inner nodes is decided: by a search that goes back, or else with the inner
 /// nodes of a split tree that are allowed.
-fn again(
-    alloc: Global,
-    form: Form,
-    taken: usize,
-    vars: u32,
-    nodes: u32,
-) -> Result<Decision, Memory>
+fn again(alloc: Global, form: Form, taken: usize, vars: u32, nodes: u32) -> Result<Decision, Memory>
     requires below { is_below vars form ≡ true }
     requires short { has_short_multiples form ≡ true }
     requires few { vars ≤ most_variables }
