@@ -129,6 +129,13 @@ fn weight(weights: &[u32], number: u32) -> u32 {
     }
 }
 
+/// The disjunction is used once more.
+fn count_use(weights: &mut Vec<u32>, number: u32) {
+    if let Some(weight) = weights.get_mut(number as usize) {
+        *weight = weight.saturating_add(1);
+    }
+}
+
 /// Where a closed node below the frame leads.
 fn after<'a>(
     alloc: Global,
@@ -145,19 +152,12 @@ fn after<'a>(
 }
 
 impl<'a> Search<'a> {
-    /// The disjunction is used once more.
-    fn count_use(&mut self, number: u32) {
-        if let Some(weight) = self.weights.get_mut(number as usize) {
-            *weight = weight.saturating_add(1);
-        }
-    }
-
     /// A node is closed.
     fn close(&mut self, alloc: Global, closed: Closed) -> Result<Next<'a>, Memory> {
         let mut closed = closed;
         'up: while let Some(frame) = self.frames.pop() {
             if !frame.is_idle(&closed) {
-                self.count_use(frame.number);
+                count_use(&mut self.weights, frame.number);
                 match after(alloc, frame, closed, self.falsehood)? {
                     Up::Beside(frame, node) => {
                         self.frames.push(frame)?;

@@ -25,14 +25,14 @@ const MOST_NUMBERS: u32 = 1 << 20;
 
 /// One more than the greatest variable of the form, whose variables are below `vars`.
 fn end_of(form: &Form, vars: u32) -> u32 {
-    let mut low = 0;
+    let mut low: u32 = 0;
     let mut high = vars;
     'halves: for _ in 0..32 {
-        let middle = low + (high - low) / 2;
+        let middle = low.saturating_add(high.saturating_sub(low) / 2);
         if form.is_below(middle as usize) {
             high = middle;
         } else {
-            low = (middle + 1).min(high);
+            low = middle.saturating_add(1).min(high);
         }
     }
     high
@@ -56,17 +56,21 @@ fn are_short(point: &[i64]) -> bool
     true
 }
 
-/// The values of the variables below `end`, and 0 for those from there on.
+/// The value of a variable below `end`, and 0 for one from there on.
+fn value(point: &[i64], variable: usize, end: usize) -> i64 {
+    match point.get(variable) {
+        Some(value) => { if variable < end { *value } else { 0 } }
+        None => 0,
+    }
+}
+
+/// The values of so many variables.
 fn cut(alloc: Global, point: &[i64], end: usize, vars: usize) -> Result<Vec<i64>, Memory>
     ensures { IfOk result (λ made. length made.items ≡ vars) }
 {
     let mut made = Vec::with_capacity(alloc, vars)?;
     'cut: for variable in 0..vars {
-        let value = match point.get(variable) {
-            Some(value) => *value,
-            None => 0,
-        };
-        made.push(if variable < end { value } else { 0 })?;
+        made.push(value(point, variable, end))?;
     }
     Ok(made)
 }

@@ -25,8 +25,17 @@ pub(crate) fn known_of_quotient(lit: &Lit) -> u32 {
     }
 }
 
+/// The number of the literal whose bounds are first given by the one with that number.
+pub(crate) fn number_of(lit: &Lit, reason: u32) -> u32 {
+    if known_of_quotient(lit) == 0 {
+        reason
+    } else {
+        reason.saturating_sub(1)
+    }
+}
+
 /// The number of the first literal that gives the bounds of the literal with the number.
-fn reason(lit: &Lit, number: u32) -> u32 {
+pub(crate) fn reason(lit: &Lit, number: u32) -> u32 {
     if known_of_quotient(lit) == 0 {
         number
     } else {

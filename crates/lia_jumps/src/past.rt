@@ -2,7 +2,7 @@
 //! of the form is.
 
 use crate::frames::{BRANCHES, Closed};
-use crate::nodes::{Node, known_of_quotient};
+use crate::nodes::{Node, known_of_quotient, number_of};
 use crate::numbering::{Case, size};
 use base::Memory;
 use farkas_proof::Refutation;
@@ -134,8 +134,7 @@ impl Seen {
     /// What is there at the node.
     fn mark_node(&mut self, node: &Node) {
         for (lit, reason) in node.lits.as_slice().iter().zip(node.reasons.iter()) {
-            let first = if known_of_quotient(lit) > 0 { 1 } else { 0 };
-            self.mark_literal(lit, reason.saturating_sub(first));
+            self.mark_literal(lit, number_of(lit, *reason));
         }
         for (lit, number) in node.left_out.as_slice() {
             self.mark_literal(lit, *number);
