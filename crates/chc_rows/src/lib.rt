@@ -13,6 +13,8 @@ mod faults;
 #[cfg(test)]
 mod gens;
 #[cfg(test)]
+mod guesses;
+#[cfg(test)]
 mod heights;
 #[cfg(test)]
 mod limits;

@@ -3,6 +3,7 @@
 use base::{Copied, Items, Same};
 use lia_branch::{Decision, are_below, decide_all, have_short_constants};
 use lia_cases::{are_below as are_all_below, decide, have_short_multiples};
+use lia_jumps::decide_back;
 use lia_search::has_short_multiples;
 use lin_atoms::{Divisor, Form, Lin, Lit, holds};
 use std::alloc::Global;
@@ -215,6 +216,24 @@ fn check_formula(rt: &impl Abort, alloc: Global, numbers: &mut Numbers) {
     let form = bounded(rt, alloc, numbers);
     let lemmas = lemmas(rt, alloc, numbers);
     assert!(rt; is_decided(rt, alloc, &form, lemmas.as_slice()));
+}
+
+/// Goes back in the next formula with lemmas, of which `taken` literals join at once.
+fn check_going_back(rt: &impl Abort, alloc: Global, numbers: &mut Numbers, taken: usize) {
+    let form = bounded(rt, alloc, numbers);
+    let lemmas = lemmas(rt, alloc, numbers);
+    let whole = joined(rt, alloc, &form, lemmas.as_slice());
+    let found = decide_back(alloc, &whole, taken, 3, 1000).expect(rt, "memory");
+    let decision = found.expect(rt, "a decision");
+    assert!(rt; is_right(&whole, decision));
+}
+
+#[test]
+fn formulas_are_decided_by_going_back(rt: HostRuntime) {
+    let mut numbers = Numbers { state: 13 };
+    for taken in 0..120 {
+        check_going_back(&rt, rt.alloc(), &mut numbers, taken / 8);
+    }
 }
 
 #[test]

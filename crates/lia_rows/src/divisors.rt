@@ -118,9 +118,22 @@ const RESIDUE: [Row; 4] = [
     (0, 1, [0, 0, 1, 0], 5),
 ];
 
-const ALL: [&[Row]; 16] = [
+/// x and y are from 0 to 50, z is 0 or 1, and 12x - 4y + z is 2 or 3. All columns lie between bounds, so one
+/// of the entries has to be tried: 4 divides those of x and y.
+const BOUNDED: [Row; 8] = [
+    (0, 1, [1, 0, 0, 0], -50),
+    (0, 1, [-1, 0, 0, 0], 0),
+    (0, 1, [0, 1, 0, 0], -50),
+    (0, 1, [0, -1, 0, 0], 0),
+    (0, 1, [0, 0, 1, 0], -1),
+    (0, 1, [0, 0, -1, 0], 0),
+    (0, 1, [-12, 4, -1, 0], 2),
+    (0, 1, [12, -4, 1, 0], -3),
+];
+
+const ALL: [&[Row]; 17] = [
     &PARITY, &EVEN, &TIMES, &SUM, &FIVE, &KEPT, &PAIRS, &BOX, &TWICE, &MODULI, &TOGETHER, &WEDGE,
-    &NINES, &FIFTEENS, &TWO, &RESIDUE,
+    &NINES, &FIFTEENS, &TWO, &RESIDUE, &BOUNDED,
 ];
 
 /// 1009x is 1 more than 1013y, and x + y is at least 100.
@@ -145,6 +158,32 @@ const STRIP: [Row; 4] = [
     (0, 1, [1, 1, 0, 0], -7),
 ];
 
+/// x is 6y - 8z + 9, and from 0 to 2. Steps by (6, 1, 0) and by (-8, 0, 1) keep the equation, and so does their
+/// sum, which changes x by 2 alone.
+const NARROW: [Row; 3] = [
+    (1, 1, [1, -6, 8, 0], -9),
+    (0, 1, [1, 0, 0, 0], -2),
+    (0, 1, [-1, 0, 0, 0], 0),
+];
+
+/// x + 2y + 2z is -4, z is below x and at least 2x + 2.
+const SLANTED: [Row; 3] = [
+    (1, 1, [1, 2, 2, 0], 4),
+    (0, 1, [-1, 0, 1, 0], 1),
+    (0, 1, [2, 0, -1, 0], 2),
+];
+
+const SHORT: [&[Row]; 2] = [&NARROW, &SLANTED];
+
+/// x is at least 3y + 4 and at most y + 1. At the vertex x is -1/2 and y is -3/2, and
+/// (-1, -2) is a point.
+const BELOW: [Row; 2] = [(0, 1, [-1, 3, 0, 0], 4), (0, 1, [1, -1, 0, 0], -1)];
+
+/// 5y is at least 2x + 1, and y at most x. At the vertex both are a third, and (1, 1) is a point.
+const ABOVE: [Row; 2] = [(0, 1, [2, -5, 0, 0], 1), (0, 1, [-1, 1, 0, 0], 0)];
+
+const ROUNDED: [&[Row]; 2] = [&BELOW, &ABOVE];
+
 #[test]
 fn common_divisors_end(rt: HostRuntime) {
     for rows in ALL {
@@ -162,4 +201,20 @@ fn equations_have_points(rt: HostRuntime) {
 #[test]
 fn points_are_moved(rt: HostRuntime) {
     assert!(rt; point(&rt, rt.alloc(), &STRIP, 1).is_some());
+}
+
+#[test]
+fn short_combinations_lead_to_points(rt: HostRuntime) {
+    for rows in SHORT {
+        assert!(rt; point(&rt, rt.alloc(), rows, 1).is_some());
+    }
+}
+
+/// Moves find neither point: of two after which bounds lack as much the first one is made, and what it breaks
+/// leads back.
+#[test]
+fn vertices_are_rounded_both_ways(rt: HostRuntime) {
+    for rows in ROUNDED {
+        assert!(rt; point(&rt, rt.alloc(), rows, 1).is_some());
+    }
 }

@@ -20,6 +20,12 @@ fn even(rt: &impl Abort, alloc: Global, c: i128) -> Form {
     Form::Lit(Lit::Div(two, lin(rt, alloc, 1, 0, c)))
 }
 
+/// 3 doesn't divide `x + c`.
+fn not_by_three(rt: &impl Abort, alloc: Global, c: i128) -> Form {
+    let three = Divisor::new(3).expect(rt, "a divisor");
+    Form::Lit(Lit::NDiv(three, lin(rt, alloc, 1, 0, c)))
+}
+
 fn lin(rt: &impl Abort, alloc: Global, a: i64, b: i64, c: i128) -> Lin {
     let mut terms = Vec::new(alloc);
     if a != 0 {
@@ -146,6 +152,31 @@ fn a_divisibility_is_used(rt: HostRuntime) {
         even(rt, alloc, 1),
     ];
     assert!(rt; is_by(rt, alloc, &even(rt, alloc, 0), lemmas, &[2]));
+}
+
+/// 3 divides none of three numbers in a row, which takes a split on a quotient to see. The greatest variable
+/// stays, so the quotients keep their numbers.
+#[test]
+fn a_split_on_a_quotient_is_kept(rt: HostRuntime) {
+    let (rt, alloc) = (&rt, rt.alloc());
+    let lemmas = [
+        le(rt, alloc, 1, 0, -1000),
+        not_by_three(rt, alloc, 1),
+        not_by_three(rt, alloc, 2),
+    ];
+    assert!(rt; is_by(rt, alloc, &not_by_three(rt, alloc, 0), lemmas, &[1, 2]));
+}
+
+/// The same, but without the first lemma the quotients would have other numbers: the shorter tree isn't taken.
+#[test]
+fn a_split_on_a_quotient_of_another_number_needs_all_lemmas(rt: HostRuntime) {
+    let (rt, alloc) = (&rt, rt.alloc());
+    let lemmas = [
+        le(rt, alloc, 0, 1, -10),
+        not_by_three(rt, alloc, 1),
+        not_by_three(rt, alloc, 2),
+    ];
+    assert!(rt; is_by(rt, alloc, &not_by_three(rt, alloc, 0), lemmas, &[0, 1, 2]));
 }
 
 /// x is 0.
