@@ -224,7 +224,10 @@ impl<'a> Search<'a> {
         let Some(at) = fewest_left(cases, point.as_slice(), &ranges, seen, weights) else {
             return Ok(Next::Over(End::Point(point)));
         };
-        let (parts, number) = node.cases[at];
+        let Some((parts, number)) = node.cases.as_slice().get(at) else {
+            return Ok(Next::Over(End::Nothing));
+        };
+        let (parts, number) = (*parts, *number);
         let order = nearest_first(alloc, parts.as_slice(), number, point.as_slice())?;
         let frame = Frame::new(alloc, node, Kind::Cases(at, parts, order), number);
         self.split(alloc, frame)

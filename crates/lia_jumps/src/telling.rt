@@ -70,7 +70,7 @@ fn at_fraction(
     }
 }
 
-/// A tree for the literal at `at`, which is false by itself.
+/// A tree for the literal with the number, which is false by itself.
 fn by_falsehood(alloc: Global, lit: &Lit, number: u32) -> Result<Told, Memory>
     requires is_false { is_no_falsehood lit.now ≡ false }
     requires short { has_short_constant lit.now ≡ true }
