@@ -23,10 +23,10 @@ fn le(rt: &impl Abort, alloc: Global, terms: &[(u32, i64)], constant: i128) -> F
     Form::Lit(Lit::Le(lin(rt, alloc, terms, constant)))
 }
 
-/// 3 divides the difference of two variables and the constant.
-fn by_three(rt: &impl Abort, alloc: Global, first: u32, constant: i128) -> Form {
+/// 3 divides the sum of x2 - x3 and the constant.
+fn by_three(rt: &impl Abort, alloc: Global, constant: i128) -> Form {
     let three = Divisor::new(3).expect(rt, "a divisor");
-    let terms = [(first, 1), (first + 1, -1)];
+    let terms = [(2, 1), (3, -1)];
     Form::Lit(Lit::Div(three, lin(rt, alloc, &terms, constant)))
 }
 
@@ -57,15 +57,15 @@ fn difference(rt: &impl Abort, alloc: Global, parts: &mut Items<Form>) {
 
 /// 3 divides x2 - x3, and it divides x2 - x3 + 1 or x2 - x3 + 2, where x0 + x1 is then 0, or x2 - x3 + 4.
 fn remainders(rt: &impl Abort, alloc: Global, parts: &mut Items<Form>) {
-    put(rt, parts, by_three(rt, alloc, 2, 0));
+    put(rt, parts, by_three(rt, alloc, 0));
     let mut others = Items::new(alloc);
-    put(rt, &mut others, by_three(rt, alloc, 2, 1));
+    put(rt, &mut others, by_three(rt, alloc, 1));
     let mut both = Items::new(alloc);
-    put(rt, &mut both, by_three(rt, alloc, 2, 2));
+    put(rt, &mut both, by_three(rt, alloc, 2));
     let sum = lin(rt, alloc, &[(0, 1), (1, 1)], 0);
     put(rt, &mut both, Form::Lit(Lit::Eq(sum)));
     put(rt, &mut others, Form::And(both));
-    put(rt, &mut others, by_three(rt, alloc, 2, 4));
+    put(rt, &mut others, by_three(rt, alloc, 4));
     put(rt, parts, Form::Or(others));
 }
 
