@@ -9,7 +9,8 @@ ghost use Rattle.lia_search.specs.Decides.{Decides};
 ghost use Rattle.lia_branch.specs.Conjunction.{conjunction};
 
 use base::{Copied, Items, Memory};
-use lia_search::{Decision, search};
+use lia_jumps::decide_form;
+use lia_search::Decision;
 use lin_atoms::{Form, Lit};
 use std::alloc::Global;
 
@@ -28,7 +29,8 @@ fn conjunction(alloc: Global, lits: &[Lit]) -> Result<Form, Memory>
 /// of their conjunction in this order, or evidence that it was given up, with at most `nodes` inner
 /// nodes of a split tree. Each literal is rounded by itself, and no two are combined before the first
 /// run of the simplex on all of them; where a number of that run has no room, the conjunction is
-/// given up. The variables are below `vars`, which is at most 2,048, `nodes` is at least 1, and the
+/// given up. What eight inner nodes don't decide is searched with going back: a refutation that
+/// doesn't use its own branch's literal is that of the node above. The variables are below `vars`, which is at most 2,048, `nodes` is at least 1, and the
 /// constant of each divisibility is below 2^63 in magnitude.
 pub fn decide_all(alloc: Global, lits: &[Lit], vars: u32, nodes: u32) -> Result<Decision, Memory>
     requires below { list_all (lit_is_below vars) lits.now ≡ true }
@@ -38,6 +40,6 @@ pub fn decide_all(alloc: Global, lits: &[Lit], vars: u32, nodes: u32) -> Result<
     ensures { IfOk result (λ decision. Decides (conjunction lits.now) vars nodes decision) }
 {
     let form = conjunction(alloc, lits)?;
-    let decision = search(alloc, form, lits.len(), vars, nodes)?;
+    let decision = decide_form(alloc, form, lits.len(), vars, nodes)?;
     Ok(decision)
 }

@@ -9,8 +9,8 @@ ghost use Rattle.lia_search.specs.Decides.{Decides, has_short_multiples};
 
 use crate::counting::first_literals;
 use base::{Copied, Items, Memory};
-use lia_jumps::decide_back;
-use lia_search::{Decision, search};
+use lia_jumps::decide_form;
+use lia_search::Decision;
 use lin_atoms::Form;
 use std::alloc::Global;
 
@@ -22,56 +22,6 @@ fn conjunction(alloc: Global, form: Form, lemmas: Items<Form>) -> Result<Form, M
     parts.push(form)?;
     parts.append(lemmas)?;
     Ok(Form::And(parts))
-}
-
-/// With so few inner nodes most formulas are decided. What isn't is searched with going back first.
-const FEW_NODES: u32 = 8;
-
-/// A formula that was given up with fewer inner nodes is decided: by a search that goes back, or else with the inner
-/// nodes of a split tree that are allowed.
-fn again(alloc: Global, form: Form, taken: usize, vars: u32, nodes: u32) -> Result<Decision, Memory>
-    requires below { is_below vars form ≡ true }
-    requires short { has_short_multiples form ≡ true }
-    requires few { vars ≤ most_variables }
-    requires some { 0 < nodes }
-    ensures { IfOk result (λ decision. Decides form vars nodes decision) }
-{
-    match decide_back(alloc, &form, taken, vars, nodes)? {
-        Some(decision) => Ok(decision),
-        None => {
-            let decision = search(alloc, form, taken, vars, nodes)?;
-            Ok(decision)
-        }
-    }
-}
-
-/// A formula is decided, with a few inner nodes at first.
-fn decided(
-    alloc: Global,
-    form: Form,
-    taken: usize,
-    vars: u32,
-    nodes: u32,
-) -> Result<Decision, Memory>
-    requires below { is_below vars form ≡ true }
-    requires short { has_short_multiples form ≡ true }
-    requires few { vars ≤ most_variables }
-    requires some { 0 < nodes }
-    ensures { IfOk result (λ decision. Decides form vars nodes decision) }
-{
-    if nodes <= FEW_NODES {
-        let decision = search(alloc, form, taken, vars, nodes)?;
-        return Ok(decision);
-    }
-    match search(alloc, form, taken, vars, FEW_NODES)? {
-        Decision::Model(point) => Ok(Decision::Model(point)),
-        Decision::Refuted(refuted) => Ok(Decision::Refuted(refuted)),
-        Decision::GaveUp(gave_up) => {
-            let form = gave_up.form().copy(alloc)?;
-            let decision = again(alloc, form, taken, vars, nodes)?;
-            Ok(decision)
-        }
-    }
 }
 
 /// What `decide` answers of a formula and lemmas that aren't needed any more. They aren't copied.
@@ -92,7 +42,7 @@ pub fn decide_owned(
 {
     let taken = first_literals(&form, lemmas.as_slice());
     let whole = conjunction(alloc, form, lemmas)?;
-    let decision = decided(alloc, whole, taken, vars, nodes)?;
+    let decision = decide_form(alloc, whole, taken, vars, nodes)?;
     Ok(decision)
 }
 

@@ -170,6 +170,9 @@ impl Seen {
                     }
                     Lacking::More => Lacking::More,
                 };
+                if matches!(found, Lacking::More) {
+                    return found;
+                }
             }
         }
         found

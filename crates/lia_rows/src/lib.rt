@@ -9,6 +9,8 @@ mod conjunctions;
 #[cfg(test)]
 mod divisors;
 #[cfg(test)]
+mod jump_means;
+#[cfg(test)]
 mod jumps;
 #[cfg(test)]
 mod lemmas;

@@ -5,11 +5,11 @@ use Rattle.lia_search.specs.Decides.{Decides, has_short_multiples}
 use Rattle.lia_branch.proofs.ConjunctionLemmas.{conjunction-below, conjunction-short}
 use Rattle.lia_branch.proofs.conjunction.decide_all.Goals as goal
 
-pub search-requires-clause-below : goal.search-requires-clause-below
-search-requires-clause-below c = ap (is_below c.args.vars) c.in_ok-form.ensures ∙ conjunction-below c.args.vars c.args.lits.now c.requires.below
+pub decide_form-requires-clause-below : goal.decide_form-requires-clause-below
+decide_form-requires-clause-below c = ap (is_below c.args.vars) c.in_ok-form.ensures ∙ conjunction-below c.args.vars c.args.lits.now c.requires.below
 
-pub search-requires-clause-short : goal.search-requires-clause-short
-search-requires-clause-short c = ap has_short_multiples c.in_ok-form.ensures ∙ conjunction-short c.args.lits.now c.requires.short
+pub decide_form-requires-clause-short : goal.decide_form-requires-clause-short
+decide_form-requires-clause-short c = ap has_short_multiples c.in_ok-form.ensures ∙ conjunction-short c.args.lits.now c.requires.short
 
 pub returns : goal.returns
 returns c = subst (λ (form : Form). Decides form c.args.vars c.args.nodes c.in_ok-decision.decision) c.in_ok-form.ensures c.in_ok-decision.ensures
