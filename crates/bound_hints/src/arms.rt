@@ -39,14 +39,48 @@ fn copies(alloc: Global, ways: &[Way]) -> Result<Vec<Way>, Memory> {
 }
 
 /// Each way with one more literal.
-fn with_lit(alloc: Global, ways: &[Way], lit: &Lit) -> Result<Vec<Way>, Memory> {
-    let mut made = Vec::new(alloc);
+fn with_lit(alloc: Global, ways: Vec<Way>, lit: &Lit) -> Result<Vec<Way>, Memory> {
+    let mut made = Vec::with_capacity(alloc, ways.len())?;
     for way in ways {
-        let mut lits = copied(alloc, way.lits.as_slice())?;
+        let Way { mut lits } = way;
         lits.push(lit.copy(alloc)?)?;
         made.push(Way { lits })?;
     }
     Ok(made)
+}
+
+/// How many ways so many ways through the formula as well are.
+#[cycle(counted)]
+fn counted(form: &Form, ways: usize) -> usize {
+    match form {
+        Form::True => ways,
+        Form::False => 0,
+        Form::Lit(_) => ways,
+        Form::And(parts) => all_counted(parts.as_slice(), ways),
+        Form::Or(parts) => any_counted(parts.as_slice(), ways).unwrap_or(ways),
+    }
+}
+
+#[cycle(counted)]
+fn all_counted(parts: &[Form], ways: usize) -> usize {
+    let mut ways = ways;
+    for part in parts {
+        ways = counted(part, ways);
+    }
+    ways
+}
+
+/// Nothing where they are too many to be told apart.
+#[cycle(counted)]
+fn any_counted(parts: &[Form], ways: usize) -> Option<usize> {
+    let mut count: usize = 0;
+    for part in parts {
+        count = count.saturating_add(counted(part, ways));
+        if count > MOST_WAYS {
+            return None;
+        }
+    }
+    Some(count)
 }
 
 /// The ways so far through the formula as well.
@@ -55,7 +89,7 @@ fn expanded(alloc: Global, form: &Form, ways: Vec<Way>) -> Result<Vec<Way>, Memo
     match form {
         Form::True => Ok(ways),
         Form::False => Ok(Vec::new(alloc)),
-        Form::Lit(lit) => with_lit(alloc, ways.as_slice(), lit),
+        Form::Lit(lit) => with_lit(alloc, ways, lit),
         Form::And(parts) => all_expanded(alloc, parts.as_slice(), ways),
         Form::Or(parts) => any_expanded(alloc, parts.as_slice(), ways),
     }
@@ -72,12 +106,12 @@ fn all_expanded(alloc: Global, parts: &[Form], ways: Vec<Way>) -> Result<Vec<Way
 
 #[cycle(expanded)]
 fn any_expanded(alloc: Global, parts: &[Form], ways: Vec<Way>) -> Result<Vec<Way>, Memory> {
+    if any_counted(parts, ways.len()).is_none() {
+        return Ok(ways);
+    }
     let mut made = Vec::new(alloc);
     for part in parts {
         let own = expanded(alloc, part, copies(alloc, ways.as_slice())?)?;
-        if made.len().saturating_add(own.len()) > MOST_WAYS {
-            return Ok(ways);
-        }
         made = joined(made, own)?;
     }
     Ok(made)
@@ -119,11 +153,26 @@ fn push_arms(
     Ok(true)
 }
 
+/// Whether there aren't too many ways through all clauses.
+fn are_few(sys: &System) -> bool {
+    let mut count: usize = 0;
+    for clause in sys.clauses() {
+        if count > MOST_ARMS {
+            return false;
+        }
+        count = count.saturating_add(counted(&clause.guard, 1));
+    }
+    true
+}
+
 /// The ways through all clauses, if there aren't too many.
 pub(crate) fn arms_of(alloc: Global, sys: &System) -> Result<Option<Vec<Arm>>, Memory> {
+    if !are_few(sys) {
+        return Ok(None);
+    }
     let mut arms = Vec::new(alloc);
     for (number, clause) in sys.clauses().iter().enumerate() {
-        if arms.len() > MOST_ARMS || !push_arms(alloc, &mut arms, number, clause)? {
+        if !push_arms(alloc, &mut arms, number, clause)? {
             return Ok(None);
         }
     }
