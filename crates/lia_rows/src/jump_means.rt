@@ -22,7 +22,9 @@ fn bound(rt: &impl Abort, alloc: Global, variable: u32, sign: i64, constant: i12
 
 /// The difference of the variable and the next one: no bound of one variable follows from one of it.
 fn difference(rt: &impl Abort, alloc: Global, variable: u32, sign: i64, constant: i128) -> Lin {
-    let terms = [(variable, sign), (variable.saturating_add(1), -sign)];
+    let zero: i64 = 0;
+    let other = zero.saturating_sub(sign);
+    let terms = [(variable, sign), (variable.saturating_add(1), other)];
     lin(rt, alloc, &terms, constant)
 }
 
@@ -31,11 +33,15 @@ fn at_least(rt: &impl Abort, alloc: Global, variable: u32, least: i128) -> Form 
 }
 
 fn at_most(rt: &impl Abort, alloc: Global, variable: u32, most: i128) -> Form {
-    Form::Lit(Lit::Le(difference(rt, alloc, variable, 1, -most)))
+    let zero: i128 = 0;
+    let constant = zero.saturating_sub(most);
+    Form::Lit(Lit::Le(difference(rt, alloc, variable, 1, constant)))
 }
 
 fn is(rt: &impl Abort, alloc: Global, variable: u32, value: i128) -> Form {
-    Form::Lit(Lit::Eq(difference(rt, alloc, variable, 1, -value)))
+    let zero: i128 = 0;
+    let constant = zero.saturating_sub(value);
+    Form::Lit(Lit::Eq(difference(rt, alloc, variable, 1, constant)))
 }
 
 fn put(rt: &impl Abort, parts: &mut Items<Form>, form: Form) {
