@@ -14,6 +14,8 @@ import time
 from typing import NamedTuple, Optional
 
 TOP = os.path.dirname(os.path.dirname(os.path.abspath(__file__)))
+# What the launcher tells the C library when it starts the program.
+TUNABLES = "glibc.malloc.hugetlb=1:glibc.malloc.top_pad=8388608:glibc.malloc.tcache_count=1000"
 
 
 class Measured(NamedTuple):
@@ -81,7 +83,8 @@ def measure(name, words, path, runs):
 
 def compare(path, runs):
     """Measures chc some times and z3 once, where it is installed."""
-    ours, peak = measure("chc", [chc_program(), "solve"], path, runs)
+    program = ["env", f"GLIBC_TUNABLES={TUNABLES}", chc_program()]
+    ours, peak = measure("chc", [*program, "solve"], path, runs)
     if shutil.which("z3") is None:
         print("z3 is not installed, so there is no ratio")
         return Measured(ours, peak, None)
