@@ -32,7 +32,7 @@ import subprocess
 import sys
 import tempfile
 
-from measure import chc_program, run, run_on
+from measure import chc_program, launched, run, run_on
 
 MARKER = b"\n;;answer\n"
 TIMED_OUT = (-9, -24)
@@ -206,7 +206,7 @@ def checked(program, script, answer, seconds):
     with tempfile.TemporaryFile() as given:
         given.write(script.encode() + MARKER + answer.encode())
         given.seek(0)
-        return run_on([program, "check"], given, seconds)
+        return run_on([*launched(program), "check"], given, seconds)
 
 
 class Tally:
@@ -257,7 +257,7 @@ def try_spoilt(words, name, script, answer, tally):
 def try_script(words, path, solver, tally):
     """Solves one script, has the answer checked and spoilt, and prints the row."""
     name = os.path.basename(path).removesuffix(".smt2")
-    solved = run([words.program, "solve"], path, words.seconds)
+    solved = run([*launched(words.program), "solve"], path, words.seconds)
     answer = solved.output.decode()
     kind = answer.split("\n", 1)[0]
     if solved.status != 0 or kind not in ("sat", "unsat"):

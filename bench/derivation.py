@@ -17,7 +17,7 @@ import random
 import sys
 import tempfile
 
-from measure import chc_program, run
+from measure import chc_program, launched, run
 
 RUNS = 3
 CHAIN = """(set-logic HORN)
@@ -82,7 +82,7 @@ def write(path, script, lines, steps, behind=""):
 
 def measure(program, path, wanted):
     """The least seconds of some runs, each of which must say this."""
-    ran = [run([program, "check"], path) for _ in range(RUNS)]
+    ran = [run([*launched(program), "check"], path) for _ in range(RUNS)]
     for it in ran:
         if it.output.decode() != wanted:
             sys.exit(f"check says {it.output[:100]!r} in place of {wanted!r}")

@@ -14,7 +14,7 @@ import re
 import shutil
 import sys
 
-from measure import TOP, run
+from measure import TOP, launched, run
 from search import answer_of
 
 MEANS = os.path.join("crates", "book_loop", "src", "means.rt")
@@ -69,7 +69,7 @@ def print_table(words):
     for script in names:
         cells, told = [], set()
         for name, program in programs:
-            ran = run([program, "solve", "--workers", str(words.workers)], os.path.join(words.scripts, script), words.seconds)
+            ran = run([*launched(program), "solve", "--workers", str(words.workers)], os.path.join(words.scripts, script), words.seconds)
             answer = answer_of(ran)
             if answer in SOLVED:
                 solved[name].add(script)

@@ -5,6 +5,7 @@ which other work on the machine hardly changes; seconds by the clock; and the pe
 system gave it. Ratios are those of processor time."""
 
 import os
+import re
 import resource
 import shutil
 import subprocess
@@ -14,8 +15,6 @@ import time
 from typing import NamedTuple, Optional
 
 TOP = os.path.dirname(os.path.dirname(os.path.abspath(__file__)))
-# What the launcher tells the C library when it starts the program.
-TUNABLES = "glibc.malloc.hugetlb=1:glibc.malloc.top_pad=8388608:glibc.malloc.tcache_count=1000"
 
 
 class Measured(NamedTuple):
@@ -68,6 +67,13 @@ def chc_program():
     return os.path.join(TOP, "crates", "chc", "out", "chc")
 
 
+def launched(program):
+    """The words that start a program of chc as the launcher does, with what that tells the C library."""
+    with open(os.path.join(TOP, "chc"), encoding="utf-8") as launcher:
+        tunables = re.search(r"^ *tunables=(\S+)$", launcher.read(), re.MULTILINE)[1]
+    return ["env", f"GLIBC_TUNABLES={tunables}", program]
+
+
 def measure(name, words, path, runs):
     """The least seconds and the greatest peak of some runs, each of which must answer sat."""
     results = [run(words, path) for _ in range(runs)]
@@ -83,8 +89,7 @@ def measure(name, words, path, runs):
 
 def compare(path, runs):
     """Measures chc some times and z3 once, where it is installed."""
-    program = ["env", f"GLIBC_TUNABLES={TUNABLES}", chc_program()]
-    ours, peak = measure("chc", [*program, "solve"], path, runs)
+    ours, peak = measure("chc", [*launched(chc_program()), "solve"], path, runs)
     if shutil.which("z3") is None:
         print("z3 is not installed, so there is no ratio")
         return Measured(ours, peak, None)

@@ -20,7 +20,7 @@ import re
 import shutil
 import sys
 
-from measure import chc_program, run
+from measure import chc_program, launched, run
 
 TOLD = re.compile(rb"\(set-info\s+:status\s+(sat|unsat)\s*\)|^;+ *expect: (sat|unsat)\b", re.MULTILINE)
 LEVEL = re.compile(rb"^; level (\d+) (?:units (\d+)|(stalled|memory))$", re.MULTILINE)
@@ -46,7 +46,7 @@ def size_of(output):
 
 def spent(program, path, units, seconds):
     """The level line of a run with this limit on its units, or None where it has another answer."""
-    ran = run([program, "solve", "--units", str(units)], path, seconds)
+    ran = run([*launched(program), "solve", "--units", str(units)], path, seconds)
     return LEVEL.search(ran.output) if answer_of(ran) == "unknown" else None
 
 
@@ -70,8 +70,8 @@ def row_of(words, path, theirs):
     with open(path, "rb") as script:
         told = TOLD.search(script.read())
     told = (told[1] or told[2]).decode() if told else "-"
-    opened = run([words.program, "solve", "--units", "0"], path, words.seconds)
-    ours = run([words.program, "solve"], path, words.seconds)
+    opened = run([*launched(words.program), "solve", "--units", "0"], path, words.seconds)
+    ours = run([*launched(words.program), "solve"], path, words.seconds)
     answer, level, units, size = answer_of(ours), "-", "-", "-"
     if answer == "unknown":
         line = LEVEL.search(ours.output)

@@ -17,7 +17,7 @@ extern "C" {
     ) -> i32;
 }
 
-const ROUNDS: usize = 5;
+const ROUNDS: usize = 9;
 
 /// No lower bound, and no upper bound.
 const NONE_BELOW: i64 = i64::MIN;
@@ -374,6 +374,24 @@ fn dense(seeded: &mut Seeded, variables: usize, rows: usize) -> System {
     System { variables, coefficients, lower, upper }
 }
 
+/// Forms of six variables each, in a range about their values at a hidden point.
+fn sparse(seeded: &mut Seeded, variables: usize, rows: usize) -> System {
+    let point: Vec<i64> = (0..variables).map(|_| seeded.between(-20, 20)).collect();
+    let mut coefficients = vec![0; variables * rows];
+    let mut lower = vec![-30; variables];
+    let mut upper = vec![30; variables];
+    for row in coefficients.chunks_mut(variables) {
+        for _ in 0..6 {
+            row[seeded.below(variables as u64) as usize] = seeded.between(1, 3) * (1 - 2 * seeded.below(2));
+        }
+        let value: i64 = row.iter().zip(&point).map(|(a, x)| a * x).sum();
+        let off = if seeded.below(8 * rows as u64) == 0 { 400 } else { 0 };
+        lower.push(value + off - seeded.below(4));
+        upper.push(value + off + seeded.below(4));
+    }
+    System { variables, coefficients, lower, upper }
+}
+
 /// Differences of two variables with a lower bound: a variable for each two rows.
 fn differences(seeded: &mut Seeded, rows: usize) -> System {
     let variables = rows / 2;
@@ -422,17 +440,13 @@ fn flow(seeded: &mut Seeded, nodes: usize) -> System {
     System { variables, coefficients, lower, upper }
 }
 
-/// The least seconds of several rounds over all systems.
+/// The seconds of one round over all systems.
 fn seconds(solve: impl Fn(&System), systems: &[System]) -> f64 {
-    (0..ROUNDS)
-        .map(|_| {
-            let begun = Instant::now();
-            for system in systems {
-                solve(black_box(system));
-            }
-            begun.elapsed().as_secs_f64()
-        })
-        .fold(f64::MAX, f64::min)
+    let begun = Instant::now();
+    for system in systems {
+        solve(black_box(system));
+    }
+    begun.elapsed().as_secs_f64()
 }
 
 fn measure(name: &str, systems: Vec<System>) {
@@ -454,8 +468,12 @@ fn measure(name: &str, systems: Vec<System>) {
         pivots += count;
         kept.push(system);
     }
-    let base = seconds(|s| drop(black_box(plain(s))), &kept);
-    let own = seconds(|s| drop(black_box(proved(s))), &kept);
+    // In turns, so that a host that is slower for a while slows both.
+    let (mut base, mut own) = (f64::MAX, f64::MAX);
+    for _ in 0..ROUNDS {
+        base = base.min(seconds(|s| drop(black_box(plain(s))), &kept));
+        own = own.min(seconds(|s| drop(black_box(proved(s))), &kept));
+    }
     println!(
         "{name}: {} vertices, {} conflicts, {passed} without room, {pivots} pivots; plain {:.2} us a pivot, feasible {:.2} us a pivot, ratio {:.2}",
         kinds[0],
@@ -479,5 +497,9 @@ fn main() {
     for nodes in [50, 100] {
         let systems = (0..20).map(|_| flow(&mut seeded, nodes)).collect();
         measure(&format!("flows of {nodes} nodes"), systems);
+    }
+    for variables in [30, 60] {
+        let systems = (0..50).map(|_| sparse(&mut seeded, variables, 30)).collect();
+        measure(&format!("30 rows, {variables} variables"), systems);
     }
 }

@@ -18,7 +18,7 @@ import subprocess
 import sys
 import time
 
-from measure import chc_program
+from measure import chc_program, launched
 
 MARKER = b";;answer\n"
 
@@ -27,7 +27,7 @@ def ran(program, words, data, seconds):
     """The output, seconds by the clock, and seconds of processor time; no output where it is out of time."""
     begin, before = time.monotonic(), os.times()
     try:
-        output = subprocess.run([program, *words], input=data, stdout=subprocess.PIPE, timeout=seconds, check=False).stdout
+        output = subprocess.run([*launched(program), *words], input=data, stdout=subprocess.PIPE, timeout=seconds, check=False).stdout
     except subprocess.TimeoutExpired:
         output = b""
     after = os.times()
