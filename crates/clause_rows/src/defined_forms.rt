@@ -1,7 +1,7 @@
 //! Formulas by hand.
 
 use crate::defined_texts::formula_under;
-use base::{Items, Memory, Same};
+use base::{Items, Same};
 use clause_normal::NormalStop;
 use lin_atoms::{Form, Lin, Lit};
 use std::alloc::Global;
@@ -21,48 +21,51 @@ fn eq(rt: &impl Abort, alloc: Global, terms: &[(u32, i64)], constant: i128) -> F
     Form::Lit(Lit::Eq(lin(rt, alloc, terms, constant)))
 }
 
-fn both(alloc: Global, a: Form, b: Form) -> Result<Form, Memory> {
-    let parts = Vec::from_array(alloc, [a, b])?;
-    Ok(Form::And(Items::from_vec(parts)))
+fn both(rt: &impl Abort, alloc: Global, a: Form, b: Form) -> Form {
+    let parts = Vec::from_array(alloc, [a, b]).expect(rt, "memory");
+    Form::And(Items::from_vec(parts))
 }
 
 /// That the variable v is the magnitude of u.
-fn magnitude(rt: &impl Abort, alloc: Global, u: u32, v: u32) -> Result<Form, Memory> {
+fn magnitude(rt: &impl Abort, alloc: Global, u: u32, v: u32) -> Form {
     let positive = both(
+        rt,
         alloc,
         le(rt, alloc, &[(u, -1)], 0),
         eq(rt, alloc, &[(u, -1), (v, 1)], 0),
-    )?;
+    );
     let negative = both(
+        rt,
         alloc,
         le(rt, alloc, &[(u, 1)], 1),
         eq(rt, alloc, &[(u, 1), (v, 1)], 0),
-    )?;
-    let parts = Vec::from_array(alloc, [positive, negative])?;
-    Ok(Form::Or(Items::from_vec(parts)))
+    );
+    let parts = Vec::from_array(alloc, [positive, negative]).expect(rt, "memory");
+    Form::Or(Items::from_vec(parts))
 }
 
 /// Whether that is the formula of the assertion over p with one argument, under the definition by the
 /// term, with `count` variables.
 fn is_made(
+    rt: &impl Abort,
     alloc: Global,
     assertion: &str,
     term: &str,
     form: &Form,
     count: u32,
-) -> Result<bool, Memory> {
+) -> bool {
     let text = format!(in alloc;
         "(set-logic HORN)(declare-fun p (Int) Bool){assertion}(check-sat)"
-    )?;
+    ).expect(rt, "memory");
     let (text, term) = (text.as_bytes(), term.as_bytes());
     if text.len() > 1000 || term.len() > 1000 {
-        return Ok(false);
+        return false;
     }
     match formula_under(alloc, text, term) {
-        Ok(Some((made, variables))) => Ok(made.equals(form) && variables == count),
-        Ok(None) => Ok(false),
-        Err(NormalStop::Memory) => Err(Memory),
-        Err(_) => Ok(false),
+        Ok(Some((made, variables))) => made.equals(form) && variables == count,
+        Ok(None) => false,
+        Err(NormalStop::Memory) => panic!(rt; "memory"),
+        Err(_) => false,
     }
 }
 
@@ -79,9 +82,10 @@ fn the_body_holds_and_the_head_does_not(rt: HostRuntime) -> Result<(), Fail> {
             le(&rt, a, &[(0, 1)], -9),
             le(&rt, a, &[(1, -1)], 10),
         ],
-    )?;
+    )
+    .expect(&rt, "memory");
     let form = Form::And(Items::from_vec(parts));
-    assert!(rt; is_made(a, STEP, "(< a 10)", &form, 2)?);
+    assert!(rt; is_made(&rt, a, STEP, "(< a 10)", &form, 2));
     Ok(())
 }
 
@@ -92,14 +96,15 @@ fn each_use_has_auxiliary_variables_of_its_own(rt: HostRuntime) -> Result<(), Fa
         a,
         [
             eq(&rt, a, &[(0, -1), (1, 1)], -1),
-            magnitude(&rt, a, 0, 2)?,
+            magnitude(&rt, a, 0, 2),
             le(&rt, a, &[(2, 1)], -9),
-            magnitude(&rt, a, 1, 3)?,
+            magnitude(&rt, a, 1, 3),
             le(&rt, a, &[(3, -1)], 10),
         ],
-    )?;
+    )
+    .expect(&rt, "memory");
     let form = Form::And(Items::from_vec(parts));
-    assert!(rt; is_made(a, STEP, "(< (abs a) 10)", &form, 4)?);
+    assert!(rt; is_made(&rt, a, STEP, "(< (abs a) 10)", &form, 4));
     Ok(())
 }
 
@@ -108,6 +113,6 @@ fn without_atoms_and_head_the_guard_stands_alone(rt: HostRuntime) -> Result<(), 
     let a = rt.alloc();
     let form = le(&rt, a, &[(0, 1)], 1);
     let text = "(assert (forall ((x Int)) (not (< x 0))))";
-    assert!(rt; is_made(a, text, "true", &form, 1)?);
+    assert!(rt; is_made(&rt, a, text, "true", &form, 1));
     Ok(())
 }

@@ -6,6 +6,7 @@ use crate::samples::{Given, all_given};
 use crate::shown::shown;
 use crate::written::written;
 use std::alloc::Global;
+use std::process::Abort;
 use std::test::Fail;
 use term_tree::{Sort, TermId};
 
@@ -46,22 +47,22 @@ const FORMULAS: &str = "\
 42: and(or(le +1u+0)(le -1b+1))(or(le -1u+1)(le -1c+1)) | and(or(le +1u+0)(le +1b+0))(or(le -1u+1)(le +1c+0))
 ";
 
-fn line(alloc: Global, given: &Given, id: u32) -> Result<String, Fail>
+fn line(rt: &impl Abort, alloc: Global, given: &Given, id: u32) -> Result<String, Fail>
     requires given { AreGiven given.now.terms.nodes given.now.constants given.now.names.own.items given.now.names.auxiliary }
 {
-    let yes = shown(alloc, &written(alloc, given, id, true)?)?;
-    let no = shown(alloc, &written(alloc, given, id, false)?)?;
-    Ok(format!(in alloc; "{id}: {yes} | {no}\n")?)
+    let yes = shown(rt, alloc, &written(alloc, given, id, true)?);
+    let no = shown(rt, alloc, &written(alloc, given, id, false)?);
+    Ok(format!(in alloc; "{id}: {yes} | {no}\n").expect(rt, "memory"))
 }
 
-fn lines(alloc: Global, given: &Given) -> Result<String, Fail>
+fn lines(rt: &impl Abort, alloc: Global, given: &Given) -> Result<String, Fail>
     requires given { AreGiven given.now.terms.nodes given.now.constants given.now.names.own.items given.now.names.auxiliary }
 {
     let mut lines = String::new(alloc);
     for id in 0..46u32 {
         if given.sorts.sort(TermId(id)) == Some(Sort::Bool) {
-            let line = line(alloc, given, id)?;
-            lines.push_str(&line)?;
+            let line = line(rt, alloc, given, id)?;
+            lines.push_str(&line).expect(rt, "memory");
         }
     }
     Ok(lines)
@@ -71,7 +72,7 @@ fn lines(alloc: Global, given: &Given) -> Result<String, Fail>
 fn each_bool_term_has_the_forms_of_its_kind(rt: HostRuntime) -> Result<(), Fail> {
     let alloc = rt.alloc();
     let given = all_given(alloc)?;
-    let lines = lines(alloc, &given)?;
+    let lines = lines(&rt, alloc, &given)?;
     assert!(rt; lines.as_str() == FORMULAS, "{lines}");
     Ok(())
 }

@@ -1,8 +1,8 @@
 //! Forms as texts: `le`, `eq`, `div` and `ndiv` of linear forms, and `and` and `or` of their parts.
 
-use base::Memory;
 use lin_atoms::{Form, Lin, Lit};
 use std::alloc::Global;
+use std::process::Abort;
 
 /// x and y are integers, b and c truth values, u and v auxiliary.
 fn name(variable: u32) -> &'static str {
@@ -17,64 +17,78 @@ fn name(variable: u32) -> &'static str {
     }
 }
 
-fn shown_lin(alloc: Global, lin: &Lin) -> Result<String, Memory> {
+fn put(rt: &impl Abort, text: &mut String, more: &str) {
+    text.push_str(more).expect(rt, "memory");
+}
+
+fn shown_lin(rt: &impl Abort, alloc: Global, lin: &Lin) -> String {
     let mut shown = String::new(alloc);
     for (variable, coefficient) in lin.terms() {
         let name = name(*variable);
-        shown.push_str(&format!(in alloc; "{coefficient:+}{name}")?)?;
+        put(
+            rt,
+            &mut shown,
+            &format!(in alloc; "{coefficient:+}{name}").expect(rt, "memory"),
+        );
     }
     let constant = lin.constant();
-    shown.push_str(&format!(in alloc; "{constant:+}")?)?;
-    Ok(shown)
+    put(
+        rt,
+        &mut shown,
+        &format!(in alloc; "{constant:+}").expect(rt, "memory"),
+    );
+    shown
 }
 
-fn shown_lit(alloc: Global, lit: &Lit) -> Result<String, Memory> {
-    let shown = match lit {
+fn shown_lit(rt: &impl Abort, alloc: Global, lit: &Lit) -> String {
+    match lit {
         Lit::Le(lin) => {
-            let lin = shown_lin(alloc, lin)?;
-            format!(in alloc; "le {lin}")?
+            let lin = shown_lin(rt, alloc, lin);
+            format!(in alloc; "le {lin}").expect(rt, "memory")
         }
         Lit::Eq(lin) => {
-            let lin = shown_lin(alloc, lin)?;
-            format!(in alloc; "eq {lin}")?
+            let lin = shown_lin(rt, alloc, lin);
+            format!(in alloc; "eq {lin}").expect(rt, "memory")
         }
         Lit::Div(by, lin) => {
-            let (by, lin) = (by.get(), shown_lin(alloc, lin)?);
-            format!(in alloc; "div {by} {lin}")?
+            let (by, lin) = (by.get(), shown_lin(rt, alloc, lin));
+            format!(in alloc; "div {by} {lin}").expect(rt, "memory")
         }
         Lit::NDiv(by, lin) => {
-            let (by, lin) = (by.get(), shown_lin(alloc, lin)?);
-            format!(in alloc; "ndiv {by} {lin}")?
+            let (by, lin) = (by.get(), shown_lin(rt, alloc, lin));
+            format!(in alloc; "ndiv {by} {lin}").expect(rt, "memory")
         }
-    };
-    Ok(shown)
+    }
 }
 
 /// All of them in a row, each in parentheses.
 #[cycle(shown)]
-pub fn shown_all(alloc: Global, forms: &[Form]) -> Result<String, Memory> {
+pub fn shown_all(rt: &impl Abort, alloc: Global, forms: &[Form]) -> String {
     let mut text = String::new(alloc);
     for form in forms {
-        let form = shown(alloc, form)?;
-        text.push_str(&format!(in alloc; "({form})")?)?;
+        let form = shown(rt, alloc, form);
+        put(
+            rt,
+            &mut text,
+            &format!(in alloc; "({form})").expect(rt, "memory"),
+        );
     }
-    Ok(text)
+    text
 }
 
 #[cycle(shown)]
-pub fn shown(alloc: Global, form: &Form) -> Result<String, Memory> {
-    let shown = match form {
-        Form::True => format!(in alloc; "true")?,
-        Form::False => format!(in alloc; "false")?,
-        Form::Lit(lit) => shown_lit(alloc, lit)?,
+pub fn shown(rt: &impl Abort, alloc: Global, form: &Form) -> String {
+    match form {
+        Form::True => format!(in alloc; "true").expect(rt, "memory"),
+        Form::False => format!(in alloc; "false").expect(rt, "memory"),
+        Form::Lit(lit) => shown_lit(rt, alloc, lit),
         Form::And(parts) => {
-            let parts = shown_all(alloc, parts.as_slice())?;
-            format!(in alloc; "and{parts}")?
+            let parts = shown_all(rt, alloc, parts.as_slice());
+            format!(in alloc; "and{parts}").expect(rt, "memory")
         }
         Form::Or(parts) => {
-            let parts = shown_all(alloc, parts.as_slice())?;
-            format!(in alloc; "or{parts}")?
+            let parts = shown_all(rt, alloc, parts.as_slice());
+            format!(in alloc; "or{parts}").expect(rt, "memory")
         }
-    };
-    Ok(shown)
+    }
 }

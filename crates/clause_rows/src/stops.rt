@@ -1,27 +1,31 @@
 //! Which stop comes, and where.
 
 use crate::defined_texts::formula_under;
-use base::Memory;
 use clause_normal::NormalStop;
 use std::alloc::Global;
+use std::process::Abort;
 use std::test::Fail;
 
 /// How many variables the formula of the assertion has, over p with two arguments, under the definition
 /// by the term, or why there is none. What stands before the assertion has 46 bytes.
-fn told(alloc: Global, assertion: &str, term: &str) -> Result<String, Memory> {
+fn told(rt: &impl Abort, alloc: Global, assertion: &str, term: &str) -> String {
     let text = format!(in alloc;
         "(set-logic HORN)(declare-fun p (Int Int) Bool){assertion}(check-sat)"
-    )?;
+    ).expect(rt, "memory");
     let (text, term) = (text.as_bytes(), term.as_bytes());
     if text.len() > 1 << 20 || term.len() > 1 << 20 {
-        return Ok(String::from_str(alloc, "too long")?);
+        return String::from_str(alloc, "too long").expect(rt, "memory");
     }
     match formula_under(alloc, text, term) {
-        Ok(Some((_, count))) => Ok(format!(in alloc; "{count}")?),
-        Ok(None) => Ok(String::from_str(alloc, "nothing")?),
-        Err(NormalStop::TooWide { offset }) => Ok(format!(in alloc; "wide at {offset}")?),
-        Err(NormalStop::Count { offset }) => Ok(format!(in alloc; "many at {offset}")?),
-        Err(NormalStop::Memory) => Err(Memory),
+        Ok(Some((_, count))) => format!(in alloc; "{count}").expect(rt, "memory"),
+        Ok(None) => String::from_str(alloc, "nothing").expect(rt, "memory"),
+        Err(NormalStop::TooWide { offset }) => format!(in alloc; "wide at {offset}").expect(
+            rt, "memory",
+        ),
+        Err(NormalStop::Count { offset }) => format!(in alloc; "many at {offset}").expect(
+            rt, "memory",
+        ),
+        Err(NormalStop::Memory) => panic!(rt; "memory"),
     }
 }
 
@@ -35,21 +39,27 @@ fn coefficients_of_an_argument_that_stands_twice_add_up(rt: HostRuntime) -> Resu
         ("(p (+ x 1) (+ x 1))", "4"),
     ];
     for (atom, awaited) in table {
-        let text = format!(in a; "(assert (forall ((x Int) (y Int)) (not {atom})))")?;
-        assert_eq!(rt; told(a, text.as_str(), term)?.as_str(), awaited, "{atom}");
+        let text = format!(in a; "(assert (forall ((x Int) (y Int)) (not {atom})))").expect(
+            &rt, "memory",
+        );
+        assert_eq!(rt;
+            told(&rt, a, text.as_str(), term).as_str(),
+            awaited,
+            "{atom}"
+        );
     }
     Ok(())
 }
 
 /// A conjunction with `count` magnitudes and a last part.
-fn magnitudes(alloc: Global, count: usize, last: &str) -> Result<String, Memory> {
-    let mut term = String::from_str(alloc, "(and")?;
+fn magnitudes(rt: &impl Abort, alloc: Global, count: usize, last: &str) -> String {
+    let mut term = String::from_str(alloc, "(and").expect(rt, "memory");
     for _ in 0..count {
-        term.push_str(" (< (abs a) 9)")?;
+        term.push_str(" (< (abs a) 9)").expect(rt, "memory");
     }
-    term.push_str(last)?;
-    term.push_str(")")?;
-    Ok(term)
+    term.push_str(last).expect(rt, "memory");
+    term.push_str(")").expect(rt, "memory");
+    term
 }
 
 #[test]
@@ -63,8 +73,8 @@ fn there_are_2048_variables_in_all_and_widths_come_first(rt: HostRuntime) -> Res
         (2047, wide, "wide at 28666"),
     ];
     for (count, last, awaited) in table {
-        let term = magnitudes(a, count, last)?;
-        assert_eq!(rt; told(a, text, term.as_str())?.as_str(), awaited);
+        let term = magnitudes(&rt, a, count, last);
+        assert_eq!(rt; told(&rt, a, text, term.as_str()).as_str(), awaited);
     }
     Ok(())
 }

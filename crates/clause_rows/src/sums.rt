@@ -4,26 +4,29 @@ use base::{Items, Same};
 use lin_atoms::{Lin, WideStop};
 use linear_sums::{difference_form, less, product_form, sum_form};
 use std::alloc::Global;
+use std::process::Abort;
 use std::test::Fail;
 
 const MOST: i64 = i64::MAX;
 
 /// A multiple of the variable 3, and a constant.
-fn form(alloc: Global, coefficient: i64, constant: i128) -> Result<Lin, Fail> {
+fn form(rt: &impl Abort, alloc: Global, coefficient: i64, constant: i128) -> Lin {
     let mut terms = Vec::new(alloc);
     if coefficient != 0 {
-        terms.push((3, coefficient))?;
+        terms.push((3, coefficient)).expect(rt, "memory");
     }
-    Ok(Lin::new(terms, constant)?)
+    Lin::new(terms, constant).expect(rt, "a form")
 }
 
 /// Multiples of the variable 3, each with a constant.
-fn forms(alloc: Global, parts: &[(i64, i128)]) -> Result<Items<Lin>, Fail> {
+fn forms(rt: &impl Abort, alloc: Global, parts: &[(i64, i128)]) -> Items<Lin> {
     let mut forms = Items::new(alloc);
     for (coefficient, constant) in parts {
-        forms.push(form(alloc, *coefficient, *constant)?)?;
+        forms
+            .push(form(rt, alloc, *coefficient, *constant))
+            .expect(rt, "memory");
     }
-    Ok(forms)
+    forms
 }
 
 /// Whether this is the form, or the refusal of a wide one where none is awaited.
@@ -38,14 +41,14 @@ fn is_form(found: Result<Lin, WideStop>, awaited: &Option<Lin>) -> bool {
 #[test]
 fn sums_are_exact_before_they_are_judged(rt: HostRuntime) -> Result<(), Fail> {
     let alloc = rt.alloc();
-    let back = forms(alloc, &[(MOST, 5), (MOST, 6), (-MOST, -1)])?;
+    let back = forms(&rt, alloc, &[(MOST, 5), (MOST, 6), (-MOST, -1)]);
     assert!(rt;
         is_form(
             sum_form(alloc, back.as_slice()),
-            &Some(form(alloc, MOST, 10)?)
+            &Some(form(&rt, alloc, MOST, 10))
         )
     );
-    let wide = forms(alloc, &[(MOST, 5), (1, 6)])?;
+    let wide = forms(&rt, alloc, &[(MOST, 5), (1, 6)]);
     assert!(rt; is_form(sum_form(alloc, wide.as_slice()), &None));
     Ok(())
 }
@@ -53,26 +56,26 @@ fn sums_are_exact_before_they_are_judged(rt: HostRuntime) -> Result<(), Fail> {
 #[test]
 fn a_difference_takes_the_later_forms_away(rt: HostRuntime) -> Result<(), Fail> {
     let alloc = rt.alloc();
-    let three = forms(alloc, &[(7, 5), (2, 1), (4, 9)])?;
+    let three = forms(&rt, alloc, &[(7, 5), (2, 1), (4, 9)]);
     assert!(rt;
         is_form(
             difference_form(alloc, three.as_slice()),
-            &Some(form(alloc, 1, -5)?)
+            &Some(form(&rt, alloc, 1, -5))
         )
     );
-    let (seven, two) = (form(alloc, 7, 5)?, form(alloc, 7, 1)?);
-    assert!(rt; is_form(less(alloc, &seven, &two), &Some(form(alloc, 0, 4)?)));
+    let (seven, two) = (form(&rt, alloc, 7, 5), form(&rt, alloc, 7, 1));
+    assert!(rt; is_form(less(alloc, &seven, &two), &Some(form(&rt, alloc, 0, 4))));
     Ok(())
 }
 
 #[test]
 fn a_product_is_a_multiple_of_the_factor_that_varies(rt: HostRuntime) -> Result<(), Fail> {
     let alloc = rt.alloc();
-    let factors = forms(alloc, &[(0, 3), (2, 1), (0, -5)])?;
+    let factors = forms(&rt, alloc, &[(0, 3), (2, 1), (0, -5)]);
     let product = product_form(alloc, &[Some(3), None, Some(-5)], factors.as_slice());
-    assert!(rt; is_form(product, &Some(form(alloc, -30, -15)?)));
-    let none = forms(alloc, &[(0, 0), (0, MOST.into()), (0, MOST.into())])?;
+    assert!(rt; is_form(product, &Some(form(&rt, alloc, -30, -15))));
+    let none = forms(&rt, alloc, &[(0, 0), (0, MOST.into()), (0, MOST.into())]);
     let zero = product_form(alloc, &[Some(0), Some(MOST), Some(MOST)], none.as_slice());
-    assert!(rt; is_form(zero, &Some(form(alloc, 0, 0)?)));
+    assert!(rt; is_form(zero, &Some(form(&rt, alloc, 0, 0))));
     Ok(())
 }

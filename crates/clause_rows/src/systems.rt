@@ -4,35 +4,46 @@ use base::{Copied, Items, Same};
 use clause_form::{Atom, Clause, System};
 use lin_atoms::{Divisor, Form, Lin, Lit};
 use std::alloc::Global;
+use std::process::Abort;
 use std::test::Fail;
 use term_tree::Sort;
 
 /// A divisibility of the first variable and a constant.
-fn guard(alloc: Global, constant: i128) -> Result<Form, Fail> {
+fn guard(rt: &impl Abort, alloc: Global, constant: i128) -> Form {
     let mut terms = Vec::new(alloc);
-    terms.push((0, 1))?;
-    let divisor = Divisor::new(2).ok_or("no divisor")?;
-    Ok(Form::Lit(Lit::Div(divisor, Lin::new(terms, constant)?)))
+    terms.push((0, 1)).expect(rt, "memory");
+    let divisor = Divisor::new(2).expect(rt, "a divisor");
+    Form::Lit(Lit::Div(divisor, Lin::new(terms, constant).expect(rt, "a form")))
 }
 
 /// One clause over a predicate 0 of one integer: its guard, and a head at this variable.
-fn system(alloc: Global, pred: u32, variable: u32, constant: i128) -> Result<Option<System>, Fail> {
+fn system(
+    rt: &impl Abort,
+    alloc: Global,
+    pred: u32,
+    variable: u32,
+    constant: i128,
+) -> Option<System> {
     let atom = Atom {
         pred,
-        args: Items::from_slice(alloc, &[variable])?,
+        args: Items::from_slice(alloc, &[variable]).expect(rt, "memory"),
     };
     let mut clauses = Items::new(alloc);
-    clauses.push(Clause {
-        assertion: 0,
-        user: 1,
-        sorts: Items::from_slice(alloc, &[Sort::Int, Sort::Int])?,
-        atoms: Items::new(alloc),
-        guard: guard(alloc, constant)?,
-        head: Some(atom),
-    })?;
+    clauses
+        .push(Clause {
+            assertion: 0,
+            user: 1,
+            sorts: Items::from_slice(alloc, &[Sort::Int, Sort::Int]).expect(rt, "memory"),
+            atoms: Items::new(alloc),
+            guard: guard(rt, alloc, constant),
+            head: Some(atom),
+        })
+        .expect(rt, "memory");
     let mut preds = Items::new(alloc);
-    preds.push(Items::from_slice(alloc, &[Sort::Int])?)?;
-    Ok(System::new(clauses, preds))
+    preds
+        .push(Items::from_slice(alloc, &[Sort::Int]).expect(rt, "memory"))
+        .expect(rt, "memory");
+    System::new(clauses, preds)
 }
 
 #[test]
@@ -46,7 +57,7 @@ fn a_clause_names_its_own_variables_and_predicates_that_are_there(
         (0, 0, i128::from(i64::MAX), true),
         (0, 0, 1 << 63, false),
     ] {
-        let made = system(rt.alloc(), pred, variable, constant)?;
+        let made = system(&rt, rt.alloc(), pred, variable, constant);
         assert_eq!(rt; made.is_some(), is_one, "{pred} {variable} {constant}");
     }
     Ok(())
@@ -54,13 +65,13 @@ fn a_clause_names_its_own_variables_and_predicates_that_are_there(
 
 #[test]
 fn a_copy_is_the_same_system(rt: HostRuntime) -> Result<(), Fail> {
-    let made = system(rt.alloc(), 0, 1, 5)?.ok_or("no system")?;
-    let copied = made.copy(rt.alloc())?;
+    let made = system(&rt, rt.alloc(), 0, 1, 5).expect(&rt, "a system");
+    let copied = made.copy(rt.alloc()).expect(&rt, "memory");
     assert!(rt; copied.equals(&made));
-    let other = system(rt.alloc(), 0, 1, 6)?.ok_or("no system")?;
+    let other = system(&rt, rt.alloc(), 0, 1, 6).expect(&rt, "a system");
     assert!(rt; !copied.equals(&other));
-    assert_eq!(rt; copied.clauses().len(), 1);
-    assert_eq!(rt; copied.preds().len(), 1);
-    assert_eq!(rt; copied.clause(0).user, 1);
+    assert!(rt; copied.clauses().len() == 1);
+    assert!(rt; copied.preds().len() == 1);
+    assert!(rt; copied.clause(0).user == 1);
     Ok(())
 }

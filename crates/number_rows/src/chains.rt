@@ -4,6 +4,7 @@ use base::{Boxed, Items};
 use farkas_proof::{Refutation, check, check_owned};
 use lin_atoms::{Form, Lin};
 use std::alloc::Global;
+use std::process::Abort;
 use std::test::Fail;
 
 const LONG: u32 = 10_000;
@@ -16,46 +17,46 @@ enum Kind {
 }
 
 /// A leaf for a form that is false.
-fn leaf(alloc: Global) -> Result<Refutation, Fail> {
-    Ok(Refutation::Leaf {
-        multipliers: Items::from_slice(alloc, &[(0, 1)])?,
-    })
+fn leaf(rt: &impl Abort, alloc: Global) -> Refutation {
+    Refutation::Leaf {
+        multipliers: Items::from_slice(alloc, &[(0, 1)]).expect(rt, "memory"),
+    }
 }
 
-fn split(alloc: Global, below: Refutation, above: Refutation) -> Result<Refutation, Fail> {
-    Ok(Refutation::Split {
+fn split(rt: &impl Abort, alloc: Global, below: Refutation, above: Refutation) -> Refutation {
+    Refutation::Split {
         lin: Lin::of_constant(alloc, 0),
-        below: Boxed::new(alloc, below)?,
-        above: Boxed::new(alloc, above)?,
-    })
+        below: Boxed::new(alloc, below).expect(rt, "memory"),
+        above: Boxed::new(alloc, above).expect(rt, "memory"),
+    }
 }
 
 /// A node over a chain.
-fn on(alloc: Global, kind: Kind, tree: Refutation) -> Result<Refutation, Fail> {
+fn on(rt: &impl Abort, alloc: Global, kind: Kind, tree: Refutation) -> Refutation {
     match kind {
-        Kind::Round => Ok(Refutation::Round {
-            multipliers: Items::from_slice(alloc, &[(0, 1)])?,
+        Kind::Round => Refutation::Round {
+            multipliers: Items::from_slice(alloc, &[(0, 1)]).expect(rt, "memory"),
             divisor: 1,
-            sub: Boxed::new(alloc, tree)?,
-        }),
-        Kind::Below => split(alloc, tree, leaf(alloc)?),
-        Kind::Above => split(alloc, leaf(alloc)?, tree),
+            sub: Boxed::new(alloc, tree).expect(rt, "memory"),
+        },
+        Kind::Below => split(rt, alloc, tree, leaf(rt, alloc)),
+        Kind::Above => split(rt, alloc, leaf(rt, alloc), tree),
     }
 }
 
-fn chain(alloc: Global, kind: Kind) -> Result<Refutation, Fail> {
-    let mut tree = leaf(alloc)?;
+fn chain(rt: &impl Abort, alloc: Global, kind: Kind) -> Refutation {
+    let mut tree = leaf(rt, alloc);
     for _node in 0..LONG {
-        tree = on(alloc, kind, tree)?;
+        tree = on(rt, alloc, kind, tree);
     }
-    Ok(tree)
+    tree
 }
 
 #[test]
 fn long_chains_are_checked_and_copied_and_dropped(rt: HostRuntime) -> Result<(), Fail> {
     for kind in [Kind::Round, Kind::Below, Kind::Above] {
-        let tree = chain(rt.alloc(), kind)?;
-        let copied = tree.copy(rt.alloc())?;
+        let tree = chain(&rt, rt.alloc(), kind);
+        let copied = tree.copy(rt.alloc()).expect(&rt, "memory");
         assert!(rt; check(rt.alloc(), &Form::False, &copied).is_ok());
         assert!(rt; check_owned(rt.alloc(), Form::False, tree).is_ok());
     }

@@ -192,7 +192,7 @@ const CASES: [Case; 26] = [
 #[test]
 fn each_rule_gives_the_cube_worked_out_by_hand(rt: HostRuntime) -> Result<(), Fail> {
     for case in CASES {
-        assert!(rt; is_right(rt.alloc(), case)?, "{}", case.0);
+        assert!(rt; is_right(&rt, rt.alloc(), case), "{}", case.0);
     }
     Ok(())
 }
@@ -200,8 +200,10 @@ fn each_rule_gives_the_cube_worked_out_by_hand(rt: HostRuntime) -> Result<(), Fa
 #[test]
 fn a_projection_keeps_what_it_was_given(rt: HostRuntime) -> Result<(), Fail> {
     let alloc = rt.alloc();
-    let lits = literals(alloc, &[(LE, 1, -2, 0, 0), (LE, 0, 1, 0, -7)])?;
-    let made = projected(alloc, lits.as_slice(), &[3, 5], &[0])?.copy(alloc)?;
+    let lits = literals(&rt, alloc, &[(LE, 1, -2, 0, 0), (LE, 0, 1, 0, -7)]);
+    let made = projected(&rt, alloc, lits.as_slice(), &[3, 5], &[0])
+        .copy(alloc)
+        .expect(&rt, "memory");
     assert!(rt; are_equal(made.lits(), lits.as_slice()));
     assert!(rt; made.model() == [3, 5].as_slice());
     assert!(rt; made.keep() == [0].as_slice());

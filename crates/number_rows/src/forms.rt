@@ -3,24 +3,30 @@
 use base::{Items, Same};
 use lin_atoms::{Divisor, Lin, LinStop, Lit, WideStop, denied};
 use std::alloc::Global;
+use std::process::Abort;
 use std::test::Fail;
 
 const MOST: i64 = i64::MAX;
 
 const WIDE: i128 = 1 << 64;
 
-fn made(alloc: Global, terms: &[(u32, i64)], constant: i128) -> Result<Result<Lin, LinStop>, Fail> {
+fn made(
+    rt: &impl Abort,
+    alloc: Global,
+    terms: &[(u32, i64)],
+    constant: i128,
+) -> Result<Lin, LinStop> {
     let mut list = Vec::new(alloc);
-    list.extend_from_slice(terms)?;
-    Ok(Lin::new(list, constant))
+    list.extend_from_slice(terms).expect(rt, "memory");
+    Lin::new(list, constant)
 }
 
-fn lin(alloc: Global, terms: &[(u32, i64)], constant: i128) -> Result<Lin, Fail> {
-    Ok(made(alloc, terms, constant)??)
+fn lin(rt: &impl Abort, alloc: Global, terms: &[(u32, i64)], constant: i128) -> Lin {
+    made(rt, alloc, terms, constant).expect(rt, "a form")
 }
 
-fn is(alloc: Global, form: &Lin, terms: &[(u32, i64)], constant: i128) -> Result<bool, Fail> {
-    Ok(form.equals(&lin(alloc, terms, constant)?))
+fn is(rt: &impl Abort, alloc: Global, form: &Lin, terms: &[(u32, i64)], constant: i128) -> bool {
+    form.equals(&lin(rt, alloc, terms, constant))
 }
 
 #[test]
@@ -35,7 +41,7 @@ fn terms_out_of_order_and_wide_numbers_are_no_form(rt: HostRuntime) -> Result<()
         ([(0, 1), (1, 1)], WIDE, Some(LinStop::Wide)),
         ([(0, 1), (1, 1)], -WIDE, Some(LinStop::Wide)),
     ] {
-        assert!(rt; made(rt.alloc(), &terms, constant)?.err() == wanted);
+        assert!(rt; made(&rt, rt.alloc(), &terms, constant).err() == wanted);
     }
     Ok(())
 }
@@ -45,18 +51,25 @@ fn sums_beyond_2_to_the_127_that_come_back_are_exact(rt: HostRuntime) -> Result<
     let terms = [(0, MOST), (1, MOST), (2, -MOST), (3, -MOST)];
     let point = [MOST, MOST, MOST, MOST];
     for (constant, at_most, equal) in [(-1, true, false), (0, true, true), (1, false, false)] {
-        let le = Lit::Le(lin(rt.alloc(), &terms, constant)?);
+        let le = Lit::Le(lin(&rt, rt.alloc(), &terms, constant));
         assert_eq!(rt; le.holds(&point), at_most, "{constant} is at most 0");
-        let eq = Lit::Eq(lin(rt.alloc(), &terms, constant)?);
+        let eq = Lit::Eq(lin(&rt, rt.alloc(), &terms, constant));
         assert_eq!(rt; eq.holds(&point), equal, "{constant} is 0");
     }
     Ok(())
 }
 
-fn divides(alloc: Global, n: i64, coefficient: i64, constant: i128, x: i64) -> Result<bool, Fail> {
-    let divisor = Divisor::new(n).ok_or("no divisor")?;
-    let form = lin(alloc, &[(0, coefficient)], constant)?;
-    Ok(Lit::Div(divisor, form).holds(&[x]))
+fn divides(
+    rt: &impl Abort,
+    alloc: Global,
+    n: i64,
+    coefficient: i64,
+    constant: i128,
+    x: i64,
+) -> bool {
+    let divisor = Divisor::new(n).expect(rt, "a divisor");
+    let form = lin(rt, alloc, &[(0, coefficient)], constant);
+    Lit::Div(divisor, form).holds(&[x])
 }
 
 #[test]
@@ -71,7 +84,7 @@ fn divisibility_counts_negative_numbers_by_their_magnitudes(rt: HostRuntime) -> 
         (MOST, 1, 0, 1 - MOST, false),
         (7, 1, 0, 0, true),
     ] {
-        let divides = divides(rt.alloc(), n, coefficient, constant, x)?;
+        let divides = divides(&rt, rt.alloc(), n, coefficient, constant, x);
         assert_eq!(rt;
             divides,
             wanted,
@@ -82,26 +95,28 @@ fn divisibility_counts_negative_numbers_by_their_magnitudes(rt: HostRuntime) -> 
 }
 
 fn added_is(
+    rt: &impl Abort,
     alloc: Global,
     a: &[(u32, i64)],
     b: &[(u32, i64)],
     wanted: &[(u32, i64)],
-) -> Result<bool, Fail> {
-    let a = lin(alloc, a, 3)?;
-    let b = lin(alloc, b, 4)?;
-    let sum = a.added(alloc, &b)?;
-    is(alloc, &sum, wanted, 7)
+) -> bool {
+    let a = lin(rt, alloc, a, 3);
+    let b = lin(rt, alloc, b, 4);
+    let sum = a.added(alloc, &b).expect(rt, "memory");
+    is(rt, alloc, &sum, wanted, 7)
 }
 
 fn scaled_is(
+    rt: &impl Abort,
     alloc: Global,
     k: i64,
     terms: &[(u32, i64)],
     wanted: &[(u32, i64)],
-) -> Result<bool, Fail> {
-    let form = lin(alloc, terms, 0)?;
-    let multiple = form.scaled(alloc, k)?;
-    is(alloc, &multiple, wanted, 0)
+) -> bool {
+    let form = lin(rt, alloc, terms, 0);
+    let multiple = form.scaled(alloc, k).expect(rt, "memory");
+    is(rt, alloc, &multiple, wanted, 0)
 }
 
 #[test]
@@ -109,36 +124,37 @@ fn sums_and_multiples_are_normal_forms(rt: HostRuntime) -> Result<(), Fail> {
     let alloc = rt.alloc();
     assert!(rt;
         added_is(
+            &rt,
             alloc,
             &[(0, 2), (1, -1)],
             &[(1, 1), (2, 1)],
             &[(0, 2), (2, 1)]
-        )?
+        )
     );
-    assert!(rt; added_is(alloc, &[(3, 1)], &[(1, 5), (3, 1)], &[(1, 5), (3, 2)])?);
-    assert!(rt; scaled_is(alloc, -3, &[(0, 2), (1, -1)], &[(0, -6), (1, 3)])?);
-    assert!(rt; scaled_is(alloc, 0, &[(0, 2), (1, -1)], &[])?);
+    assert!(rt; added_is(&rt, alloc, &[(3, 1)], &[(1, 5), (3, 1)], &[(1, 5), (3, 2)]));
+    assert!(rt; scaled_is(&rt, alloc, -3, &[(0, 2), (1, -1)], &[(0, -6), (1, 3)]));
+    assert!(rt; scaled_is(&rt, alloc, 0, &[(0, 2), (1, -1)], &[]));
     Ok(())
 }
 
-fn renamed_is(alloc: Global, names: &[u32], wanted: &[(u32, i64)]) -> Result<bool, Fail> {
-    let form = lin(alloc, &[(0, MOST), (1, MOST), (2, -MOST)], 3)?;
-    let named = form.renamed(alloc, names)?;
-    is(alloc, &named, wanted, 3)
+fn renamed_is(rt: &impl Abort, alloc: Global, names: &[u32], wanted: &[(u32, i64)]) -> bool {
+    let form = lin(rt, alloc, &[(0, MOST), (1, MOST), (2, -MOST)], 3);
+    let named = form.renamed(alloc, names).expect(rt, "memory");
+    is(rt, alloc, &named, wanted, 3)
 }
 
-fn replaced(alloc: Global, variable: u32, name: u32) -> Result<Result<Lin, WideStop>, Fail> {
-    let form = lin(alloc, &[(0, MOST), (1, 2)], 0)?;
-    Ok(form.replaced(alloc, variable, name))
+fn replaced(rt: &impl Abort, alloc: Global, variable: u32, name: u32) -> Result<Lin, WideStop> {
+    let form = lin(rt, alloc, &[(0, MOST), (1, 2)], 0);
+    form.replaced(alloc, variable, name)
 }
 
 #[test]
 fn coefficients_of_one_name_are_added_up(rt: HostRuntime) -> Result<(), Fail> {
-    assert!(rt; renamed_is(rt.alloc(), &[5, 5, 5], &[(5, MOST)])?);
-    assert!(rt; renamed_is(rt.alloc(), &[4, 1, 4], &[(1, MOST)])?);
-    assert!(rt; renamed_is(rt.alloc(), &[2, 1], &[(1, MOST)])?);
-    assert!(rt; replaced(rt.alloc(), 1, 7)?.is_ok());
-    assert!(rt; matches!(replaced(rt.alloc(), 1, 0)?, Err(WideStop::Wide)));
+    assert!(rt; renamed_is(&rt, rt.alloc(), &[5, 5, 5], &[(5, MOST)]));
+    assert!(rt; renamed_is(&rt, rt.alloc(), &[4, 1, 4], &[(1, MOST)]));
+    assert!(rt; renamed_is(&rt, rt.alloc(), &[2, 1], &[(1, MOST)]));
+    assert!(rt; replaced(&rt, rt.alloc(), 1, 7).is_ok());
+    assert!(rt; matches!(replaced(&rt, rt.alloc(), 1, 0), Err(WideStop::Wide)));
     Ok(())
 }
 
@@ -149,16 +165,16 @@ fn first_is(lits: &Items<Lit>, wanted: &Lit) -> bool {
     }
 }
 
-fn equality(alloc: Global) -> Result<Items<Lit>, Fail> {
-    let lit = Lit::Eq(lin(alloc, &[(0, 2)], 3)?);
-    Ok(denied(alloc, &lit)?)
+fn equality(rt: &impl Abort, alloc: Global) -> Items<Lit> {
+    let lit = Lit::Eq(lin(rt, alloc, &[(0, 2)], 3));
+    denied(alloc, &lit).expect(rt, "memory")
 }
 
 #[test]
 fn denial_of_an_equality_is_below_or_above(rt: HostRuntime) -> Result<(), Fail> {
-    let lits = equality(rt.alloc())?;
+    let lits = equality(&rt, rt.alloc());
     assert_eq!(rt; lits.len(), 2);
-    let below = Lit::Le(lin(rt.alloc(), &[(0, 2)], 4)?);
+    let below = Lit::Le(lin(&rt, rt.alloc(), &[(0, 2)], 4));
     assert!(rt; first_is(&lits, &below));
     Ok(())
 }
@@ -166,7 +182,7 @@ fn denial_of_an_equality_is_below_or_above(rt: HostRuntime) -> Result<(), Fail> 
 #[test]
 fn denial_stops_where_the_constant_has_no_room(rt: HostRuntime) -> Result<(), Fail> {
     for (constant, wanted) in [(1 - WIDE, true), (2 - WIDE, false), (WIDE - 1, false)] {
-        let lit = Lit::Le(lin(rt.alloc(), &[(0, 2)], constant)?);
+        let lit = Lit::Le(lin(&rt, rt.alloc(), &[(0, 2)], constant));
         assert_eq!(rt; denied(rt.alloc(), &lit).is_err(), wanted, "at {constant}");
     }
     Ok(())
@@ -175,7 +191,7 @@ fn denial_stops_where_the_constant_has_no_room(rt: HostRuntime) -> Result<(), Fa
 #[test]
 fn denial_of_an_equality_stops_on_either_side(rt: HostRuntime) -> Result<(), Fail> {
     for (constant, wanted) in [(WIDE - 1, true), (1 - WIDE, true), (WIDE - 2, false)] {
-        let lit = Lit::Eq(lin(rt.alloc(), &[(0, 2)], constant)?);
+        let lit = Lit::Eq(lin(&rt, rt.alloc(), &[(0, 2)], constant));
         let stopped = matches!(denied(rt.alloc(), &lit), Err(WideStop::Wide));
         assert_eq!(rt; stopped, wanted, "at {constant}");
     }
@@ -183,15 +199,15 @@ fn denial_of_an_equality_stops_on_either_side(rt: HostRuntime) -> Result<(), Fai
 }
 
 /// Whether the sum of two forms with these constants has no room.
-fn sum_stops(alloc: Global, a: i128, b: i128) -> Result<bool, Fail> {
-    let sum = lin(alloc, &[(0, 2)], a)?.added(alloc, &lin(alloc, &[(1, 3)], b)?);
-    Ok(matches!(sum, Err(WideStop::Wide)))
+fn sum_stops(rt: &impl Abort, alloc: Global, a: i128, b: i128) -> bool {
+    let sum = lin(rt, alloc, &[(0, 2)], a).added(alloc, &lin(rt, alloc, &[(1, 3)], b));
+    matches!(sum, Err(WideStop::Wide))
 }
 
 #[test]
 fn sums_stop_where_the_constant_has_no_room(rt: HostRuntime) -> Result<(), Fail> {
-    assert!(rt; sum_stops(rt.alloc(), WIDE - 1, 1)?);
-    assert!(rt; sum_stops(rt.alloc(), 1 - WIDE, -1)?);
-    assert!(rt; !sum_stops(rt.alloc(), WIDE - 1, 0)?);
+    assert!(rt; sum_stops(&rt, rt.alloc(), WIDE - 1, 1));
+    assert!(rt; sum_stops(&rt, rt.alloc(), 1 - WIDE, -1));
+    assert!(rt; !sum_stops(&rt, rt.alloc(), WIDE - 1, 0));
     Ok(())
 }

@@ -9,7 +9,7 @@ use base::Same;
 use lin_atoms::{Divisor, Lin, Lit};
 use model_project::{Projected, project};
 use std::alloc::Global;
-use std::test::Fail;
+use std::process::Abort;
 
 /// A literal: what is claimed of the form, the coefficients of the variables 0, 1 and 2, and the
 /// constant.
@@ -23,18 +23,18 @@ pub const LE: i64 = 0;
 pub const EQ: i64 = -1;
 
 /// The form of a row.
-fn form(alloc: Global, row: Row) -> Result<Lin, Fail> {
+fn form(rt: &impl Abort, alloc: Global, row: Row) -> Lin {
     let mut terms = Vec::new(alloc);
     for (variable, coefficient) in [(0u32, row.1), (1, row.2), (2, row.3)] {
         if coefficient != 0 {
-            terms.push((variable, coefficient))?;
+            terms.push((variable, coefficient)).expect(rt, "memory");
         }
     }
-    Ok(Lin::new(terms, row.4)?)
+    Lin::new(terms, row.4).expect(rt, "a form")
 }
 
-fn divisor(n: i64) -> Result<Divisor, Fail> {
-    Ok(Divisor::new(n).ok_or("no divisor")?)
+fn divisor(rt: &impl Abort, n: i64) -> Divisor {
+    Divisor::new(n).expect(rt, "a divisor")
 }
 
 /// What is shown, a conjunction, a model, the variables that are kept, and the cube.
@@ -46,26 +46,26 @@ pub type Case = (
     &'static [Row],
 );
 
-pub fn literal(alloc: Global, row: Row) -> Result<Lit, Fail> {
-    let lin = form(alloc, row)?;
+pub fn literal(rt: &impl Abort, alloc: Global, row: Row) -> Lit {
+    let lin = form(rt, alloc, row);
     if row.0 == LE {
-        return Ok(Lit::Le(lin));
+        return Lit::Le(lin);
     }
     if row.0 == EQ {
-        return Ok(Lit::Eq(lin));
+        return Lit::Eq(lin);
     }
     if row.0 > 0 {
-        return Ok(Lit::Div(divisor(row.0)?, lin));
+        return Lit::Div(divisor(rt, row.0), lin);
     }
-    Ok(Lit::NDiv(divisor(row.0.wrapping_neg())?, lin))
+    Lit::NDiv(divisor(rt, row.0.wrapping_neg()), lin)
 }
 
-pub fn literals(alloc: Global, rows: &[Row]) -> Result<Vec<Lit>, Fail> {
+pub fn literals(rt: &impl Abort, alloc: Global, rows: &[Row]) -> Vec<Lit> {
     let mut made = Vec::new(alloc);
     for row in rows {
-        made.push(literal(alloc, *row)?)?;
+        made.push(literal(rt, alloc, *row)).expect(rt, "memory");
     }
-    Ok(made)
+    made
 }
 
 pub fn all_hold(lits: &[Lit], point: &[i64]) -> bool
@@ -82,18 +82,15 @@ pub fn all_below(lits: &[Lit], n: usize) -> bool
 
 /// The projection, once the point is seen to be a model with a place for each variable.
 pub fn projected(
+    rt: &impl Abort,
     alloc: Global,
     lits: &[Lit],
     model: &[i64],
     keep: &[u32],
-) -> Result<Projected, Fail> {
-    if !all_hold(lits, model) {
-        return Err("no model")?;
-    }
-    if !all_below(lits, model.len()) {
-        return Err("no place")?;
-    }
-    Ok(project(alloc, lits, model, keep)?)
+) -> Projected {
+    assert!(rt; all_hold(lits, model), "no model");
+    assert!(rt; all_below(lits, model.len()), "no place");
+    project(alloc, lits, model, keep).expect(rt, "memory")
 }
 
 pub fn are_equal(ours: &[Lit], theirs: &[Lit]) -> bool {
@@ -101,10 +98,10 @@ pub fn are_equal(ours: &[Lit], theirs: &[Lit]) -> bool {
 }
 
 /// Whether the projection has the case's cube.
-pub fn is_right(alloc: Global, case: Case) -> Result<bool, Fail> {
+pub fn is_right(rt: &impl Abort, alloc: Global, case: Case) -> bool {
     let (_, rows, model, keep, cube) = case;
-    let lits = literals(alloc, rows)?;
-    let made = projected(alloc, lits.as_slice(), &model, keep)?;
-    let wanted = literals(alloc, cube)?;
-    Ok(are_equal(made.cube(), wanted.as_slice()))
+    let lits = literals(rt, alloc, rows);
+    let made = projected(rt, alloc, lits.as_slice(), &model, keep);
+    let wanted = literals(rt, alloc, cube);
+    are_equal(made.cube(), wanted.as_slice())
 }

@@ -6,6 +6,7 @@ ghost use Rattle.std.specs.Prelude.{◌<◌};
 use crate::projected::{Row, all_hold, literals, projected};
 use lin_atoms::Lit;
 use std::alloc::Global;
+use std::process::Abort;
 use std::test::Fail;
 
 /// A literal as in a row, with a small constant.
@@ -74,23 +75,24 @@ fn are_true(rows: &[Small], point: [i64; 3]) -> bool {
 }
 
 /// Four rows that are true at the model.
-fn conjunction(alloc: Global, state: &mut u64, model: [i64; 3]) -> Result<Vec<Small>, Fail> {
+fn conjunction(rt: &impl Abort, alloc: Global, state: &mut u64, model: [i64; 3]) -> Vec<Small> {
     let mut rows = Vec::new(alloc);
     for _ in 0..40 {
         let next = row(state);
         if rows.len() < 4 && holds(next, model) {
-            rows.push(next)?;
+            rows.push(next).expect(rt, "memory");
         }
     }
-    Ok(rows)
+    rows
 }
 
-fn widened(alloc: Global, rows: &[Small]) -> Result<Vec<Row>, Fail> {
+fn widened(rt: &impl Abort, alloc: Global, rows: &[Small]) -> Vec<Row> {
     let mut made = Vec::new(alloc);
     for row in rows {
-        made.push((row.0, row.1, row.2, row.3, i128::from(row.4)))?;
+        made.push((row.0, row.1, row.2, row.3, i128::from(row.4)))
+            .expect(rt, "memory");
     }
-    Ok(made)
+    made
 }
 
 /// The point with a value of the kept variable and values of the others.
@@ -155,19 +157,19 @@ fn values(rows: &[Small], cube: &[Lit], kept: u32) -> Option<u32> {
 
 /// The same of the conjunction of that number, where its cube has the model's point and the kept
 /// variable alone.
-fn values_of(alloc: Global, number: u32) -> Result<Option<u32>, Fail> {
+fn values_of(rt: &impl Abort, alloc: Global, number: u32) -> Option<u32> {
     let mut state = u64::from(number);
     let model = [small(&mut state), small(&mut state), small(&mut state)];
-    let rows = conjunction(alloc, &mut state, model)?;
-    let wide = widened(alloc, rows.as_slice())?;
-    let lits = literals(alloc, wide.as_slice())?;
+    let rows = conjunction(rt, alloc, &mut state, model);
+    let wide = widened(rt, alloc, rows.as_slice());
+    let lits = literals(rt, alloc, wide.as_slice());
     let kept = number % 3;
-    let made = projected(alloc, lits.as_slice(), &model, &[kept])?;
+    let made = projected(rt, alloc, lits.as_slice(), &model, &[kept]);
     let cube = made.cube();
     if all_hold(cube, &model) && cube.iter().all(|lit| is_over(lit, kept)) {
-        return Ok(values(rows.as_slice(), cube, kept));
+        return values(rows.as_slice(), cube, kept);
     }
-    Ok(None)
+    None
 }
 
 /// The cubes of 300 conjunctions have 3296 of the values; a plain elimination in another language
@@ -176,7 +178,7 @@ fn values_of(alloc: Global, number: u32) -> Result<Option<u32>, Fail> {
 fn every_point_of_a_cube_extends(rt: HostRuntime) -> Result<(), Fail> {
     let mut total: u32 = 0;
     for number in 0..300 {
-        let values = values_of(rt.alloc(), number)?;
+        let values = values_of(&rt, rt.alloc(), number);
         assert!(rt; values.is_some(), "conjunction {number}");
         total = total.wrapping_add(values.unwrap_or(0));
     }

@@ -4,41 +4,43 @@ use crate::tableaux::{LARGE, constants, fasten, has_bounds, is_made, of_pair, of
 use int_rows::{PushStop, RowWide, Tableau};
 use lin_atoms::Lin;
 use std::alloc::Global;
+use std::process::Abort;
 use std::test::Fail;
 
 /// What a push of a*x + b*y and a constant answers, where the variables are the tableau's.
 fn push(
+    rt: &impl Abort,
     alloc: Global,
     t: &mut Tableau,
     a: i64,
     b: i64,
-) -> Result<Option<Result<(), PushStop>>, Fail> {
-    let form = form(alloc, a, b)?;
+) -> Option<Result<(), PushStop>> {
+    let form = form(rt, alloc, a, b);
     if form.is_below(t.columns()) {
-        Ok(Some(t.push(alloc, &form)))
+        Some(t.push(alloc, &form))
     } else {
-        Ok(None)
+        None
     }
 }
 
 /// The form a*x + b*y + 7, or a*x + 7 where b is 0.
-fn form(alloc: Global, a: i64, b: i64) -> Result<Lin, Fail> {
+fn form(rt: &impl Abort, alloc: Global, a: i64, b: i64) -> Lin {
     if b != 0 {
-        return of_pair(alloc, a, b, 7);
+        return of_pair(rt, alloc, a, b, 7);
     }
-    let terms = Vec::from_array(alloc, [(0, a)])?;
-    Ok(Lin::new(terms, 7)?)
+    let terms = Vec::from_array(alloc, [(0, a)]).expect(rt, "memory");
+    Lin::new(terms, 7).expect(rt, "a form")
 }
 
-fn is_pushed(alloc: Global, t: &mut Tableau, a: i64, b: i64) -> Result<bool, Fail> {
-    Ok(matches!(push(alloc, t, a, b)?, Some(Ok(()))))
+fn is_pushed(rt: &impl Abort, alloc: Global, t: &mut Tableau, a: i64, b: i64) -> bool {
+    matches!(push(rt, alloc, t, a, b), Some(Ok(())))
 }
 
 /// Where a row would be wide, and its entry.
-fn wide(alloc: Global, t: &mut Tableau, a: i64, b: i64) -> Result<Option<RowWide>, Fail> {
-    match push(alloc, t, a, b)? {
-        Some(Err(PushStop::Wide(wide))) => Ok(Some(wide)),
-        _ => Ok(None),
+fn wide(rt: &impl Abort, alloc: Global, t: &mut Tableau, a: i64, b: i64) -> Option<RowWide> {
+    match push(rt, alloc, t, a, b) {
+        Some(Err(PushStop::Wide(wide))) => Some(wide),
+        _ => None,
     }
 }
 
@@ -62,13 +64,18 @@ fn has_rows(t: &Tableau, rows: &[(&[i64], usize)]) -> bool {
 #[test]
 fn a_form_is_taken_as_with_the_others(rt: HostRuntime) -> Result<(), Fail> {
     let alloc = rt.alloc();
-    let mut t = of_two(alloc, 2, 3, 1, -1)?;
-    assert!(rt; is_pushed(alloc, &mut t, 4, 6)?);
+    let mut t = of_two(&rt, alloc, 2, 3, 1, -1);
+    assert!(rt; is_pushed(&rt, alloc, &mut t, 4, 6));
     let forms = Vec::from_array(
         alloc,
-        [form(alloc, 2, 3)?, form(alloc, 1, -1)?, form(alloc, 4, 6)?],
-    )?;
-    let whole = tableau(alloc, forms, 2)?;
+        [
+            form(&rt, alloc, 2, 3),
+            form(&rt, alloc, 1, -1),
+            form(&rt, alloc, 4, 6),
+        ],
+    )
+    .expect(&rt, "memory");
+    let whole = tableau(&rt, alloc, forms, 2);
     let rows: [(&[i64], usize); 3] = [
         (&[-2, -3, 1, 0, 0], 2),
         (&[-1, 1, 0, 1, 0], 3),
@@ -81,15 +88,15 @@ fn a_form_is_taken_as_with_the_others(rt: HostRuntime) -> Result<(), Fail> {
 #[test]
 fn a_form_is_freed_of_what_is_basic(rt: HostRuntime) -> Result<(), Fail> {
     let alloc = rt.alloc();
-    let mut t = of_two(alloc, 2, 3, 1, -1)?;
-    assert!(rt; is_made(&mut t, 0, 0) && is_pushed(alloc, &mut t, 1, 1)?);
+    let mut t = of_two(&rt, alloc, 2, 3, 1, -1);
+    assert!(rt; is_made(&mut t, 0, 0) && is_pushed(&rt, alloc, &mut t, 1, 1));
     let once: [(&[i64], usize); 3] = [
         (&[2, 3, -1, 0, 0], 0),
         (&[0, 5, -1, 2, 0], 3),
         (&[0, 1, -1, 0, 2], 4),
     ];
     assert!(rt; has_rows(&t, once.as_slice()));
-    assert!(rt; is_made(&mut t, 1, 1) && is_pushed(alloc, &mut t, 3, 2)?);
+    assert!(rt; is_made(&mut t, 1, 1) && is_pushed(&rt, alloc, &mut t, 3, 2));
     let twice: [(&[i64], usize); 4] = [
         (&[5, 0, -1, -3, 0, 0], 0),
         (&[0, 5, -1, 2, 0, 0], 1),
@@ -102,10 +109,10 @@ fn a_form_is_freed_of_what_is_basic(rt: HostRuntime) -> Result<(), Fail> {
 
 #[test]
 fn bounds_stay_and_the_new_slack_has_none(rt: HostRuntime) -> Result<(), Fail> {
-    let mut t = of_two(rt.alloc(), 2, 3, 1, -1)?;
+    let mut t = of_two(&rt, rt.alloc(), 2, 3, 1, -1);
     fasten(&mut t, 0);
     fasten(&mut t, 3);
-    assert!(rt; is_pushed(rt.alloc(), &mut t, 1, 1)?);
+    assert!(rt; is_pushed(&rt, rt.alloc(), &mut t, 1, 1));
     for variable in [0, 3] {
         assert!(rt; has_bounds(&t, variable, Some(-5), Some(7)));
     }
@@ -116,13 +123,13 @@ fn bounds_stay_and_the_new_slack_has_none(rt: HostRuntime) -> Result<(), Fail> {
 }
 
 /// The tableau of x + y and x + LARGE * y, solved for y and x.
-fn of_large(alloc: Global) -> Result<Tableau, Fail> {
-    let mut t = of_two(alloc, 1, 1, 1, LARGE)?;
-    if is_made(&mut t, 0, 1) && is_made(&mut t, 1, 0) {
-        Ok(t)
-    } else {
-        Err("a pivot without room".into())
-    }
+fn of_large(rt: &impl Abort, alloc: Global) -> Tableau {
+    let mut t = of_two(rt, alloc, 1, 1, 1, LARGE);
+    assert!(rt;
+        is_made(&mut t, 0, 1) && is_made(&mut t, 1, 0),
+        "a pivot without room"
+    );
+    t
 }
 
 /// Forms that would be wide, the row by which they would, and the entry.
@@ -134,10 +141,10 @@ const WIDE: [(i64, i64, usize, i128); 3] = [
 
 #[test]
 fn the_first_wide_row_leaves_the_tableau(rt: HostRuntime) -> Result<(), Fail> {
-    let mut t = of_large(rt.alloc())?;
+    let mut t = of_large(&rt, rt.alloc());
     let rows: [(&[i64], usize); 2] = [(&[0, 1 << 62, 1, -1], 1), (&[1 << 62, 0, -LARGE, 1], 0)];
     for (a, b, row, entry) in WIDE {
-        assert!(rt; wide(rt.alloc(), &mut t, a, b)? == Some(RowWide { row, entry }));
+        assert!(rt; wide(&rt, rt.alloc(), &mut t, a, b) == Some(RowWide { row, entry }));
         assert!(rt; has_rows(&t, rows.as_slice()));
     }
     Ok(())
@@ -145,27 +152,27 @@ fn the_first_wide_row_leaves_the_tableau(rt: HostRuntime) -> Result<(), Fail> {
 
 #[test]
 fn a_form_that_is_there_has_the_same_slack(rt: HostRuntime) -> Result<(), Fail> {
-    let mut t = of_large(rt.alloc())?;
-    assert!(rt; is_pushed(rt.alloc(), &mut t, 1, 1)?);
+    let mut t = of_large(&rt, rt.alloc());
+    assert!(rt; is_pushed(&rt, rt.alloc(), &mut t, 1, 1));
     assert!(rt; has_row(&t, 2, &[0, 0, -1, 0, 1], 4));
     Ok(())
 }
 
 /// Whether a form more than `count` is too many; with memory.
-fn is_one_too_many(alloc: Global, count: usize) -> Result<bool, Fail> {
-    let mut t = tableau(alloc, constants(alloc, count)?, 0)?;
+fn is_one_too_many(rt: &impl Abort, alloc: Global, count: usize) -> bool {
+    let mut t = tableau(rt, alloc, constants(rt, alloc, count), 0);
     let form = Lin::of_constant(alloc, 0);
     if !form.is_below(t.columns()) {
-        return Ok(false);
+        return false;
     }
     let answer = t.push(alloc, &form);
-    Ok(matches!(answer, Err(PushStop::TooMany)) && t.rows() == count)
+    matches!(answer, Err(PushStop::TooMany)) && t.rows() == count
 }
 
 #[test]
 fn a_form_more_than_1024_is_too_many(rt: HostRuntime) -> Result<(), Fail> {
     for (count, wanted) in [(1023, false), (1024, true)] {
-        assert!(rt; is_one_too_many(rt.alloc(), count)? == wanted);
+        assert!(rt; is_one_too_many(&rt, rt.alloc(), count) == wanted);
     }
     Ok(())
 }

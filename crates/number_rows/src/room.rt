@@ -208,7 +208,7 @@ const CUBES: [Case; 12] = [
 #[test]
 fn a_number_of_2_to_the_63_gives_the_point(rt: HostRuntime) -> Result<(), Fail> {
     for case in POINTS {
-        assert!(rt; is_right(rt.alloc(), case)?, "{}", case.0);
+        assert!(rt; is_right(&rt, rt.alloc(), case), "{}", case.0);
     }
     Ok(())
 }
@@ -216,7 +216,7 @@ fn a_number_of_2_to_the_63_gives_the_point(rt: HostRuntime) -> Result<(), Fail> 
 #[test]
 fn no_other_number_gives_the_point(rt: HostRuntime) -> Result<(), Fail> {
     for case in CUBES {
-        assert!(rt; is_right(rt.alloc(), case)?, "{}", case.0);
+        assert!(rt; is_right(&rt, rt.alloc(), case), "{}", case.0);
     }
     Ok(())
 }

@@ -7,6 +7,7 @@ ghost use Rattle.lin_atoms.specs.Linear.{lin_is_below};
 use int_rows::{Bounded, Ready, ReadyStop, RowStop, RowWide, Tableau, ready};
 use lin_atoms::{Divisor, Lin, Lit};
 use std::alloc::Global;
+use std::process::Abort;
 use std::test::Fail;
 
 /// Whether each variable of the forms is below the number.
@@ -17,27 +18,31 @@ fn are_below(forms: &[Lin], variables: usize) -> bool
 }
 
 /// The tableau of the forms, whose variables are below the number, of 2 at most.
-pub(crate) fn tableau(alloc: Global, forms: Vec<Lin>, variables: usize) -> Result<Tableau, Fail> {
-    if variables > 2 || !are_below(forms.as_slice(), variables) {
-        return Err("a variable out of range".into());
-    }
-    let made = Tableau::new(alloc, forms.as_slice(), variables)?;
-    Ok(made)
+pub(crate) fn tableau(
+    rt: &impl Abort,
+    alloc: Global,
+    forms: Vec<Lin>,
+    variables: usize,
+) -> Tableau {
+    assert!(rt;
+        variables <= 2 && are_below(forms.as_slice(), variables),
+        "a variable out of range"
+    );
+    Tableau::new(alloc, forms.as_slice(), variables).expect(rt, "a tableau")
 }
 
 /// The form a*x + b*y and a constant.
-pub(crate) fn of_pair(alloc: Global, a: i64, b: i64, constant: i128) -> Result<Lin, Fail> {
-    let terms = Vec::from_array(alloc, [(0, a), (1, b)])?;
-    let lin = Lin::new(terms, constant)?;
-    Ok(lin)
+pub(crate) fn of_pair(rt: &impl Abort, alloc: Global, a: i64, b: i64, constant: i128) -> Lin {
+    let terms = Vec::from_array(alloc, [(0, a), (1, b)]).expect(rt, "memory");
+    Lin::new(terms, constant).expect(rt, "a form")
 }
 
 /// The tableau of the forms a*x + b*y and c*x + d*y.
-pub(crate) fn of_two(alloc: Global, a: i64, b: i64, c: i64, d: i64) -> Result<Tableau, Fail> {
-    let first = of_pair(alloc, a, b, 0)?;
-    let second = of_pair(alloc, c, d, 7)?;
-    let forms = Vec::from_array(alloc, [first, second])?;
-    tableau(alloc, forms, 2)
+pub(crate) fn of_two(rt: &impl Abort, alloc: Global, a: i64, b: i64, c: i64, d: i64) -> Tableau {
+    let first = of_pair(rt, alloc, a, b, 0);
+    let second = of_pair(rt, alloc, c, d, 7);
+    let forms = Vec::from_array(alloc, [first, second]).expect(rt, "memory");
+    tableau(rt, alloc, forms, 2)
 }
 
 /// Whether a row of the tableau of two forms has these entries and this basic variable.
@@ -73,7 +78,7 @@ pub(crate) fn is_made(t: &mut Tableau, row: usize, column: usize) -> bool {
 
 #[test]
 fn the_first_basis_is_the_slacks(rt: HostRuntime) -> Result<(), Fail> {
-    let t = of_two(rt.alloc(), 2, 3, 1, -1)?;
+    let t = of_two(&rt, rt.alloc(), 2, 3, 1, -1);
     assert!(rt; stands(&t, ([[-2, -3, 1, 0], [-1, 1, 0, 1]], [2, 3])));
     Ok(())
 }
@@ -86,7 +91,7 @@ const PIVOTS: [(usize, usize, Stand); 2] = [
 
 #[test]
 fn a_pivot_by_hand(rt: HostRuntime) -> Result<(), Fail> {
-    let mut t = of_two(rt.alloc(), 2, 3, 1, -1)?;
+    let mut t = of_two(&rt, rt.alloc(), 2, 3, 1, -1);
     for (row, column, stand) in PIVOTS {
         assert!(rt; is_made(&mut t, row, column) && stands(&t, stand));
     }
@@ -95,7 +100,7 @@ fn a_pivot_by_hand(rt: HostRuntime) -> Result<(), Fail> {
 
 #[test]
 fn rows_are_divided_by_what_divides_them(rt: HostRuntime) -> Result<(), Fail> {
-    let mut t = of_two(rt.alloc(), 2, 4, 6, 2)?;
+    let mut t = of_two(&rt, rt.alloc(), 2, 4, 6, 2);
     let stand = ([[2, 4, -1, 0], [0, 10, -3, 1]], [0, 3]);
     assert!(rt; is_made(&mut t, 0, 0) && stands(&t, stand));
     Ok(())
@@ -114,7 +119,7 @@ fn is_wide(t: &mut Tableau, row: usize, column: usize, wide: usize) -> bool {
 
 #[test]
 fn a_row_without_room_leaves_the_tableau(rt: HostRuntime) -> Result<(), Fail> {
-    let mut t = of_two(rt.alloc(), LARGE, 1, 1, LARGE)?;
+    let mut t = of_two(&rt, rt.alloc(), LARGE, 1, 1, LARGE);
     let stand = ([[-LARGE, -1, 1, 0], [-1, -LARGE, 0, 1]], [2, 3]);
     for (at, wide) in [(0, 1), (1, 0)] {
         assert!(rt; is_wide(&mut t, at, at, wide) && stands(&t, stand));
@@ -123,41 +128,41 @@ fn a_row_without_room_leaves_the_tableau(rt: HostRuntime) -> Result<(), Fail> {
 }
 
 /// `count` forms of no variable.
-pub(crate) fn constants(alloc: Global, count: usize) -> Result<Vec<Lin>, Fail> {
+pub(crate) fn constants(rt: &impl Abort, alloc: Global, count: usize) -> Vec<Lin> {
     let mut forms = Vec::new(alloc);
     for _ in 0..count {
-        forms.push(Lin::of_constant(alloc, 0))?;
+        forms.push(Lin::of_constant(alloc, 0)).expect(rt, "memory");
     }
-    Ok(forms)
+    forms
 }
 
 /// Whether `count` forms are too many; with memory.
-fn are_too_many(alloc: Global, count: usize) -> Result<bool, Fail> {
-    let forms = constants(alloc, count)?;
+fn are_too_many(rt: &impl Abort, alloc: Global, count: usize) -> bool {
+    let forms = constants(rt, alloc, count);
     if !are_below(forms.as_slice(), 0) {
-        return Ok(false);
+        return false;
     }
-    Ok(matches!(
+    matches!(
         Tableau::new(alloc, forms.as_slice(), 0),
         Err(RowStop::TooMany)
-    ))
+    )
 }
 
 #[test]
 fn more_than_1024_forms_are_too_many(rt: HostRuntime) -> Result<(), Fail> {
     for (count, wanted) in [(1024, false), (1025, true)] {
-        assert!(rt; are_too_many(rt.alloc(), count)? == wanted);
+        assert!(rt; are_too_many(&rt, rt.alloc(), count) == wanted);
     }
     Ok(())
 }
 
 /// The form of `variables` variables, each with this coefficient.
-fn form(alloc: Global, variables: u32, coefficient: i64, constant: i128) -> Result<Lin, Fail> {
+fn form(rt: &impl Abort, alloc: Global, variables: u32, coefficient: i64, constant: i128) -> Lin {
     let mut terms = Vec::new(alloc);
     for variable in 0..variables {
-        terms.push((variable, coefficient))?;
+        terms.push((variable, coefficient)).expect(rt, "memory");
     }
-    Ok(Lin::new(terms, constant)?)
+    Lin::new(terms, constant).expect(rt, "a form")
 }
 
 /// How many terms a form has, its first coefficient, and two bounds.
@@ -206,16 +211,17 @@ fn of_kind(kind: Kind, lin: Lin) -> Option<Lit> {
 
 /// What is said of a literal of `count` variables, each with this coefficient.
 fn said_of(
+    rt: &impl Abort,
     alloc: Global,
     kind: Kind,
     count: u32,
     coefficient: i64,
     constant: i128,
-) -> Result<Option<Said>, Fail> {
-    let lin = form(alloc, count, coefficient, constant)?;
+) -> Option<Said> {
+    let lin = form(rt, alloc, count, coefficient, constant);
     match of_kind(kind, lin) {
-        Some(lit) => Ok(said(alloc, &lit)),
-        None => Ok(None),
+        Some(lit) => said(alloc, &lit),
+        None => None,
     }
 }
 
@@ -241,29 +247,29 @@ fn says(found: Option<Said>, said: Said, more: usize) -> bool {
 }
 
 /// Whether all literals of one variable and `more` others say what they are to say.
-fn are_ready(alloc: Global, more: u32) -> Result<bool, Fail> {
+fn are_ready(rt: &impl Abort, alloc: Global, more: u32) -> bool {
     let mut all = true;
     for (kind, coefficient, constant, said) in READY {
         let count = more.wrapping_add(1);
-        let found = said_of(alloc, kind, count, coefficient, constant)?;
+        let found = said_of(rt, alloc, kind, count, coefficient, constant);
         all = all && says(found, said, more as usize);
     }
-    Ok(all)
+    all
 }
 
 #[test]
 fn literals_are_made_ready_at_small_and_large_sizes(rt: HostRuntime) -> Result<(), Fail> {
     for more in [0, 1, 299] {
-        assert!(rt; are_ready(rt.alloc(), more)?);
+        assert!(rt; are_ready(&rt, rt.alloc(), more));
     }
     Ok(())
 }
 
 #[test]
 fn constants_have_a_truth_and_wide_bounds_none(rt: HostRuntime) -> Result<(), Fail> {
-    let truth = said_of(rt.alloc(), Kind::Le, 0, 1, 1)?;
+    let truth = said_of(&rt, rt.alloc(), Kind::Le, 0, 1, 1);
     assert!(rt; says(truth, (0, 0, None, None), 0));
-    let wide = said_of(rt.alloc(), Kind::NDiv, 1, 1, 1 - (1 << 64))?;
+    let wide = said_of(&rt, rt.alloc(), Kind::NDiv, 1, 1, 1 - (1 << 64));
     assert!(rt; says(wide, WIDE, 0));
     Ok(())
 }
@@ -297,12 +303,12 @@ fn loosen(t: &mut Tableau, variable: usize) {
 }
 
 /// The tableau of `count` forms of one variable.
-fn of_many(alloc: Global, count: usize) -> Result<Tableau, Fail> {
+fn of_many(rt: &impl Abort, alloc: Global, count: usize) -> Tableau {
     let mut forms = Vec::new(alloc);
     for _ in 0..count {
-        forms.push(form(alloc, 1, 3, 0)?)?;
+        forms.push(form(rt, alloc, 1, 3, 0)).expect(rt, "memory");
     }
-    tableau(alloc, forms, 1)
+    tableau(rt, alloc, forms, 1)
 }
 
 /// Whether a row that is there is the same in both, and its basic variable the first.
@@ -323,20 +329,20 @@ fn are_apart(copied: &mut Tableau, t: &Tableau, row: usize) -> bool {
 
 /// Whether the copy of a tableau of `last` forms and one more, pivoted in its last row, is equal to
 /// it and keeps bounds of its own on a slack.
-fn copies_are_equal(alloc: Global, last: usize) -> Result<bool, Fail> {
-    let mut t = of_many(alloc, last.wrapping_add(1))?;
+fn copies_are_equal(rt: &impl Abort, alloc: Global, last: usize) -> bool {
+    let mut t = of_many(rt, alloc, last.wrapping_add(1));
     fasten(&mut t, 1);
     if !is_made(&mut t, last, 0) {
-        return Ok(false);
+        return false;
     }
-    let mut copied = t.copy(alloc)?;
-    Ok(are_apart(&mut copied, &t, last))
+    let mut copied = t.copy(alloc).expect(rt, "memory");
+    are_apart(&mut copied, &t, last)
 }
 
 #[test]
 fn copies_are_equal_at_small_and_large_sizes(rt: HostRuntime) -> Result<(), Fail> {
     for last in [0, 199] {
-        assert!(rt; copies_are_equal(rt.alloc(), last)?);
+        assert!(rt; copies_are_equal(&rt, rt.alloc(), last));
     }
     Ok(())
 }

@@ -5,6 +5,7 @@ use base::{Boxed, Items, Same};
 use farkas_proof::{CheckStop, Refutation, check};
 use lin_atoms::{Divisor, Form, Lin, Lit};
 use std::alloc::Global;
+use std::process::Abort;
 use std::test::Fail;
 
 const MOST: i64 = i64::MAX;
@@ -48,10 +49,9 @@ enum Node {
 /// The literals, the nodes from the leaf up, the leaf's multipliers, and the answer.
 type Case = (&'static [Literal], &'static [Node], Terms, Answer);
 
-fn lin(alloc: Global, terms: &[(u32, i64)], constant: i128) -> Result<Lin, Fail> {
-    let list = Vec::from_slice(alloc, terms)?;
-    let lin = Lin::new(list, constant)?;
-    Ok(lin)
+fn lin(rt: &impl Abort, alloc: Global, terms: &[(u32, i64)], constant: i128) -> Lin {
+    let list = Vec::from_slice(alloc, terms).expect(rt, "memory");
+    Lin::new(list, constant).expect(rt, "a form")
 }
 
 fn says(kind: Kind, lin: Lin) -> Option<Lit> {
@@ -64,105 +64,105 @@ fn says(kind: Kind, lin: Lin) -> Option<Lit> {
     }
 }
 
-fn literal(alloc: Global, literal: Literal) -> Result<Form, Fail> {
+fn literal(rt: &impl Abort, alloc: Global, literal: Literal) -> Form {
     let (kind, terms, constant) = literal;
-    let lin = lin(alloc, terms, constant)?;
-    match says(kind, lin) {
-        Some(lit) => Ok(Form::Lit(lit)),
-        None => Err("no divisor".into()),
-    }
+    let lin = lin(rt, alloc, terms, constant);
+    Form::Lit(says(kind, lin).expect(rt, "a divisor"))
 }
 
-pub(crate) fn literals(alloc: Global, literals: &[Literal]) -> Result<Items<Form>, Fail> {
+pub(crate) fn literals(rt: &impl Abort, alloc: Global, literals: &[Literal]) -> Items<Form> {
     let mut parts = Items::new(alloc);
     for one in literals {
-        parts.push(literal(alloc, *one)?)?;
+        parts.push(literal(rt, alloc, *one)).expect(rt, "memory");
     }
-    Ok(parts)
+    parts
 }
 
 /// The conjunction of the literals, which is a literal where there is one, and false where there is
 /// none.
-fn conjunction(alloc: Global, lits: &[Literal]) -> Result<Form, Fail> {
+fn conjunction(rt: &impl Abort, alloc: Global, lits: &[Literal]) -> Form {
     if lits.is_empty() {
-        return Ok(Form::False);
+        return Form::False;
     }
     if lits.len() == 1 {
-        return literal(alloc, lits[0]);
+        return literal(rt, alloc, lits[0]);
     }
-    let parts = literals(alloc, lits)?;
-    Ok(Form::And(parts))
+    let parts = literals(rt, alloc, lits);
+    Form::And(parts)
 }
 
-fn leaf(alloc: Global, multipliers: &[(u32, i64)]) -> Result<Refutation, Fail> {
-    let multipliers = Items::from_slice(alloc, multipliers)?;
-    Ok(Refutation::Leaf { multipliers })
+fn leaf(rt: &impl Abort, alloc: Global, multipliers: &[(u32, i64)]) -> Refutation {
+    let multipliers = Items::from_slice(alloc, multipliers).expect(rt, "memory");
+    Refutation::Leaf { multipliers }
 }
 
 fn round(
+    rt: &impl Abort,
     alloc: Global,
     multipliers: &[(u32, i64)],
     divisor: i64,
     sub: Refutation,
-) -> Result<Refutation, Fail> {
-    let sub = Boxed::new(alloc, sub)?;
-    let multipliers = Items::from_slice(alloc, multipliers)?;
-    Ok(Refutation::Round {
+) -> Refutation {
+    let sub = Boxed::new(alloc, sub).expect(rt, "memory");
+    let multipliers = Items::from_slice(alloc, multipliers).expect(rt, "memory");
+    Refutation::Round {
         multipliers,
         divisor,
         sub,
-    })
+    }
 }
 
-fn quotient(alloc: Global, lit: u32, sub: Refutation) -> Result<Refutation, Fail> {
-    let sub = Boxed::new(alloc, sub)?;
-    Ok(Refutation::Quotient { lit, sub })
+fn quotient(rt: &impl Abort, alloc: Global, lit: u32, sub: Refutation) -> Refutation {
+    let sub = Boxed::new(alloc, sub).expect(rt, "memory");
+    Refutation::Quotient { lit, sub }
 }
 
 fn split(
+    rt: &impl Abort,
     alloc: Global,
     lin: Lin,
     below: Refutation,
     above: Refutation,
-) -> Result<Refutation, Fail> {
-    let below = Boxed::new(alloc, below)?;
-    let above = Boxed::new(alloc, above)?;
-    Ok(Refutation::Split { lin, below, above })
+) -> Refutation {
+    let below = Boxed::new(alloc, below).expect(rt, "memory");
+    let above = Boxed::new(alloc, above).expect(rt, "memory");
+    Refutation::Split { lin, below, above }
 }
 
 fn cases(
+    rt: &impl Abort,
     alloc: Global,
     which: u32,
     first: Refutation,
     last: Refutation,
-) -> Result<Refutation, Fail> {
-    let subs = Vec::from_array(alloc, [first, last])?;
+) -> Refutation {
+    let subs = Vec::from_array(alloc, [first, last]).expect(rt, "memory");
     let subs = Items::from_vec(subs);
-    Ok(Refutation::Cases { which, subs })
+    Refutation::Cases { which, subs }
 }
 
-fn on(alloc: Global, node: Node, tree: Refutation) -> Result<Refutation, Fail> {
+fn on(rt: &impl Abort, alloc: Global, node: Node, tree: Refutation) -> Refutation {
     match node {
-        Node::Round(multipliers, divisor) => round(alloc, multipliers, divisor, tree),
-        Node::Quotient(lit) => quotient(alloc, lit, tree),
+        Node::Round(multipliers, divisor) => round(rt, alloc, multipliers, divisor, tree),
+        Node::Quotient(lit) => quotient(rt, alloc, lit, tree),
         Node::Split(constant, below) => {
-            let lin = lin(alloc, &[(0, 1)], constant)?;
-            let below = leaf(alloc, below)?;
-            split(alloc, lin, below, tree)
+            let lin = lin(rt, alloc, &[(0, 1)], constant);
+            let below = leaf(rt, alloc, below);
+            split(rt, alloc, lin, below, tree)
         }
         Node::Cases(which, first) => {
-            let first = leaf(alloc, first)?;
-            cases(alloc, which, first, tree)
+            let first = leaf(rt, alloc, first);
+            cases(rt, alloc, which, first, tree)
         }
     }
 }
 
-fn tree(alloc: Global, nodes: &[Node], last: Terms) -> Result<Refutation, Fail> {
-    let mut tree = leaf(alloc, last)?;
+fn tree(rt: &impl Abort, alloc: Global, nodes: &[Node], last: Terms) -> Refutation {
+    let mut tree = leaf(rt, alloc, last);
     for node in nodes {
-        tree = on(alloc, *node, tree)?;
+        tree = on(rt, alloc, *node, tree);
     }
-    Ok(tree)
+    tree
 }
 
 fn answer_to(alloc: Global, form: &Form, proof: &Refutation) -> Answer {
@@ -180,20 +180,21 @@ fn answer_to(alloc: Global, form: &Form, proof: &Refutation) -> Answer {
 }
 
 fn is_answered(
+    rt: &impl Abort,
     alloc: Global,
     form: &Form,
     nodes: &[Node],
     last: Terms,
     answer: Answer,
-) -> Result<bool, Fail> {
-    let tree = tree(alloc, nodes, last)?;
-    Ok(answer_to(alloc, form, &tree) == answer)
+) -> bool {
+    let tree = tree(rt, alloc, nodes, last);
+    answer_to(alloc, form, &tree) == answer
 }
 
-fn is_right(alloc: Global, case: Case) -> Result<bool, Fail> {
+fn is_right(rt: &impl Abort, alloc: Global, case: Case) -> bool {
     let (lits, nodes, last, answer) = case;
-    let form = conjunction(alloc, lits)?;
-    is_answered(alloc, &form, nodes, last, answer)
+    let form = conjunction(rt, alloc, lits);
+    is_answered(rt, alloc, &form, nodes, last, answer)
 }
 
 /// -3x + 3y + 1 is at most 0, and so is 3x - 3y - 2.
@@ -223,7 +224,7 @@ const STRIPS: [Case; 6] = [
 #[test]
 fn strip_between_two_lines_has_no_integer_point(rt: HostRuntime) -> Result<(), Fail> {
     for case in STRIPS {
-        assert!(rt; is_right(rt.alloc(), case)?);
+        assert!(rt; is_right(&rt, rt.alloc(), case));
     }
     Ok(())
 }
@@ -283,7 +284,7 @@ const ROOM: [Case; 7] = [
 #[test]
 fn literals_have_room_up_to_their_bounds(rt: HostRuntime) -> Result<(), Fail> {
     for case in ROOM {
-        assert!(rt; is_right(rt.alloc(), case)?);
+        assert!(rt; is_right(&rt, rt.alloc(), case));
     }
     Ok(())
 }
@@ -316,7 +317,7 @@ const EQUATIONS: [Case; 2] = [
 #[test]
 fn equations_are_taken_with_either_sign(rt: HostRuntime) -> Result<(), Fail> {
     for case in EQUATIONS {
-        assert!(rt; is_right(rt.alloc(), case)?);
+        assert!(rt; is_right(&rt, rt.alloc(), case));
     }
     Ok(())
 }
@@ -389,45 +390,46 @@ const QUOTIENTS: [Case; 6] = [
 #[test]
 fn quotients_have_a_variable_of_their_own(rt: HostRuntime) -> Result<(), Fail> {
     for case in QUOTIENTS {
-        assert!(rt; is_right(rt.alloc(), case)?);
+        assert!(rt; is_right(&rt, rt.alloc(), case));
     }
     Ok(())
 }
 
 /// x is above 0 or above 1.
-fn inner(alloc: Global) -> Result<Form, Fail> {
+fn inner(rt: &impl Abort, alloc: Global) -> Form {
     let parts = literals(
+        rt,
         alloc,
         &[
             (Kind::AtMostZero, &[(0, -1)], 1),
             (Kind::AtMostZero, &[(0, -1)], 2),
         ],
-    )?;
-    Ok(Form::Or(parts))
+    );
+    Form::Or(parts)
 }
 
 /// x is below 0, or above 0 or above 1.
-fn outer(alloc: Global) -> Result<Form, Fail> {
-    let inner = inner(alloc)?;
-    let mut parts = literals(alloc, &[(Kind::AtMostZero, &[(0, 1)], 1)])?;
-    parts.push(inner)?;
-    Ok(Form::Or(parts))
+fn outer(rt: &impl Abort, alloc: Global) -> Form {
+    let inner = inner(rt, alloc);
+    let mut parts = literals(rt, alloc, &[(Kind::AtMostZero, &[(0, 1)], 1)]);
+    parts.push(inner).expect(rt, "memory");
+    Form::Or(parts)
 }
 
 /// That, and x is at most 5.
-fn both(alloc: Global) -> Result<Form, Fail> {
-    let outer = outer(alloc)?;
-    let single = literals(alloc, &[(Kind::AtMostZero, &[(0, 1)], -5)])?;
-    let parts = Vec::from_array(alloc, [outer, Form::Or(single)])?;
-    Ok(Form::And(Items::from_vec(parts)))
+fn both(rt: &impl Abort, alloc: Global) -> Form {
+    let outer = outer(rt, alloc);
+    let single = literals(rt, alloc, &[(Kind::AtMostZero, &[(0, 1)], -5)]);
+    let parts = Vec::from_array(alloc, [outer, Form::Or(single)]).expect(rt, "memory");
+    Form::And(Items::from_vec(parts))
 }
 
 /// That, and x is 0.
-fn nested(alloc: Global) -> Result<Form, Fail> {
-    let both = both(alloc)?;
-    let mut parts = literals(alloc, &[(Kind::Zero, &[(0, 1)], 0)])?;
-    parts.push(both)?;
-    Ok(Form::And(parts))
+fn nested(rt: &impl Abort, alloc: Global) -> Form {
+    let both = both(rt, alloc);
+    let mut parts = literals(rt, alloc, &[(Kind::Zero, &[(0, 1)], 0)]);
+    parts.push(both).expect(rt, "memory");
+    Form::And(parts)
 }
 
 const INNER_0: Node = Node::Cases(0, &[(0, 1), (1, 1)]);
@@ -464,9 +466,9 @@ const NESTED: [(&'static [Node], Terms, Answer); 5] = [
 
 #[test]
 fn parts_of_a_part_stand_in_its_place(rt: HostRuntime) -> Result<(), Fail> {
-    let form = nested(rt.alloc())?;
+    let form = nested(&rt, rt.alloc());
     for (nodes, last, answer) in NESTED {
-        assert!(rt; is_answered(rt.alloc(), &form, nodes, last, answer)?);
+        assert!(rt; is_answered(&rt, rt.alloc(), &form, nodes, last, answer));
     }
     Ok(())
 }
@@ -480,16 +482,16 @@ const SPLITS: [(i128, Answer); 5] = [
     (2 - (1 << 64), Answer::NoProof(1)),
 ];
 
-fn is_split(alloc: Global, form: &Form, constant: i128, answer: Answer) -> Result<bool, Fail> {
+fn is_split(rt: &impl Abort, alloc: Global, form: &Form, constant: i128, answer: Answer) -> bool {
     let node = Node::Split(constant, &[(0, -1), (1, 2)]);
-    is_answered(alloc, form, &[node], &[(0, 1), (1, 2)], answer)
+    is_answered(rt, alloc, form, &[node], &[(0, 1), (1, 2)], answer)
 }
 
 #[test]
 fn splits_leave_out_no_integer(rt: HostRuntime) -> Result<(), Fail> {
-    let form = conjunction(rt.alloc(), &[(Kind::Zero, &[(0, 2)], -1)])?;
+    let form = conjunction(&rt, rt.alloc(), &[(Kind::Zero, &[(0, 2)], -1)]);
     for (constant, answer) in SPLITS {
-        assert!(rt; is_split(rt.alloc(), &form, constant, answer)?);
+        assert!(rt; is_split(&rt, rt.alloc(), &form, constant, answer));
     }
     Ok(())
 }

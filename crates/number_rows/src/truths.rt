@@ -4,18 +4,20 @@ use crate::trees::{Kind, literals};
 use base::{Copied, Items, Same};
 use lin_atoms::{Form, holds};
 use std::alloc::Global;
+use std::process::Abort;
 use std::test::Fail;
 
 /// x is at most y, or 3 doesn't divide y.
-fn sample(alloc: Global) -> Result<Form, Fail> {
+fn sample(rt: &impl Abort, alloc: Global) -> Form {
     let parts = literals(
+        rt,
         alloc,
         &[
             (Kind::AtMostZero, &[(0, 1), (1, -1)], 0),
             (Kind::Undivided, &[(1, 1)], 0),
         ],
-    )?;
-    Ok(Form::Or(parts))
+    );
+    Form::Or(parts)
 }
 
 fn is_true_as_or_says(form: &Form) -> bool {
@@ -28,8 +30,8 @@ fn is_true_as_or_says(form: &Form) -> bool {
 
 #[test]
 fn formulas_are_true_as_or_says(rt: HostRuntime) -> Result<(), Fail> {
-    let form = sample(rt.alloc())?;
-    let copied = form.copy(rt.alloc())?;
+    let form = sample(&rt, rt.alloc());
+    let copied = form.copy(rt.alloc()).expect(&rt, "memory");
     assert!(rt; copied.equals(&form) && is_true_as_or_says(&copied));
     Ok(())
 }

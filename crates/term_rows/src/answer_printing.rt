@@ -5,7 +5,7 @@ ghost use Rattle.std.specs.List.{list_all};
 ghost use Rattle.term_tree.specs.Arena.{is_below};
 
 use answer_text::{Answer, Line, UnknownCause, error_line, level_line, write_answer};
-use base::{Items, Memory};
+use base::Items;
 use std::alloc::Global;
 use std::process::Abort;
 use std::test::Fail;
@@ -22,56 +22,61 @@ struct Step<'a> {
     head: Option<(u32, &'a [Value])>,
 }
 
-fn pred(alloc: Global, name: &[u8], sorts: &[Sort]) -> Result<Pred, Memory> {
-    let bytes = Items::from_slice(alloc, name)?;
-    let args = Items::from_slice(alloc, sorts)?;
-    Ok(Pred {
+fn pred(rt: &impl Abort, alloc: Global, name: &[u8], sorts: &[Sort]) -> Pred {
+    let bytes = Items::from_slice(alloc, name).expect(rt, "memory");
+    let args = Items::from_slice(alloc, sorts).expect(rt, "memory");
+    Pred {
         name: Name { bytes },
         args,
-    })
+    }
 }
 
-fn script(alloc: Global, preds: &[(&[u8], &[Sort])]) -> Result<Script, Memory> {
+fn script(rt: &impl Abort, alloc: Global, preds: &[(&[u8], &[Sort])]) -> Script {
     let mut declared = Vec::new(alloc);
     for (name, sorts) in preds {
-        declared.push(pred(alloc, name, sorts)?)?;
+        declared
+            .push(pred(rt, alloc, name, sorts))
+            .expect(rt, "memory");
     }
-    Ok(Script {
+    Script {
         preds: Items::from_vec(declared),
         asserts: Items::new(alloc),
         terms: Terms::new(alloc),
-    })
-}
-
-fn conclusion(
-    alloc: Global,
-    head: Option<(u32, &[Value])>,
-) -> Result<Option<(u32, Items<Value>)>, Memory> {
-    match head {
-        None => Ok(None),
-        Some((pred, values)) => Ok(Some((pred, Items::from_slice(alloc, values)?))),
     }
 }
 
-fn line(alloc: Global, number: u64, step: Step) -> Result<Line, Memory> {
-    let values = Items::from_slice(alloc, step.values)?;
-    let premises = Items::from_slice(alloc, step.premises)?;
-    let head = conclusion(alloc, step.head)?;
-    Ok(Line {
+fn conclusion(
+    rt: &impl Abort,
+    alloc: Global,
+    head: Option<(u32, &[Value])>,
+) -> Option<(u32, Items<Value>)> {
+    match head {
+        None => None,
+        Some((pred, values)) => Some((pred, Items::from_slice(alloc, values).expect(rt, "memory"))),
+    }
+}
+
+fn line(rt: &impl Abort, alloc: Global, number: u64, step: Step) -> Line {
+    let values = Items::from_slice(alloc, step.values).expect(rt, "memory");
+    let premises = Items::from_slice(alloc, step.premises).expect(rt, "memory");
+    let head = conclusion(rt, alloc, step.head);
+    Line {
         number,
         assertion: step.assertion,
         values,
         premises,
         head,
-    })
+    }
 }
 
-fn derivation(alloc: Global, steps: &[Step]) -> Result<Answer, Memory> {
+fn derivation(rt: &impl Abort, alloc: Global, steps: &[Step]) -> Answer {
     let mut lines = Vec::new(alloc);
     for (i, step) in steps.iter().enumerate() {
-        lines.push(line(alloc, i as u64 + 1, *step)?)?;
+        lines
+            .push(line(rt, alloc, i as u64 + 1, *step))
+            .expect(rt, "memory");
     }
-    Ok(Answer::Unsat(Items::from_vec(lines)))
+    Answer::Unsat(Items::from_vec(lines))
 }
 
 fn are_below(args: &[TermId], length: usize) -> bool
@@ -81,72 +86,60 @@ fn are_below(args: &[TermId], length: usize) -> bool
 }
 
 /// Adds an application, where its parts are there.
-fn apply(alloc: Global, terms: &mut Terms, op: OpKind, args: &[TermId]) -> Result<TermId, Memory> {
-    if terms.len() > 1000 || !are_below(args, terms.len()) {
-        return Err(Memory);
-    }
-    let args = Items::from_slice(alloc, args)?;
-    let id = terms.add(Node::Op { op, args }, 0)?;
-    Ok(id)
+fn apply(rt: &impl Abort, alloc: Global, terms: &mut Terms, op: OpKind, args: &[TermId]) -> TermId {
+    assert!(rt; terms.len() <= 1000 && are_below(args, terms.len()));
+    let args = Items::from_slice(alloc, args).expect(rt, "memory");
+    terms.add(Node::Op { op, args }, 0).expect(rt, "memory")
 }
 
-fn number(terms: &mut Terms, number: i64) -> Result<TermId, Memory> {
-    if terms.len() > 1000 {
-        return Err(Memory);
-    }
-    let id = terms.add(Node::Num(number), 0)?;
-    Ok(id)
+fn number(rt: &impl Abort, terms: &mut Terms, number: i64) -> TermId {
+    assert!(rt; terms.len() <= 1000);
+    terms.add(Node::Num(number), 0).expect(rt, "memory")
 }
 
-fn argument(terms: &mut Terms, binder: u32, sort: Sort) -> Result<TermId, Memory> {
-    if terms.len() > 1000 {
-        return Err(Memory);
-    }
-    let id = terms.add(Node::Var { binder, sort }, 0)?;
-    Ok(id)
+fn argument(rt: &impl Abort, terms: &mut Terms, binder: u32, sort: Sort) -> TermId {
+    assert!(rt; terms.len() <= 1000);
+    terms
+        .add(Node::Var { binder, sort }, 0)
+        .expect(rt, "memory")
 }
 
-fn multiple(terms: &mut Terms, by: i64, arg: TermId) -> Result<TermId, Memory> {
-    if terms.len() > 1000 || arg.0 as usize >= terms.len() {
-        return Err(Memory);
-    }
-    let id = terms.add(Node::Divisible { by, arg }, 0)?;
-    Ok(id)
+fn multiple(rt: &impl Abort, terms: &mut Terms, by: i64, arg: TermId) -> TermId {
+    assert!(rt; terms.len() <= 1000 && (arg.0 as usize) < terms.len());
+    terms
+        .add(Node::Divisible { by, arg }, 0)
+        .expect(rt, "memory")
 }
 
-fn truth(terms: &mut Terms, truth: bool) -> Result<TermId, Memory> {
-    if terms.len() > 1000 {
-        return Err(Memory);
-    }
-    let id = if truth {
-        terms.add(Node::True, 0)?
-    } else {
-        terms.add(Node::False, 0)?
-    };
-    Ok(id)
+fn truth(rt: &impl Abort, terms: &mut Terms, truth: bool) -> TermId {
+    assert!(rt; terms.len() <= 1000);
+    let node = if truth { Node::True } else { Node::False };
+    terms.add(node, 0).expect(rt, "memory")
 }
 
 /// One definition for each predicate, true and false in turn.
-fn constants(alloc: Global, count: u32) -> Result<Answer, Memory> {
+fn constants(rt: &impl Abort, alloc: Global, count: u32) -> Answer {
     let mut definitions = Vec::new(alloc);
     for pred in 0..count {
         let mut terms = Terms::new(alloc);
-        let body = truth(&mut terms, pred % 2 == 0)?;
+        let body = truth(rt, &mut terms, pred % 2 == 0);
         let params = Items::new(alloc);
-        definitions.push(Definition {
-            pred,
-            params,
-            terms,
-            body,
-        })?;
+        definitions
+            .push(Definition {
+                pred,
+                params,
+                terms,
+                body,
+            })
+            .expect(rt, "memory");
     }
-    Ok(Answer::Sat(Items::from_vec(definitions)))
+    Answer::Sat(Items::from_vec(definitions))
 }
 
 /// Nothing holds of the one predicate.
-fn nothing(alloc: Global) -> Result<Answer, Memory> {
+fn nothing(rt: &impl Abort, alloc: Global) -> Answer {
     let mut terms = Terms::new(alloc);
-    let body = truth(&mut terms, false)?;
+    let body = truth(rt, &mut terms, false);
     let params = Items::new(alloc);
     let definition = Definition {
         pred: 0,
@@ -155,37 +148,37 @@ fn nothing(alloc: Global) -> Result<Answer, Memory> {
         body,
     };
     let mut definitions = Vec::new(alloc);
-    definitions.push(definition)?;
-    Ok(Answer::Sat(Items::from_vec(definitions)))
+    definitions.push(definition).expect(rt, "memory");
+    Answer::Sat(Items::from_vec(definitions))
 }
 
 /// The Bool argument less twice the Int argument is at most 5.
-fn bound(alloc: Global, terms: &mut Terms) -> Result<TermId, Memory> {
-    let x0 = argument(terms, 0, Sort::Int)?;
-    let two = number(terms, 2)?;
-    let minus_two = apply(alloc, terms, OpKind::Sub, &[two])?;
-    let first = apply(alloc, terms, OpKind::Mul, &[minus_two, x0])?;
-    let second = bit(alloc, terms)?;
-    let sum = apply(alloc, terms, OpKind::Add, &[first, second])?;
-    let five = number(terms, 5)?;
-    apply(alloc, terms, OpKind::Le, &[sum, five])
+fn bound(rt: &impl Abort, alloc: Global, terms: &mut Terms) -> TermId {
+    let x0 = argument(rt, terms, 0, Sort::Int);
+    let two = number(rt, terms, 2);
+    let minus_two = apply(rt, alloc, terms, OpKind::Sub, &[two]);
+    let first = apply(rt, alloc, terms, OpKind::Mul, &[minus_two, x0]);
+    let second = bit(rt, alloc, terms);
+    let sum = apply(rt, alloc, terms, OpKind::Add, &[first, second]);
+    let five = number(rt, terms, 5);
+    apply(rt, alloc, terms, OpKind::Le, &[sum, five])
 }
 
 /// The Bool argument as a number.
-fn bit(alloc: Global, terms: &mut Terms) -> Result<TermId, Memory> {
-    let x1 = argument(terms, 1, Sort::Bool)?;
-    let one = number(terms, 1)?;
-    let zero = number(terms, 0)?;
-    apply(alloc, terms, OpKind::Ite, &[x1, one, zero])
+fn bit(rt: &impl Abort, alloc: Global, terms: &mut Terms) -> TermId {
+    let x1 = argument(rt, terms, 1, Sort::Bool);
+    let one = number(rt, terms, 1);
+    let zero = number(rt, terms, 0);
+    apply(rt, alloc, terms, OpKind::Ite, &[x1, one, zero])
 }
 
-fn lemma(alloc: Global) -> Result<Answer, Memory> {
+fn lemma(rt: &impl Abort, alloc: Global) -> Answer {
     let mut terms = Terms::new(alloc);
-    let at_most = bound(alloc, &mut terms)?;
-    let x0 = argument(&mut terms, 0, Sort::Int)?;
-    let divisible = multiple(&mut terms, 3, x0)?;
-    let cube = apply(alloc, &mut terms, OpKind::And, &[at_most, divisible])?;
-    let body = apply(alloc, &mut terms, OpKind::Not, &[cube])?;
+    let at_most = bound(rt, alloc, &mut terms);
+    let x0 = argument(rt, &mut terms, 0, Sort::Int);
+    let divisible = multiple(rt, &mut terms, 3, x0);
+    let cube = apply(rt, alloc, &mut terms, OpKind::And, &[at_most, divisible]);
+    let body = apply(rt, alloc, &mut terms, OpKind::Not, &[cube]);
     let params = Items::new(alloc);
     let definition = Definition {
         pred: 0,
@@ -194,8 +187,8 @@ fn lemma(alloc: Global) -> Result<Answer, Memory> {
         body,
     };
     let mut definitions = Vec::new(alloc);
-    definitions.push(definition)?;
-    Ok(Answer::Sat(Items::from_vec(definitions)))
+    definitions.push(definition).expect(rt, "memory");
+    Answer::Sat(Items::from_vec(definitions))
 }
 
 fn expect(
@@ -204,11 +197,10 @@ fn expect(
     preds: &[(&[u8], &[Sort])],
     answer: &Answer,
     text: &[u8],
-) -> Result<(), Memory> {
-    let script = script(alloc, preds)?;
-    let printed = write_answer(alloc, &script, answer)?;
+) {
+    let script = script(rt, alloc, preds);
+    let printed = write_answer(alloc, &script, answer).expect(rt, "memory");
     assert!(rt; printed.as_slice() == text);
-    Ok(())
 }
 
 /// The step to the next number.
@@ -241,10 +233,10 @@ fn a_derivation_by_counting_up_is_printed_step_by_step(rt: HostRuntime) -> Resul
             head: None,
         },
     ];
-    let answer = derivation(alloc, &steps)?;
+    let answer = derivation(&rt, alloc, &steps);
     let text =
         b"unsat\n(derivation\n(step 1 1 () () (p 0))\n(step 2 2 (0) (1) (p 1))\n(step 3 2 (1) (2) (p 2))\n(step 4 2 (2) (3) (p 3))\n(step 5 3 () (4) false)\n)\n";
-    expect(&rt, alloc, &[(b"p", &[Sort::Int])], &answer, text)?;
+    expect(&rt, alloc, &[(b"p", &[Sort::Int])], &answer, text);
     Ok(())
 }
 
@@ -257,9 +249,9 @@ fn a_false_assertion_is_refuted_in_one_step(rt: HostRuntime) -> Result<(), Fail>
         premises: &[],
         head: None,
     }];
-    let answer = derivation(alloc, &steps)?;
+    let answer = derivation(&rt, alloc, &steps);
     let text = b"unsat\n(derivation\n(step 1 1 () () false)\n)\n";
-    expect(&rt, alloc, &[], &answer, text)?;
+    expect(&rt, alloc, &[], &answer, text);
     Ok(())
 }
 
@@ -286,7 +278,7 @@ fn truth_values_and_negative_numbers_stand_in_steps(rt: HostRuntime) -> Result<(
             head: None,
         },
     ];
-    let answer = derivation(alloc, &steps)?;
+    let answer = derivation(&rt, alloc, &steps);
     let text =
         b"unsat\n(derivation\n(step 1 1 () () q)\n(step 2 2 () (1) (r true (- 2)))\n(step 3 3 (true (- 2)) (2) false)\n)\n";
     expect(
@@ -295,14 +287,14 @@ fn truth_values_and_negative_numbers_stand_in_steps(rt: HostRuntime) -> Result<(
         &[(b"q", &[]), (b"r", &[Sort::Bool, Sort::Int])],
         &answer,
         text,
-    )?;
+    );
     Ok(())
 }
 
 #[test]
 fn names_stand_between_bars_where_they_are_no_simple_symbols(rt: HostRuntime) -> Result<(), Fail> {
     let alloc = rt.alloc();
-    let answer = constants(alloc, 5)?;
+    let answer = constants(&rt, alloc, 5);
     let preds: [(&[u8], &[Sort]); 5] = [
         (b"main@entry", &[Sort::Int, Sort::Bool]),
         (b"a b", &[]),
@@ -312,14 +304,14 @@ fn names_stand_between_bars_where_they_are_no_simple_symbols(rt: HostRuntime) ->
     ];
     let text =
         b"sat\n(\n(define-fun main@entry ((x0 Int) (x1 Bool)) Bool true)\n(define-fun |a b| () Bool false)\n(define-fun |7up| () Bool true)\n(define-fun || () Bool false)\n(define-fun |let| () Bool true)\n)\n";
-    expect(&rt, alloc, &preds, &answer, text)?;
+    expect(&rt, alloc, &preds, &answer, text);
     Ok(())
 }
 
 #[test]
 fn a_lemma_is_the_negation_of_a_cube_of_literals(rt: HostRuntime) -> Result<(), Fail> {
     let alloc = rt.alloc();
-    let answer = lemma(alloc)?;
+    let answer = lemma(&rt, alloc);
     let text =
         b"sat\n(\n(define-fun p ((x0 Int) (x1 Bool)) Bool (not (and (<= (+ (* (- 2) x0) (ite x1 1 0)) 5) ((_ divisible 3) x0))))\n)\n";
     expect(
@@ -328,16 +320,16 @@ fn a_lemma_is_the_negation_of_a_cube_of_literals(rt: HostRuntime) -> Result<(), 
         &[(b"p", &[Sort::Int, Sort::Bool])],
         &answer,
         text,
-    )?;
+    );
     Ok(())
 }
 
 #[test]
 fn a_predicate_without_clauses_is_false(rt: HostRuntime) -> Result<(), Fail> {
     let alloc = rt.alloc();
-    let answer = nothing(alloc)?;
+    let answer = nothing(&rt, alloc);
     let text = b"sat\n(\n(define-fun p ((x0 Int)) Bool false)\n)\n";
-    expect(&rt, alloc, &[(b"p", &[Sort::Int])], &answer, text)?;
+    expect(&rt, alloc, &[(b"p", &[Sort::Int])], &answer, text);
     Ok(())
 }
 
@@ -351,7 +343,7 @@ fn an_unknown_answer_has_its_level_and_cause(rt: HostRuntime) -> Result<(), Fail
         (7, UnknownCause::NoMemory, b"unknown\n; level 7 memory\n"),
     ];
     for (level, cause, text) in cases {
-        expect(&rt, alloc, &[], &Answer::Unknown { level, cause }, text)?;
+        expect(&rt, alloc, &[], &Answer::Unknown { level, cause }, text);
     }
     Ok(())
 }

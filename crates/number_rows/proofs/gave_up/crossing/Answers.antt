@@ -10,9 +10,9 @@ use Rattle.farkas_proof.proofs.WideRowLemmas.{large-given-up, wide}
 use Rattle.number_rows.proofs.gave_up.crossing.Goals as goal
 
 pub keep-requires : goal.keep-requires
-keep-requires c =
-    let form : c.in_ok-form.form ≡ both large_on_first large_on_second = c.in_ok-form.ensures ∙ ap (λ l. both l c.in_ok-second.second) c.in_ok-first.ensures ∙ ap (both large_on_first) c.in_ok-second.ensures in
-    let lits : c.in_ok-lits.lits ≡ large_on_first ∷ large_on_second ∷ [] = c.in_ok-lits.ensures ∙ ap (λ (l : Lit). l ∷ c.in_ok-second-2.second ∷ []) c.in_ok-first-2.ensures ∙ ap (λ (l : Lit). large_on_first ∷ l ∷ []) c.in_ok-second-2.ensures in
-    let evidence : Row c.in_ok-lits.lits c.in_ok-basis.basis (pos wide) ≡ Row (large_on_first ∷ large_on_second ∷ []) (0 ∷ 1 ∷ []) (pos wide) =
-    ap (λ (ls : List Lit). Row ls c.in_ok-basis.basis (pos wide)) lits ∙ ap (λ (b : List ℕ). Row (large_on_first ∷ large_on_second ∷ []) b (pos wide)) c.in_ok-basis.ensures in
+keep-requires _ c =
+    let form : c.conjunction-form.result ≡ both large_on_first large_on_second = c.conjunction-form.ensures ∙ ap (λ l. both l c.on_second-second.result) c.on_first-first.ensures ∙ ap (both large_on_first) c.on_second-second.ensures in
+    let lits : c.pair-lits.result ≡ large_on_first ∷ large_on_second ∷ [] = c.pair-lits.ensures ∙ ap (λ (l : Lit). l ∷ c.on_second-second-2.result ∷ []) c.on_first-first-2.ensures ∙ ap (λ (l : Lit). large_on_first ∷ l ∷ []) c.on_second-second-2.ensures in
+    let evidence : Row c.pair-lits.result c.first_two-basis.result (pos wide) ≡ Row (large_on_first ∷ large_on_second ∷ []) (0 ∷ 1 ∷ []) (pos wide) =
+    ap (λ (ls : List Lit). Row ls c.first_two-basis.result (pos wide)) lits ∙ ap (λ (b : List ℕ). Row (large_on_first ∷ large_on_second ∷ []) b (pos wide)) c.first_two-basis.ensures in
     same-evidence _ _ _ _ form evidence large-given-up
