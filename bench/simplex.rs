@@ -499,7 +499,7 @@ fn main() {
         measure(&format!("flows of {nodes} nodes"), systems);
     }
     for variables in [30, 60] {
-        let systems = (0..50).map(|_| sparse(&mut seeded, variables, 30)).collect();
+        let systems = (0..10).map(|_| sparse(&mut seeded, variables, 30)).collect();
         measure(&format!("30 rows, {variables} variables"), systems);
     }
 }
