@@ -1,7 +1,6 @@
 use Rattle.std.proofs.Common.{◌≡◌, ◌∷◌, [], List, ℕ, ap, ◌∙◌}
 use Rattle.std.specs.Prelude.{pos}
 use Rattle.lin_atoms.specs.declared.lit.Lit.{Lit}
-use Rattle.lin_atoms.specs.declared.form.Form.{Form}
 use Rattle.farkas_proof.specs.Instances.{both, large_on_first, large_on_second}
 use Rattle.farkas_proof.specs.declared.evidence.Evidence.{Evidence}
 use Rattle.farkas_proof.specs.declared.evidence.Evidence.TheVariants.{Row}
