@@ -374,7 +374,7 @@ fn dense(seeded: &mut Seeded, variables: usize, rows: usize) -> System {
     System { variables, coefficients, lower, upper }
 }
 
-/// Forms of six variables each, in a range about their values at a hidden point.
+/// Forms of six variables at most, in a range about their values at a hidden point.
 fn sparse(seeded: &mut Seeded, variables: usize, rows: usize) -> System {
     let point: Vec<i64> = (0..variables).map(|_| seeded.between(-20, 20)).collect();
     let mut coefficients = vec![0; variables * rows];
