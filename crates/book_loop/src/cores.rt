@@ -3,7 +3,7 @@
 use base::{Copied, Memory};
 use chc_tokens::Shown;
 use farkas_proof::Refutation;
-use lin_atoms::{Form, Lit};
+use lin_atoms::Lit;
 use std::alloc::Global;
 use step_rules::{LemmaPart, Lent};
 
@@ -15,27 +15,6 @@ const MOST_DEEP: u32 = 400;
 struct Core {
     guard: u32,
     used: Vec<bool>,
-}
-
-/// How many literals a conjunction has, without those of its disjunctions.
-#[cycle(counted)]
-fn count_of(form: &Form) -> u32 {
-    match form {
-        Form::True => 0,
-        Form::False => 1,
-        Form::Lit(_) => 1,
-        Form::And(parts) => count_all(parts.as_slice()),
-        Form::Or(_) => 0,
-    }
-}
-
-#[cycle(counted)]
-fn count_all(parts: &[Form]) -> u32 {
-    let mut count: u32 = 0;
-    for part in parts {
-        count = count.saturating_add(count_of(part));
-    }
-    count
 }
 
 /// The literal of that number is used.
@@ -96,8 +75,10 @@ fn mark_tree(core: &mut Core, tree: &Refutation, deep: u32) {
 
 /// So are those of the proof through a clause.
 fn mark_shown(lent: &Lent, core: &mut Core, shown: &Shown) {
-    if let Some(clause) = lent.system.clauses().get(shown.clause() as usize) {
-        core.guard = count_of(&clause.guard);
+    let number = shown.clause() as usize;
+    if number < lent.system.clauses().len() {
+        let guard = lent.system.guard(number);
+        core.guard = u32::try_from(guard.lits.len()).unwrap_or(u32::MAX);
         mark_tree(core, shown.proof().proof(), MOST_DEEP);
     }
 }

@@ -100,7 +100,8 @@ pub fn search(book: &mut Book, nodes: u32) -> Result<(), Memory>
     ensures own { AllOf (IsOwn nodes) book.new.journal }
     ensures thin { IsThin (standing_of book.new) }
 {
-    let mut hints = hints_of(book.lend().alloc, book.system())?;
+    let lent = book.lend();
+    let mut hints = hints_of(lent.alloc, lent.system)?;
     let mut work = Workspace::new(book.lend().alloc);
     'turns: while !has_ended(book) {
         advance(book, &mut hints, nodes, &mut work)?;

@@ -2,7 +2,7 @@
 
 use crate::forms::copied;
 use base::{Copied, Memory};
-use clause_form::{Clause, System};
+use clause_index::{FlatGuard, IndexedSystem};
 use lin_atoms::{Form, Lit};
 use std::alloc::Global;
 
@@ -125,13 +125,24 @@ fn joined(first: Vec<Way>, second: Vec<Way>) -> Result<Vec<Way>, Memory> {
     Ok(made)
 }
 
-/// The ways through a guard.
-fn ways(alloc: Global, guard: &Form) -> Result<Vec<Way>, Memory> {
-    let mut start = Vec::new(alloc);
-    start.push(Way {
-        lits: Vec::new(alloc),
-    })?;
-    expanded(alloc, guard, start)
+/// The ways through a guard: its literals, and one part of each disjunction.
+fn ways(alloc: Global, guard: &FlatGuard) -> Result<Vec<Way>, Memory> {
+    let mut made = Vec::new(alloc);
+    let lits = copied(alloc, guard.lits.as_slice())?;
+    made.push(Way { lits })?;
+    for parts in guard.cases.as_slice() {
+        made = any_expanded(alloc, parts.as_slice(), made)?;
+    }
+    Ok(made)
+}
+
+/// How many there are.
+fn count_of(guard: &FlatGuard) -> usize {
+    let mut count: usize = 1;
+    for parts in guard.cases.as_slice() {
+        count = any_counted(parts.as_slice(), count).unwrap_or(count);
+    }
+    count
 }
 
 /// Adds the ways of a clause; whether none is too long.
@@ -139,9 +150,9 @@ fn push_arms(
     alloc: Global,
     arms: &mut Vec<Arm>,
     number: usize,
-    clause: &Clause,
+    guard: &FlatGuard,
 ) -> Result<bool, Memory> {
-    for way in ways(alloc, &clause.guard)? {
+    for way in ways(alloc, guard)? {
         if way.lits.len() > MOST_LITS {
             return Ok(false);
         }
@@ -154,25 +165,25 @@ fn push_arms(
 }
 
 /// Whether there aren't too many ways through all clauses.
-fn are_few(sys: &System) -> bool {
+fn are_few(sys: &IndexedSystem) -> bool {
     let mut count: usize = 0;
-    for clause in sys.clauses() {
+    for number in 0..sys.clauses().len() {
         if count > MOST_ARMS {
             return false;
         }
-        count = count.saturating_add(counted(&clause.guard, 1));
+        count = count.saturating_add(count_of(sys.guard(number)));
     }
     true
 }
 
 /// The ways through all clauses, if there aren't too many.
-pub(crate) fn arms_of(alloc: Global, sys: &System) -> Result<Option<Vec<Arm>>, Memory> {
+pub(crate) fn arms_of(alloc: Global, sys: &IndexedSystem) -> Result<Option<Vec<Arm>>, Memory> {
     if !are_few(sys) {
         return Ok(None);
     }
     let mut arms = Vec::new(alloc);
-    for (number, clause) in sys.clauses().iter().enumerate() {
-        if !push_arms(alloc, &mut arms, number, clause)? {
+    for number in 0..sys.clauses().len() {
+        if !push_arms(alloc, &mut arms, number, sys.guard(number))? {
             return Ok(None);
         }
     }

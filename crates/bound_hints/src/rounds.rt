@@ -8,6 +8,7 @@ use crate::table::{Size, Table, table_of};
 use crate::walking::Walk;
 use base::Memory;
 use clause_form::System;
+use clause_index::IndexedSystem;
 use cube_forms::Cube;
 use lin_atoms::Lin;
 use std::alloc::Global;
@@ -115,7 +116,7 @@ fn found_in(
 
 fn round_of(
     alloc: Global,
-    sys: &System,
+    sys: &IndexedSystem,
     shared: &[Vec<Lin>],
     walk: &Walk,
     size: Size,
@@ -125,7 +126,7 @@ fn round_of(
         return Ok(Outcome::Broken);
     }
     match table_of(alloc, sys, shared, size)? {
-        Some(table) => found_in(alloc, table, sys, walk, left),
+        Some(table) => found_in(alloc, table, sys.plain(), walk, left),
         None => Ok(Outcome::Dropped),
     }
 }
@@ -163,7 +164,7 @@ impl Bounds {
     pub fn renew(
         &mut self,
         alloc: Global,
-        sys: &System,
+        sys: &IndexedSystem,
         shared: &[Vec<Lin>],
         walk: &Walk,
         level: u32,

@@ -9,6 +9,7 @@ use crate::parts::parts_of;
 use crate::places::{Guarded, guards_of};
 use base::{Copied, Memory, Same};
 use clause_form::System;
+use clause_index::IndexedSystem;
 use lin_atoms::{Lin, Lit};
 use std::alloc::Global;
 
@@ -165,14 +166,15 @@ fn push_pred(
 /// ways through its clauses. For each predicate forms are handed in that may be worth a bound.
 pub(crate) fn table_of(
     alloc: Global,
-    sys: &System,
+    indexed: &IndexedSystem,
     shared: &[Vec<Lin>],
     size: Size,
 ) -> Result<Option<Table>, Memory> {
-    let arms = match arms_of(alloc, sys)? {
+    let arms = match arms_of(alloc, indexed)? {
         Some(arms) => arms,
         None => return Ok(None),
     };
+    let sys = indexed.plain();
     let mut table = Table {
         arms,
         bounds: Vec::new(alloc),

@@ -6,6 +6,7 @@ use crate::asking::point_of;
 use crate::forms::lin_of;
 use base::Memory;
 use clause_form::{Atom, Clause, System};
+use clause_index::IndexedSystem;
 use cube_forms::Tuple;
 use lin_atoms::{Lin, Lit};
 use std::alloc::Global;
@@ -428,10 +429,11 @@ fn run(
 
 /// The tuples that are met by running clauses with at most one body atom forward; none where the system has
 /// too many ways through its clauses.
-pub fn walked(alloc: Global, sys: &System) -> Result<Walk, Memory> {
+pub fn walked(alloc: Global, indexed: &IndexedSystem) -> Result<Walk, Memory> {
+    let sys = indexed.plain();
     let mut met = Vec::new(alloc);
     let mut left = CHAIN_WORK;
-    let is_broken = match arms_of(alloc, sys)? {
+    let is_broken = match arms_of(alloc, indexed)? {
         Some(arms) => run(alloc, arms.as_slice(), sys, &mut met, &mut left)?,
         None => false,
     };

@@ -281,7 +281,7 @@ impl Book {
     pub fn system(&self) -> &System
         ensures { result.now ≡ self.now.system }
     {
-        self.parts.system.get()
+        self.parts.system.get().plain()
     }
 
     /// Tells that the book is the replay of its journal, in which each entry is legal where it is

@@ -1,6 +1,7 @@
 use crate::entry::Entry;
 use base::Memory;
 use clause_form::System;
+use clause_index::IndexedSystem;
 use cube_forms::{Held, Table};
 use derivations::Facts;
 use lemma_frames::Frames;
@@ -13,7 +14,7 @@ use step_rules::Lent;
 #[derive(Drop)]
 pub(crate) struct Parts {
     pub(crate) alloc: Global,
-    pub(crate) system: Held<System>,
+    pub(crate) system: Held<IndexedSystem>,
     pub(crate) given: u32,
     pub(crate) level: u32,
     pub(crate) spent: u32,
@@ -45,7 +46,8 @@ impl Parts {
 
     /// The root at level 1, and nothing besides.
     pub(crate) fn new(alloc: Global, system: System, given: u32) -> Result<Parts, Memory>
-        requires { length system.preds < 2 ^ 32 }
+        requires clauses { length system.clauses < 2 ^ 32 }
+        requires preds { length system.preds < 2 ^ 32 }
         ensures is { IfOk result (λ parts. parts ≡ record {
           system = system;
           given = given;
@@ -65,7 +67,7 @@ impl Parts {
         let facts = Facts::new(alloc)?;
         let tree = Tree::new(alloc)?;
         let journal = Table::new(alloc)?;
-        let system = Held::new(alloc, system)?;
+        let system = Held::new(alloc, IndexedSystem::new(alloc, system)?)?;
         Ok(Parts {
             alloc,
             system,

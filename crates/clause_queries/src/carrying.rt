@@ -7,9 +7,9 @@ ghost use Rattle.clause_queries.specs.machinery.Carrying.{has_tree, trees_for};
 
 use base::{Boxed, Copied, Items, Memory, Same};
 use chc_tokens::{Goal, Shown};
-use clause_form::System;
+use clause_index::IndexedSystem;
 use farkas_proof::Refutation;
-use lin_atoms::{Form, Lin, Lit};
+use lin_atoms::{Lin, Lit};
 use std::alloc::Global;
 
 /// How deep a tree is at most that is carried over.
@@ -33,27 +33,6 @@ pub(crate) struct Places {
     goal: Vec<Place>,
     /// How many literals the new goal has.
     count: u32,
-}
-
-/// How many literals a conjunction has, without those of its disjunctions.
-#[cycle(counted)]
-fn count_of(form: &Form) -> u32 {
-    match form {
-        Form::True => 0,
-        Form::False => 1,
-        Form::Lit(_) => 1,
-        Form::And(parts) => count_all(parts.as_slice()),
-        Form::Or(_) => 0,
-    }
-}
-
-#[cycle(counted)]
-fn count_all(parts: &[Form]) -> u32 {
-    let mut count: u32 = 0;
-    for part in parts {
-        count = count.saturating_add(count_of(part));
-    }
-    count
 }
 
 /// Where the literal stands among these, from one place to another.
@@ -336,23 +315,23 @@ pub(crate) struct Carried {
 /// The tree of an old proof for the same clause's query with another goal.
 fn tree_by(
     alloc: Global,
-    sys: &System,
+    sys: &IndexedSystem,
     places: &mut Places,
     shown: &Shown,
 ) -> Result<Option<Refutation>, Memory> {
-    match sys.clauses().get(shown.clause() as usize) {
-        Some(clause) => {
-            places.guard = count_of(&clause.guard);
-            moved_tree(alloc, places, shown.proof().proof(), MOST_DEEP)
-        }
-        None => Ok(None),
+    let number = shown.clause() as usize;
+    if number >= sys.clauses().len() {
+        return Ok(None);
     }
+    let guard = sys.guard(number);
+    places.guard = u32::try_from(guard.lits.len()).unwrap_or(u32::MAX);
+    moved_tree(alloc, places, shown.proof().proof(), MOST_DEEP)
 }
 
 /// Trees for the queries of a goal, made of proofs of another goal under the same lemmas.
 pub(crate) fn all_carried(
     alloc: Global,
-    sys: &System,
+    sys: &IndexedSystem,
     goal: &Goal,
     old: &[Shown],
 ) -> Result<Vec<Carried>, Memory> {

@@ -16,7 +16,7 @@ use crate::lost::Lost;
 use crate::using::frame_used;
 use base::{Copied, Items, Memory};
 use chc_tokens::{Goal, Seen, Shown};
-use clause_form::System;
+use clause_index::IndexedSystem;
 use farkas_proof::Refutation;
 use lemma_frames::Frames;
 use std::alloc::Global;
@@ -44,7 +44,7 @@ pub(crate) struct Gathered {
 /// query is looked at first.
 fn ask_clause(
     alloc: Global,
-    sys: &System,
+    sys: &IndexedSystem,
     frames: &Frames,
     number: u32,
     pred: Option<u32>,
@@ -63,7 +63,7 @@ fn ask_clause(
     let clause = sys.clause(number as usize);
     let used = frame_used(alloc, frames, k, clause.atoms.as_slice())?;
     let goal = goal.copy(alloc)?;
-    let asked = ask_by(alloc, sys, number, goal, used, nodes, tree)?;
+    let asked = ask_by(alloc, sys.plain(), number, goal, used, nodes, tree)?;
     Ok(asked)
 }
 
@@ -108,7 +108,7 @@ fn answered(gathered: Gathered) -> Found
 /// The clauses that are asked, those last for whose query there is a tree.
 fn in_order(
     alloc: Global,
-    sys: &System,
+    sys: &IndexedSystem,
     pred: Option<u32>,
     k: u32,
     trees: &[Carried],
@@ -126,7 +126,7 @@ fn in_order(
 /// other clauses are asked first.
 pub fn ask_all_by(
     alloc: Global,
-    sys: &System,
+    sys: &IndexedSystem,
     frames: &Frames,
     pred: Option<u32>,
     goal: &Goal,
@@ -160,7 +160,7 @@ pub fn ask_all_by(
 /// instance comes first; else the first query that was given up.
 pub fn ask_all(
     alloc: Global,
-    sys: &System,
+    sys: &IndexedSystem,
     frames: &Frames,
     pred: Option<u32>,
     goal: &Goal,

@@ -8,6 +8,7 @@ use crate::tightening::residue;
 use base::{Copied, Memory};
 use bound_hints::{Bounds, Walk, walked};
 use clause_form::System;
+use clause_index::IndexedSystem;
 use cube_forms::Cube;
 use lin_atoms::{Lin, Lit, WideStop, denied};
 use std::alloc::Global;
@@ -26,9 +27,9 @@ pub struct Hints {
 
 /// What is guessed of the tuples of each predicate of the system: equations and residues that they have
 /// in common.
-pub fn hints_of(alloc: Global, sys: &System) -> Result<Hints, Memory> {
+pub fn hints_of(alloc: Global, sys: &IndexedSystem) -> Result<Hints, Memory> {
     Ok(Hints {
-        known: hulls(alloc, sys)?,
+        known: hulls(alloc, sys.plain())?,
         bounds: Bounds::new(),
         walk: None,
         paces: Vec::new(alloc),
@@ -123,13 +124,13 @@ fn joined(first: Vec<Vec<Lin>>, second: Vec<Vec<Lin>>) -> Result<Vec<Vec<Lin>>, 
 
 impl Hints {
     /// Runs clauses forward, the first time.
-    fn walk(&mut self, alloc: Global, sys: &System) -> Result<Walk, Memory> {
+    fn walk(&mut self, alloc: Global, sys: &IndexedSystem) -> Result<Walk, Memory> {
         if let Some(met) = self.walk.take() {
             return Ok(met);
         }
         let met = walked(alloc, sys)?;
         if met.is_broken {
-            self.paces = paces_of(alloc, sys, &met)?;
+            self.paces = paces_of(alloc, sys.plain(), &met)?;
         }
         Ok(met)
     }
@@ -139,7 +140,7 @@ impl Hints {
     pub fn renew(
         &mut self,
         alloc: Global,
-        sys: &System,
+        sys: &IndexedSystem,
         level: u32,
         units: u32,
     ) -> Result<(), Memory> {
@@ -150,7 +151,7 @@ impl Hints {
         let met = self.walk(alloc, sys)?;
         if are_due {
             let known = long_forms(alloc, self.known.as_slice())?;
-            let shared = joined(known, met_forms(alloc, sys, &met)?)?;
+            let shared = joined(known, met_forms(alloc, sys.plain(), &met)?)?;
             self.bounds
                 .renew(alloc, sys, shared.as_slice(), &met, level, units)?;
         }

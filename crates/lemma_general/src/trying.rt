@@ -41,7 +41,7 @@ fn may_replace(lent: &Lent, part: &LemmaPart, cube: &Cube) -> bool
     ensures { result ≡ may_replace lent.now part.now cube.now }
 {
     let obligation = lent.tree.obligation(part.target);
-    is_over(lent.system, part.pred, cube)
+    is_over(lent.system.plain(), part.pred, cube)
         && !is_wide(cube.lits())
         && cube.holds(obligation.point.as_slice())
 }

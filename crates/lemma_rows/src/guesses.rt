@@ -17,7 +17,7 @@ fn guessed(rt: &impl Abort, alloc: Global) -> Hints {
     let book = book_of(alloc, text)
         .expect(rt, "memory")
         .expect(rt, "a script");
-    hints_of(alloc, book.system()).expect(rt, "memory")
+    hints_of(alloc, book.lend().system).expect(rt, "memory")
 }
 
 fn check_cubes(rt: &impl Abort, alloc: Global, hints: &Hints, point: &[i64], expected: &str) {

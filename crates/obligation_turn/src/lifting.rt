@@ -31,7 +31,7 @@ fn broken(lent: &Lent, id: u32, seen: Seen) -> Result<NoLift, Memory>
     ensures { (nodes : ℕ) → IfOk result (IsKeptAt lent.now nodes id) }
 {
     let lemma = lent.frames.lemma(id).copy(lent.alloc)?;
-    let kept = no_lift_by(lent.system, lemma, Why::Broken(seen));
+    let kept = no_lift_by(lent.system.plain(), lemma, Why::Broken(seen));
     Ok(kept)
 }
 
@@ -49,7 +49,7 @@ fn unknown(lent: &Lent, id: u32, lost: Lost, nodes: u32) -> Result<NoLift, Memor
         used: lost.used,
         evidence: lost.evidence,
     };
-    let kept = no_lift_by(lent.system, lemma, why);
+    let kept = no_lift_by(lent.system.plain(), lemma, why);
     Ok(kept)
 }
 

@@ -45,7 +45,7 @@ pub(crate) fn rule_11(parts: &Lent, step: &LemmaPart) -> Result<Option<By>, Memo
 {
     let claim = learnt(parts, step)?;
     let k = below(step.level);
-    Ok(unshown(parts.system, k, &claim, step.proofs.as_slice()))
+    Ok(unshown(parts.system.plain(), k, &claim, step.proofs.as_slice()))
 }
 
 /// 12: each used lemma is in the frame of the level below, or this lemma on its own predicate.
@@ -54,7 +54,7 @@ pub(crate) fn rule_12(parts: &Lent, step: &LemmaPart) -> Result<Option<By>, Memo
 {
     let claim = learnt(parts, step)?;
     let k = below(step.level);
-    let (sys, proofs) = (parts.system, step.proofs.as_slice());
+    let (sys, proofs) = (parts.system.plain(), step.proofs.as_slice());
     Ok(misused(sys, parts.frames, k, &claim, proofs))
 }
 
@@ -129,7 +129,7 @@ fn unlifted(parts: &Lent, step: &LiftPart, pred: u32, lemma: &Lemma) -> Result<O
     ensures { IfOk result (λ by. by ≡ unshown parts.now.system step.now.from (Some (record { pred = pred; cube = lemma.now })) (all_shown step.now.proofs)) }
 {
     let claim = Claim::Holds(pred, lemma.copy(parts.alloc)?);
-    Ok(unshown(parts.system, step.from, &claim, step.proofs.as_slice()))
+    Ok(unshown(parts.system.plain(), step.from, &claim, step.proofs.as_slice()))
 }
 
 /// 32: each clause of that head has a proof of this lemma.
@@ -149,6 +149,6 @@ pub(crate) fn rule_32(parts: &Lent, step: &LiftPart) -> Result<Option<By>, Memor
 pub(crate) fn rule_33(parts: &Lent, step: &LiftPart) -> Option<By>
     ensures { result ≡ rule_33 parts.now.system (standing_state parts.now) (lift_of step.now) }
 {
-    let (sys, proofs) = (parts.system, step.proofs.as_slice());
+    let (sys, proofs) = (parts.system.plain(), step.proofs.as_slice());
     misused(sys, parts.frames, step.from, &Claim::False, proofs)
 }

@@ -1,4 +1,4 @@
-use clause_form::System;
+use clause_index::IndexedSystem;
 use derivations::Facts;
 use lemma_frames::Frames;
 use obligation_tree::Tree;
@@ -9,7 +9,7 @@ use std::marker::Model;
 #[derive(Drop)]
 pub struct Lent<'a> {
     pub alloc: Global,
-    pub system: &'a System,
+    pub system: &'a IndexedSystem,
     pub given: u32,
     pub level: u32,
     pub spent: u32,

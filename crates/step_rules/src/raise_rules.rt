@@ -23,7 +23,7 @@ pub(crate) fn rule_40(parts: &Lent, step: &RaisePart) -> Option<By>
     ensures { result ≡ rule_40 parts.now.system (standing_state parts.now) (raise_of step.now) }
 {
     unshown(
-        parts.system,
+        parts.system.plain(),
         parts.level,
         &Claim::False,
         step.closed.as_slice(),
@@ -34,7 +34,7 @@ pub(crate) fn rule_40(parts: &Lent, step: &RaisePart) -> Option<By>
 pub(crate) fn rule_41(parts: &Lent, step: &RaisePart) -> Option<By>
     ensures { result ≡ rule_41 parts.now.system (standing_state parts.now) (raise_of step.now) }
 {
-    let (sys, proofs) = (parts.system, step.closed.as_slice());
+    let (sys, proofs) = (parts.system.plain(), step.closed.as_slice());
     misused(sys, parts.frames, parts.level, &Claim::False, proofs)
 }
 
@@ -170,7 +170,7 @@ fn misuses(parts: &Lent, id: u32, why: &Why) -> Option<By>
     match why {
         Why::Broken(_) => None,
         Why::Unknown { clause, used, .. } => {
-            let (sys, k) = (parts.system, parts.frames.level_of(id));
+            let (sys, k) = (parts.system.plain(), parts.frames.level_of(id));
             let own = Claim::False;
             if all_may_use(sys, parts.frames, k, &own, *clause, used.as_slice()) {
                 return None;

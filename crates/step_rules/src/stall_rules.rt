@@ -73,7 +73,7 @@ fn asked(parts: &Lent, step: &StallPart, goal: &Goal) -> Result<Option<Form>, Me
     ensures { IfOk result (λ found. found ≡ query_at parts.now.system step.now.clause goal.now step.now.used) }
 {
     let used = step.used.as_slice();
-    let found = checked_query_of(parts.alloc, parts.system, step.clause, goal, used)?;
+    let found = checked_query_of(parts.alloc, parts.system.plain(), step.clause, goal, used)?;
     Ok(found)
 }
 
@@ -194,7 +194,7 @@ fn misused_below(parts: &Lent, step: &StallPart, target: &Obligation) -> Option<
     ensures { result ≡ misused_told parts.now.system (standing_state parts.now) (stall_of step.now) (fresh_of target.now) }
 {
     let k = below(target.level);
-    let (sys, own) = (parts.system, Claim::False);
+    let (sys, own) = (parts.system.plain(), Claim::False);
     let used = step.used.as_slice();
     if all_may_use(sys, parts.frames, k, &own, step.clause, used) {
         return None;

@@ -50,7 +50,7 @@ fn asked(rt: &impl Abort, alloc: Global, book: &Book, k: u32) -> Found
     requires thin { IsThin (standing_of book.now) }
 {
     book.is_replayed();
-    let sys = book.system();
+    let sys = book.lend().system;
     ask_all(alloc, sys, book.frames(), None, &Goal::Query, k, 100).expect(rt, "memory")
 }
 

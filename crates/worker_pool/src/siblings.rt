@@ -137,7 +137,7 @@ fn placed(lent: &Lent, part: OpenPart) -> Option<Step>
     ensures { (nodes : ℕ) → IfSome result (IsOffered lent.now.system nodes) }
 {
     let step = Step::OpenStep(part);
-    if has_places(lent.system, &step) {
+    if has_places(lent.system.plain(), &step) {
         Some(step)
     } else {
         None
