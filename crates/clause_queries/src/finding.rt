@@ -1,6 +1,6 @@
 //! The queries of all clauses with a head.
 
-ghost use Rattle.std.specs.Prelude.{◌≡◌, ◌<◌, ◌^◌, length, true, IfOk};
+ghost use Rattle.std.specs.Prelude.{◌≡◌, ◌<◌, true, IfOk};
 ghost use Rattle.std.specs.List.{list_all};
 ghost use Rattle.clause_queries.specs.Answers.{IsFound, MayAskAll};
 ghost use Rattle.clause_queries.specs.Kept.{lemma_is_kept};
@@ -113,7 +113,6 @@ fn in_order(
     k: u32,
     trees: &[Carried],
 ) -> Result<Vec<u32>, Memory>
-    requires { length sys.now.clauses < 2 ^ 32 }
     ensures { IfOk result (λ numbers. AreAsked sys.now pred k numbers.items) }
 {
     let mut numbers = asked_clauses(alloc, sys, pred, k)?;

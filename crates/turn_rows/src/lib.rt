@@ -9,4 +9,6 @@ mod books;
 #[cfg(test)]
 mod firsts;
 #[cfg(test)]
+mod indexes;
+#[cfg(test)]
 mod journals;
