@@ -36,7 +36,10 @@ set-length [] i x = refl
 set-length (y ∷ ys) zero x = refl
 set-length (y ∷ ys) (suc i) x = ap suc (set-length ys i x)
 
-nothing-there : (n i : ℕ) → slice_index_or (replicate n (the (List ℕ) [])) i [] ≡ []
+abbrev none : List ℕ
+none = []
+
+nothing-there : (n i : ℕ) → slice_index_or (replicate n none) i none ≡ none
 nothing-there zero i = refl
 nothing-there (suc n) zero = refl
 nothing-there (suc n) (suc i) = nothing-there n i
@@ -89,6 +92,14 @@ rest-end [] (suc i) past = refl
 rest-end (x ∷ xs) zero past = absurd (omega arith)
 rest-end (x ∷ xs) (suc i) past = rest-end xs i (omega arith)
 
+own-at : {X : Type 0} (xs : List X) (i : ℕ) (x : X) → i < length xs → x ≡ get_or xs i x → slice_get xs i ≡ Some x
+own-at [] i x within is = absurd (omega arith)
+own-at (y ∷ xs) zero x within is = ap Some (sym is)
+own-at (y ∷ xs) (suc i) x within is = own-at xs i x (omega arith) is
+
+pub at-of : {X : Type 0} (xs ys : List X) (i : ℕ) (x : X) → xs ≡ ys → i < length xs → x ≡ get_or xs i x → slice_get ys i ≡ Some x
+at-of {X = X} xs ys i x same within is = ap (λ (zs : List X). slice_get zs i) (sym same) ∙ own-at xs i x within is
+
 plus-one : (n : ℕ) → n + 1 ≡ suc n
 plus-one n = omega arith
 
@@ -112,14 +123,14 @@ filled-all sys i heads past filled pred =
     sym (append-nil _) ∙ ap (λ (cs : List Clause). listed heads pred ++ numbers_from pred i cs) (sym (rest-end sys.clauses i past)) ∙ filled.each pred
 
 pub filled-none : (sys : Clauses) (heads : Heads) → heads.queries ≡ [] → heads.of.items ≡ replicate (length sys.preds) [] → Filled sys 0 heads
-filled-none sys heads none empty = record { many = ap length empty ∙ many (length sys.preds); each = each }
+filled-none sys heads nothing empty = record { many = ap length empty ∙ many (length sys.preds); each = each }
   where
-    many : (n : ℕ) → length (replicate n (the (List ℕ) [])) ≡ n
+    many : (n : ℕ) → length (replicate n none) ≡ n
     many zero = refl
     many (suc n) = ap suc (many n)
 
     each : (pred : Option ℕ) → listed heads pred ++ numbers_from pred 0 sys.clauses ≡ numbers_of sys pred
-    each None = ap (λ (xs : List ℕ). xs ++ numbers_from None 0 sys.clauses) none
+    each None = ap (λ (xs : List ℕ). xs ++ numbers_from None 0 sys.clauses) nothing
     each (Some pred) = ap (λ (xs : List ℕ). xs ++ numbers_from (Some pred) 0 sys.clauses) (ap (λ (of : List (List ℕ)). slice_index_or of pred []) empty ∙ nothing-there (length sys.preds) pred)
 
 -- a system has the predicate of each head

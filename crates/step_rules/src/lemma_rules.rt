@@ -129,7 +129,12 @@ fn unlifted(parts: &Lent, step: &LiftPart, pred: u32, lemma: &Lemma) -> Result<O
     ensures { IfOk result (λ by. by ≡ unshown parts.now.system step.now.from (Some (record { pred = pred; cube = lemma.now })) (all_shown step.now.proofs)) }
 {
     let claim = Claim::Holds(pred, lemma.copy(parts.alloc)?);
-    Ok(unshown(parts.system.plain(), step.from, &claim, step.proofs.as_slice()))
+    Ok(unshown(
+        parts.system.plain(),
+        step.from,
+        &claim,
+        step.proofs.as_slice(),
+    ))
 }
 
 /// 32: each clause of that head has a proof of this lemma.

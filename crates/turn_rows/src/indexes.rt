@@ -26,24 +26,14 @@ fn pair(rt: &impl Abort, alloc: Global, first: Form, second: Form) -> Items<Form
 
 /// At most 1, and at most 2 or at most 3, and `rest`.
 fn guard(rt: &impl Abort, alloc: Global, rest: Form) -> Form {
-    let either = Form::Or(pair(
-        rt,
-        alloc,
-        lit(rt, alloc, 2),
-        lit(rt, alloc, 3),
-    ));
+    let either = Form::Or(pair(rt, alloc, lit(rt, alloc, 2), lit(rt, alloc, 3)));
     let parts = [lit(rt, alloc, 1), either, rest, Form::True];
     Form::And(Items::from_vec(Vec::from_array(alloc, parts).expect(rt, "memory")))
 }
 
 /// At most 4, and false, and either at most 5 and at most 6, or at most 7.
 fn inner(rt: &impl Abort, alloc: Global) -> Form {
-    let both = Form::And(pair(
-        rt,
-        alloc,
-        lit(rt, alloc, 5),
-        lit(rt, alloc, 6),
-    ));
+    let both = Form::And(pair(rt, alloc, lit(rt, alloc, 5), lit(rt, alloc, 6)));
     let either = Form::Or(pair(rt, alloc, both, lit(rt, alloc, 7)));
     let parts = [lit(rt, alloc, 4), Form::False, either];
     Form::And(Items::from_vec(Vec::from_array(alloc, parts).expect(rt, "memory")))
@@ -112,9 +102,15 @@ fn a_guard_gives_its_literals_and_its_open_disjunctions(rt: HostRuntime) {
     let [first, second, third] = guard.lits.as_slice() else {
         panic!(rt; "three literals")
     };
-    assert!(rt; first.equals(&at_most(rt, alloc, 1)), "its own literal first");
+    assert!(rt;
+        first.equals(&at_most(rt, alloc, 1)),
+        "its own literal first"
+    );
     assert!(rt; second.equals(&at_most(rt, alloc, 4)), "then the inner one");
-    assert!(rt; third.equals(&Lit::Le(Lin::of_constant(alloc, 1))), "false is 1 <= 0");
+    assert!(rt;
+        third.equals(&Lit::Le(Lin::of_constant(alloc, 1))),
+        "false is 1 <= 0"
+    );
     let [either, last] = guard.cases.as_slice() else {
         panic!(rt; "two disjunctions")
     };
@@ -124,13 +120,22 @@ fn a_guard_gives_its_literals_and_its_open_disjunctions(rt: HostRuntime) {
         panic!(rt; "two parts")
     };
     let (five, six) = (lit(rt, alloc, 5), lit(rt, alloc, 6));
-    assert!(rt; both.equals(&Form::And(pair(rt, alloc, five, six))), "a part stays closed");
+    assert!(rt;
+        both.equals(&Form::And(pair(rt, alloc, five, six))),
+        "a part stays closed"
+    );
     assert!(rt; seven.equals(&lit(rt, alloc, 7)), "the other part");
     let plain = guard_at(rt, &indexed, 2);
-    assert!(rt; are_lits(rt, alloc, plain.lits.as_slice(), &[8]), "one literal");
+    assert!(rt;
+        are_lits(rt, alloc, plain.lits.as_slice(), &[8]),
+        "one literal"
+    );
     assert!(rt; plain.cases.len() == 0, "nothing is open");
     let nothing = guard_at(rt, &indexed, 1);
-    assert!(rt; nothing.lits.len() == 0 && nothing.cases.len() == 0, "true gives nothing");
+    assert!(rt;
+        nothing.lits.len() == 0 && nothing.cases.len() == 0,
+        "true gives nothing"
+    );
 }
 
 #[test]
@@ -138,8 +143,16 @@ fn clauses_are_listed_by_their_heads_in_order(rt: HostRuntime) {
     let alloc = rt.alloc();
     let rt = &rt;
     let indexed = indexed(rt, alloc);
-    assert_eq!(rt; indexed.with_head(Some(0)), [0, 3].as_slice(), "the first predicate");
+    assert_eq!(rt;
+        indexed.with_head(Some(0)),
+        [0, 3].as_slice(),
+        "the first predicate"
+    );
     assert_eq!(rt; indexed.with_head(Some(1)), [2].as_slice(), "the second");
-    assert_eq!(rt; indexed.with_head(None), [1, 4].as_slice(), "without a head");
+    assert_eq!(rt;
+        indexed.with_head(None),
+        [1, 4].as_slice(),
+        "without a head"
+    );
     assert!(rt; indexed.with_head(Some(2)).is_empty(), "no such predicate");
 }

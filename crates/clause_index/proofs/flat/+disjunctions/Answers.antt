@@ -7,4 +7,4 @@ pub push_cases-returns-in-And : goal.push_cases-returns-in-And
 push_cases-returns-in-And t c = rw (c.in-And.is, disjunctions-And, sym c.as_slice.ensures) c.push_all_cases.ensures
 
 pub push_cases-returns-in_ok-push-in-Or : goal.push_cases-returns-in_ok-push-in-Or
-push_cases-returns-in_ok-push-in-Or t c = rw (c.in-Or.is, disjunctions-Or) c.in_ok-push-in-Or.ensures
+push_cases-returns-in_ok-push-in-Or t c = rw (c.in-Or.is, disjunctions-Or) (c.in_ok-push-in-Or.ensures.ok ∙ ap (λ (parts : List Form). c.args.cases.now ++ parts ∷ []) c.in_ok-copy-in-Or.ensures)
