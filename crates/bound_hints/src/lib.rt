@@ -8,8 +8,10 @@ mod bound;
 mod candidates;
 mod conditions;
 mod fixing;
+mod following;
 mod forms;
 mod increments;
+mod met;
 mod needing;
 mod parts;
 mod places;
@@ -19,5 +21,6 @@ mod unmoved;
 mod walking;
 
 pub use candidates::Needed;
+pub use met::{Met, Walk};
 pub use rounds::Bounds;
-pub use walking::{Met, Walk, walked};
+pub use walking::walked;

@@ -3,9 +3,9 @@
 use crate::bound::Bound;
 use crate::candidates::{Needed, cubes_at, needed_of};
 use crate::fixing::{fix, raise};
+use crate::met::Walk;
 use crate::needing::{Needs, needs_of};
 use crate::table::{Size, Table, table_of};
-use crate::walking::Walk;
 use base::Memory;
 use clause_form::System;
 use clause_index::IndexedSystem;

@@ -1,0 +1,104 @@
+//! Tuples that were met.
+
+use base::Memory;
+use clause_form::Atom;
+use cube_forms::Tuple;
+use std::alloc::Global;
+
+/// How many tuples are met.
+pub(crate) const MOST_MET: usize = 160;
+
+/// A tuple of a predicate.
+#[derive(Drop)]
+pub struct Met {
+    pub pred: u32,
+    pub tuple: Vec<i64>,
+    /// By how many steps it was met, at most; 1 where a clause without body atoms gave it.
+    pub depth: i64,
+    /// Whether clauses were asked for what follows from it.
+    pub(crate) is_followed: bool,
+}
+
+/// What was met by running clauses forward.
+#[derive(Drop)]
+pub struct Walk {
+    pub met: Vec<Met>,
+    /// Whether false follows from one of these tuples.
+    pub is_broken: bool,
+}
+
+impl Walk {
+    /// The first ones that were met.
+    pub fn first(&self) -> &[Met] {
+        let all = self.met.as_slice();
+        let count = MOST_MET.min(all.len());
+        &all[..count]
+    }
+}
+
+fn are_equal(first: &[i64], second: &[i64]) -> bool {
+    if first.len() != second.len() {
+        return false;
+    }
+    for (at, value) in first.iter().enumerate() {
+        match second.get(at) {
+            Some(other) => {
+                if *value != *other {
+                    return false;
+                }
+            }
+            None => return false,
+        }
+    }
+    true
+}
+
+fn has(met: &[Met], pred: u32, tuple: &[i64]) -> bool {
+    for one in met {
+        if one.pred == pred && are_equal(one.tuple.as_slice(), tuple) {
+            return true;
+        }
+    }
+    false
+}
+
+fn values(alloc: Global, tuple: &[i64]) -> Result<Vec<i64>, Memory> {
+    let mut made = Vec::new(alloc);
+    for value in tuple {
+        made.push(*value)?;
+    }
+    Ok(made)
+}
+
+/// The number of steps by which what follows from a tuple is met.
+fn depth_from(met: &[Met], from: Option<usize>) -> i64 {
+    match from {
+        Some(at) => match met.get(at) {
+            Some(one) => one.depth.saturating_add(1),
+            None => 1,
+        },
+        None => 1,
+    }
+}
+
+/// Takes the head's tuple at the point in, which follows from one that was met.
+pub(crate) fn meet(
+    alloc: Global,
+    met: &mut Vec<Met>,
+    head: &Atom,
+    point: &[i64],
+    from: Option<usize>,
+) -> Result<(), Memory> {
+    let tuple = Tuple::at(alloc, point, head.args.as_slice())?;
+    if has(met.as_slice(), head.pred, tuple.as_slice()) {
+        return Ok(());
+    }
+    let depth = depth_from(met.as_slice(), from);
+    met.push(Met {
+        pred: head.pred,
+        tuple: values(alloc, tuple.as_slice())?,
+        depth,
+        is_followed: false,
+    })?;
+    Ok(())
+}
