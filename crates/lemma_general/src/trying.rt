@@ -10,7 +10,7 @@ ghost use Rattle.lemma_general.specs.Tries.{IsTried, IsTrying, may_replace, part
 use crate::breaking::Breaking;
 use crate::dropping::take;
 use base::{Items, Memory};
-use clause_form::System;
+use clause_index::IndexedSystem;
 use cube_forms::Cube;
 use cube_rules::is_wide;
 use std::alloc::Global;
@@ -25,7 +25,7 @@ pub struct Tries {
 }
 
 /// Whether the predicate is there, and has each place of the cube.
-fn is_over(sys: &System, pred: u32, cube: &Cube) -> bool
+fn is_over(sys: &IndexedSystem, pred: u32, cube: &Cube) -> bool
     ensures { result ≡ is_over sys.now.preds pred cube.now }
 {
     match sys.preds().get(pred as usize) {
@@ -41,7 +41,7 @@ fn may_replace(lent: &Lent, part: &LemmaPart, cube: &Cube) -> bool
     ensures { result ≡ may_replace lent.now part.now cube.now }
 {
     let obligation = lent.tree.obligation(part.target);
-    is_over(lent.system.plain(), part.pred, cube)
+    is_over(lent.system, part.pred, cube)
         && !is_wide(cube.lits())
         && cube.holds(obligation.point.as_slice())
 }

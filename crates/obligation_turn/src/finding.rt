@@ -46,7 +46,7 @@ fn is_hit_of(lent: &Lent, id: u32, seen: &Seen) -> Result<bool, Memory>
     let lemma = lent.frames.lemma(id);
     let hit = is_hit(
         lent.alloc,
-        lent.system.plain(),
+        lent.system,
         lent.frames,
         pred,
         lemma,

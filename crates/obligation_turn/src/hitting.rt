@@ -9,7 +9,8 @@ ghost use Rattle.obligation_turn.specs.machinery.Hits.{breaks_at, is_hit_at};
 
 use base::Memory;
 use chc_tokens::Seen;
-use clause_form::{Clause, System};
+use clause_form::Clause;
+use clause_index::IndexedSystem;
 use cube_forms::{Lemma, Tuple};
 use cube_rules::{body_shut_out, is_head};
 use lemma_frames::Frames;
@@ -63,7 +64,7 @@ fn is_hit_at(
 /// query would find, so none has to be asked.
 pub fn is_hit(
     alloc: Global,
-    sys: &System,
+    sys: &IndexedSystem,
     frames: &Frames,
     pred: u32,
     lemma: &Lemma,

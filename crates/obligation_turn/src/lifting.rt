@@ -2,6 +2,8 @@
 
 ghost use Rattle.std.specs.Prelude.{◌≡◌, ◌<◌, ℕ, None, length, IfOk};
 ghost use Rattle.lemma_frames.specs.Frames.{level_of};
+ghost use Rattle.chc_tokens.specs.Kept.{kept_lemma, kept_why};
+ghost use Rattle.chc_tokens.specs.Tokens.{IsKept, IsNoLift};
 ghost use Rattle.obligation_turn.specs.Turns.{GoesOn, IsOpenLeaf, IsTurn};
 ghost use Rattle.obligation_turn.specs.machinery.Jobs.{AreJobProofs, job_of};
 ghost use Rattle.obligation_turn.specs.Workspaces.{IsHitOf, IsWorkspaceFor};
@@ -10,8 +12,10 @@ ghost use Rattle.obligation_turn.specs.machinery.Lifts.{AreKept, AreProofsOf, Is
 use crate::finding::found_of_lemma;
 use crate::workspace::Workspace;
 use base::{Copied, Items, Memory};
-use chc_tokens::{NoLift, Seen, Shown, Why, no_lift_by};
+use chc_tokens::{NoLift, Seen, Shown, Why};
+use clause_index::IndexedSystem;
 use clause_queries::{Found, Lost};
+use cube_forms::Lemma;
 use step_rules::{Lent, LiftPart, RaisePart, Step};
 
 /// What was found of a lemma.
@@ -23,6 +27,16 @@ pub(crate) enum Lifted {
     Kept(NoLift),
 }
 
+/// What keeps the lemma where it is, over the clauses that a book lends.
+fn no_lift_by(sys: &IndexedSystem, lemma: Lemma, why: Why) -> NoLift
+    requires { IsKept sys.now lemma why }
+    ensures lemma { kept_lemma result ≡ lemma }
+    ensures why { kept_why result ≡ why }
+    ensures no_lift { IsNoLift sys.now result }
+{
+    chc_tokens::no_lift_by(sys.plain(), lemma, why)
+}
+
 /// What keeps the lemma where it is: this instance breaks it.
 fn broken(lent: &Lent, id: u32, seen: Seen) -> Result<NoLift, Memory>
     requires goes_on { GoesOn lent.now }
@@ -31,7 +45,7 @@ fn broken(lent: &Lent, id: u32, seen: Seen) -> Result<NoLift, Memory>
     ensures { (nodes : ℕ) → IfOk result (IsKeptAt lent.now nodes id) }
 {
     let lemma = lent.frames.lemma(id).copy(lent.alloc)?;
-    let kept = no_lift_by(lent.system.plain(), lemma, Why::Broken(seen));
+    let kept = no_lift_by(lent.system, lemma, Why::Broken(seen));
     Ok(kept)
 }
 
@@ -49,7 +63,7 @@ fn unknown(lent: &Lent, id: u32, lost: Lost, nodes: u32) -> Result<NoLift, Memor
         used: lost.used,
         evidence: lost.evidence,
     };
-    let kept = no_lift_by(lent.system.plain(), lemma, why);
+    let kept = no_lift_by(lent.system, lemma, why);
     Ok(kept)
 }
 
