@@ -39,6 +39,7 @@ use Rattle.std.proofs.vec.Vec.TheSendSync as vec
 use Rattle.step_rules.proofs.fact_part.FactPart.TheSendSync as fact_part
 use Rattle.step_rules.proofs.open_part.OpenPart.TheSendSync as open_part
 use Rattle.clause_form.specs.contracts.system.System.{the_row as system_row}
+use Rattle.clause_index.specs.contracts.indexed.IndexedSystem.{the_row as indexed_row}
 use Rattle.cube_forms.specs.contracts.held.Held.{the_row as held_row}
 use Rattle.cube_forms.specs.contracts.table.Table.{the_row as table_row}
 use Rattle.chc_core.specs.contracts.book.Book.{the_row as book_row}
@@ -139,8 +140,14 @@ system-send = search (Crossing.crosses, form.crosses, sendable) depth 60 fits 20
 system-sync : IsSync system_row
 system-sync = search (Crossing.crosses, form.crosses, sendable) depth 60 fits 20000
 
-held-send : IsSend (held_row system_row)
-held-send = held.the_send system_row system-send system-sync
+indexed-send : IsSend indexed_row
+indexed-send = search (system-send, items.the_send, vec.the_send, lit.the_send, global.the_field_send, global.the_send, Crossing.crosses, form.crosses, sendable) depth 60 fits 20000
+
+indexed-sync : IsSync indexed_row
+indexed-sync = search (system-sync, items.the_sync, vec.the_sync, lit.the_sync, global.the_field_sync, global.the_sync, Crossing.crosses, form.crosses, sendable) depth 60 fits 20000
+
+held-send : IsSend (held_row indexed_row)
+held-send = held.the_send indexed_row indexed-send indexed-sync
 
 parts-send : IsSend parts_row
 parts-send = search (frames.the_send, facts.the_send, tree.the_send, held-send, journal-send, Crossing.crosses, sendable) depth 60 fits 20000
