@@ -50,8 +50,8 @@ fn asked(rt: &impl Abort, alloc: Global, book: &Book, k: u32) -> Found
     requires thin { IsThin (standing_of book.now) }
 {
     book.is_replayed();
-    let sys = book.lend().system;
-    ask_all(alloc, sys, book.frames(), None, &Goal::Query, k, 100).expect(rt, "memory")
+    let lent = book.lend();
+    ask_all(alloc, lent.system, lent.frames, None, &Goal::Query, k, 100).expect(rt, "memory")
 }
 
 fn check(rt: &impl Abort, alloc: Global, shows: &str, clauses: [&str; 2], k: u32, expected: Told) {

@@ -13,7 +13,8 @@ use term_tree::Sort;
 /// That the first variable is at most the number.
 fn at_most(rt: &impl Abort, alloc: Global, number: i128) -> Lit {
     let terms = Vec::from_slice(alloc, &[(0, 1)]).expect(rt, "memory");
-    Lit::Le(Lin::new(terms, -number).expect(rt, "a form"))
+    let constant = number.checked_neg().expect(rt, "a small number");
+    Lit::Le(Lin::new(terms, constant).expect(rt, "a form"))
 }
 
 fn lit(rt: &impl Abort, alloc: Global, number: i128) -> Form {
