@@ -78,7 +78,7 @@ fn mark_shown(lent: &Lent, core: &mut Core, shown: &Shown) {
     let number = shown.clause() as usize;
     if number < lent.system.clauses().len() {
         let guard = lent.system.guard(number);
-        core.guard = u32::try_from(guard.lits.len()).unwrap_or(u32::MAX);
+        core.guard = u32::try_from(guard.lits_len()).unwrap_or(u32::MAX);
         mark_tree(core, shown.proof().proof(), MOST_DEEP);
     }
 }

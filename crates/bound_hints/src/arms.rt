@@ -127,11 +127,14 @@ fn joined(first: Vec<Way>, second: Vec<Way>) -> Result<Vec<Way>, Memory> {
 
 /// The ways through a guard: its literals, and one part of each disjunction.
 fn ways(alloc: Global, guard: &FlatGuard) -> Result<Vec<Way>, Memory> {
+    let mut lits = Vec::with_capacity(alloc, guard.lits_len())?;
+    for number in 0..guard.lits_len() {
+        lits.push(guard.lit(number).copy(alloc)?)?;
+    }
     let mut made = Vec::new(alloc);
-    let lits = copied(alloc, guard.lits.as_slice())?;
     made.push(Way { lits })?;
-    for parts in guard.cases.as_slice() {
-        made = any_expanded(alloc, parts.as_slice(), made)?;
+    for number in 0..guard.cases_len() {
+        made = any_expanded(alloc, guard.case(number), made)?;
     }
     Ok(made)
 }
@@ -139,8 +142,8 @@ fn ways(alloc: Global, guard: &FlatGuard) -> Result<Vec<Way>, Memory> {
 /// How many there are.
 fn count_of(guard: &FlatGuard) -> usize {
     let mut count: usize = 1;
-    for parts in guard.cases.as_slice() {
-        count = any_counted(parts.as_slice(), count).unwrap_or(count);
+    for number in 0..guard.cases_len() {
+        count = any_counted(guard.case(number), count).unwrap_or(count);
     }
     count
 }
@@ -171,7 +174,7 @@ fn are_few(sys: &IndexedSystem) -> bool {
         if count > MOST_ARMS {
             return false;
         }
-        count = count.saturating_add(count_of(sys.guard(number)));
+        count = count.saturating_add(count_of(&sys.guard(number)));
     }
     true
 }
@@ -183,7 +186,7 @@ pub(crate) fn arms_of(alloc: Global, sys: &IndexedSystem) -> Result<Option<Vec<A
     }
     let mut arms = Vec::new(alloc);
     for number in 0..sys.clauses().len() {
-        if !push_arms(alloc, &mut arms, number, sys.guard(number))? {
+        if !push_arms(alloc, &mut arms, number, &sys.guard(number))? {
             return Ok(None);
         }
     }

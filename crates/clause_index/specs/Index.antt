@@ -1,18 +1,22 @@
 -- What a search reads of clauses again and again: guards as the integer solver starts from them, and the clauses with a head
 -- (Hoder and Bjorner, "Generalized property directed reachability", section 3: the rules of a predicate are asked together).
 use Rattle.std.specs.Prelude.{ℕ, ◌+◌, List, [], ◌∷◌, Option, if◌then◌else◌}
+use Rattle.lin_atoms.specs.declared.lit.Lit.{Lit}
 use Rattle.lin_atoms.specs.declared.form.Form.{Form}
 use Rattle.clause_form.specs.System.{Clauses}
 use Rattle.clause_form.specs.declared.clause.Clause.{Clause}
 use Rattle.farkas_proof.specs.Flatten.{disjunctions, literals}
 use Rattle.book_rules.specs.Proofs.{is_head}
-use Rattle.clause_index.specs.declared.flat.FlatGuard.{FlatGuard}
 
 -- a guard flattened: its conjunction's literals, and its disjunctions, which stay open
-abbrev pub flat : Form → FlatGuard
+pub record Flat : Type 0 where
+  pub lits : List Lit
+  pub cases : List (List Form)
+
+abbrev pub flat : Form → Flat
 flat guard = record { lits = literals guard; cases = disjunctions guard }
 
-abbrev pub flat_of : Clause → FlatGuard
+abbrev pub flat_of : Clause → Flat
 flat_of clause = flat clause.guard
 
 -- the numbers, of clauses from number n on, of those whose head is of the predicate, or that have none

@@ -1,109 +1,111 @@
 //! Guards as the integer solver starts from them.
 
-ghost use Rattle.std.specs.Prelude.{◌≡◌, ◌++◌, map, pos, IfOk, OnOk};
-ghost use Rattle.std.specs.List.{flat_map};
-ghost use Rattle.farkas_proof.specs.Flatten.{disjunctions, literals};
+ghost use Rattle.std.specs.Prelude.{◌≡◌, ◌<◌, length, pos, slice_get, Some};
 ghost use Rattle.lin_atoms.specs.Linear.{of_constant};
 ghost use Rattle.lin_atoms.specs.declared.lit.Lit.TheVariants.{Le};
-ghost use Rattle.clause_index.specs.Index.{flat, flat_of};
+ghost use Rattle.clause_index.specs.Index.{flat};
+ghost use Rattle.clause_index.specs.machinery.Places.{ArePlaces, disjuncts, own_lit};
 
-use base::{Copied, Items, Memory};
-use clause_form::Clause;
+use crate::places::Places;
 use lin_atoms::{Form, Lin, Lit};
 use std::alloc::Global;
+use std::marker::Model;
 
 /// A guard flattened: the literals of its conjunction in order, where `False` is `1 <= 0`, and its
-/// disjunctions, each as its parts, which stay open.
+/// disjunctions, each as its parts, which stay open. All of them are lent by the guard.
 #[derive(Drop)]
-pub struct FlatGuard {
-    pub lits: Items<Lit>,
-    pub cases: Items<Items<Form>>,
+pub struct FlatGuard<'a> {
+    guard: &'a Form,
+    places: &'a Places,
+    falsehood: &'a Lit,
+}
+
+impl<'a> Model for FlatGuard<'a> {
+    ghost use Rattle.std.specs.Prelude.{◌≡◌, pos};
+    ghost use Rattle.std.specs.Coded.{codes};
+    ghost use Rattle.lin_atoms.specs.Linear.{of_constant};
+    ghost use Rattle.lin_atoms.specs.declared.lit.Lit.TheVariants.{Le};
+    ghost use Rattle.lin_atoms.specs.contracts.form.Form as form;
+    ghost use Rattle.clause_index.specs.Index.{Flat, flat};
+    ghost use Rattle.clause_index.specs.machinery.Places.{ArePlaces};
+
+    ghost Value = { Flat };
+
+    ghost coded = { Prim.hlevel (codes, form.the_row.coded) };
+
+    ghost view = { λ g. flat g.guard.now };
+
+    ghost invariant = { λ g. ArePlaces g.guard.now g.places.now × (g.falsehood.now ≡ Le (of_constant (pos 1))) };
 }
 
 /// `False` is the literal `1 <= 0`.
-fn falsehood(alloc: Global) -> Lit
+pub(crate) fn falsehood(alloc: Global) -> Lit
     ensures { result ≡ Le (of_constant (pos 1)) }
 {
     Lit::Le(Lin::of_constant(alloc, 1))
 }
 
-/// Puts the literals of a formula after the others.
-#[cycle(literals)]
-fn push_literals(alloc: Global, lits: &mut Items<Lit>, form: &Form) -> Result<(), Memory>
-    ensures { OnOk result (lits.new ≡ lits.old ++ literals form.now) }
+fn lit_of<'a>(form: &'a Form, falsehood: &'a Lit) -> &'a Lit
+    requires { falsehood.now ≡ Le (of_constant (pos 1)) }
+    ensures { result.now ≡ own_lit form.now }
 {
     match form {
-        Form::True => Ok(()),
-        Form::False => {
-            lits.push(falsehood(alloc))?;
-            Ok(())
-        }
-        Form::Lit(lit) => {
-            lits.push(lit.copy(alloc)?)?;
-            Ok(())
-        }
-        Form::And(parts) => push_all_literals(alloc, lits, parts.as_slice()),
-        Form::Or(_) => Ok(()),
+        Form::Lit(lit) => lit,
+        _ => falsehood,
     }
 }
 
-#[cycle(literals)]
-fn push_all_literals(alloc: Global, lits: &mut Items<Lit>, parts: &[Form]) -> Result<(), Memory>
-    ensures { OnOk result (lits.new ≡ lits.old ++ flat_map literals parts.now) }
-{
-    for part in parts {
-        push_literals(alloc, lits, part)?;
-    }
-    Ok(())
-}
-
-/// Puts the disjunctions of a formula after the others.
-#[cycle(disjunctions)]
-fn push_cases(alloc: Global, cases: &mut Items<Items<Form>>, form: &Form) -> Result<(), Memory>
-    ensures { OnOk result (cases.new ≡ cases.old ++ disjunctions form.now) }
+fn parts_of(form: &Form) -> &[Form]
+    ensures { result.now ≡ disjuncts form.now }
 {
     match form {
-        Form::And(parts) => push_all_cases(alloc, cases, parts.as_slice()),
-        Form::Or(parts) => {
-            cases.push(parts.copy(alloc)?)?;
-            Ok(())
+        Form::Or(parts) => parts.as_slice(),
+        _ => &[],
+    }
+}
+
+impl<'a> FlatGuard<'a> {
+    pub(crate) fn new(guard: &'a Form, places: &'a Places, falsehood: &'a Lit) -> FlatGuard<'a>
+        requires places { ArePlaces guard.now places.now }
+        requires falsehood { falsehood.now ≡ Le (of_constant (pos 1)) }
+        ensures { result ≡ flat guard.now }
+    {
+        FlatGuard {
+            guard,
+            places,
+            falsehood,
         }
-        _ => Ok(()),
     }
-}
 
-#[cycle(disjunctions)]
-fn push_all_cases(
-    alloc: Global,
-    cases: &mut Items<Items<Form>>,
-    parts: &[Form],
-) -> Result<(), Memory>
-    ensures { OnOk result (cases.new ≡ cases.old ++ flat_map disjunctions parts.now) }
-{
-    for part in parts {
-        push_cases(alloc, cases, part)?;
+    /// How many literals there are.
+    pub fn lits_len(&self) -> usize
+        ensures { result ≡ length self.now.lits }
+    {
+        self.places.lits.len()
     }
-    Ok(())
-}
 
-/// The guard flattened.
-fn flattened(alloc: Global, guard: &Form) -> Result<FlatGuard, Memory>
-    ensures { IfOk result (λ made. made ≡ flat guard.now) }
-{
-    let mut lits = Items::new(alloc);
-    push_literals(alloc, &mut lits, guard)?;
-    let mut cases = Items::new(alloc);
-    push_cases(alloc, &mut cases, guard)?;
-    Ok(FlatGuard { lits, cases })
-}
-
-/// The guard of each clause flattened, in order.
-pub(crate) fn flat_guards(alloc: Global, clauses: &[Clause]) -> Result<Items<FlatGuard>, Memory>
-    ensures { IfOk result (λ guards. guards ≡ map flat_of clauses.now) }
-{
-    let mut guards = Items::from_vec(Vec::with_capacity(alloc, clauses.len())?);
-    for clause in clauses {
-        guards.push(flattened(alloc, &clause.guard)?)?;
+    /// The literal of that number.
+    pub fn lit(&self, number: usize) -> &'a Lit
+        requires { number < length self.now.lits }
+        ensures { slice_get self.now.lits number ≡ Some result.now }
+    {
+        let place = &self.places.lits.as_slice()[number];
+        lit_of(place.part(self.guard), self.falsehood)
     }
-    Ok(guards)
+
+    /// How many disjunctions there are.
+    pub fn cases_len(&self) -> usize
+        ensures { result ≡ length self.now.cases }
+    {
+        self.places.cases.len()
+    }
+
+    /// The parts of the disjunction of that number.
+    pub fn case(&self, number: usize) -> &'a [Form]
+        requires { number < length self.now.cases }
+        ensures { slice_get self.now.cases number ≡ Some result.now }
+    {
+        let place = &self.places.cases.as_slice()[number];
+        parts_of(place.part(self.guard))
+    }
 }

@@ -9,7 +9,7 @@ use std::alloc::Global;
 
 /// The numbers of the clauses without a head, and of those with each predicate's, in order.
 #[derive(Drop)]
-pub struct Heads {
+pub(crate) struct Heads {
     pub(crate) queries: Items<u32>,
     pub(crate) of: Vec<Items<u32>>,
 }

@@ -2,20 +2,23 @@ ghost use Rattle.std.specs.Prelude.{◌≡◌, ◌<◌, ◌^◌, length, map, sl
 ghost use Rattle.clause_form.specs.System.{is_clause, is_system};
 ghost use Rattle.clause_index.specs.Index.{flat_of, numbers_of};
 
-use crate::flat::{FlatGuard, flat_guards};
+use crate::flat::{FlatGuard, falsehood};
 use crate::heads::{Heads, heads_of};
+use crate::places::{Places, all_places};
 use base::{Items, Memory};
 use clause_form::{Clause, System};
+use lin_atoms::Lit;
 use std::alloc::Global;
 use std::marker::Model;
 use term_tree::Sort;
 
-/// A system beside what a search reads of its clauses again and again: each guard flattened, and the
-/// clauses with each head. Contracts see the system alone.
+/// A system beside what a search reads of its clauses again and again: where in each guard its literals
+/// and disjunctions stand, and the clauses with each head. Contracts see the system alone.
 #[derive(Drop)]
 pub struct IndexedSystem {
     system: System,
-    guards: Items<FlatGuard>,
+    guards: Items<Places>,
+    falsehood: Lit,
     heads: Heads,
 }
 
@@ -23,7 +26,7 @@ impl Model for IndexedSystem {
     ghost use Rattle.std.specs.Coded.{codes};
     ghost use Rattle.lin_atoms.specs.contracts.form.Form as form;
     ghost use Rattle.clause_form.specs.System.{Clauses};
-    ghost use Rattle.clause_index.specs.machinery.Heads.{IsIndex};
+    ghost use Rattle.clause_index.specs.machinery.Indexed.{IsIndex};
 
     ghost Value = { Clauses };
 
@@ -31,7 +34,7 @@ impl Model for IndexedSystem {
 
     ghost view = { λ s. s.system };
 
-    ghost invariant = { λ s. IsIndex s.system s.guards s.heads };
+    ghost invariant = { λ s. IsIndex s.system s.guards s.falsehood s.heads };
 }
 
 impl IndexedSystem {
@@ -41,11 +44,12 @@ impl IndexedSystem {
         ensures is { IfOk result (λ indexed. indexed ≡ system) }
         ensures legal { is_system system ≡ true }
     {
-        let guards = flat_guards(alloc, system.clauses())?;
+        let guards = all_places(alloc, system.clauses())?;
         let heads = heads_of(alloc, &system)?;
         Ok(IndexedSystem {
             system,
             guards,
+            falsehood: falsehood(alloc),
             heads,
         })
     }
@@ -85,11 +89,12 @@ impl IndexedSystem {
 
     /// The guard of the clause of that number as the integer solver starts from it: the literals of its
     /// conjunction in order, and its disjunctions, which stay open.
-    pub fn guard(&self, number: usize) -> &FlatGuard
+    pub fn guard(&self, number: usize) -> FlatGuard<'_>
         requires { number < length self.now.clauses }
-        ensures { slice_get (map flat_of self.now.clauses) number ≡ Some result.now }
+        ensures { slice_get (map flat_of self.now.clauses) number ≡ Some result }
     {
-        &self.guards.as_slice()[number]
+        let guard = &self.system.clause(number).guard;
+        FlatGuard::new(guard, &self.guards.as_slice()[number], &self.falsehood)
     }
 
     /// The numbers of the clauses whose head is of the predicate, or that have none, in order.

@@ -5,7 +5,7 @@
 mod flat;
 mod heads;
 mod indexed;
+mod places;
 
 pub use flat::FlatGuard;
-pub use heads::Heads;
 pub use indexed::IndexedSystem;

@@ -324,7 +324,7 @@ fn tree_by(
         return Ok(None);
     }
     let guard = sys.guard(number);
-    places.guard = u32::try_from(guard.lits.len()).unwrap_or(u32::MAX);
+    places.guard = u32::try_from(guard.lits_len()).unwrap_or(u32::MAX);
     moved_tree(alloc, places, shown.proof().proof(), MOST_DEEP)
 }
 

@@ -32,6 +32,11 @@ fn guard(rt: &impl Abort, alloc: Global, rest: Form) -> Form {
     Form::And(Items::from_vec(Vec::from_array(alloc, parts).expect(rt, "memory")))
 }
 
+/// At most 5, or at most 6.
+fn either(rt: &impl Abort, alloc: Global) -> Form {
+    Form::Or(pair(rt, alloc, lit(rt, alloc, 5), lit(rt, alloc, 6)))
+}
+
 /// At most 4, and false, and either at most 5 and at most 6, or at most 7.
 fn inner(rt: &impl Abort, alloc: Global) -> Form {
     let both = Form::And(pair(rt, alloc, lit(rt, alloc, 5), lit(rt, alloc, 6)));
@@ -66,7 +71,7 @@ fn system(rt: &impl Abort, alloc: Global) -> System {
         clause(rt, alloc, Form::True, None),
         clause(rt, alloc, lit(rt, alloc, 8), Some(1)),
         clause(rt, alloc, Form::False, Some(0)),
-        clause(rt, alloc, Form::True, None),
+        clause(rt, alloc, either(rt, alloc), None),
     ];
     let clauses = Items::from_vec(Vec::from_array(alloc, clauses).expect(rt, "memory"));
     let int = Items::from_slice(alloc, &[Sort::Int]).expect(rt, "memory");
@@ -81,17 +86,27 @@ fn indexed(rt: &impl Abort, alloc: Global) -> IndexedSystem {
     IndexedSystem::new(alloc, system).expect(rt, "memory")
 }
 
-fn guard_at<'a>(rt: &impl Abort, indexed: &'a IndexedSystem, number: usize) -> &'a FlatGuard {
+fn guard_at<'a>(rt: &impl Abort, indexed: &'a IndexedSystem, number: usize) -> FlatGuard<'a> {
     assert!(rt; number < indexed.clauses().len(), "the clause is there");
     indexed.guard(number)
 }
 
-fn are_lits(rt: &impl Abort, alloc: Global, lits: &[Lit], numbers: &[i128]) -> bool {
-    lits.len() == numbers.len()
-        && lits
-            .iter()
-            .zip(numbers.iter())
-            .all(|(one, number)| one.equals(&at_most(rt, alloc, *number)))
+/// The literals of a guard are these.
+fn are_lits(rt: &impl Abort, guard: &FlatGuard, lits: &[Lit]) -> bool {
+    guard.lits_len() == lits.len()
+        && (0..lits.len()).all(|number| match lits.get(number) {
+            Some(lit) => {
+                assert!(rt; number < guard.lits_len(), "as many");
+                guard.lit(number).equals(lit)
+            }
+            None => false,
+        })
+}
+
+/// The parts of a disjunction of that number.
+fn case_at<'a>(rt: &impl Abort, guard: &FlatGuard<'a>, number: usize) -> &'a [Form] {
+    assert!(rt; number < guard.cases_len(), "the disjunction is there");
+    guard.case(number)
 }
 
 #[test]
@@ -100,25 +115,20 @@ fn a_guard_gives_its_literals_and_its_open_disjunctions(rt: HostRuntime) {
     let rt = &rt;
     let indexed = indexed(rt, alloc);
     let guard = guard_at(rt, &indexed, 0);
-    let [first, second, third] = guard.lits.as_slice() else {
-        panic!(rt; "three literals")
-    };
+    let (one, four) = (at_most(rt, alloc, 1), at_most(rt, alloc, 4));
+    let lits = [one, four, Lit::Le(Lin::of_constant(alloc, 1))];
     assert!(rt;
-        first.equals(&at_most(rt, alloc, 1)),
-        "its own literal first"
+        are_lits(rt, &guard, lits.as_slice()),
+        "its own, then the inner one, and false as 1 <= 0"
     );
-    assert!(rt; second.equals(&at_most(rt, alloc, 4)), "then the inner one");
-    assert!(rt;
-        third.equals(&Lit::Le(Lin::of_constant(alloc, 1))),
-        "false is 1 <= 0"
-    );
-    let [either, last] = guard.cases.as_slice() else {
-        panic!(rt; "two disjunctions")
+    assert!(rt; guard.cases_len() == 2, "two disjunctions");
+    let [two, three] = case_at(rt, &guard, 0) else {
+        panic!(rt; "two parts of its own one")
     };
-    let (two, three) = (lit(rt, alloc, 2), lit(rt, alloc, 3));
-    assert!(rt; either.equals(&pair(rt, alloc, two, three)), "as its parts");
-    let [both, seven] = last.as_slice() else {
-        panic!(rt; "two parts")
+    assert!(rt; two.equals(&lit(rt, alloc, 2)), "in order");
+    assert!(rt; three.equals(&lit(rt, alloc, 3)), "and no more");
+    let [both, seven] = case_at(rt, &guard, 1) else {
+        panic!(rt; "two parts of the inner one")
     };
     let (five, six) = (lit(rt, alloc, 5), lit(rt, alloc, 6));
     assert!(rt;
@@ -126,17 +136,31 @@ fn a_guard_gives_its_literals_and_its_open_disjunctions(rt: HostRuntime) {
         "a part stays closed"
     );
     assert!(rt; seven.equals(&lit(rt, alloc, 7)), "the other part");
+}
+
+#[test]
+fn a_guard_that_is_no_conjunction_gives_itself(rt: HostRuntime) {
+    let alloc = rt.alloc();
+    let rt = &rt;
+    let indexed = indexed(rt, alloc);
     let plain = guard_at(rt, &indexed, 2);
-    assert!(rt;
-        are_lits(rt, alloc, plain.lits.as_slice(), &[8]),
-        "one literal"
-    );
-    assert!(rt; plain.cases.len() == 0, "nothing is open");
+    let lits = [at_most(rt, alloc, 8)];
+    assert!(rt; are_lits(rt, &plain, lits.as_slice()), "one literal");
+    assert!(rt; plain.cases_len() == 0, "nothing is open");
     let nothing = guard_at(rt, &indexed, 1);
     assert!(rt;
-        nothing.lits.len() == 0 && nothing.cases.len() == 0,
+        nothing.lits_len() == 0 && nothing.cases_len() == 0,
         "true gives nothing"
     );
+    let never = guard_at(rt, &indexed, 3);
+    let lits = [Lit::Le(Lin::of_constant(alloc, 1))];
+    assert!(rt; are_lits(rt, &never, lits.as_slice()), "false is 1 <= 0");
+    let either = guard_at(rt, &indexed, 4);
+    assert!(rt;
+        either.lits_len() == 0 && either.cases_len() == 1,
+        "a disjunction stays open"
+    );
+    assert!(rt; case_at(rt, &either, 0).len() == 2, "as its two parts");
 }
 
 #[test]

@@ -1,9 +1,8 @@
--- Lists of clauses by their heads, as they grow, and what an index keeps.
-use Rattle.std.specs.Prelude.{◌≡◌, ◌<◌, ◌^◌, ℕ, ◌++◌, List, [], ◌∷◌, Bool, true, Option, None, Some, drop, length, map, nat_lt, slice_index_or, slice_set}
+-- Lists of clauses by their heads, as they grow.
+use Rattle.std.specs.Prelude.{◌≡◌, ℕ, ◌++◌, List, [], ◌∷◌, Bool, true, Option, None, Some, drop, length, nat_lt, slice_index_or, slice_set}
 use Rattle.clause_form.specs.System.{Clauses}
 use Rattle.clause_form.specs.declared.atom.Atom.{Atom}
-use Rattle.clause_index.specs.Index.{flat_of, numbers_from, numbers_of}
-use Rattle.clause_index.specs.declared.flat.FlatGuard.{FlatGuard}
+use Rattle.clause_index.specs.Index.{numbers_from, numbers_of}
 use Rattle.clause_index.specs.declared.heads.Heads.{Heads}
 
 abbrev pub listed : Heads → Option ℕ → List ℕ
@@ -28,8 +27,3 @@ pub record Filled (sys : Clauses) (i : ℕ) (heads : Heads) : Type 0 where
 -- all clauses are in the lists of their heads
 abbrev pub AreListed : Clauses → Heads → Type 0
 AreListed sys heads = (pred : Option ℕ) → listed heads pred ≡ numbers_of sys pred
-
-pub record IsIndex (sys : Clauses) (guards : List FlatGuard) (heads : Heads) : Type 0 where
-  pub numbered : length sys.clauses < 2 ^ 32
-  pub flattened : guards ≡ map flat_of sys.clauses
-  pub lists : AreListed sys heads

@@ -1,0 +1,194 @@
+//! The places of a guard's literals and disjunctions.
+
+ghost use Rattle.std.specs.Prelude.{◌≡◌, ◌∷◌, ◌++◌, ℕ, List, [], slice_index_or, IfOk, OnOk};
+ghost use Rattle.farkas_proof.specs.Flatten.{disjunctions, literals};
+ghost use Rattle.clause_index.specs.machinery.Places.{Adds, AddsAt, AddsParts, ArePlaces, HavePlaces, at, conjuncts};
+
+use base::{Items, Memory};
+use clause_form::Clause;
+use lin_atoms::Form;
+use std::alloc::Global;
+
+/// The place of a part of a conjunction: its number there, and, where the part is a conjunction that is
+/// opened, the numbers that lead on. A guard that is no conjunction is its own part 0.
+#[derive(Drop)]
+pub(crate) struct Place {
+    pub(crate) first: usize,
+    pub(crate) below: Items<usize>,
+}
+
+/// The places of a guard's literals and of its disjunctions, in order.
+#[derive(Drop)]
+pub(crate) struct Places {
+    pub(crate) lits: Items<Place>,
+    pub(crate) cases: Items<Place>,
+}
+
+/// The part of a conjunction of that number; the formula itself where there is none.
+fn part_of(form: &Form, number: usize) -> &Form
+    ensures { result.now ≡ slice_index_or (conjuncts form.now) number form.now }
+{
+    match form {
+        Form::And(parts) => match parts.as_slice().get(number) {
+            Some(part) => part,
+            None => form,
+        },
+        _ => form,
+    }
+}
+
+/// Where the numbers lead.
+fn at<'a>(form: &'a Form, path: &[usize]) -> &'a Form
+    ensures { result.now ≡ at form.now path.now }
+{
+    let mut part = form;
+    for number in path {
+        part = part_of(part, *number);
+    }
+    part
+}
+
+impl Place {
+    /// The part that stands there.
+    pub(crate) fn part<'a>(&self, form: &'a Form) -> &'a Form
+        ensures { result.now ≡ at form.now (self.now.first ∷ self.now.below) }
+    {
+        at(part_of(form, self.first), self.below.as_slice())
+    }
+}
+
+/// Puts a place behind the others.
+fn push_place(
+    alloc: Global,
+    places: &mut Items<Place>,
+    first: usize,
+    below: &Items<usize>,
+) -> Result<(), Memory>
+    ensures { OnOk result (places.new ≡ places.old ++ record { first = first; below = below.now } ∷ []) }
+{
+    let below = Items::from_slice(alloc, below.as_slice())?;
+    places.push(Place { first, below })?;
+    Ok(())
+}
+
+/// Takes the last number away.
+fn go_back(below: &mut Items<usize>)
+    ensures { (path : List ℕ) (n : ℕ) → below.old ≡ path ++ n ∷ [] → below.new ≡ path }
+{
+    match below.pop() {
+        Some(_) => (),
+        None => (),
+    }
+}
+
+/// Puts the places of the literals and disjunctions of a formula behind the others. The numbers lead to it.
+#[cycle(push)]
+fn push_places(
+    alloc: Global,
+    places: &mut Places,
+    first: usize,
+    below: &mut Items<usize>,
+    form: &Form,
+) -> Result<(), Memory>
+    ensures same { OnOk result (below.new ≡ below.old) }
+    ensures adds { OnOk result (AddsAt (first ∷ below.old) places.old form.now places.new) }
+{
+    match form {
+        Form::True => Ok(()),
+        Form::And(parts) => {
+            push_parts(alloc, places, first, below, parts.as_slice())?;
+            Ok(())
+        }
+        Form::Or(_) => {
+            push_place(alloc, &mut places.cases, first, below)?;
+            Ok(())
+        }
+        Form::False => {
+            push_place(alloc, &mut places.lits, first, below)?;
+            Ok(())
+        }
+        Form::Lit(_) => {
+            push_place(alloc, &mut places.lits, first, below)?;
+            Ok(())
+        }
+    }
+}
+
+#[cycle(push)]
+fn push_parts(
+    alloc: Global,
+    places: &mut Places,
+    first: usize,
+    below: &mut Items<usize>,
+    parts: &[Form],
+) -> Result<(), Memory>
+    ensures same { OnOk result (below.new ≡ below.old) }
+    ensures adds { OnOk result (AddsParts (first ∷ below.old) places.old parts.now places.new) }
+{
+    for (number, part) in parts.iter().enumerate() {
+        below.push(number)?;
+        push_places(alloc, places, first, below, part)?;
+        go_back(below);
+    }
+    Ok(())
+}
+
+/// The places of the parts of a conjunction.
+fn push_conjuncts(alloc: Global, places: &mut Places, parts: &[Form]) -> Result<(), Memory>
+    ensures { OnOk result (AddsParts [] places.old parts.now places.new) }
+{
+    let mut below = Items::new(alloc);
+    for (number, part) in parts.iter().enumerate() {
+        push_places(alloc, places, number, &mut below, part)?;
+    }
+    Ok(())
+}
+
+/// Puts the places of a guard's literals and disjunctions behind the others.
+fn push_guard(alloc: Global, places: &mut Places, guard: &Form) -> Result<(), Memory>
+    ensures { OnOk result (Adds guard.now places.old places.new (literals guard.now) (disjunctions guard.now)) }
+{
+    let below = Items::new(alloc);
+    match guard {
+        Form::True => Ok(()),
+        Form::And(parts) => {
+            push_conjuncts(alloc, places, parts.as_slice())?;
+            Ok(())
+        }
+        Form::Or(_) => {
+            push_place(alloc, &mut places.cases, 0, &below)?;
+            Ok(())
+        }
+        Form::False => {
+            push_place(alloc, &mut places.lits, 0, &below)?;
+            Ok(())
+        }
+        Form::Lit(_) => {
+            push_place(alloc, &mut places.lits, 0, &below)?;
+            Ok(())
+        }
+    }
+}
+
+/// The places of a guard's literals and disjunctions.
+fn places_of(alloc: Global, guard: &Form) -> Result<Places, Memory>
+    ensures { IfOk result (ArePlaces guard.now) }
+{
+    let mut places = Places {
+        lits: Items::new(alloc),
+        cases: Items::new(alloc),
+    };
+    push_guard(alloc, &mut places, guard)?;
+    Ok(places)
+}
+
+/// The places of each clause's guard, in order.
+pub(crate) fn all_places(alloc: Global, clauses: &[Clause]) -> Result<Items<Places>, Memory>
+    ensures { IfOk result (HavePlaces clauses.now) }
+{
+    let mut made = Items::from_vec(Vec::with_capacity(alloc, clauses.len())?);
+    for clause in clauses {
+        made.push(places_of(alloc, &clause.guard)?)?;
+    }
+    Ok(made)
+}
