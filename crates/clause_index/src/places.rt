@@ -57,6 +57,16 @@ impl Place {
     }
 }
 
+/// The same numbers; nothing is asked of the memory where there are none, as mostly.
+fn copy_of(alloc: Global, below: &Items<usize>) -> Result<Items<usize>, Memory>
+    ensures { IfOk result (λ copied. copied ≡ below.now) }
+{
+    if below.is_empty() {
+        return Ok(Items::new(alloc));
+    }
+    Ok(Items::from_slice(alloc, below.as_slice())?)
+}
+
 /// Puts a place behind the others.
 fn push_place(
     alloc: Global,
@@ -66,7 +76,7 @@ fn push_place(
 ) -> Result<(), Memory>
     ensures { OnOk result (places.new ≡ places.old ++ record { first = first; below = below.now } ∷ []) }
 {
-    let below = Items::from_slice(alloc, below.as_slice())?;
+    let below = copy_of(alloc, below)?;
     places.push(Place { first, below })?;
     Ok(())
 }
