@@ -1,2 +1,3 @@
+pub mod MinusLemmas
 pub mod ProductLemmas
 pub mod SumLemmas

@@ -46,7 +46,7 @@ fn narrowed(alloc: Global, terms: &[(u32, i128)]) -> Result<Vec<(u32, i64)>, Wid
 }
 
 /// The form of terms that are in order, with short numbers.
-fn form_of(terms: Vec<(u32, i64)>, constant: i128) -> Lin
+pub(crate) fn form_of(terms: Vec<(u32, i64)>, constant: i128) -> Lin
     requires ordered { IsTrue (are_ordered 0 terms.items) }
     requires short { IsTrue (are_short terms.items) }
     requires constant { IsTrue (is_short constant) }

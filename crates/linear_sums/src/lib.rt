@@ -5,6 +5,7 @@
 
 mod collect;
 mod judge;
+mod minus;
 mod product;
 mod sum;
 

@@ -1,10 +1,11 @@
 //! Sums and differences.
 
-ghost use Rattle.std.specs.Prelude.{◌≡◌, ◌∷◌, ◌++◌, ◌+ℤ◌, map, IfOk, OnOk, IsErrOf, true, false};
+ghost use Rattle.std.specs.Prelude.{◌≡◌, ◌∷◌, ◌++◌, ◌+ℤ◌, neg_ℤ, map, IfOk, OnOk, IsErrOf, true, false};
 ghost use Rattle.lin_atoms.specs.Algebra.{negated};
 ghost use Rattle.linear_terms.specs.Linear.{all_constants, all_terms, difference_form, is_narrow, less, sum_form};
 
-use crate::judge::{judged, summed};
+use crate::judge::{form_of, is_short, judged, summed};
+use crate::minus::difference;
 use base::{Copied, Memory};
 use lin_atoms::{Lin, WideStop};
 use std::alloc::Global;
@@ -41,17 +42,25 @@ pub fn sum_form(alloc: Global, forms: &[Lin]) -> Result<Lin, WideStop>
     Ok(made)
 }
 
+/// The difference of the constants of two forms.
+fn constants(a: &Lin, b: &Lin) -> i128
+    ensures { result ≡ a.now.constant +ℤ neg_ℤ b.now.constant }
+{
+    a.constant() - b.constant()
+}
+
 /// The difference of the two forms, the first less the second, where it is narrow.
 pub fn less(alloc: Global, a: &Lin, b: &Lin) -> Result<Lin, WideStop>
     ensures made { IfOk result (λ made. made ≡ less a.now b.now) }
     ensures narrow { OnOk result (is_narrow (less a.now b.now) ≡ true) }
     ensures wide { IsErrOf result WideStop.Wide → is_narrow (less a.now b.now) ≡ false }
 {
-    let turned = b.negated(alloc)?;
-    match a.added(alloc, &turned) {
-        Ok(difference) => judged(difference),
-        Err(stop) => Err(stop),
+    let terms = difference(alloc, a.terms(), b.terms())?;
+    let constant = constants(a, b);
+    if !is_short(constant) {
+        return Err(WideStop::Wide);
     }
+    Ok(form_of(terms, constant))
 }
 
 /// The first form as it is, and each of the others with the other sign.

@@ -4,7 +4,9 @@ use Rattle.std.specs.List.{list_any}
 use Rattle.std.proofs.lemmas.List.{append-nil, drop_more, length-drop, map-append}
 use Rattle.lin_atoms.specs.Linear.{Linear}
 use Rattle.lin_atoms.specs.declared.form.Form.{Form}
-use Rattle.linear_terms.specs.Formula.{neighbours, pairs}
+use Rattle.term_tree.specs.declared.node.OpKind.{OpKind}
+use Rattle.term_tree.specs.declared.node.OpKind.TheVariants.{Distinct}
+use Rattle.linear_terms.specs.Formula.{joined, neighbours, pairs, related, sides}
 use Rattle.linear_terms.specs.Linear.{is_narrow, less}
 use Rattle.term_widths.specs.Sides.{is_wide_pair, is_wide_with}
 use Rattle.term_widths.proofs.SideLemmas.{next_neighbours, with_more, pairs_more as wide_pairs}
@@ -116,3 +118,20 @@ pub neighbours_end : (f : Linear × Linear → Form) (xs : List Linear) (i : ℕ
 neighbours_end f xs i before whole past so_far =
     sym (append-nil before)
     ∙ ap (λ (forms : List Form). before ++ forms) (sym (one_left f (drop (i - 1) xs) (omega (arith, length-drop (i - 1) xs, past)))) ∙ so_far
+
+-- the relation of two sides
+
+pub sides-two : {X : Type 0} (op : OpKind) (x y : X) → sides op (x ∷ y ∷ []) ≡ (x, y) ∷ []
+sides-two Distinct x y = refl
+sides-two _ x y = refl
+
+joined-one : (sign : Bool) (form : Form) → joined sign (form ∷ []) ≡ form
+joined-one true form = refl
+joined-one false form = refl
+
+pub two-narrow : (op : OpKind) (a b : Linear) → list_any is_wide_pair (sides op (a ∷ b ∷ [])) ≡ false → is_narrow (less a b) ≡ true
+two-narrow op a b none = first_narrow (is_narrow (less a b)) false (ap (list_any is_wide_pair) (sym (sides-two op a b)) ∙ none)
+
+pub two-related : (op : OpKind) (sign : Bool) (a b : Linear) → related op sign (less a b) ≡ joined sign (map (λ (p : Linear × Linear). related op sign (less p.0 p.1)) (sides op (a ∷ b ∷ [])))
+two-related op sign a b =
+    sym (ap (λ (ps : List (Linear × Linear)). joined sign (map (λ (p : Linear × Linear). related op sign (less p.0 p.1)) ps)) (sides-two op a b) ∙ joined-one sign (related op sign (less a b)))

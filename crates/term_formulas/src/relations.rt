@@ -1,6 +1,6 @@
 //! Relations of sides.
 
-ghost use Rattle.std.specs.Prelude.{◌≡◌, ◌++◌, map, not, IfOk, OnOk, IsTrue, false, if◌then◌else◌};
+ghost use Rattle.std.specs.Prelude.{◌≡◌, ◌++◌, [], ◌∷◌, map, not, IfOk, OnOk, IsTrue, false, if◌then◌else◌};
 ghost use Rattle.std.specs.List.{list_any};
 ghost use Rattle.term_tree.specs.declared.node.OpKind.TheVariants.{Ge, Gt, Le as AtMost, Lt};
 ghost use Rattle.term_tree.specs.Operators.{is_distinct};
@@ -148,6 +148,20 @@ fn related_neighbours(
         parts.push(related(alloc, op, sign, &forms[i - 1], &forms[i])?)?;
     }
     Ok(parts)
+}
+
+/// A relation of two integer terms with these forms, or its denial.
+pub(crate) fn compared_two(
+    alloc: Global,
+    op: OpKind,
+    sign: bool,
+    first: &Lin,
+    second: &Lin,
+) -> Result<Form, Memory>
+    requires { IsTrue (is_relation op) → list_any is_wide_pair (sides op (first.now ∷ second.now ∷ [])) ≡ false }
+    ensures { IfOk result (λ form. form ≡ joined sign (map (λ p. related op sign (less p.0 p.1)) (sides op (first.now ∷ second.now ∷ [])))) }
+{
+    related(alloc, op, sign, first, second)
 }
 
 /// A relation of integer terms with these forms, or its denial.

@@ -15,7 +15,7 @@ ghost use Rattle.term_formulas.specs.machinery.Parts.{ComparesWithRoom, HaveRoom
 
 use crate::bits::{bit_of, bits_of, sum_of_bits};
 use crate::literals::{both, either, is_one, joined, le, odd, one_minus, truth};
-use crate::relations::{compared_bits, compared_numbers};
+use crate::relations::{compared_bits, compared_numbers, compared_two};
 use base::{Items, Memory};
 use lin_atoms::{Divisor, Form, Lin, Lit};
 use std::alloc::Global;
@@ -242,6 +242,10 @@ fn comparison(
     if are_truths(sorts, args) {
         let bits = bits_of(alloc, terms, names, args)?;
         compared_bits(alloc, op, sign, bits.as_slice())
+    } else if let [a, b] = args {
+        let first = narrow_form(alloc, terms, constants, names, known, *a)?;
+        let second = narrow_form(alloc, terms, constants, names, known, *b)?;
+        compared_two(alloc, op, sign, &first, &second)
     } else {
         let forms = narrow_forms(alloc, terms, constants, names, known, args)?;
         compared_numbers(alloc, op, sign, forms.as_slice())

@@ -31,7 +31,7 @@ returns-in_ok-forms-clause-is c =
     let sign = c.args.sign in
     let bits : List Linear = map (λ (arg : TermId). bit_of (naming_by c.args.names.now) c.args.terms.now.nodes arg.0) c.args.args.now in
     let forms : List Linear = map (λ (arg : TermId). form_by (constant_in c.args.constants.now) (naming_by c.args.names.now) c.args.terms.now.nodes arg.0) c.args.args.now in
-    let same : c.as_slice-else-are_truths.result.now ≡ forms = c.as_slice-else-are_truths.ensures.value ∙ c.in_ok-forms.ensures.are in
+    let same : c.as_slice-in_default.result.now ≡ forms = c.as_slice-in_default.ensures.value ∙ c.in_ok-forms.ensures.are in
     let numbers : are_truths (sort_in c.args.sorts.now) c.args.args.now ≡ false = sym c.are_truths.ensures ∙ c.if-are_truths.false in
     subst (λ (f : Form). IfOk c.compared_numbers.result (λ form. form ≡ f))
     (ap (λ (fs : List Linear). joined sign (map (λ (p : Linear × Linear). related op sign (less p.0 p.1)) (sides op fs))) same
