@@ -6,10 +6,9 @@ use Rattle.std.proofs.lemmas.Bool.Decides.{nat_tests}
 use Rattle.std.proofs.lemmas.List.{append-nil, append_assoc}
 use mathlib.Core.Bool.{true≢false}
 use Rattle.term_tree.specs.declared.sort.Sort.{Sort}
-use Rattle.clause_form.specs.System.{Clauses, are_clauses, is_clause, is_head as has_arguments_in, is_system}
+use Rattle.clause_form.specs.System.{Clauses, is_clause, is_head as has_arguments_in, is_system}
 use Rattle.clause_form.specs.declared.atom.Atom.{Atom}
 use Rattle.clause_form.specs.declared.clause.Clause.{Clause}
-use Rattle.clause_form.specs.Kept.{Keeps, KeepsAtom}
 use Rattle.clause_form.proofs.KeptLemmas.{keeps, keeps_atom}
 use Rattle.book_rules.specs.Proofs.{is_head}
 use Rattle.book_rules.proofs.ListLemmas.{both_true}

@@ -1,5 +1,5 @@
 -- Places are put one behind another, and each leads to its literal or disjunction.
-use Rattle.std.proofs.Common.{◌≡◌, ℕ, ◌+◌, ◌<◌, ◌≤◌, zero, suc, List, [], ◌∷◌, ◌++◌, get_or, length, map, take, Option, None, Some, refl, ap, sym, ◌∙◌, ◌⊎◌, inl, inr, arith, subst}
+use Rattle.std.proofs.Common.{◌≡◌, ℕ, ◌+◌, ◌≤◌, zero, suc, List, [], ◌∷◌, ◌++◌, get_or, length, map, take, Some, refl, ap, sym, ◌∙◌, ◌⊎◌, inl, inr, arith, subst}
 use Rattle.std.specs.Prelude.{option_map, slice_get, slice_index_or}
 use Rattle.std.specs.List.{flat_map}
 use Rattle.std.proofs.lemmas.Grind.{flat_map-append}
@@ -9,7 +9,7 @@ use mathlib.Core.Former.{Count}
 use denote.Hole.Carrier.{roll}
 use Rattle.lin_atoms.specs.declared.lit.Lit.{Lit}
 use Rattle.lin_atoms.specs.declared.form.Form.{Form, And', Or', Row_of-Form, end_of-Form, items_hidden-the_row-Form-0}
-use Rattle.lin_atoms.specs.declared.form.Form.TheVariants.{True, False, Lit as Literal, rolls-Or}
+use Rattle.lin_atoms.specs.declared.form.Form.TheVariants.{False, Lit as Literal, rolls-Or}
 use Rattle.lin_atoms.specs.declared.form.Form.TheViews.{And, Or, roll-Form}
 use Rattle.lin_atoms.specs.declared.form.Form.TheFolds.{fold-roll-Form}
 use Rattle.lin_atoms.specs.declared.form.Form.TheOpen.{Form-F}
@@ -101,14 +101,14 @@ adds-same root a b ls ms cs ds same alike adds = record {
   cases = adds.cases ∙ ap (λ xs. map (parts_at root) a.cases ++ xs) alike;
 }
 
-pub adds-lit : (root form : Form) (old : Places) (place : Place) (new : List Place) → new ≡ old.lits ++ place ∷ [] → at root (place.first ∷ place.below) ≡ form
+pub adds-lit : (root form : Form) (old : Places) (place : Place) (new : List Place) → new ≡ old.lits ++ place ∷ [] → at root (place.first ∷ place.second ∷ place.below) ≡ form
     → literals form ≡ own_lit form ∷ [] → disjunctions form ≡ [] → Adds root old (record { lits = new; cases = old.cases }) (literals form) (disjunctions form)
 adds-lit root form old place new is leads one none = record {
   lits = ap (map (lit_at root)) is ∙ map-more (lit_at root) old.lits place ∙ ap (λ (f : Form). map (lit_at root) old.lits ++ own_lit f ∷ []) leads ∙ ap (λ (ls : List Lit). map (lit_at root) old.lits ++ ls) (sym one);
   cases = sym (append-nil _) ∙ ap (λ (cs : List (List Form)). map (parts_at root) old.cases ++ cs) (sym none);
 }
 
-pub adds-case : (root form : Form) (old : Places) (place : Place) (new : List Place) (parts : List Form) → new ≡ old.cases ++ place ∷ [] → at root (place.first ∷ place.below) ≡ form
+pub adds-case : (root form : Form) (old : Places) (place : Place) (new : List Place) (parts : List Form) → new ≡ old.cases ++ place ∷ [] → at root (place.first ∷ place.second ∷ place.below) ≡ form
     → form ≡ Or parts → Adds root old (record { lits = old.lits; cases = new }) (literals form) (disjunctions form)
 adds-case root form old place new parts is leads same = record {
   lits = sym (append-nil _) ∙ ap (λ (ls : List Lit). map (lit_at root) old.lits ++ ls) (sym (ap literals same ∙ literals-Or parts));
@@ -117,11 +117,11 @@ adds-case root form old place new parts is leads same = record {
       ∙ ap (λ (ps : List Form). map (parts_at root) old.cases ++ ps ∷ []) (disjuncts-Or parts) ∙ ap (λ (cs : List (List Form)). map (parts_at root) old.cases ++ cs) (sym (ap disjunctions same ∙ disjunctions-Or parts));
 }
 
-pub adds-false : (root form : Form) (old : Places) (place : Place) (new : List Place) → new ≡ old.lits ++ place ∷ [] → at root (place.first ∷ place.below) ≡ form
+pub adds-false : (root form : Form) (old : Places) (place : Place) (new : List Place) → new ≡ old.lits ++ place ∷ [] → at root (place.first ∷ place.second ∷ place.below) ≡ form
     → form ≡ False → Adds root old (record { lits = new; cases = old.cases }) (literals form) (disjunctions form)
 adds-false root form old place new is leads same = adds-lit root form old place new is leads (ap literals same ∙ literals-False ∙ ap (λ (f : Form). own_lit f ∷ []) (sym same)) (ap disjunctions same)
 
-pub adds-literal : (root form : Form) (old : Places) (place : Place) (new : List Place) (lit : Lit) → new ≡ old.lits ++ place ∷ [] → at root (place.first ∷ place.below) ≡ form
+pub adds-literal : (root form : Form) (old : Places) (place : Place) (new : List Place) (lit : Lit) → new ≡ old.lits ++ place ∷ [] → at root (place.first ∷ place.second ∷ place.below) ≡ form
     → form ≡ Literal lit → Adds root old (record { lits = new; cases = old.cases }) (literals form) (disjunctions form)
 adds-literal root form old place new lit is leads same = adds-lit root form old place new is leads (ap literals same ∙ literals-Literal lit ∙ ap (λ (f : Form). own_lit f ∷ []) (sym same)) (ap disjunctions same)
 
@@ -146,18 +146,46 @@ all-of-parts guard parts old new is adds =
     adds-same guard old new _ (literals guard) _ (disjunctions guard) (sym (literals-And parts) ∙ ap literals (sym is)) (sym (disjunctions-And parts) ∙ ap disjunctions (sym is))
     (adds guard (ap conjuncts is ∙ conjuncts-And parts))
 
-itself : (guard form : Form) (below : List ℕ) → guard ≡ form → conjuncts form ≡ [] → below ≡ [] → at guard (0 ∷ below) ≡ guard
-itself guard form below is none nothing = ap (λ (path : List ℕ). at guard (0 ∷ path)) nothing ∙ ap (λ (xs : List Form). slice_index_or xs 0 guard) (ap conjuncts is ∙ none)
+-- what is no conjunction is its own part 0
+whole : (root form : Form) (path : List ℕ) → at root path ≡ form → conjuncts form ≡ [] → at root (path ++ 0 ∷ []) ≡ form
+whole root form path leads none = at-next root path 0 ∙ ap (λ (f : Form). slice_index_or (conjuncts f) 0 f) leads ∙ ap (λ (xs : List Form). slice_index_or xs 0 form) none
 
-pub one-case : (guard : Form) (old : Places) (below : List ℕ) (new : List Place) (parts : List Form) → new ≡ old.cases ++ record { first = 0; below = below } ∷ [] → below ≡ []
+no-more : (root : Form) (path : List ℕ) (below : List ℕ) (form : Form) → below ≡ [] → at root path ≡ form → at root (path ++ below) ≡ form
+no-more root path below form nothing leads = ap (λ (ns : List ℕ). at root (path ++ ns)) nothing ∙ ap (at root) (append-nil path) ∙ leads
+
+-- a part of a guard
+
+part-there : (root form : Form) (first : ℕ) (below : List ℕ) → below ≡ [] → conjuncts form ≡ [] → at root (first ∷ []) ≡ form → at root (first ∷ 0 ∷ below) ≡ form
+part-there root form first below nothing none leads = no-more root (first ∷ 0 ∷ []) below form nothing (whole root form (first ∷ []) leads none)
+
+pub part-case : (first : ℕ) (form : Form) (old : Places) (below : List ℕ) (new : List Place) (parts : List Form) → new ≡ old.cases ++ record { first = first; second = 0; below = below } ∷ [] → below ≡ []
+    → form ≡ Or parts → AddsAt (first ∷ []) old form (record { lits = old.lits; cases = new })
+part-case first form old below new parts is nothing same root leads = adds-case root form old _ new parts is (part-there root form first below nothing (ap conjuncts same) leads) same
+
+pub part-false : (first : ℕ) (form : Form) (old : Places) (below : List ℕ) (new : List Place) → new ≡ old.lits ++ record { first = first; second = 0; below = below } ∷ [] → below ≡ []
+    → form ≡ False → AddsAt (first ∷ []) old form (record { lits = new; cases = old.cases })
+part-false first form old below new is nothing same root leads = adds-false root form old _ new is (part-there root form first below nothing (ap conjuncts same) leads) same
+
+pub part-literal : (first : ℕ) (form : Form) (old : Places) (below : List ℕ) (new : List Place) (lit : Lit) → new ≡ old.lits ++ record { first = first; second = 0; below = below } ∷ [] → below ≡ []
+    → form ≡ Literal lit → AddsAt (first ∷ []) old form (record { lits = new; cases = old.cases })
+part-literal first form old below new lit is nothing same root leads = adds-literal root form old _ new lit is (part-there root form first below nothing (ap conjuncts same) leads) same
+
+-- a guard that is no conjunction
+
+itself : (guard form : Form) (below : List ℕ) → guard ≡ form → conjuncts form ≡ [] → below ≡ [] → at guard (0 ∷ 0 ∷ below) ≡ guard
+itself guard form below is none nothing =
+    let alone : conjuncts guard ≡ [] = ap conjuncts is ∙ none in
+    part-there guard guard 0 below nothing alone (whole guard guard [] refl alone)
+
+pub one-case : (guard : Form) (old : Places) (below : List ℕ) (new : List Place) (parts : List Form) → new ≡ old.cases ++ record { first = 0; second = 0; below = below } ∷ [] → below ≡ []
     → guard ≡ Or parts → Adds guard old (record { lits = old.lits; cases = new }) (literals guard) (disjunctions guard)
 one-case guard old below new parts is nothing same = adds-case guard guard old _ new parts is (itself guard (Or parts) below same refl nothing) same
 
-pub one-false : (guard : Form) (old : Places) (below : List ℕ) (new : List Place) → new ≡ old.lits ++ record { first = 0; below = below } ∷ [] → below ≡ []
+pub one-false : (guard : Form) (old : Places) (below : List ℕ) (new : List Place) → new ≡ old.lits ++ record { first = 0; second = 0; below = below } ∷ [] → below ≡ []
     → guard ≡ False → Adds guard old (record { lits = new; cases = old.cases }) (literals guard) (disjunctions guard)
 one-false guard old below new is nothing same = adds-false guard guard old _ new is (itself guard False below same refl nothing) same
 
-pub one-literal : (guard : Form) (old : Places) (below : List ℕ) (new : List Place) (lit : Lit) → new ≡ old.lits ++ record { first = 0; below = below } ∷ [] → below ≡ []
+pub one-literal : (guard : Form) (old : Places) (below : List ℕ) (new : List Place) (lit : Lit) → new ≡ old.lits ++ record { first = 0; second = 0; below = below } ∷ [] → below ≡ []
     → guard ≡ Literal lit → Adds guard old (record { lits = new; cases = old.cases }) (literals guard) (disjunctions guard)
 one-literal guard old below new lit is nothing same = adds-literal guard guard old _ new lit is (itself guard (Literal lit) below same refl nothing) same
 
@@ -171,16 +199,16 @@ last-of (z ∷ xs) x y (suc i) is = elim (last-of xs x y i is) [ inl there ↦ i
 
 place-after : (clause other : Clause) (n : ℕ) (clauses : List Clause) (guards : List Places) (new placed : Places) (i : ℕ) → slice_get clauses n ≡ Some clause → slice_get clauses i ≡ Some other → ArePlaces clause.guard new
     → HaveSoFar clauses n guards → (slice_get guards i ≡ Some placed) ⊎ ((i ≡ length guards) × (new ≡ placed)) → ArePlaces other.guard placed
-place-after clause other n clauses guards new placed i at that these before (inl there) = before.1 i other placed that there
+place-after clause other n clauses guards new placed i at that these before (inl there) = before.each i other placed that there
 place-after clause other n clauses guards new placed i at that these before (inr here) =
-    let same : Some clause ≡ Some other = sym at ∙ ap (slice_get clauses) (sym (here.0 ∙ before.0)) ∙ that in
+    let same : Some clause ≡ Some other = sym at ∙ ap (slice_get clauses) (sym (here.0 ∙ before.many)) ∙ that in
     subst (λ (p : Places). ArePlaces other.guard p) here.1 (subst (λ (c : Clause). ArePlaces c.guard new) (same_Some clause other same) these)
 
 pub have-next : (clauses : List Clause) (n : ℕ) (clause : Clause) (guards after : List Places) (new : Places) → slice_get clauses n ≡ Some clause → after ≡ guards ++ new ∷ [] → ArePlaces clause.guard new → HaveSoFar clauses n guards → HaveSoFar clauses (n + 1) after
-have-next clauses n clause guards after new at is these before = (
-  ap length is ∙ length-append guards (new ∷ []) ∙ ap (λ k. k + 1) before.0,
-  λ i other placed that there. place-after clause other n clauses guards new placed i at that these before (last-of guards new placed i (ap (λ (ps : List Places). slice_get ps i) (sym is) ∙ there)),
-)
+have-next clauses n clause guards after new at is these before = record {
+  many = ap length is ∙ length-append guards (new ∷ []) ∙ ap (λ k. k + 1) before.many;
+  each = λ i other placed that there. place-after clause other n clauses guards new placed i at that these before (last-of guards new placed i (ap (λ (ps : List Places). slice_get ps i) (sym is) ∙ there));
+}
 
 pub placed-at : (clauses : List Clause) (guards : List Places) (i : ℕ) (clause : Clause) (placed : Places) → HavePlaces clauses guards → slice_get clauses i ≡ Some clause
     → (shown : List Places) → shown ≡ guards → placed ≡ get_or shown i placed → ArePlaces clause.guard placed

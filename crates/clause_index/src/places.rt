@@ -9,11 +9,13 @@ use clause_form::Clause;
 use lin_atoms::Form;
 use std::alloc::Global;
 
-/// The place of a part of a conjunction: its number there, and, where the part is a conjunction that is
-/// opened, the numbers that lead on. A guard that is no conjunction is its own part 0.
+/// The place of a part of a conjunction: its number there, its number in that part, where that is a
+/// conjunction, too, and the numbers that lead on, where more of them stand in one another. What is no
+/// conjunction is its own part 0.
 #[derive(Drop)]
 pub(crate) struct Place {
     pub(crate) first: usize,
+    pub(crate) second: usize,
     pub(crate) below: Items<usize>,
 }
 
@@ -51,9 +53,10 @@ fn at<'a>(form: &'a Form, path: &[usize]) -> &'a Form
 impl Place {
     /// The part that stands there.
     pub(crate) fn part<'a>(&self, form: &'a Form) -> &'a Form
-        ensures { result.now ≡ at form.now (self.now.first ∷ self.now.below) }
+        ensures { result.now ≡ at form.now (self.now.first ∷ self.now.second ∷ self.now.below) }
     {
-        at(part_of(form, self.first), self.below.as_slice())
+        let part = part_of(form, self.first);
+        at(part_of(part, self.second), self.below.as_slice())
     }
 }
 
@@ -72,12 +75,17 @@ fn push_place(
     alloc: Global,
     places: &mut Items<Place>,
     first: usize,
+    second: usize,
     below: &Items<usize>,
 ) -> Result<(), Memory>
-    ensures { OnOk result (places.new ≡ places.old ++ record { first = first; below = below.now } ∷ []) }
+    ensures { OnOk result (places.new ≡ places.old ++ record { first = first; second = second; below = below.now } ∷ []) }
 {
     let below = copy_of(alloc, below)?;
-    places.push(Place { first, below })?;
+    places.push(Place {
+        first,
+        second,
+        below,
+    })?;
     Ok(())
 }
 
@@ -97,28 +105,29 @@ fn push_places(
     alloc: Global,
     places: &mut Places,
     first: usize,
+    second: usize,
     below: &mut Items<usize>,
     form: &Form,
 ) -> Result<(), Memory>
     ensures same { OnOk result (below.new ≡ below.old) }
-    ensures adds { OnOk result (AddsAt (first ∷ below.old) places.old form.now places.new) }
+    ensures adds { OnOk result (AddsAt (first ∷ second ∷ below.old) places.old form.now places.new) }
 {
     match form {
         Form::True => Ok(()),
         Form::And(parts) => {
-            push_parts(alloc, places, first, below, parts.as_slice())?;
+            push_parts(alloc, places, first, second, below, parts.as_slice())?;
             Ok(())
         }
         Form::Or(_) => {
-            push_place(alloc, &mut places.cases, first, below)?;
+            push_place(alloc, &mut places.cases, first, second, below)?;
             Ok(())
         }
         Form::False => {
-            push_place(alloc, &mut places.lits, first, below)?;
+            push_place(alloc, &mut places.lits, first, second, below)?;
             Ok(())
         }
         Form::Lit(_) => {
-            push_place(alloc, &mut places.lits, first, below)?;
+            push_place(alloc, &mut places.lits, first, second, below)?;
             Ok(())
         }
     }
@@ -129,27 +138,69 @@ fn push_parts(
     alloc: Global,
     places: &mut Places,
     first: usize,
+    second: usize,
     below: &mut Items<usize>,
     parts: &[Form],
 ) -> Result<(), Memory>
     ensures same { OnOk result (below.new ≡ below.old) }
-    ensures adds { OnOk result (AddsParts (first ∷ below.old) places.old parts.now places.new) }
+    ensures adds { OnOk result (AddsParts (first ∷ second ∷ below.old) places.old parts.now places.new) }
 {
     for (number, part) in parts.iter().enumerate() {
         below.push(number)?;
-        push_places(alloc, places, first, below, part)?;
+        push_places(alloc, places, first, second, below, part)?;
         go_back(below);
     }
     Ok(())
 }
 
-/// The places of the parts of a conjunction.
-fn push_conjuncts(alloc: Global, places: &mut Places, parts: &[Form]) -> Result<(), Memory>
-    ensures { OnOk result (AddsParts [] places.old parts.now places.new) }
+/// The places of the parts of a conjunction that is a part of the guard.
+fn push_inner(
+    alloc: Global,
+    places: &mut Places,
+    first: usize,
+    parts: &[Form],
+) -> Result<(), Memory>
+    ensures { OnOk result (AddsParts (first ∷ []) places.old parts.now places.new) }
 {
     let mut below = Items::new(alloc);
     for (number, part) in parts.iter().enumerate() {
-        push_places(alloc, places, number, &mut below, part)?;
+        push_places(alloc, places, first, number, &mut below, part)?;
+    }
+    Ok(())
+}
+
+/// The places of a part of the guard.
+fn push_part(alloc: Global, places: &mut Places, first: usize, form: &Form) -> Result<(), Memory>
+    ensures { OnOk result (AddsAt (first ∷ []) places.old form.now places.new) }
+{
+    let below = Items::new(alloc);
+    match form {
+        Form::True => Ok(()),
+        Form::And(parts) => {
+            push_inner(alloc, places, first, parts.as_slice())?;
+            Ok(())
+        }
+        Form::Or(_) => {
+            push_place(alloc, &mut places.cases, first, 0, &below)?;
+            Ok(())
+        }
+        Form::False => {
+            push_place(alloc, &mut places.lits, first, 0, &below)?;
+            Ok(())
+        }
+        Form::Lit(_) => {
+            push_place(alloc, &mut places.lits, first, 0, &below)?;
+            Ok(())
+        }
+    }
+}
+
+/// The places of the guard's parts, where it is a conjunction.
+fn push_conjuncts(alloc: Global, places: &mut Places, parts: &[Form]) -> Result<(), Memory>
+    ensures { OnOk result (AddsParts [] places.old parts.now places.new) }
+{
+    for (number, part) in parts.iter().enumerate() {
+        push_part(alloc, places, number, part)?;
     }
     Ok(())
 }
@@ -166,15 +217,15 @@ fn push_guard(alloc: Global, places: &mut Places, guard: &Form) -> Result<(), Me
             Ok(())
         }
         Form::Or(_) => {
-            push_place(alloc, &mut places.cases, 0, &below)?;
+            push_place(alloc, &mut places.cases, 0, 0, &below)?;
             Ok(())
         }
         Form::False => {
-            push_place(alloc, &mut places.lits, 0, &below)?;
+            push_place(alloc, &mut places.lits, 0, 0, &below)?;
             Ok(())
         }
         Form::Lit(_) => {
-            push_place(alloc, &mut places.lits, 0, &below)?;
+            push_place(alloc, &mut places.lits, 0, 0, &below)?;
             Ok(())
         }
     }

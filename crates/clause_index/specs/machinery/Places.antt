@@ -35,10 +35,10 @@ abbrev pub own_lit : Form → Lit
 own_lit = fold-Form Lit lit_step
 
 abbrev pub lit_at : Form → Place → Lit
-lit_at form place = own_lit (at form (place.first ∷ place.below))
+lit_at form place = own_lit (at form (place.first ∷ place.second ∷ place.below))
 
 abbrev pub parts_at : Form → Place → List Form
-parts_at form place = disjuncts (at form (place.first ∷ place.below))
+parts_at form place = disjuncts (at form (place.first ∷ place.second ∷ place.below))
 
 -- the places of a formula's literals and disjunctions, in order
 pub record ArePlaces (form : Form) (places : Places) : Type 0 where
@@ -61,11 +61,11 @@ AddsSome path old parts some new = (root : Form) → conjuncts (at root path) �
 abbrev pub AddsParts : List ℕ → Places → List Form → Places → Type 0
 AddsParts path old parts new = AddsSome path old parts parts new
 
--- each clause's guard has its places
-pub record HavePlaces (clauses : List Clause) (guards : List Places) : Type 0 where
-  pub many : length guards ≡ length clauses
+-- the guards of as many clauses have their places
+pub record HaveSoFar (clauses : List Clause) (n : ℕ) (guards : List Places) : Type 0 where
+  pub many : length guards ≡ n
   pub each : (i : ℕ) (clause : Clause) (places : Places) → slice_get clauses i ≡ Some clause → slice_get guards i ≡ Some places → ArePlaces clause.guard places
 
--- so have those clauses that were looked at
-abbrev pub HaveSoFar : List Clause → ℕ → List Places → Type 0
-HaveSoFar clauses n guards = (length guards ≡ n) × ((i : ℕ) (clause : Clause) (places : Places) → slice_get clauses i ≡ Some clause → slice_get guards i ≡ Some places → ArePlaces clause.guard places)
+-- those of all of them
+abbrev pub HavePlaces : List Clause → List Places → Type 0
+HavePlaces clauses guards = HaveSoFar clauses (length clauses) guards

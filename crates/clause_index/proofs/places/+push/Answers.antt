@@ -13,13 +13,13 @@ push_parts-loop-number-preserved t c =
     let longer : c.push.new.self ≡ c.args.below.now ++ number ∷ [] = c.in_ok-push.ensures.ok ∙ ap (λ (path : List ℕ). path ++ number ∷ []) c.loop-number.invariant.0 in
     let there = slice_get_read parts (length parts) number part refl c.loop-number-test.true c.index-parts-number.is in (
       c.go_back.ensures c.args.below.now number (c.in_ok-push_places.ensures.same ∙ longer),
-      some-next (c.args.first ∷ c.args.below.now) c.args.places.now c.loop-number.places c.push_places.new.places parts number part there c.loop-number.invariant.1
-          (subst (λ (path : List ℕ). AddsAt (c.args.first ∷ path) c.loop-number.places part c.push_places.new.places) longer c.in_ok-push_places.ensures.adds),
+      some-next (c.args.first ∷ c.args.second ∷ c.args.below.now) c.args.places.now c.loop-number.places c.push_places.new.places parts number part there c.loop-number.invariant.1
+          (subst (λ (path : List ℕ). AddsAt (c.args.first ∷ c.args.second ∷ path) c.loop-number.places part c.push_places.new.places) longer c.in_ok-push_places.ensures.adds),
     )
 
 pub push_places-returns-in_ok-push_parts-in-And-clause-adds : goal.push_places-returns-in_ok-push_parts-in-And-clause-adds
 push_places-returns-in_ok-push_parts-in-And-clause-adds t c =
-    adds-parts (c.args.first ∷ c.args.below.now) c.args.places.now c.push_parts.new.places c.args.form.now c.as_slice.result.now
+    adds-parts (c.args.first ∷ c.args.second ∷ c.args.below.now) c.args.places.now c.push_parts.new.places c.args.form.now c.as_slice.result.now
     (c.in-And.is ∙ ap And (sym c.as_slice.ensures)) c.in_ok-push_parts-in-And.ensures.adds
 
 pub push_places-returns-in_ok-push_place-in-Or-clause-adds : goal.push_places-returns-in_ok-push_place-in-Or-clause-adds

@@ -1,5 +1,5 @@
-use Rattle.std.proofs.Common.{◌≡◌, ap, length, sym, refl, ◌∙◌, subst}
-use Rattle.std.specs.Prelude.{Some, slice_get}
+use Rattle.std.proofs.Common.{ap, sym, ◌∙◌}
+use Rattle.std.specs.Prelude.{slice_get}
 use Rattle.clause_form.specs.System.{Clauses}
 use Rattle.clause_index.proofs.PlaceLemmas.{flat-there, placed-at}
 use Rattle.clause_index.proofs.indexed.IndexedSystem.guard.Goals as goal

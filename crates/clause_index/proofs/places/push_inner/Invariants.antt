@@ -1,0 +1,7 @@
+use Rattle.std.proofs.Common.{◌≡◌, ◌∷◌, [], take}
+use Rattle.clause_index.specs.machinery.Places.{AddsSome}
+use Rattle.clause_index.proofs.places.push_inner.Given as goal
+
+-- those of the parts so far were put behind
+abbrev pub invariant-loop-number : goal.invariant-loop-number
+invariant-loop-number l = (l.below ≡ []) × AddsSome (l.fn.first ∷ []) l.fn.places l.fn.parts (take l.number l.fn.parts) l.places
