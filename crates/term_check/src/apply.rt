@@ -81,41 +81,40 @@ pub fn apply(
     preds: &[Pred],
     head: Head,
     start: u32,
-    all: FoundAll,
+    ids: Vec<TermId>,
+    parts: &[Part],
+    next: u32,
     terms: &mut Terms,
 ) -> Result<Found, TermStop>
     requires aligned { IsAligned terms.old }
-    requires below { IsTrue (list_all (is_below (length terms.old.nodes)) all.ids.items) }
-    requires number { head_fault preds.now head start (length all.ids.items) ≡ None }
-    ensures told { (lets : List AnId) (g : Gathered) → IsGathered lets terms.old g all.ids.items all.parts.items all.next
+    requires below { IsTrue (list_all (is_below (length terms.old.nodes)) ids.items) }
+    requires number { head_fault preds.now head start (length ids.items) ≡ None }
+    ensures told { (lets : List AnId) (g : Gathered) → IsGathered lets terms.old g ids.items parts.now next
         → Tells lets (application preds.now head start g) terms.new result }
     ensures keeps { Keeps terms.old terms.new }
-    ensures next { IfOk result (λ found. found.next ≡ all.next) }
+    ensures next { IfOk result (λ found. found.next ≡ next) }
 {
     match head {
-        Head::Operator(op) => match applied(op, start, &all.parts) {
+        Head::Operator(op) => match applied(op, start, parts) {
             Ok(part) => {
-                let args = Items::from_vec(all.ids);
-                add_found(Node::Op { op, args }, start, part, all.next, terms)
+                let args = Items::from_vec(ids);
+                add_found(Node::Op { op, args }, start, part, next, terms)
             }
             Err(fault) => Err(TermStop::Fault(fault)),
         },
-        Head::Declared(pred) => match declared_fault(sorts_of(preds, pred), &all.parts) {
+        Head::Declared(pred) => match declared_fault(sorts_of(preds, pred), parts) {
             Some(fault) => Err(TermStop::Fault(fault)),
             None => {
-                let args = Items::from_vec(all.ids);
+                let args = Items::from_vec(ids);
                 let node = Node::Pred { pred, args };
-                add_found(node, start, bool_part(start), all.next, terms)
+                add_found(node, start, bool_part(start), next, terms)
             }
         },
-        Head::Constant => Err(TermStop::Fault(unapplied_fault(start, all.parts.len()))),
-        Head::Divisibility(by) => match divisor(by, start, &all.parts) {
+        Head::Constant => Err(TermStop::Fault(unapplied_fault(start, parts.len()))),
+        Head::Divisibility(by) => match divisor(by, start, parts) {
             Ok(by) => {
-                let node = Node::Divisible {
-                    by,
-                    arg: all.ids[0],
-                };
-                add_found(node, start, bool_part(start), all.next, terms)
+                let node = Node::Divisible { by, arg: ids[0] };
+                add_found(node, start, bool_part(start), next, terms)
             }
             Err(fault) => Err(TermStop::Fault(fault)),
         },

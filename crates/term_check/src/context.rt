@@ -22,6 +22,8 @@ pub struct Context<'a> {
     quantifies: bool,
     bindings: Bindings<'a>,
     lets: Vec<TermId>,
+    /// Lists that serve one application after the other.
+    spare: Vec<Vec<Part>>,
 }
 
 impl<'a> Model for Context<'a> {
@@ -50,6 +52,7 @@ impl<'a> Context<'a> {
             quantifies,
             bindings,
             lets: Vec::new(alloc),
+            spare: Vec::new(alloc),
         }
     }
 
@@ -89,6 +92,28 @@ impl<'a> Context<'a> {
         ensures { slice_get self.now.lets number ≡ Some result }
     {
         self.lets[number as usize]
+    }
+
+    /// A list without parts: one that was given back, or a new one with room for `count`.
+    pub fn no_parts(&mut self, count: usize) -> Result<Vec<Part>, Memory>
+        ensures none { IfOk result (λ parts. parts.items ≡ []) }
+        ensures same { self.new ≡ self.old }
+    {
+        match self.spare.pop() {
+            Some(mut parts) => {
+                parts.clear();
+                Ok(parts)
+            }
+            None => Ok(Vec::with_capacity(self.alloc, count)?),
+        }
+    }
+
+    /// Takes a list back that is of no more use.
+    pub fn give_back(&mut self, parts: Vec<Part>) -> Result<(), Memory>
+        ensures { self.new ≡ self.old }
+    {
+        self.spare.push(parts)?;
+        Ok(())
     }
 
     /// How many names are bound.

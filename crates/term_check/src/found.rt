@@ -23,15 +23,21 @@ pub struct FoundAll {
 }
 
 impl FoundAll {
-    /// None yet, with room for `count` terms, where the next variable has the number `next`.
-    pub fn with_room(alloc: Global, count: usize, next: u32) -> Result<FoundAll, Memory>
+    /// None yet, with room for `count` terms, a list for their parts, and the number of the next variable.
+    pub fn with_room(
+        alloc: Global,
+        parts: Vec<Part>,
+        count: usize,
+        next: u32,
+    ) -> Result<FoundAll, Memory>
+        requires { parts.items ≡ [] }
         ensures ids { IfOk result (λ all. all.ids.items ≡ []) }
         ensures parts { IfOk result (λ all. all.parts.items ≡ []) }
         ensures next { IfOk result (λ all. all.next ≡ next) }
     {
         Ok(FoundAll {
             ids: Vec::with_capacity(alloc, count)?,
-            parts: Vec::with_capacity(alloc, count)?,
+            parts,
             next,
         })
     }

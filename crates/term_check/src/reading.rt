@@ -99,7 +99,19 @@ fn read_application<'a>(
         return Err(TermStop::Fault(fault));
     }
     match read_arguments(context, next, args, terms) {
-        Ok(all) => apply(signature.preds(), head, start, all, terms),
+        Ok(all) => {
+            let made = apply(
+                signature.preds(),
+                head,
+                start,
+                all.ids,
+                &all.parts,
+                all.next,
+                terms,
+            );
+            context.give_back(all.parts)?;
+            made
+        }
         Err(stop) => Err(stop),
     }
 }
@@ -119,7 +131,8 @@ fn read_arguments<'a>(
     ensures next { IfOk result (λ all. all.next ≤ next + weights args.now) }
     ensures count { IfOk result (λ all. length all.ids.items ≡ length args.now) }
 {
-    let mut all = FoundAll::with_room(context.alloc(), args.len(), next)?;
+    let none = context.no_parts(args.len())?;
+    let mut all = FoundAll::with_room(context.alloc(), none, args.len(), next)?;
     for arg in args {
         match read_next(context, all, arg, terms) {
             Ok(more) => all = more,
@@ -196,7 +209,8 @@ fn read_bound<'a>(
     ensures next { IfOk result (λ all. all.next ≤ next + weights items.now) }
     ensures count { IfOk result (λ all. length all.ids.items ≤ length items.now) }
 {
-    let mut all = FoundAll::with_room(context.alloc(), items.len(), next)?;
+    let none = context.no_parts(items.len())?;
+    let mut all = FoundAll::with_room(context.alloc(), none, items.len(), next)?;
     for item in items {
         match read_item(context, all, items_of(item), terms) {
             Ok(more) => all = more,

@@ -14,22 +14,27 @@ use Rattle.term_check.proofs.ReadingLemmas.{keeps_all, keeps_then, ready_then, a
 use Rattle.term_check.proofs.SpellingLemmas.{spelled-List, weight-List, weight_of_items, weighs, weigh_all}
 use Rattle.term_check.proofs.reading.+term.Goals as goal
 
-pub read_application-apply-requires-clause-below : goal.read_application-apply-requires-clause-below
-read_application-apply-requires-clause-below t c =
+pub read_application-apply-made-requires-clause-below : goal.read_application-apply-made-requires-clause-below
+read_application-apply-made-requires-clause-below t c =
     let told = c.in-Ok-read_arguments.ensures.told in
     all_below c.read_arguments.new.terms c.args.context.now.lets told.0.terms c.in-Ok-read_arguments.all.ids.items told.2.terms
 
 pub read_application-read_arguments-requires : goal.read_application-read_arguments-requires
 read_application-read_arguments-requires t c = (let d = c.decreases in omega (arith, d), c.requires.ready)
 
-pub read_application-returns-in-Ok-read_arguments-clause-keeps : goal.read_application-returns-in-Ok-read_arguments-clause-keeps
-read_application-returns-in-Ok-read_arguments-clause-keeps t c = keeps_then c.args.terms.now c.read_arguments.new.terms c.apply.new.terms c.in-Ok-read_arguments.ensures.keeps c.apply.ensures.keeps
+pub read_application-returns-in_err-give_back-in-Ok-read_arguments-clause-keeps : goal.read_application-returns-in_err-give_back-in-Ok-read_arguments-clause-keeps
+read_application-returns-in_err-give_back-in-Ok-read_arguments-clause-keeps t c =
+    keeps_then c.args.terms.now c.read_arguments.new.terms c.apply-made.new.terms c.in-Ok-read_arguments.ensures.keeps c.apply-made.ensures.keeps
+
+pub read_application-returns-in_ok-give_back-in-Ok-read_arguments-clause-keeps : goal.read_application-returns-in_ok-give_back-in-Ok-read_arguments-clause-keeps
+read_application-returns-in_ok-give_back-in-Ok-read_arguments-clause-keeps t c =
+    keeps_then c.args.terms.now c.read_arguments.new.terms c.apply-made.new.terms c.in-Ok-read_arguments.ensures.keeps c.apply-made.ensures.keeps
 
 pub read_arguments-loop-arg-init : goal.read_arguments-loop-arg-init
 read_arguments-loop-arg-init t c = record {
   told = (nothing_yet c.args.next, none_gathered c.args.context.now.lets c.args.terms.now c.in_ok-all.all.ids.items c.in_ok-all.all.parts.items c.args.next c.in_ok-all.all.next c.in_ok-all.ensures.ids c.in_ok-all.ensures.parts c.in_ok-all.ensures.next, refl);
   keeps = keeps_all c.args.terms.now;
-  kept = refl;
+  kept = c.in_ok-none.ensures.same;
   room = let n = c.in_ok-all.ensures.next in omega (arith, n);
   count = ap (λ (xs : List TermId). length xs) c.in_ok-all.ensures.ids;
 }
@@ -62,7 +67,7 @@ pub read_bound-loop-item-init : goal.read_bound-loop-item-init
 read_bound-loop-item-init t c = record {
   told = (nothing_yet c.args.next, none_gathered c.args.context.now.lets c.args.terms.now c.in_ok-all.all.ids.items c.in_ok-all.all.parts.items c.args.next c.in_ok-all.all.next c.in_ok-all.ensures.ids c.in_ok-all.ensures.parts c.in_ok-all.ensures.next, refl);
   keeps = keeps_all c.args.terms.now;
-  kept = refl;
+  kept = c.in_ok-none.ensures.same;
   room = let n = c.in_ok-all.ensures.next in omega (arith, n);
   count = let none = ap (λ (xs : List TermId). length xs) c.in_ok-all.ensures.ids in omega (arith, none);
 }
