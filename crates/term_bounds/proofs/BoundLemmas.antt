@@ -1,8 +1,9 @@
 -- What is found for a node from the bounds of its parts is a bound.
-use Rattle.std.proofs.Common.{◌≡◌, ◌<◌, ◌≤◌, ℕ, ◌+◌, ◌*◌, List, [], ◌∷◌, ◌++◌, length, length-append, map, Bool, true, false, not, ◌&&◌, inl, inr, refl, ap, sym, ◌∙◌, subst, arith}
+use Rattle.std.proofs.Common.{◌≡◌, ◌<◌, ◌≤◌, ℕ, ◌+◌, ◌*◌, ◌^◌, ◌==◌, cond, List, [], ◌∷◌, ◌++◌, length, length-append, map, Bool, true, false, not, ◌&&◌, inl, inr, refl, ap, sym, ◌∙◌, subst, arith}
 use Rattle.std.proofs.lemmas.Bool.Decides.{nat_tests}
 use Rattle.std.proofs.lemmas.Bool.{cases_lt}
 use Rattle.std.proofs.lemmas.Int.{unsigned_abs-mul}
+use Rattle.std.proofs.lemmas.Option.{none-some}
 use Rattle.std.proofs.lemmas.List.{get_or_append_left, get_or_past, get_or_push}
 use Rattle.std.proofs.Math.Nat.{mul-le-mul, mul_assoc, mul_comm, mul_left_comm}
 use Rattle.std.specs.Prelude.{slice_get, slice_index_or, fold, Option, Some, None, nat_lt, ℤ, pos, nat_abs, ◌*ℤ◌, if◌then◌else◌}
@@ -27,6 +28,7 @@ use Rattle.term_forms.proofs.FoundLemmas.{first_at}
 use Rattle.term_widths.specs.Sides.{is_wide_pair}
 use Rattle.term_widths.specs.Wide.{first_wide_by, has_wide_sides}
 use Rattle.term_bounds.specs.machinery.Room.{AreBounds, IsBound, bound_in, bounded_as, factor, form_size, greater, if_bounded, is_bounded, node_bound, operation_bound, product_from, short_bound, sum_from}
+use Rattle.term_bounds.specs.machinery.Word.{kept, told}
 use Rattle.term_bounds.proofs.SizeLemmas.{narrow_by_size, narrow_sides, size_difference, size_scaled, size_sum, sizes}
 use Rattle.term_widths.proofs.SeekLemmas.{seek_by_node}
 
@@ -325,6 +327,14 @@ module _ (constant : ℕ → Option ℤ) (nodes : List Node) (known : List (Opti
             seek_by_node constant naming nodes id node false is below
             (none_among (first_where (has_wide_sides constant naming nodes) nodes) (text_parts node) (clear_parts naming (text_parts node) fits.have)) (sym (fits.sides naming));
       }
+
+-- what is kept was found
+pub kept_is : (bound : Option ℕ) (b : ℕ) → kept bound ≡ Some b → bound ≡ Some b
+kept_is None b is = is
+kept_is (Some n) b is = by (n + 1 == 2 ^ 64) is where
+  by : (t : Bool) → cond t None (Some n) ≡ Some b → Some n ≡ Some b
+  by true has = absurd (none-some _ has)
+  by false has = has
 
 -- one more bound is kept
 pub bounds_more : (constant : ℕ → Option ℤ) (nodes : List Node) (known more : List (Option ℕ)) (i : ℕ) (bound : Option ℕ) → length known ≡ i → AreBounds constant nodes known

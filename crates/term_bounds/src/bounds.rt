@@ -4,16 +4,17 @@ ghost use Rattle.std.specs.Prelude.{◌≡◌, ◌+◌, ◌*◌};
 ghost use Rattle.term_tables.specs.machinery.Table.{constant_in};
 ghost use Rattle.term_bounds.specs.machinery.Room.{bound_in, bounded_as, factor, greater, if_bounded, node_bound, operation_bound, product_from, short_bound, sum_from};
 
+use crate::kept::Kept;
 use term_tables::ConstantTable;
 use term_tree::{Node, OpKind, TermId};
 
 /// What is kept of the term of that number; nothing of one that isn't there.
-pub(crate) fn bound_in(known: &[Option<u64>], id: TermId) -> Option<u64>
+pub(crate) fn bound_in(known: &[Kept], id: TermId) -> Option<u64>
     ensures { result ≡ bound_in known.now id.0 }
 {
     let place = id.0 as usize;
     if place < known.len() {
-        known[place]
+        known[place].bound()
     } else {
         None
     }
@@ -36,7 +37,7 @@ fn added(n: u64, bound: Option<u64>) -> Option<u64>
 }
 
 /// The sum of the bounds of these terms, where it is short.
-fn sum(known: &[Option<u64>], ids: &[TermId]) -> Option<u64>
+fn sum(known: &[Kept], ids: &[TermId]) -> Option<u64>
     ensures { result ≡ sum_from (bound_in known.now) 0 ids.now }
 {
     let mut total = 0;
@@ -81,7 +82,7 @@ fn times(n: u64, bound: Option<u64>, constant: Option<i64>) -> Option<u64>
 }
 
 /// The product of what these factors are at most, where it is short.
-fn product(constants: &ConstantTable, known: &[Option<u64>], ids: &[TermId]) -> Option<u64>
+fn product(constants: &ConstantTable, known: &[Kept], ids: &[TermId]) -> Option<u64>
     ensures { result ≡ product_from (constant_in constants.now) (bound_in known.now) 1 ids.now }
 {
     let mut total = 1;
@@ -108,7 +109,7 @@ fn operation_bound(
     op: OpKind,
     args: &[TermId],
     constants: &ConstantTable,
-    known: &[Option<u64>],
+    known: &[Kept],
 ) -> Option<u64>
     ensures { result ≡ operation_bound (constant_in constants.now) (bound_in known.now) op args.now }
 {
@@ -124,7 +125,7 @@ fn operation_bound(
     }
 }
 
-fn let_bound(known: &[Option<u64>], named: &[TermId], body: TermId) -> Option<u64>
+fn let_bound(known: &[Kept], named: &[TermId], body: TermId) -> Option<u64>
     ensures { result ≡ if_bounded (sum_from (bound_in known.now) 0 named.now) (λ sum. bound_in known.now body.0) }
 {
     match sum(known, named) {
@@ -134,11 +135,7 @@ fn let_bound(known: &[Option<u64>], named: &[TermId], body: TermId) -> Option<u6
 }
 
 /// The bound of a node, where it and its parts have one below 2^63.
-pub(crate) fn node_bound(
-    node: &Node,
-    constants: &ConstantTable,
-    known: &[Option<u64>],
-) -> Option<u64>
+pub(crate) fn node_bound(node: &Node, constants: &ConstantTable, known: &[Kept]) -> Option<u64>
     ensures { result ≡ node_bound (constant_in constants.now) (bound_in known.now) node.now }
 {
     match node {

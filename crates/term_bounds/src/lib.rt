@@ -3,6 +3,7 @@
 #![tactic(auto)]
 
 mod bounds;
+mod kept;
 mod room_table;
 
 pub use room_table::RoomTable;

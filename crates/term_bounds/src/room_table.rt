@@ -3,6 +3,7 @@ ghost use Rattle.term_tables.specs.machinery.Table.{constant_in};
 ghost use Rattle.term_bounds.specs.machinery.Room.{AreBounds, bound_in, is_bounded};
 
 use crate::bounds::{bound_in, node_bound};
+use crate::kept::Kept;
 use base::Memory;
 use std::alloc::Global;
 use std::marker::Model;
@@ -15,7 +16,7 @@ use term_tree::{TermId, Terms};
 /// once, from the bounds of each term's parts.
 #[derive(Debug, Drop)]
 pub struct RoomTable {
-    bounds: Vec<Option<u64>>,
+    bounds: Vec<Kept>,
 }
 
 impl Model for RoomTable {
@@ -37,7 +38,7 @@ impl RoomTable {
                 return Ok(RoomTable { bounds });
             };
             let bound = node_bound(terms.node(TermId(number)), constants, bounds.as_slice());
-            bounds.push(bound)?;
+            bounds.push(Kept::new(bound))?;
         }
         Ok(RoomTable { bounds })
     }

@@ -34,7 +34,7 @@ fn turned_term(alloc: Global, v: u32) -> Result<Vec<(u32, i64)>, Memory>
 }
 
 /// A constant less the variable.
-fn constant_less(alloc: Global, v: u32, constant: i64) -> Result<Lin, Memory>
+pub(crate) fn constant_less(alloc: Global, v: u32, constant: i64) -> Result<Lin, Memory>
     ensures { IfOk result (λ lin. lin ≡ record { terms = (v, negsuc 0) ∷ []; constant = constant }) }
 {
     let terms = turned_term(alloc, v)?;

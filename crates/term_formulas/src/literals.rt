@@ -62,10 +62,7 @@ pub(crate) fn one_minus(alloc: Global, lin: &Lin) -> Result<Lin, Memory>
 fn two(alloc: Global, a: Form, b: Form) -> Result<Items<Form>, Memory>
     ensures { IfOk result (λ parts. parts ≡ a ∷ b ∷ []) }
 {
-    let mut parts = Items::from_vec(Vec::with_capacity(alloc, 2)?);
-    parts.push(a)?;
-    parts.push(b)?;
-    Ok(parts)
+    Ok(Items::from_vec(Vec::from_array(alloc, [a, b])?))
 }
 
 pub(crate) fn both(alloc: Global, a: Form, b: Form) -> Result<Form, Memory>
@@ -83,10 +80,7 @@ pub(crate) fn either(alloc: Global, a: Form, b: Form) -> Result<Form, Memory>
 pub(crate) fn all_three(alloc: Global, a: Form, b: Form, c: Form) -> Result<Form, Memory>
     ensures { IfOk result (λ form. form ≡ And (a ∷ b ∷ c ∷ [])) }
 {
-    let mut parts = Items::from_vec(Vec::with_capacity(alloc, 3)?);
-    parts.push(a)?;
-    parts.push(b)?;
-    parts.push(c)?;
+    let parts = Items::from_vec(Vec::from_array(alloc, [a, b, c])?);
     Ok(Form::And(parts))
 }
 

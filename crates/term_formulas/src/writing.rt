@@ -13,14 +13,14 @@ ghost use Rattle.term_widths.specs.machinery.Seen.{IsNarrowTerm};
 ghost use Rattle.term_formulas.specs.Written.{HasRoom, formula_by, naming_by, reading_by};
 ghost use Rattle.term_formulas.specs.machinery.Parts.{ComparesWithRoom, HaveRoom, each};
 
-use crate::bits::{bit_of, bits_of, sum_of_bits};
-use crate::literals::{both, either, is_one, joined, le, odd, one_minus, truth};
+use crate::bits::{bit_is_one, bit_of, bits_of, sum_of_bits, variable_is_one};
+use crate::literals::{both, either, joined, le, odd, one_minus, truth};
 use crate::relations::{compared_bits, compared_numbers, compared_two};
 use base::{Items, Memory};
 use lin_atoms::{Divisor, Form, Lin, Lit};
 use std::alloc::Global;
 use std::collections::BTreeMap;
-use term_forms::{Names, name_of, variable_form};
+use term_forms::{Names, name_of};
 use term_tables::{ConstantTable, SortTable};
 use term_tree::{Node, OpKind, Sort, TermId, Terms};
 use term_widths::{narrow_form, narrow_forms};
@@ -62,23 +62,7 @@ fn divisible(by: i64, lin: Lin, sign: bool) -> Form
 fn of_variable(alloc: Global, names: &Names, binder: u32, sign: bool) -> Result<Form, Memory>
     ensures { IfOk result (λ form. form ≡ is_one sign (variable_form ((naming_by names.now).own binder))) }
 {
-    let form = variable_form(alloc, name_of(names, binder))?;
-    is_one(alloc, sign, form)
-}
-
-/// The bit of the term that a name is bound to is 1, or 0.
-fn of_name(
-    alloc: Global,
-    terms: &Terms,
-    names: &Names,
-    bound: TermId,
-    sign: bool,
-) -> Result<Form, Memory>
-    requires { bound.0 < length terms.now.nodes }
-    ensures { IfOk result (λ form. form ≡ is_one sign (bit_of (naming_by names.now) terms.now.nodes bound.0)) }
-{
-    let bit = bit_of(alloc, terms, names, bound)?;
-    is_one(alloc, sign, bit)
+    variable_is_one(alloc, name_of(names, binder), sign)
 }
 
 /// The number divides the term of that number, or doesn't.
@@ -153,7 +137,7 @@ fn of_node(
         Node::True => Ok(truth(sign)),
         Node::False => Ok(truth(!sign)),
         Node::Var { binder, .. } => of_variable(alloc, names, *binder, sign),
-        Node::LetVar { bound } => of_name(alloc, terms, names, *bound, sign),
+        Node::LetVar { bound } => bit_is_one(alloc, terms, names, *bound, sign),
         Node::Op { op, args } => operation(
             alloc,
             terms,

@@ -15,7 +15,7 @@ use Rattle.term_tree.specs.Operators.{difference_of, first_of_all, integer, on_t
 use Rattle.term_tree.specs.Subterms.{EverySubterm, IsSubterm, inside, is_among, is_part}
 use Rattle.term_tree.specs.Width.{prefix_results}
 use Rattle.term_tree.proofs.Public.{arena_below, both_true, constant_at, eqb_self, part_below, there_is}
-use Rattle.term_tables.specs.machinery.Table.{short_integer, product_from, short_constant, short_constant_of, short_kept, short_operation, short_product}
+use Rattle.term_tables.specs.machinery.Table.{short_applied, short_integer, product_from, short_constant, short_constant_of, short_kept, short_operation, short_product}
 use Rattle.term_tables.proofs.TableLemmas.{short_at}
 
 short_is : (n : ℤ) → is_short n ≡ true → short_integer n ≡ Some n
@@ -169,3 +169,44 @@ constants_are nodes top arena short (suc n) id h sub within =
     ∙ node_is (constant_of nodes) (short_constant_of nodes) node
     (λ part has. let less : part < id = part_below part id node below has in constants_are nodes top arena short n part (omega arith) (inside part node sub is has) (omega arith)) (short id node sub is)
     ∙ sym (constant_at nodes id node is below)
+
+-- what is short is kept as it is
+
+again_integer : (n : ℤ) (b : Bool) → is_short n ≡ b → short_kept (if b then Some n else None) ≡ (if b then Some n else None)
+again_integer n true e = short_is n e
+again_integer n false e = refl
+
+again_short : (n : ℤ) → short_kept (short_integer n) ≡ short_integer n
+again_short n = again_integer n (is_short n) refl
+
+again_kept : (o : Option ℤ) → short_kept (short_kept o) ≡ short_kept o
+again_kept None = refl
+again_kept (Some n) = again_short n
+
+product_by : (a : ℤ) (ns : List ℤ) (b : Bool) → is_short a ≡ b → (is_short a ≡ true → short_kept (product_from a ns) ≡ product_from a ns) → short_kept (if b then product_from a ns else None) ≡ (if b then product_from a ns else None)
+product_by a ns true short rest = rest short
+product_by a ns false wide rest = refl
+
+again_product : (a : ℤ) (ns : List ℤ) → is_short a ≡ true → short_kept (product_from a ns) ≡ product_from a ns
+again_product a [] e = short_is a e
+again_product a (n ∷ ns) e = product_by (a *ℤ n) ns (is_short (a *ℤ n)) refl (λ short. again_product (a *ℤ n) ns short)
+
+again_applied : (op : OpKind) (ns : List ℤ) → short_kept (short_applied op ns) ≡ short_applied op ns
+again_applied Add ns = again_short (sum_of ns)
+again_applied Mul ns = again_product (pos 1) ns refl
+again_applied Sub ns = again_short (difference_of ns)
+again_applied Abs ns = again_short (pos (nat_abs (first_of_all ns)))
+again_applied Div ns = again_short (on_two int_div_euclid ns)
+again_applied Mod ns = again_short (on_two int_rem_euclid ns)
+again_applied _ ns = refl
+
+again_operation : (op : OpKind) (o : Option (List ℤ)) → short_kept (short_operation op o) ≡ short_operation op o
+again_operation op None = refl
+again_operation op (Some ns) = again_applied op ns
+
+pub again_constant : (part : ℕ → Option ℤ) (node : Node) → short_kept (short_constant part node) ≡ short_constant part node
+again_constant part (Num n) = again_short n
+again_constant part (LetVar bound) = again_kept (part bound.0)
+again_constant part (Op op args) = again_operation op (all_constant (map (λ (arg : TermId). part arg.0) args))
+again_constant part (Let bound body) = again_kept (part body.0)
+again_constant part _ = refl

@@ -2,6 +2,7 @@ ghost use Rattle.std.specs.Prelude.{◌≡◌, IfOk, ◌<◌, ◌^◌};
 ghost use Rattle.term_tables.specs.machinery.Table.{constant_in, AreConstants};
 
 use crate::constants::{constant_in, node_constant};
+use crate::kept::Kept;
 use base::Memory;
 use std::alloc::Global;
 use std::marker::Model;
@@ -11,7 +12,7 @@ use term_tree::{TermId, Terms};
 /// magnitude. It is found once, from the values of each term's parts.
 #[derive(Debug, Drop)]
 pub struct ConstantTable {
-    constants: Vec<Option<i64>>,
+    constants: Vec<Kept>,
 }
 
 impl Model for ConstantTable {
@@ -39,7 +40,7 @@ impl ConstantTable {
                 constants.as_slice(),
                 &mut given,
             )?;
-            constants.push(constant)?;
+            constants.push(Kept::new(constant))?;
         }
         Ok(ConstantTable { constants })
     }

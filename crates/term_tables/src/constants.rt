@@ -7,17 +7,18 @@ ghost use Rattle.term_tree.specs.Constants.{all_constant, is_arithmetic};
 ghost use Rattle.term_tree.specs.Operators.{difference_of, on_two, first_of_all, sum_of};
 ghost use Rattle.term_tables.specs.machinery.Table.{constant_in, short_integer, short_applied, short_constant, short_kept, short_operation, short_product, signed_sum};
 
+use crate::kept::Kept;
 use base::Memory;
 use std::alloc::Global;
 use term_tree::{Node, OpKind, TermId};
 
 /// What is known of the term of that number; nothing of one that isn't there.
-pub(crate) fn constant_in(known: &[Option<i64>], id: TermId) -> Option<i64>
+pub(crate) fn constant_in(known: &[Kept], id: TermId) -> Option<i64>
     ensures { result ≡ constant_in known.now id.0 }
 {
     let place = id.0 as usize;
     if place < known.len() {
-        known[place]
+        known[place].constant()
     } else {
         None
     }
@@ -25,7 +26,7 @@ pub(crate) fn constant_in(known: &[Option<i64>], id: TermId) -> Option<i64>
 
 /// Puts what is known of these terms into a list, in place of what is in it.
 fn constants_of(
-    known: &[Option<i64>],
+    known: &[Kept],
     ids: &[TermId],
     constants: &mut Vec<Option<i64>>,
 ) -> Result<(), Memory>
@@ -53,7 +54,7 @@ fn all_constant(alloc: Global, given: &[Option<i64>]) -> Result<Option<Vec<i64>>
 }
 
 /// The number with 64 bits, where it is below 2^63 in magnitude.
-fn if_short(n: i128) -> Option<i64>
+pub(crate) fn if_short(n: i128) -> Option<i64>
     ensures { result ≡ short_integer n }
 {
     if n.unsigned_abs() < 1 << 63 {
@@ -209,7 +210,7 @@ fn short_operation(
     alloc: Global,
     op: OpKind,
     args: &[TermId],
-    known: &[Option<i64>],
+    known: &[Kept],
     given: &mut Vec<Option<i64>>,
 ) -> Result<Option<i64>, Memory>
     ensures { IfOk result (λ constant. constant ≡ short_operation op (all_constant (map (λ arg. constant_in known.now arg.0) args.now))) }
@@ -229,7 +230,7 @@ fn short_operation(
 pub(crate) fn node_constant(
     alloc: Global,
     node: &Node,
-    known: &[Option<i64>],
+    known: &[Kept],
     given: &mut Vec<Option<i64>>,
 ) -> Result<Option<i64>, Memory>
     ensures { IfOk result (λ constant. constant ≡ short_constant (constant_in known.now) node.now) }

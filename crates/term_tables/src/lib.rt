@@ -4,6 +4,7 @@
 
 mod constant_table;
 mod constants;
+mod kept;
 mod laws;
 mod sort_table;
 mod sorts;

@@ -1,9 +1,8 @@
-use Rattle.std.proofs.Common.{◌≡◌, ◌<◌, true, ap, sym, ◌∙◌, subst, arith}
-use Rattle.std.specs.Prelude.{IfOk, Some, None}
+use Rattle.std.proofs.Common.{◌≡◌, ◌<◌, true, ap, sym, ◌∙◌, arith}
+use Rattle.std.specs.Prelude.{Some, None}
 use Rattle.term_tree.specs.declared.node.Node.TheVariants.{LetVar}
 use Rattle.term_tree.specs.Arena.{has_parts_below}
 use Rattle.term_tree.proofs.Public.{below_from}
-use Rattle.lin_atoms.specs.Linear.{Linear}
 use Rattle.linear_terms.specs.Linear.{bare_bit, told_bit, variable_form}
 use Rattle.term_formulas.specs.Written.{naming_by}
 use Rattle.term_formulas.proofs.BitLemmas.{bare_zero, bit_bare, bit_named}
@@ -14,17 +13,14 @@ returns-in-Some c =
     let naming = naming_by c.args.names.now in
     let nodes = c.args.terms.now.nodes in
     let named : naming.auxiliary c.loop-variable.at.0 ≡ Some c.in-Some.variable = sym c.auxiliary_of.ensures ∙ c.in-Some.is in
-    subst (λ (f : Linear). IfOk c.variable_form.result (λ form. form ≡ f))
-    (sym (bit_named naming nodes c.loop-variable.at.0 c.in-Some.variable c.node-node.result.now c.node-node.ensures.is c.node-node.ensures.below named) ∙ c.loop-variable.invariant.same)
-    c.variable_form.ensures
+    sym (bit_named naming nodes c.loop-variable.at.0 c.in-Some.variable c.node-node.result.now c.node-node.ensures.is c.node-node.ensures.below named) ∙ c.loop-variable.invariant.same
 
 pub returns-in-True : goal.returns-in-True
 returns-in-True c =
     let naming = naming_by c.args.names.now in
     let nodes = c.args.terms.now.nodes in
     let none : naming.auxiliary c.loop-variable.at.0 ≡ None = sym c.auxiliary_of.ensures ∙ c.in_default.is in
-    c.of_constant.ensures
-    ∙ sym (bit_bare naming nodes c.loop-variable.at.0 c.node-node.result.now c.node-node.ensures.is c.node-node.ensures.below none ∙ ap (bare_bit naming (told_bit naming nodes)) c.in-True.is)
+    sym (bit_bare naming nodes c.loop-variable.at.0 c.node-node.result.now c.node-node.ensures.is c.node-node.ensures.below none ∙ ap (bare_bit naming (told_bit naming nodes)) c.in-True.is)
     ∙ c.loop-variable.invariant.same
 
 pub returns-in-Var : goal.returns-in-Var
@@ -32,11 +28,9 @@ returns-in-Var c =
     let naming = naming_by c.args.names.now in
     let nodes = c.args.terms.now.nodes in
     let none : naming.auxiliary c.loop-variable.at.0 ≡ None = sym c.auxiliary_of.ensures ∙ c.in_default.is in
-    subst (λ (f : Linear). IfOk c.variable_form-in-Var.result (λ form. form ≡ f))
-    (ap variable_form c.name_of.ensures
+    ap variable_form c.name_of.ensures
     ∙ sym (bit_bare naming nodes c.loop-variable.at.0 c.node-node.result.now c.node-node.ensures.is c.node-node.ensures.below none ∙ ap (bare_bit naming (told_bit naming nodes)) c.in-Var.is)
-    ∙ c.loop-variable.invariant.same)
-    c.variable_form-in-Var.ensures
+    ∙ c.loop-variable.invariant.same
 
 pub loop-variable-preserved : goal.loop-variable-preserved
 loop-variable-preserved c =
@@ -58,7 +52,6 @@ returns-in_default-node c =
     let naming = naming_by c.args.names.now in
     let nodes = c.args.terms.now.nodes in
     let none : naming.auxiliary c.loop-variable.at.0 ≡ None = sym c.auxiliary_of.ensures ∙ c.in_default.is in
-    c.of_constant-in_default-node.ensures
-    ∙ sym (bit_bare naming nodes c.loop-variable.at.0 c.node-node.result.now c.node-node.ensures.is c.node-node.ensures.below none
+    sym (bit_bare naming nodes c.loop-variable.at.0 c.node-node.result.now c.node-node.ensures.is c.node-node.ensures.below none
     ∙ bare_zero naming (told_bit naming nodes) c.node-node.result.now c.in_default-node.not-True c.in_default-node.not-Var c.in_default-node.not-LetVar)
     ∙ c.loop-variable.invariant.same

@@ -24,8 +24,8 @@ formula-returns-clause-is t c =
     ∙ sym (formula_at (reading_by (constant_in c.args.constants.now) (sort_in c.args.sorts.now) (naming_by c.args.names.now) c.args.terms.now.nodes) (naming_by c.args.names.now)
     c.args.terms.now.nodes c.args.id.0 c.args.sign c.node-node.result.now c.node-node.ensures.is c.node-node.ensures.below)
 
-pub of_node-of_name-requires : goal.of_node-of_name-requires
-of_node-of_name-requires t c =
+pub of_node-bit_is_one-requires : goal.of_node-bit_is_one-requires
+of_node-bit_is_one-requires t c =
     let is : slice_get c.args.terms.now.nodes c.args.id.0 ≡ Some (LetVar c.in-LetVar.bound) = c.requires.node ∙ ap (λ (n : Node). Some n) c.in-LetVar.is in
     (room_part (constant_in c.args.constants.now) (naming_by c.args.names.now) c.args.terms.now.nodes c.args.id.0 c.in-LetVar.bound.0 (LetVar c.in-LetVar.bound) c.is_arena.ensures.arena c.requires.room is
     (eqb_self c.in-LetVar.bound.0)).there
