@@ -68,6 +68,52 @@ fn a_difference_takes_the_later_forms_away(rt: HostRuntime) -> Result<(), Fail> 
     Ok(())
 }
 
+/// A form of these terms.
+fn of_terms(rt: &impl Abort, alloc: Global, terms: &[(u32, i64)], constant: i128) -> Lin {
+    let terms = Vec::from_slice(alloc, terms).expect(rt, "memory");
+    Lin::new(terms, constant).expect(rt, "a form")
+}
+
+#[test]
+fn a_difference_has_the_terms_of_both_forms_in_order(rt: HostRuntime) {
+    let alloc = rt.alloc();
+    let rows: [(&[(u32, i64)], &[(u32, i64)], &[(u32, i64)]); 6] = [
+        (&[(1, 5), (4, 2)], &[(2, 3)], &[(1, 5), (2, -3), (4, 2)]),
+        (&[(2, 3)], &[(1, 5), (4, -2)], &[(1, -5), (2, 3), (4, 2)]),
+        (&[(1, 5), (2, 3)], &[(1, 5), (2, 2)], &[(2, 1)]),
+        (&[], &[(7, 1), (9, -1)], &[(7, -1), (9, 1)]),
+        (&[(7, 1), (9, -1)], &[], &[(7, 1), (9, -1)]),
+        (&[(3, MOST)], &[(3, MOST)], &[]),
+    ];
+    for (ours, theirs, rest) in rows {
+        let (a, b) = (
+            of_terms(&rt, alloc, ours, 4),
+            of_terms(&rt, alloc, theirs, 9),
+        );
+        let awaited = Some(of_terms(&rt, alloc, rest, -5));
+        assert!(rt; is_form(less(alloc, &a, &b), &awaited), "in order");
+    }
+}
+
+#[test]
+fn a_difference_is_refused_where_a_number_of_it_is_wide(rt: HostRuntime) {
+    let alloc = rt.alloc();
+    let (most, least) = (form(&rt, alloc, MOST, 0), form(&rt, alloc, -1, 0));
+    assert!(rt;
+        is_form(less(alloc, &most, &least), &None),
+        "2^63 times a variable"
+    );
+    assert!(rt;
+        is_form(less(alloc, &least, &most), &None),
+        "and -2^63 times it"
+    );
+    let (high, low) = (form(&rt, alloc, 1, MOST.into()), form(&rt, alloc, 1, -1));
+    assert!(rt;
+        is_form(less(alloc, &high, &low), &None),
+        "a constant of 2^63"
+    );
+}
+
 #[test]
 fn a_product_is_a_multiple_of_the_factor_that_varies(rt: HostRuntime) -> Result<(), Fail> {
     let alloc = rt.alloc();

@@ -28,7 +28,7 @@ use Rattle.term_forms.proofs.FoundLemmas.{first_at}
 use Rattle.term_widths.specs.Sides.{is_wide_pair}
 use Rattle.term_widths.specs.Wide.{first_wide_by, has_wide_sides}
 use Rattle.term_bounds.specs.machinery.Room.{AreBounds, IsBound, bound_in, bounded_as, factor, form_size, greater, if_bounded, is_bounded, node_bound, operation_bound, product_from, short_bound, sum_from}
-use Rattle.term_bounds.specs.machinery.Word.{kept, told}
+use Rattle.term_bounds.specs.machinery.Word.{kept}
 use Rattle.term_bounds.proofs.SizeLemmas.{narrow_by_size, narrow_sides, size_difference, size_scaled, size_sum, sizes}
 use Rattle.term_widths.proofs.SeekLemmas.{seek_by_node}
 

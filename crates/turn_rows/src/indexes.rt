@@ -45,6 +45,15 @@ fn inner(rt: &impl Abort, alloc: Global) -> Form {
     Form::And(Items::from_vec(Vec::from_array(alloc, parts).expect(rt, "memory")))
 }
 
+/// At most 1, and then, each time as the second part of the conjunction before, at most 2, at most 3,
+/// and either at most 5 and at most 6, or at most 7, among what `inner` has, and at last true.
+fn nested(rt: &impl Abort, alloc: Global) -> Form {
+    let third = Form::And(pair(rt, alloc, lit(rt, alloc, 3), inner(rt, alloc)));
+    let second = Form::And(pair(rt, alloc, lit(rt, alloc, 2), third));
+    let parts = [lit(rt, alloc, 1), second, Form::True];
+    Form::And(Items::from_vec(Vec::from_array(alloc, parts).expect(rt, "memory")))
+}
+
 fn clause(rt: &impl Abort, alloc: Global, guard: Form, head: Option<u32>) -> Clause {
     let head = match head {
         Some(pred) => Some(Atom {
@@ -64,7 +73,7 @@ fn clause(rt: &impl Abort, alloc: Global, guard: Form, head: Option<u32>) -> Cla
 }
 
 /// Two predicates over an integer, of which the first is the head of the first and the fourth clause, and
-/// the second that of the third; two clauses have none.
+/// the second that of the third and the sixth; two clauses have none.
 fn system(rt: &impl Abort, alloc: Global) -> System {
     let clauses = [
         clause(rt, alloc, guard(rt, alloc, inner(rt, alloc)), Some(0)),
@@ -72,6 +81,7 @@ fn system(rt: &impl Abort, alloc: Global) -> System {
         clause(rt, alloc, lit(rt, alloc, 8), Some(1)),
         clause(rt, alloc, Form::False, Some(0)),
         clause(rt, alloc, either(rt, alloc), None),
+        clause(rt, alloc, nested(rt, alloc), Some(1)),
     ];
     let clauses = Items::from_vec(Vec::from_array(alloc, clauses).expect(rt, "memory"));
     let int = Items::from_slice(alloc, &[Sort::Int]).expect(rt, "memory");
@@ -164,6 +174,30 @@ fn a_guard_that_is_no_conjunction_gives_itself(rt: HostRuntime) {
 }
 
 #[test]
+fn a_conjunction_in_a_conjunction_is_opened_however_deep_it_stands(rt: HostRuntime) {
+    let alloc = rt.alloc();
+    let rt = &rt;
+    let indexed = indexed(rt, alloc);
+    let guard = guard_at(rt, &indexed, 5);
+    let lits = [
+        at_most(rt, alloc, 1),
+        at_most(rt, alloc, 2),
+        at_most(rt, alloc, 3),
+        at_most(rt, alloc, 4),
+        Lit::Le(Lin::of_constant(alloc, 1)),
+    ];
+    assert!(rt;
+        are_lits(rt, &guard, lits.as_slice()),
+        "from outside inwards"
+    );
+    assert!(rt; guard.cases_len() == 1, "the disjunction of the innermost");
+    let [_, seven] = case_at(rt, &guard, 0) else {
+        panic!(rt; "two parts")
+    };
+    assert!(rt; seven.equals(&lit(rt, alloc, 7)), "its second part");
+}
+
+#[test]
 fn clauses_are_listed_by_their_heads_in_order(rt: HostRuntime) {
     let alloc = rt.alloc();
     let rt = &rt;
@@ -173,7 +207,7 @@ fn clauses_are_listed_by_their_heads_in_order(rt: HostRuntime) {
         [0, 3].as_slice(),
         "the first predicate"
     );
-    assert_eq!(rt; indexed.with_head(Some(1)), [2].as_slice(), "the second");
+    assert_eq!(rt; indexed.with_head(Some(1)), [2, 5].as_slice(), "the second");
     assert_eq!(rt;
         indexed.with_head(None),
         [1, 4].as_slice(),
