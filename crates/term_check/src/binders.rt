@@ -1,9 +1,12 @@
 //! The forms that bind names: `let`, `forall` and `exists`.
 
-ghost use Rattle.std.specs.Prelude.{◌≡◌, ◌<◌, [], length, nat_eq, IfOk};
+ghost use Rattle.std.specs.Prelude.{◌≡◌, ◌<◌, [], length, nat_eq, Some, None, if◌then◌else◌, IfOk};
 ghost use Rattle.std.specs.List.{list_all};
 ghost use Rattle.std.specs.Option.{option_copied};
-ghost use Rattle.term_check.specs.Spelling.{items_of, first_name, name_start, sort_in, sort_start, name_or_none, sort_or_bool, names_fault, binder_fault, repeated_fault, let_names_fault, sort_name_fault, variables_fault, sorts_bound};
+ghost use Rattle.term_tree.specs.declared.refusal.Kind.TheVariants.{Redeclared};
+ghost use Rattle.term_check.specs.Rules.{fault};
+ghost use Rattle.term_check.specs.Words.{is_word_among};
+ghost use Rattle.term_check.specs.Spelling.{items_of, first_name, name_start, sort_in, sort_start, name_or_none, sort_or_bool, names_fault, binder_fault, let_names_fault, sort_name_fault, variables_fault, sorts_bound};
 
 use crate::part::Fault;
 use crate::seen::Seen;
@@ -115,10 +118,11 @@ pub fn binder_fault(text: &[u8], binder: &Tree) -> Option<Fault>
     }
 }
 
-fn repeated_fault<'a>(text: &[u8], seen: &Seen<'a>, item: &Tree) -> Option<Fault>
-    ensures { result ≡ repeated_fault text.now seen.now item.now }
+/// The fault of an item whose name stands before.
+fn repeated_fault<'a>(seen: &Seen<'a>, name: &[u8], item: &Tree) -> Option<Fault>
+    ensures { result ≡ (if is_word_among seen.now name.now then Some (fault Redeclared (name_start item.now)) else None) }
 {
-    if seen.contains(name_bound(text, item)) {
+    if seen.contains(name) {
         Some(Fault {
             kind: Kind::Redeclared,
             offset: name_start(item),
@@ -134,10 +138,11 @@ pub fn let_names_fault(alloc: Global, text: &[u8], items: &[Tree]) -> Result<Opt
 {
     let mut seen = Seen::with_room(alloc, items.len())?;
     for item in items {
-        if let Some(fault) = repeated_fault(text, &seen, item) {
+        let name = name_bound(text, item);
+        if let Some(fault) = repeated_fault(&seen, name, item) {
             return Ok(Some(fault));
         }
-        seen.add(name_bound(text, item))?;
+        seen.add(name)?;
     }
     Ok(None)
 }
@@ -160,13 +165,14 @@ pub fn variables_fault(alloc: Global, text: &[u8], items: &[Tree]) -> Result<Opt
 {
     let mut seen = Seen::with_room(alloc, items.len())?;
     for item in items {
-        if let Some(fault) = repeated_fault(text, &seen, item) {
+        let name = name_bound(text, item);
+        if let Some(fault) = repeated_fault(&seen, name, item) {
             return Ok(Some(fault));
         }
         if let Some(fault) = sort_name_fault(text, item) {
             return Ok(Some(fault));
         }
-        seen.add(name_bound(text, item))?;
+        seen.add(name)?;
     }
     Ok(None)
 }

@@ -3,8 +3,15 @@
 ghost use Rattle.std.specs.Prelude.{◌≡◌};
 ghost use Rattle.std.specs.Str.{bytes_eq};
 
-/// Whether the bytes are the same. Names that differ mostly do so in their lengths or their last bytes,
-/// which are compared first.
+/// Whether each byte is the same.
+fn are_equal(a: &[u8], b: &[u8]) -> bool
+    ensures { result ≡ bytes_eq a.now b.now }
+{
+    a == b
+}
+
+/// Whether the bytes are the same. Names that differ mostly do so in their lengths, their last bytes or
+/// their first ones, which are compared before anything is called.
 pub(crate) fn are_same(a: &[u8], b: &[u8]) -> bool
     ensures { result ≡ bytes_eq a.now b.now }
 {
@@ -12,8 +19,11 @@ pub(crate) fn are_same(a: &[u8], b: &[u8]) -> bool
     if count != b.len() {
         return false;
     }
-    if count > 0 && a[count - 1] != b[count - 1] {
+    if count == 0 {
+        return true;
+    }
+    if a[count - 1] != b[count - 1] || a[0] != b[0] {
         return false;
     }
-    a == b
+    count <= 2 || are_equal(a, b)
 }

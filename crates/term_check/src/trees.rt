@@ -2,6 +2,7 @@
 
 ghost use Rattle.std.specs.Prelude.{◌≡◌};
 ghost use Rattle.std.specs.Option.{option_copied};
+ghost use Rattle.sexp_read.specs.Leaves.{word_bytes};
 ghost use Rattle.term_check.specs.Spelling.{is_symbol, is_word, name_of, sort_named, start_of};
 
 use crate::bytes::are_same;
@@ -29,16 +30,26 @@ pub fn is_symbol(text: &[u8], tree: &Tree, name: &[u8]) -> bool
     }
 }
 
+/// The bytes of a symbol without bars.
+pub fn word_bytes<'a>(text: &'a [u8], tree: &Tree) -> Option<&'a [u8]>
+    ensures { option_copied result ≡ word_bytes text.now tree.now }
+{
+    match tree {
+        Tree::Leaf { kind, .. } => match kind {
+            LeafKind::Symbol => symbol_bytes(text, tree),
+            _ => None,
+        },
+        Tree::List { .. } => None,
+    }
+}
+
 /// Whether the tree is a symbol of these bytes without bars.
 pub fn is_word(text: &[u8], tree: &Tree, name: &[u8]) -> bool
     ensures { result ≡ is_word text.now tree.now name.now }
 {
-    match tree {
-        Tree::Leaf { kind, .. } => match kind {
-            LeafKind::Symbol => is_symbol(text, tree, name),
-            _ => false,
-        },
-        Tree::List { .. } => false,
+    match word_bytes(text, tree) {
+        Some(bytes) => are_same(bytes, name),
+        None => false,
     }
 }
 
@@ -62,11 +73,9 @@ pub fn name_of<'a>(text: &'a [u8], tree: &Tree) -> Option<&'a [u8]>
 pub fn sort_named(text: &[u8], tree: &Tree) -> Option<Sort>
     ensures { result ≡ sort_named text.now tree.now }
 {
-    if is_symbol(text, tree, b"Int") {
-        Some(Sort::Int)
-    } else if is_symbol(text, tree, b"Bool") {
-        Some(Sort::Bool)
-    } else {
-        None
+    match symbol_bytes(text, tree) {
+        Some(name) if are_same(name, b"Int") => Some(Sort::Int),
+        Some(name) if are_same(name, b"Bool") => Some(Sort::Bool),
+        _ => None,
     }
 }
