@@ -12,11 +12,12 @@ ghost use Rattle.term_check.specs.Weight.{weight, weights};
 
 use crate::apply::{add_binding, add_quantifier, apply, read_leaf};
 use crate::binders::{binder_fault, items_of, let_names_fault, sorts_bound, variables_fault};
+use crate::bytes::are_same;
 use crate::context::Context;
 use crate::found::{Found, FoundAll, with_next};
 use crate::heads::{head_fault, head_of};
 use crate::stop::{TermStop, bad_form};
-use crate::trees::is_word;
+use crate::trees::word_bytes;
 use sexp_read::Tree;
 use term_tree::Terms;
 
@@ -60,15 +61,17 @@ fn read_list<'a>(
     match items {
         [] => Err(bad_form(start)),
         [head, rest @ ..] => {
-            let text = context.text();
-            if is_word(text, head, b"let") {
-                read_let(context, next, start, rest, terms)
-            } else if is_word(text, head, b"forall") {
-                read_quantifier(context, next, start, true, rest, terms)
-            } else if is_word(text, head, b"exists") {
-                read_quantifier(context, next, start, false, rest, terms)
-            } else {
-                read_application(context, next, start, head, rest, terms)
+            match word_bytes(context.text(), head) {
+                Some(word) if are_same(word, b"let") => {
+                    read_let(context, next, start, rest, terms)
+                }
+                Some(word) if are_same(word, b"forall") => {
+                    read_quantifier(context, next, start, true, rest, terms)
+                }
+                Some(word) if are_same(word, b"exists") => {
+                    read_quantifier(context, next, start, false, rest, terms)
+                }
+                _ => read_application(context, next, start, head, rest, terms),
             }
         }
     }
@@ -142,8 +145,9 @@ fn read_arguments<'a>(
     Ok(all)
 }
 
-/// Reads one more tree behind those that were read.
+/// Reads one more tree behind those that were read. What was read would else be moved through memory.
 #[cycle(term)]
+#[inline(always)]
 fn read_next<'a>(
     context: &mut Context<'a>,
     all: FoundAll,

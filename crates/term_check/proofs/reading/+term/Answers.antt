@@ -176,8 +176,8 @@ read_list-read_quantifier-requires t c =
       ready_then c.args.context.now c.args.terms.now c.args.terms.now c.args.next (weights c.args.items.now) c.args.next _ c.requires.ready (keeps_all c.args.terms.now) (omega (arith, all)) (omega (arith, all)),
     )
 
-pub read_list-read_quantifier-requires-then-is_word-3 : goal.read_list-read_quantifier-requires-then-is_word-3
-read_list-read_quantifier-requires-then-is_word-3 t c =
+pub read_list-read_quantifier-requires-in-Some-3 : goal.read_list-read_quantifier-requires-in-Some-3
+read_list-read_quantifier-requires-in-Some-3 t c =
     let all = ap weights (rest_of c.args.items.now c.head-item.result c.in-len1-up.len_at_least c.head-item.is) in
     let some = weighs c.head-item.result in (
       let d = c.decreases in omega (arith, d, all, some),
