@@ -3,7 +3,8 @@
 ghost use Rattle.std.specs.Prelude.{◌≡◌};
 ghost use Rattle.std.specs.Str.{bytes_eq};
 
-/// Whether each byte is the same.
+/// Whether each byte is the same. Comparing slices puts both on the stack first, so `are_same` leaves
+/// it to a function of its own.
 fn are_equal(a: &[u8], b: &[u8]) -> bool
     ensures { result ≡ bytes_eq a.now b.now }
 {
