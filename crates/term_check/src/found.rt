@@ -24,6 +24,8 @@ pub struct FoundAll {
 
 impl FoundAll {
     /// None yet, with room for `count` terms, a list for their parts, and the number of the next variable.
+    /// They would else be moved through memory.
+    #[inline(always)]
     pub fn with_room(
         alloc: Global,
         parts: Vec<Part>,

@@ -145,7 +145,7 @@ fn read_arguments<'a>(
     Ok(all)
 }
 
-/// Reads one more tree behind those that were read. What was read would else be moved through memory.
+/// Reads one more tree behind those that were read, which would else be moved through memory.
 #[cycle(term)]
 #[inline(always)]
 fn read_next<'a>(
