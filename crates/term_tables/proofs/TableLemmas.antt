@@ -1,6 +1,6 @@
 -- Tables of what is told of terms, filled from the first term on.
-use Rattle.std.proofs.Common.{◌≡◌, ℕ, ◌+◌, ◌<◌, ◌≤◌, ◌-◌, ◌==◌, List, [], ◌∷◌, ◌++◌, length, map, take, drop, get_or, append_assoc, length-drop, Bool, true, false, ◌&&◌, inl, inr, refl, ap, sym, ◌∙◌, arith}
-use Rattle.std.proofs.lemmas.List.{drop_all, drop_more, get_or_append_left, get_or_past, get_or_push, take_more}
+use Rattle.std.proofs.Common.{◌≡◌, ℕ, ◌+◌, ◌<◌, ◌≤◌, ◌-◌, ◌==◌, List, [], ◌∷◌, ◌++◌, length, map, drop, get_or, append_assoc, length-drop, Bool, true, false, ◌&&◌, inl, inr, refl, ap, sym, ◌∙◌, arith}
+use Rattle.std.proofs.lemmas.List.{drop_all, drop_more, get_or_append_left, get_or_past, get_or_push}
 use Rattle.std.proofs.lemmas.Bool.Decides.{nat_tests}
 use Rattle.std.proofs.lemmas.Bool.{cases_lt}
 use Rattle.std.specs.Prelude.{slice_get, slice_index_or, Option, Some, None, option_map, ℤ, nat_lt, if◌then◌else◌}
@@ -82,38 +82,24 @@ all_constants nodes known i long whole are id fits = elim (cases_lt id i) [
   | inr ge ↦ get_or_past known id None (omega arith) ∙ sym (told_past (Option ℤ) None short_constant nodes id (omega arith))
 ]
 
-map_on : (X Y : Type 0) (f : X → Y) (xs : List X) (x : X) → map f (xs ++ x ∷ []) ≡ map f xs ++ f x ∷ []
-map_on X Y f [] x = refl
-map_on X Y f (y ∷ xs) x = ap (λ (ys : List Y). f y ∷ ys) (map_on X Y f xs x)
-
--- what is looked up of one more term
-pub mapped_more : (X Y : Type 0) (f : X → Y) (xs : List X) (i : ℕ) (d : X) (made new : List Y) (y : Y) → i < length xs → made ≡ map f (take i xs) → y ≡ f (get_or xs i d) → new ≡ made ++ y ∷ []
-    → new ≡ map f (take (i + 1) xs)
-mapped_more X Y f xs i d made new y h is here pushed =
-    pushed ∙ ap (λ (ys : List Y). ys ++ y ∷ []) is ∙ ap (λ (z : Y). map f (take i xs) ++ z ∷ []) here
-    ∙ sym (ap (map f) (take_more xs i d h) ∙ map_on X Y f (take i xs) (get_or xs i d))
-
 -- the sorts of terms, one after the other
-sorts_on : (s : Sort) (sorts : List Sort) (t : Option Sort) (given : List (Option Sort)) → have_sorts (s ∷ sorts) (t ∷ given) ≡ (has_sort s t && have_sorts sorts given)
-sorts_on s sorts t given = refl
+pub sorts_at : (f : TermId → Option Sort) (sorts : List Sort) (ids : List TermId) (i : ℕ) (s : Sort) (d : TermId) → i < length sorts → i < length ids → (b : Bool) → has_sort (get_or sorts i s) (f (get_or ids i d)) ≡ b
+    → have_sorts (drop i sorts) (map f (drop i ids)) ≡ (b && have_sorts (drop (i + 1) sorts) (map f (drop (i + 1) ids)))
+sorts_at f sorts ids i s d h g b is =
+    ap (λ (xs : List Sort). have_sorts xs (map f (drop i ids))) (drop_more sorts i s h) ∙ ap (λ (ys : List TermId). have_sorts (get_or sorts i s ∷ drop (i + 1) sorts) (map f ys)) (drop_more ids i d g)
+    ∙ ap (λ (x : Bool). x && have_sorts (drop (i + 1) sorts) (map f (drop (i + 1) ids))) is
 
-pub sorts_at : (sorts : List Sort) (given : List (Option Sort)) (i : ℕ) (s : Sort) (t : Option Sort) → i < length sorts → i < length given → (b : Bool) → has_sort (get_or sorts i s) (get_or given i t) ≡ b
-    → have_sorts (drop i sorts) (drop i given) ≡ (b && have_sorts (drop (i + 1) sorts) (drop (i + 1) given))
-sorts_at sorts given i s t h g b is =
-    ap (λ (xs : List Sort). have_sorts xs (drop i given)) (drop_more sorts i s h) ∙ ap (λ (ys : List (Option Sort)). have_sorts (get_or sorts i s ∷ drop (i + 1) sorts) ys) (drop_more given i t g)
-    ∙ ap (λ (x : Bool). x && have_sorts (drop (i + 1) sorts) (drop (i + 1) given)) is
+pub sorts_short : (f : TermId → Option Sort) (sorts : List Sort) (ids : List TermId) (i : ℕ) (s : Sort) → i < length sorts → length ids ≤ i → have_sorts (drop i sorts) (map f (drop i ids)) ≡ false
+sorts_short f sorts ids i s h g =
+    ap (λ (xs : List Sort). have_sorts xs (map f (drop i ids))) (drop_more sorts i s h) ∙ ap (λ (ys : List TermId). have_sorts (get_or sorts i s ∷ drop (i + 1) sorts) (map f ys)) (drop_all i ids g)
 
-pub sorts_short : (sorts : List Sort) (given : List (Option Sort)) (i : ℕ) (s : Sort) → i < length sorts → length given ≤ i → have_sorts (drop i sorts) (drop i given) ≡ false
-sorts_short sorts given i s h g =
-    ap (λ (xs : List Sort). have_sorts xs (drop i given)) (drop_more sorts i s h) ∙ ap (λ (ys : List (Option Sort)). have_sorts (get_or sorts i s ∷ drop (i + 1) sorts) ys) (drop_all i given g)
+nothing_left : (f : TermId → Option Sort) (ids : List TermId) → have_sorts [] (map f ids) ≡ (length ids == 0)
+nothing_left f [] = refl
+nothing_left f (id ∷ ids) = sym (grind (arith, nat_tests))
 
-nothing_left : (given : List (Option Sort)) → have_sorts [] given ≡ (length given == 0)
-nothing_left [] = refl
-nothing_left (t ∷ given) = sym (grind (arith, nat_tests))
-
-pub sorts_end : (sorts : List Sort) (given : List (Option Sort)) (i : ℕ) → length sorts ≤ i → i ≤ length given → (b : Bool) → (length given == i) ≡ b → have_sorts (drop i sorts) (drop i given) ≡ b
-sorts_end sorts given i h g b is =
-    ap (λ (xs : List Sort). have_sorts xs (drop i given)) (drop_all i sorts h) ∙ nothing_left (drop i given) ∙ same_test (length (drop i given)) (length given) i (length-drop i given) g ∙ is
+pub sorts_end : (f : TermId → Option Sort) (sorts : List Sort) (ids : List TermId) (i : ℕ) → length sorts ≤ i → i ≤ length ids → (b : Bool) → (length ids == i) ≡ b → have_sorts (drop i sorts) (map f (drop i ids)) ≡ b
+sorts_end f sorts ids i h g b is =
+    ap (λ (xs : List Sort). have_sorts xs (map f (drop i ids))) (drop_all i sorts h) ∙ nothing_left f (drop i ids) ∙ same_test (length (drop i ids)) (length ids) i (length-drop i ids) g ∙ is
   where
     same_test : (m n k : ℕ) → m ≡ n - k → k ≤ n → (m == 0) ≡ (n == k)
     same_test m n k e h = grind (arith, nat_tests)
@@ -126,18 +112,19 @@ append_assoc_one : (made : List ℤ) (n : ℤ) (rest : Option (List ℤ)) → be
 append_assoc_one made n None = refl
 append_assoc_one made n (Some ns) = ap (λ (xs : List ℤ). Some xs) (sym (append_assoc made (n ∷ []) ns))
 
-pub constant_on : (made : List ℤ) (given : List (Option ℤ)) (i : ℕ) (d : Option ℤ) (n : ℤ) → i < length given → get_or given i d ≡ Some n
-    → behind made (all_constant (drop i given)) ≡ behind (made ++ n ∷ []) (all_constant (drop (i + 1) given))
-constant_on made given i d n h is =
-    ap (λ (xs : List (Option ℤ)). behind made (all_constant xs)) (drop_more given i d h) ∙ ap (λ (k : Option ℤ). behind made (all_constant (k ∷ drop (i + 1) given))) is
-    ∙ append_assoc_one made n (all_constant (drop (i + 1) given))
+pub constant_on : (f : TermId → Option ℤ) (made : List ℤ) (ids : List TermId) (i : ℕ) (d : TermId) (n : ℤ) → i < length ids → f (get_or ids i d) ≡ Some n
+    → behind made (all_constant (map f (drop i ids))) ≡ behind (made ++ n ∷ []) (all_constant (map f (drop (i + 1) ids)))
+constant_on f made ids i d n h is =
+    ap (λ (xs : List TermId). behind made (all_constant (map f xs))) (drop_more ids i d h) ∙ ap (λ (k : Option ℤ). behind made (all_constant (k ∷ map f (drop (i + 1) ids)))) is
+    ∙ append_assoc_one made n (all_constant (map f (drop (i + 1) ids)))
 
-pub constant_off : (made : List ℤ) (given : List (Option ℤ)) (i : ℕ) (d : Option ℤ) → i < length given → get_or given i d ≡ None → behind made (all_constant (drop i given)) ≡ None
-constant_off made given i d h is = ap (λ (xs : List (Option ℤ)). behind made (all_constant xs)) (drop_more given i d h) ∙ ap (λ (k : Option ℤ). behind made (all_constant (k ∷ drop (i + 1) given))) is
+pub constant_off : (f : TermId → Option ℤ) (made : List ℤ) (ids : List TermId) (i : ℕ) (d : TermId) → i < length ids → f (get_or ids i d) ≡ None → behind made (all_constant (map f (drop i ids))) ≡ None
+constant_off f made ids i d h is =
+    ap (λ (xs : List TermId). behind made (all_constant (map f xs))) (drop_more ids i d h) ∙ ap (λ (k : Option ℤ). behind made (all_constant (k ∷ map f (drop (i + 1) ids)))) is
 
 append_none : (xs : List ℤ) → xs ++ [] ≡ xs
 append_none [] = refl
 append_none (x ∷ xs) = ap (λ (ys : List ℤ). x ∷ ys) (append_none xs)
 
-pub constant_end : (made : List ℤ) (given : List (Option ℤ)) (i : ℕ) → length given ≤ i → behind made (all_constant (drop i given)) ≡ Some made
-constant_end made given i h = ap (λ (xs : List (Option ℤ)). behind made (all_constant xs)) (drop_all i given h) ∙ ap (λ (xs : List ℤ). Some xs) (append_none made)
+pub constant_end : (f : TermId → Option ℤ) (made : List ℤ) (ids : List TermId) (i : ℕ) → length ids ≤ i → behind made (all_constant (map f (drop i ids))) ≡ Some made
+constant_end f made ids i h = ap (λ (xs : List TermId). behind made (all_constant (map f xs))) (drop_all i ids h) ∙ ap (λ (xs : List ℤ). Some xs) (append_none made)

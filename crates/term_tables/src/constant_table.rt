@@ -35,7 +35,6 @@ impl ConstantTable {
                 return Ok(ConstantTable { constants });
             };
             let constant = node_constant(
-                alloc,
                 terms.node(TermId(number)),
                 constants.as_slice(),
                 &mut given,

@@ -1,6 +1,6 @@
 //! The value of a node that is a constant, over the values of its parts.
 
-ghost use Rattle.std.specs.Prelude.{◌≡◌, ◌<◌, ◌*ℤ◌, nat_abs, pos, map, option_map, IfOk, OnOk};
+ghost use Rattle.std.specs.Prelude.{◌≡◌, ◌<◌, ◌*ℤ◌, nat_abs, pos, map, IfOk, Some, None, if◌then◌else◌};
 ghost use Rattle.std.specs.Int.{int_div_euclid, int_rem_euclid};
 ghost use Rattle.base.specs.Widths.{long_limit};
 ghost use Rattle.term_tree.specs.Constants.{all_constant, is_arithmetic};
@@ -9,7 +9,6 @@ ghost use Rattle.term_tables.specs.machinery.Table.{constant_in, short_integer, 
 
 use crate::kept::Kept;
 use base::Memory;
-use std::alloc::Global;
 use term_tree::{Node, OpKind, TermId};
 
 /// What is known of the term of that number; nothing of one that isn't there.
@@ -24,33 +23,19 @@ pub(crate) fn constant_in(known: &[Kept], id: TermId) -> Option<i64>
     }
 }
 
-/// Puts what is known of these terms into a list, in place of what is in it.
-fn constants_of(
-    known: &[Kept],
-    ids: &[TermId],
-    constants: &mut Vec<Option<i64>>,
-) -> Result<(), Memory>
-    ensures { OnOk result (constants.new.items ≡ map (λ id. constant_in known.now id.0) ids.now) }
+/// Puts the values of these terms into a list, in place of what is in it, and answers whether all of
+/// them have one. The values behind one without aren't put there.
+fn put_constants(known: &[Kept], ids: &[TermId], constants: &mut Vec<i64>) -> Result<bool, Memory>
+    ensures { IfOk result (λ all. (if all then Some constants.new.items else None) ≡ all_constant (map (λ id. constant_in known.now id.0) ids.now)) }
 {
     constants.clear();
     for id in ids {
-        constants.push(constant_in(known, *id))?;
-    }
-    Ok(())
-}
-
-/// All of them, where each is constant.
-fn all_constant(alloc: Global, given: &[Option<i64>]) -> Result<Option<Vec<i64>>, Memory>
-    ensures { IfOk result (λ all. option_map (λ ns. ns.items) all ≡ all_constant given.now) }
-{
-    let mut constants = Vec::new(alloc);
-    for constant in given {
-        match constant {
-            Some(n) => constants.push(*n)?,
-            None => return Ok(None),
+        match constant_in(known, *id) {
+            Some(n) => constants.push(n)?,
+            None => return Ok(false),
         }
     }
-    Ok(Some(constants))
+    Ok(true)
 }
 
 /// The number with 64 bits, where it is below 2^63 in magnitude.
@@ -207,31 +192,28 @@ fn is_arithmetic(op: OpKind) -> bool
 
 /// What the operator gives for terms that are all constant.
 fn short_operation(
-    alloc: Global,
     op: OpKind,
     args: &[TermId],
     known: &[Kept],
-    given: &mut Vec<Option<i64>>,
+    constants: &mut Vec<i64>,
 ) -> Result<Option<i64>, Memory>
     ensures { IfOk result (λ constant. constant ≡ short_operation op (all_constant (map (λ arg. constant_in known.now arg.0) args.now))) }
 {
     if !is_arithmetic(op) {
         return Ok(None);
     }
-    constants_of(known, args, given)?;
-    match all_constant(alloc, given.as_slice())? {
-        None => Ok(None),
-        Some(constants) => Ok(short_applied(op, constants.as_slice())),
+    if !put_constants(known, args, constants)? {
+        return Ok(None);
     }
+    Ok(short_applied(op, constants.as_slice()))
 }
 
 /// The value of a node that is a constant, where it and the parts that it is made of are short. The
 /// list serves one node after the other.
 pub(crate) fn node_constant(
-    alloc: Global,
     node: &Node,
     known: &[Kept],
-    given: &mut Vec<Option<i64>>,
+    constants: &mut Vec<i64>,
 ) -> Result<Option<i64>, Memory>
     ensures { IfOk result (λ constant. constant ≡ short_constant (constant_in known.now) node.now) }
 {
@@ -239,7 +221,7 @@ pub(crate) fn node_constant(
         Node::Num(n) => if_short(i128::from(*n)),
         Node::LetVar { bound } => short_kept(constant_in(known, *bound)),
         Node::Let { body, .. } => short_kept(constant_in(known, *body)),
-        Node::Op { op, args } => short_operation(alloc, *op, args.as_slice(), known, given)?,
+        Node::Op { op, args } => short_operation(*op, args.as_slice(), known, constants)?,
         _ => None,
     };
     Ok(constant)

@@ -29,17 +29,11 @@ impl SortTable {
         ensures { IfOk result (λ table. AreSorts preds.now terms.now.nodes table) }
     {
         let mut sorts = Vec::with_capacity(alloc, terms.len())?;
-        let mut given = Vec::new(alloc);
         for i in 0..terms.len() {
             let Ok(number) = u32::try_from(i) else {
                 return Ok(SortTable { sorts });
             };
-            let sort = node_sort(
-                preds,
-                terms.node(TermId(number)),
-                sorts.as_slice(),
-                &mut given,
-            )?;
+            let sort = node_sort(preds, terms.node(TermId(number)), sorts.as_slice());
             sorts.push(sort)?;
         }
         Ok(SortTable { sorts })
