@@ -4,3 +4,4 @@ pub mod BitLemmas
 pub mod NarrowLemmas
 pub mod PairLemmas
 pub mod RoomLemmas
+pub mod TruthLemmas

@@ -1,12 +1,12 @@
 //! What determines an auxiliary variable, by the kind of its term and the linear forms of its parts.
 
 ghost use Rattle.std.specs.Prelude.{◌≡◌, ◌<◌, ◌-ℤ◌, [], ◌∷◌, pos, negsuc, nat_abs, IfOk, IsTrue};
-ghost use Rattle.lin_atoms.specs.declared.form.Form.TheViews.{And};
+ghost use Rattle.lin_atoms.specs.declared.form.Form.TheViews.{And, Or};
 ghost use Rattle.lin_atoms.specs.Algebra.{added, negated, plus, scaled};
 ghost use Rattle.lin_atoms.specs.Linear.{is_short};
 ghost use Rattle.linear_terms.specs.Linear.{is_narrow, less, variable_form};
 ghost use Rattle.linear_terms.specs.Formula.{eq, le, complement_of, one_more};
-ghost use Rattle.linear_terms.specs.Place.{abs_place, choice_place, quotient_place, remainder_place, truth_place};
+ghost use Rattle.linear_terms.specs.Place.{abs_place, quotient_place, remainder_place, truth_place};
 ghost use Rattle.term_formulas.specs.machinery.Parts.{IsApart};
 
 use crate::literals::{all_three, both, either, eq, le, narrow_constant, one_minus, one_more};
@@ -126,38 +126,31 @@ fn multiple(alloc: Global, n: i64, v: u32) -> Result<Lin, Memory>
     }
 }
 
-fn where_one(alloc: Global, bit: &Lin, v: u32, s: &Lin) -> Result<Form, Memory>
-    requires bit { IsTrue (is_narrow bit.now) }
-    requires apart { IsApart v s.now }
-    ensures { IfOk result (λ form. form ≡ And (le (complement_of bit.now) ∷ eq (less (variable_form v) s.now) ∷ [])) }
+fn where_one(alloc: Global, bit: &Lin, chosen: Lin) -> Result<Form, Memory>
+    requires { IsTrue (is_narrow bit.now) }
+    ensures { IfOk result (λ form. form ≡ And (le (complement_of bit.now) ∷ eq chosen ∷ [])) }
 {
-    let chosen = eq(variable_less(alloc, v, s)?);
-    both(alloc, le(one_minus(alloc, bit)?), chosen)
+    both(alloc, le(one_minus(alloc, bit)?), eq(chosen))
 }
 
-fn where_none(alloc: Global, bit: Lin, v: u32, r: &Lin) -> Result<Form, Memory>
-    requires apart { IsApart v r.now }
-    ensures { IfOk result (λ form. form ≡ And (le bit ∷ eq (less (variable_form v) r.now) ∷ [])) }
+fn where_none(alloc: Global, bit: Lin, other: Lin) -> Result<Form, Memory>
+    ensures { IfOk result (λ form. form ≡ And (le bit ∷ eq other ∷ [])) }
 {
-    let other = eq(variable_less(alloc, v, r)?);
-    both(alloc, le(bit), other)
+    both(alloc, le(bit), eq(other))
 }
 
-/// The one form where the bit is 1, the other where it is 0.
+/// The one difference is 0 where the bit is 1, the other where it is 0.
 pub(crate) fn choice_place(
     alloc: Global,
-    v: u32,
     bit: Lin,
-    s: &Lin,
-    r: &Lin,
+    chosen: Lin,
+    other: Lin,
 ) -> Result<Form, Memory>
-    requires bit { IsTrue (is_narrow bit) }
-    requires first { IsApart v s.now }
-    requires second { IsApart v r.now }
-    ensures { IfOk result (λ form. form ≡ choice_place (variable_form v) bit s.now r.now) }
+    requires { IsTrue (is_narrow bit) }
+    ensures { IfOk result (λ form. form ≡ Or (And (le (complement_of bit) ∷ eq chosen ∷ []) ∷ And (le bit ∷ eq other ∷ []) ∷ [])) }
 {
-    let one = where_one(alloc, &bit, v, s)?;
-    let none = where_none(alloc, bit, v, r)?;
+    let one = where_one(alloc, &bit, chosen)?;
+    let none = where_none(alloc, bit, other)?;
     either(alloc, one, none)
 }
 

@@ -7,6 +7,8 @@ mod kinds;
 mod literals;
 mod place;
 mod relations;
+mod sides;
+mod truths;
 mod writing;
 
 pub use literals::joined;

@@ -18,7 +18,10 @@ use crate::kinds::{
     abs_place, choice_place, quotient_place, remainder_place, truth_place, variable_less,
 };
 use crate::literals::eq;
-use crate::writing::{formula, is_truth};
+use crate::relations::Both;
+use crate::sides::less_leaf;
+use crate::truths::formulas;
+use crate::writing::is_truth;
 use base::{Items, Memory};
 use lin_atoms::{Form, Lin};
 use std::alloc::Global;
@@ -59,6 +62,32 @@ fn part_form(
     Ok(form)
 }
 
+/// The place's variable less a term that the place is made of.
+fn part_less(
+    alloc: Global,
+    terms: &Terms,
+    constants: &ConstantTable,
+    names: &Names,
+    known: &mut BTreeMap<u32, Lin>,
+    v: u32,
+    id: TermId,
+    part: TermId,
+) -> Result<Lin, Memory>
+    requires part { IsMadeOf terms.now.nodes id.0 part.0 }
+    requires room { HasRoom (constant_in constants.now) (naming_by names.now) terms.now.nodes id.0 }
+    requires fresh { IsFresh terms.now.nodes (naming_by names.now) v id.0 }
+    requires known { AreFound (constant_in constants.now) (naming_by names.now) terms.now.nodes known.old }
+    ensures is { IfOk result (λ d. d ≡ less (variable_form v) (form_by (constant_in constants.now) (naming_by names.now) terms.now.nodes part.0)) }
+    ensures known { OnOk result (AreFound (constant_in constants.now) (naming_by names.now) terms.now.nodes known.new) }
+{
+    terms.is_arena();
+    if let Some(d) = less_leaf(alloc, terms, names, v, part)? {
+        return Ok(d);
+    }
+    let form = part_form(alloc, terms, constants, names, known, v, id, part)?;
+    variable_less(alloc, v, &form)
+}
+
 /// A choice, by its condition and its two integer terms.
 fn choice_of(
     alloc: Global,
@@ -84,9 +113,9 @@ fn choice_of(
     ensures known { OnOk result (AreFound (constant_in constants.now) (naming_by names.now) terms.now.nodes known.new) }
 {
     let bit = bit_of(alloc, terms, names, c)?;
-    let chosen = part_form(alloc, terms, constants, names, known, v, id, s)?;
-    let other = part_form(alloc, terms, constants, names, known, v, id, r)?;
-    choice_place(alloc, v, bit, &chosen, &other)
+    let chosen = part_less(alloc, terms, constants, names, known, v, id, s)?;
+    let other = part_less(alloc, terms, constants, names, known, v, id, r)?;
+    choice_place(alloc, bit, chosen, other)
 }
 
 /// A choice between two integer terms.
@@ -383,8 +412,7 @@ pub fn place_form(
     if !is_truth(sorts, id) {
         return integer_place(alloc, terms, constants, names, known, v, id);
     }
-    let holds = formula(alloc, terms, sorts, constants, names, known, id, true)?;
-    let fails = formula(alloc, terms, sorts, constants, names, known, id, false)?;
+    let Both { holds, fails } = formulas(alloc, terms, sorts, constants, names, known, id)?;
     truth_place(alloc, v, holds, fails)
 }
 

@@ -1,18 +1,18 @@
 //! Relations of sides.
 
-ghost use Rattle.std.specs.Prelude.{◌≡◌, ◌++◌, [], ◌∷◌, map, not, IfOk, OnOk, IsTrue, false, if◌then◌else◌};
+ghost use Rattle.std.specs.Prelude.{◌≡◌, ◌++◌, [], ◌∷◌, map, not, IfOk, OnOk, IsTrue, false, true, if◌then◌else◌};
 ghost use Rattle.std.specs.List.{list_any};
 ghost use Rattle.term_tree.specs.declared.node.OpKind.TheVariants.{Ge, Gt, Le as AtMost, Lt};
 ghost use Rattle.term_tree.specs.Operators.{is_distinct};
 ghost use Rattle.lin_atoms.specs.Algebra.{added};
 ghost use Rattle.linear_terms.specs.Linear.{is_narrow, less};
-ghost use Rattle.linear_terms.specs.Formula.{joined, neighbours, pairs, related, same_bits, sides};
+ghost use Rattle.linear_terms.specs.Formula.{equal, joined, neighbours, pairs, related, same_bits, sides};
 ghost use Rattle.linear_terms.specs.Width.{is_relation};
 ghost use Rattle.term_widths.specs.Sides.{is_wide_pair};
 ghost use Rattle.term_formulas.specs.machinery.Parts.{AreBits, IsBit};
 
 use crate::literals::{eq, equal, joined, le, one_minus, one_more};
-use base::{Items, Memory};
+use base::{Copied, Items, Memory};
 use lin_atoms::{Form, Lin, WideStop};
 use linear_sums::less;
 use std::alloc::Global;
@@ -72,7 +72,12 @@ fn above(alloc: Global, sign: bool, d: Lin) -> Result<Form, Memory>
 }
 
 /// The relation of two sides with this difference, or its denial.
-fn by_difference(alloc: Global, op: OpKind, sign: bool, d: Lin) -> Result<Form, Memory>
+pub(crate) fn by_difference(
+    alloc: Global,
+    op: OpKind,
+    sign: bool,
+    d: Lin,
+) -> Result<Form, Memory>
     requires { IsTrue (is_narrow d) }
     ensures { IfOk result (λ form. form ≡ related op sign d) }
 {
@@ -84,6 +89,73 @@ fn by_difference(alloc: Global, op: OpKind, sign: bool, d: Lin) -> Result<Form, 
         OpKind::Ge => at_least(alloc, sign, d),
         OpKind::Gt => above(alloc, sign, d),
         _ => Ok(Form::False),
+    }
+}
+
+/// A formula, and its denial.
+pub(crate) struct Both {
+    pub(crate) holds: Form,
+    pub(crate) fails: Form,
+}
+
+/// A difference is 0, and isn't.
+fn equal_or_not(alloc: Global, d: Lin) -> Result<Both, Memory>
+    requires { IsTrue (is_narrow d) }
+    ensures holds { IfOk result (λ both. both.holds ≡ equal true d) }
+    ensures fails { IfOk result (λ both. both.fails ≡ equal false d) }
+{
+    let holds = eq(d.copy(alloc)?);
+    let fails = equal(alloc, false, d)?;
+    Ok(Both { holds, fails })
+}
+
+/// The relation of two sides with this difference, and its denial.
+pub(crate) fn both_by_difference(alloc: Global, op: OpKind, d: Lin) -> Result<Both, Memory>
+    requires { IsTrue (is_narrow d) }
+    ensures holds { IfOk result (λ both. both.holds ≡ related op true d) }
+    ensures fails { IfOk result (λ both. both.fails ≡ related op false d) }
+{
+    match op {
+        OpKind::Eq => equal_or_not(alloc, d),
+        OpKind::Distinct => {
+            let Both { holds, fails } = equal_or_not(alloc, d)?;
+            Ok(Both {
+                holds: fails,
+                fails: holds,
+            })
+        }
+        OpKind::Le => {
+            let fails = le(one_minus(alloc, &d)?);
+            Ok(Both {
+                holds: le(d),
+                fails,
+            })
+        }
+        OpKind::Lt => {
+            let fails = le(d.negated(alloc)?);
+            Ok(Both {
+                holds: le(one_more(d)),
+                fails,
+            })
+        }
+        OpKind::Ge => {
+            let holds = le(d.negated(alloc)?);
+            Ok(Both {
+                holds,
+                fails: le(one_more(d)),
+            })
+        }
+        OpKind::Gt => {
+            let holds = le(one_minus(alloc, &d)?);
+            Ok(Both {
+                holds,
+                fails: le(d),
+            })
+        }
+        _ => Ok(Both {
+            holds: Form::False,
+            fails: Form::False,
+        }),
     }
 }
 
@@ -148,20 +220,6 @@ fn related_neighbours(
         parts.push(related(alloc, op, sign, &forms[i - 1], &forms[i])?)?;
     }
     Ok(parts)
-}
-
-/// A relation of two integer terms with these forms, or its denial.
-pub(crate) fn compared_two(
-    alloc: Global,
-    op: OpKind,
-    sign: bool,
-    first: &Lin,
-    second: &Lin,
-) -> Result<Form, Memory>
-    requires { IsTrue (is_relation op) → list_any is_wide_pair (sides op (first.now ∷ second.now ∷ [])) ≡ false }
-    ensures { IfOk result (λ form. form ≡ joined sign (map (λ p. related op sign (less p.0 p.1)) (sides op (first.now ∷ second.now ∷ [])))) }
-{
-    related(alloc, op, sign, first, second)
 }
 
 /// A relation of integer terms with these forms, or its denial.

@@ -15,7 +15,8 @@ ghost use Rattle.term_formulas.specs.machinery.Parts.{ComparesWithRoom, HaveRoom
 
 use crate::bits::{bit_is_one, bit_of, bits_of, sum_of_bits, variable_is_one};
 use crate::literals::{both, either, joined, le, odd, one_minus, truth};
-use crate::relations::{compared_bits, compared_numbers, compared_two};
+use crate::relations::{compared_bits, compared_numbers};
+use crate::sides::of_sides;
 use base::{Items, Memory};
 use lin_atoms::{Divisor, Form, Lin, Lit};
 use std::alloc::Global;
@@ -34,7 +35,7 @@ pub(crate) fn is_truth(sorts: &SortTable, id: TermId) -> bool
     }
 }
 
-fn are_truths(sorts: &SortTable, ids: &[TermId]) -> bool
+pub(crate) fn are_truths(sorts: &SortTable, ids: &[TermId]) -> bool
     ensures { result ≡ are_truths (sort_in sorts.now) ids.now }
 {
     match ids {
@@ -227,9 +228,7 @@ fn comparison(
         let bits = bits_of(alloc, terms, names, args)?;
         compared_bits(alloc, op, sign, bits.as_slice())
     } else if let [a, b] = args {
-        let first = narrow_form(alloc, terms, constants, names, known, *a)?;
-        let second = narrow_form(alloc, terms, constants, names, known, *b)?;
-        compared_two(alloc, op, sign, &first, &second)
+        of_sides(alloc, terms, constants, names, known, op, *a, *b, sign)
     } else {
         let forms = narrow_forms(alloc, terms, constants, names, known, args)?;
         compared_numbers(alloc, op, sign, forms.as_slice())
