@@ -140,12 +140,7 @@ fn where_none(alloc: Global, bit: Lin, other: Lin) -> Result<Form, Memory>
 }
 
 /// The one difference is 0 where the bit is 1, the other where it is 0.
-pub(crate) fn choice_place(
-    alloc: Global,
-    bit: Lin,
-    chosen: Lin,
-    other: Lin,
-) -> Result<Form, Memory>
+pub(crate) fn choice_place(alloc: Global, bit: Lin, chosen: Lin, other: Lin) -> Result<Form, Memory>
     requires { IsTrue (is_narrow bit) }
     ensures { IfOk result (λ form. form ≡ Or (And (le (complement_of bit) ∷ eq chosen ∷ []) ∷ And (le bit ∷ eq other ∷ []) ∷ [])) }
 {

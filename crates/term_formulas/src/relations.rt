@@ -72,12 +72,7 @@ fn above(alloc: Global, sign: bool, d: Lin) -> Result<Form, Memory>
 }
 
 /// The relation of two sides with this difference, or its denial.
-pub(crate) fn by_difference(
-    alloc: Global,
-    op: OpKind,
-    sign: bool,
-    d: Lin,
-) -> Result<Form, Memory>
+pub(crate) fn by_difference(alloc: Global, op: OpKind, sign: bool, d: Lin) -> Result<Form, Memory>
     requires { IsTrue (is_narrow d) }
     ensures { IfOk result (λ form. form ≡ related op sign d) }
 {
