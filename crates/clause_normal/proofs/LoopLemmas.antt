@@ -1,6 +1,6 @@
 -- Steps of loops.
 use Rattle.std.proofs.Common.{◌≡◌, ℕ, ◌+◌, ◌<◌, List, [], ◌∷◌, ◌++◌, length, map, drop, take, get_or, true, refl, ap, sym, ◌∙◌, subst, append_assoc}
-use Rattle.std.proofs.lemmas.List.{drop_more}
+use Rattle.std.proofs.lemmas.List.{drop_more, map-append, take_more}
 use Rattle.std.specs.Prelude.{negsuc}
 use Rattle.std.specs.List.{AllByRecursion}
 use Rattle.term_tree.specs.declared.sort.Sort.{Sort}
@@ -9,7 +9,6 @@ use Rattle.lin_atoms.specs.Algebra.{negated, plus}
 use Rattle.lin_atoms.specs.declared.form.Form.{Form}
 use Rattle.linear_terms.specs.Linear.{variable_form}
 use Rattle.linear_terms.specs.Formula.{joined, le}
-use Rattle.term_tables.proofs.TableLemmas.{mapped_more}
 use Rattle.clause_normal.specs.Normal.{bits_from, conjunction}
 
 -- what holds of those to come
@@ -21,7 +20,7 @@ pub pushed : {X Y : Type 0} (f : X → Y) (xs : List X) (i : ℕ) (d : X) (befor
     → new ≡ before ++ map f (take (i + 1) xs)
 pushed {X} {Y} f xs i d before made new y h so_far is put =
     put ∙ ap (λ (ys : List Y). ys ++ y ∷ []) so_far ∙ append_assoc before (map f (take i xs)) (y ∷ [])
-    ∙ ap (λ (ys : List Y). before ++ ys) (mapped_more X Y f xs i d (map f (take i xs)) (map f (take i xs) ++ y ∷ []) y h refl is refl)
+    ∙ ap (λ (ys : List Y). before ++ ys) (ap (λ (z : Y). map f (take i xs) ++ z ∷ []) is ∙ sym (ap (map f) (take_more xs i d h) ∙ map-append f (take i xs) (get_or xs i d ∷ [])))
 
 -- the bits of one more variable
 pub integer_more : (out : List Form) (vars : List Sort) (v : ℕ) (d : Sort) (whole : List Form) → v < length vars → get_or vars v d ≡ Int → out ++ bits_from v (drop v vars) ≡ whole
