@@ -1,12 +1,14 @@
 //! Formulas over three variables from -2 to 2, tried at each of their 125 points.
 
+use crate::made::{divisor, form, lin, lit, pair};
 use base::{Copied, Items, Same};
 use lia_branch::{Decision, are_below, decide_all, have_short_constants};
 use lia_cases::{are_below as are_all_below, decide, have_short_multiples};
 use lia_jumps::decide_back;
 use lia_search::has_short_multiples;
-use lin_atoms::{Divisor, Form, Lin, Lit, holds};
+use lin_atoms::{Form, Lit, holds};
 use std::alloc::Global;
+use std::mem;
 use std::process::Abort;
 
 const VARIABLES: u32 = 3;
@@ -37,41 +39,23 @@ impl Numbers {
     }
 }
 
-fn add_term(rt: &impl Abort, terms: &mut Vec<(u32, i64)>, variable: u32, coefficient: i64) {
-    if coefficient != 0 {
-        terms.push((variable, coefficient)).expect(rt, "memory");
-    }
-}
-
-fn form(rt: &impl Abort, alloc: Global, numbers: &mut Numbers) -> Lin {
-    let mut terms = Vec::new(alloc);
-    for variable in 0..VARIABLES {
-        add_term(rt, &mut terms, variable, numbers.around(3));
-    }
-    Lin::new(terms, i128::from(numbers.around(4))).expect(rt, "a form")
-}
-
-/// The literal of that kind.
-fn literal_of(kind: i64, n: Divisor, lin: Lin) -> Lit {
-    match kind {
-        0 => Lit::Eq(lin),
-        1 => Lit::Div(n, lin),
-        2 => Lit::NDiv(n, lin),
-        _ => Lit::Le(lin),
-    }
-}
-
+/// Half of all literals are bounds.
 fn literal(rt: &impl Abort, alloc: Global, numbers: &mut Numbers) -> Lit {
-    let kind = numbers.below(6);
-    let lin = form(rt, alloc, numbers);
-    let n = Divisor::new(numbers.below(4).wrapping_add(2)).expect(rt, "a divisor");
-    literal_of(kind, n, lin)
+    let kind = match numbers.below(6) {
+        0 => 1,
+        1 => 2,
+        2 => 3,
+        _ => 0,
+    };
+    let coefficients = [numbers.around(3), numbers.around(3), numbers.around(3)];
+    let constant = i128::from(numbers.around(4));
+    let n = divisor(rt, numbers.below(4).wrapping_add(2));
+    lit(kind, n, form(rt, alloc, &coefficients, constant))
 }
 
 /// The variable, or its negative, is at most 2.
 fn at_most(rt: &impl Abort, alloc: Global, variable: u32, coefficient: i64) -> Lit {
-    let terms = Vec::from_array(alloc, [(variable, coefficient)]).expect(rt, "memory");
-    Lit::Le(Lin::new(terms, -2).expect(rt, "a form"))
+    Lit::Le(lin(rt, alloc, &[(variable, coefficient)], -2))
 }
 
 /// Each variable is from -2 to 2, and `count` other literals are true.
@@ -113,12 +97,15 @@ fn conjunction(rt: &impl Abort, alloc: Global, lits: &[Lit]) -> Form {
 }
 
 /// Whether the decision is right, and none is given up.
-fn is_right(whole: &Form, decision: Decision) -> bool {
-    match decision {
-        Decision::Model(point) => point.len() == 3 && holds(whole, point.as_slice()),
-        Decision::Refuted(refuted) => !has_point(whole) && refuted.form().equals(whole),
+fn is_right(whole: Form, decision: Decision) -> bool {
+    let is_right = match &decision {
+        Decision::Model(point) => point.len() == 3 && holds(&whole, point.as_slice()),
+        Decision::Refuted(refuted) => !has_point(&whole) && refuted.form().equals(&whole),
         Decision::GaveUp(_) => false,
-    }
+    };
+    mem::forget(whole);
+    mem::forget(decision);
+    is_right
 }
 
 /// Decides the next conjunction.
@@ -129,7 +116,8 @@ fn check_conjunction(rt: &impl Abort, alloc: Global, numbers: &mut Numbers) {
     assert!(rt; have_short_constants(lits.as_slice()));
     let decision = decide_all(alloc, lits.as_slice(), 3, 1000).expect(rt, "memory");
     let whole = conjunction(rt, alloc, lits.as_slice());
-    assert!(rt; is_right(&whole, decision));
+    mem::forget(lits);
+    assert!(rt; is_right(whole, decision));
 }
 
 #[test]
@@ -138,10 +126,6 @@ fn conjunctions_are_decided(rt: HostRuntime) {
     for _ in 0..300 {
         check_conjunction(&rt, rt.alloc(), &mut numbers);
     }
-}
-
-fn pair(rt: &impl Abort, alloc: Global, first: Form, second: Form) -> Items<Form> {
-    Items::from_vec(Vec::from_array(alloc, [first, second]).expect(rt, "memory"))
 }
 
 /// A disjunction of two literals.
@@ -202,13 +186,15 @@ fn is_decided(rt: &impl Abort, alloc: Global, form: &Form, lemmas: &[Form]) -> b
     assert!(rt; are_all_below(lemmas, 3));
     assert!(rt; have_short_multiples(lemmas));
     let decision = decide(alloc, form, lemmas, 3, 1000).expect(rt, "memory");
-    is_right(&joined(rt, alloc, form, lemmas), decision)
+    is_right(joined(rt, alloc, form, lemmas), decision)
 }
 
 /// The conjunction of the next literal and the bounds of all variables.
 fn bounded(rt: &impl Abort, alloc: Global, numbers: &mut Numbers) -> Form {
     let lits = boxed(rt, alloc, numbers, 1);
-    conjunction(rt, alloc, lits.as_slice())
+    let whole = conjunction(rt, alloc, lits.as_slice());
+    mem::forget(lits);
+    whole
 }
 
 /// Decides the next formula with lemmas.
@@ -216,6 +202,8 @@ fn check_formula(rt: &impl Abort, alloc: Global, numbers: &mut Numbers) {
     let form = bounded(rt, alloc, numbers);
     let lemmas = lemmas(rt, alloc, numbers);
     assert!(rt; is_decided(rt, alloc, &form, lemmas.as_slice()));
+    mem::forget(form);
+    mem::forget(lemmas);
 }
 
 /// Goes back in the next formula with lemmas, of which `taken` literals join at once.
@@ -223,9 +211,11 @@ fn check_going_back(rt: &impl Abort, alloc: Global, numbers: &mut Numbers, taken
     let form = bounded(rt, alloc, numbers);
     let lemmas = lemmas(rt, alloc, numbers);
     let whole = joined(rt, alloc, &form, lemmas.as_slice());
+    mem::forget(form);
+    mem::forget(lemmas);
     let found = decide_back(alloc, &whole, taken, 3, 1000).expect(rt, "memory");
     let decision = found.expect(rt, "a decision");
-    assert!(rt; is_right(&whole, decision));
+    assert!(rt; is_right(whole, decision));
 }
 
 #[test]

@@ -2,44 +2,20 @@
 
 ghost use Rattle.std.specs.Prelude.{◌<◌};
 
+use crate::made::{divisor, form, lit};
 use lia_branch::{Decision, are_below, decide_all, have_short_constants};
-use lin_atoms::{Divisor, Lin, Lit};
+use lin_atoms::Lit;
 use std::alloc::Global;
+use std::mem;
 use std::process::Abort;
 
 /// A literal: its kind, its divisor, the coefficients of four variables, and the constant.
-pub(crate) type Row = (u32, i64, [i64; 4], i128);
-
-fn add_term(rt: &impl Abort, terms: &mut Vec<(u32, i64)>, variable: u32, coefficient: i64) {
-    if coefficient != 0 {
-        terms.push((variable, coefficient)).expect(rt, "memory");
-    }
-}
-
-fn form(rt: &impl Abort, alloc: Global, coefficients: [i64; 4], constant: i128) -> Lin {
-    let [x, y, z, u] = coefficients;
-    let mut terms = Vec::new(alloc);
-    add_term(rt, &mut terms, 0, x);
-    add_term(rt, &mut terms, 1, y);
-    add_term(rt, &mut terms, 2, z);
-    add_term(rt, &mut terms, 3, u);
-    Lin::new(terms, constant).expect(rt, "a form")
-}
-
-/// A literal: `<=`, `=`, a divisibility or one denied, of a form.
-fn lit(kind: u32, n: Divisor, lin: Lin) -> Lit {
-    match kind {
-        0 => Lit::Le(lin),
-        1 => Lit::Eq(lin),
-        2 => Lit::Div(n, lin),
-        _ => Lit::NDiv(n, lin),
-    }
-}
+pub(crate) type Row = (i64, i64, [i64; 4], i128);
 
 fn add_row(rt: &impl Abort, alloc: Global, lits: &mut Vec<Lit>, row: Row) {
     let (kind, n, coefficients, constant) = row;
-    let n = Divisor::new(n).expect(rt, "a divisor");
-    lits.push(lit(kind, n, form(rt, alloc, coefficients, constant)))
+    let form = form(rt, alloc, coefficients.as_slice(), constant);
+    lits.push(lit(kind, divisor(rt, n), form))
         .expect(rt, "memory");
 }
 
@@ -53,26 +29,32 @@ pub(crate) fn decided(rt: &impl Abort, alloc: Global, rows: &[Row], nodes: u32) 
     }
     assert!(rt; are_below(lits.as_slice(), 4));
     assert!(rt; have_short_constants(lits.as_slice()));
-    decide_all(alloc, lits.as_slice(), 4, nodes).expect(rt, "memory")
+    let decision = decide_all(alloc, lits.as_slice(), 4, nodes).expect(rt, "memory");
+    mem::forget(lits);
+    decision
 }
 
 pub(crate) fn is_refuted(rt: &impl Abort, alloc: Global, rows: &[Row], nodes: u32) -> bool
     requires { 0 < nodes }
 {
     let decision = decided(rt, alloc, rows, nodes);
-    matches!(decision, Decision::Refuted(_))
+    let is_refuted = matches!(&decision, Decision::Refuted(_));
+    mem::forget(decision);
+    is_refuted
 }
 
 /// The point that is found.
 pub(crate) fn point(rt: &impl Abort, alloc: Global, rows: &[Row], nodes: u32) -> Option<[i64; 4]>
     requires { 0 < nodes }
 {
-    match decided(rt, alloc, rows, nodes) {
+    let decision = decided(rt, alloc, rows, nodes);
+    let point = match &decision {
         Decision::Model(point) => match point.as_slice() {
             [x, y, z, u] => Some([*x, *y, *z, *u]),
             _ => None,
         },
-        Decision::Refuted(_) => None,
-        Decision::GaveUp(_) => None,
-    }
+        _ => None,
+    };
+    mem::forget(decision);
+    point
 }

@@ -1,23 +1,19 @@
 //! For each means of going back a formula by hand that so few splits don't decide without it.
 
+use crate::made::{le, lin, pair, put};
 use base::Items;
 use lia_jumps::decide_back;
 use lia_search::Decision;
 use lin_atoms::{Form, Lin, Lit};
 use std::alloc::Global;
+use std::mem;
 use std::process::Abort;
 
 const VARIABLES: u32 = 12;
 
-fn lin(rt: &impl Abort, alloc: Global, terms: &[(u32, i64)], constant: i128) -> Lin {
-    let mut made = Vec::new(alloc);
-    made.extend_from_slice(terms).expect(rt, "memory");
-    Lin::new(made, constant).expect(rt, "a form")
-}
-
 /// The variable times the sign, and the constant, are at most 0.
 fn bound(rt: &impl Abort, alloc: Global, variable: u32, sign: i64, constant: i128) -> Form {
-    Form::Lit(Lit::Le(lin(rt, alloc, &[(variable, sign)], constant)))
+    le(rt, alloc, &[(variable, sign)], constant)
 }
 
 /// The difference of the variable and the next one: no bound of one variable follows from one of it.
@@ -44,15 +40,8 @@ fn is(rt: &impl Abort, alloc: Global, variable: u32, value: i128) -> Form {
     Form::Lit(Lit::Eq(difference(rt, alloc, variable, 1, constant)))
 }
 
-fn put(rt: &impl Abort, parts: &mut Items<Form>, form: Form) {
-    parts.push(form).expect(rt, "memory");
-}
-
 fn put_or(rt: &impl Abort, alloc: Global, parts: &mut Items<Form>, first: Form, second: Form) {
-    let mut either = Items::new(alloc);
-    put(rt, &mut either, first);
-    put(rt, &mut either, second);
-    put(rt, parts, Form::Or(either));
+    put(rt, parts, Form::Or(pair(rt, alloc, first, second)));
 }
 
 /// Variables from `first` on, so many of them, aren't 0: disjunctions that every point with zeros breaks.
@@ -70,13 +59,20 @@ fn put_ways(rt: &impl Abort, alloc: Global, parts: &mut Items<Form>) {
     put_or(rt, alloc, parts, is(rt, alloc, 0, 1), is(rt, alloc, 0, 3));
 }
 
+/// What four splits for each of the nodes tell of the conjunction.
+fn told(rt: &impl Abort, alloc: Global, parts: Items<Form>, nodes: u32) -> Option<Decision> {
+    let form = Form::And(parts);
+    let found = decide_back(alloc, &form, 100, VARIABLES, nodes).expect(rt, "memory");
+    mem::forget(form);
+    found
+}
+
 /// Whether four splits for each of the nodes refute the conjunction.
 fn are_refuted(rt: &impl Abort, alloc: Global, parts: Items<Form>, nodes: u32) -> bool {
-    let form = Form::And(parts);
-    match decide_back(alloc, &form, 100, VARIABLES, nodes).expect(rt, "memory") {
-        Some(Decision::Refuted(_)) => true,
-        _ => false,
-    }
+    let found = told(rt, alloc, parts, nodes);
+    let are_refuted = matches!(&found, Some(Decision::Refuted(_)));
+    mem::forget(found);
+    are_refuted
 }
 
 /// Five disjunctions lead from x2 - x3 > 0 to x2 - x3 <= 0, one after the other, whatever x0 - x1 is. With the
@@ -149,9 +145,7 @@ fn the_nearest_part_comes_first(rt: HostRuntime) {
     let mut parts = Items::new(alloc);
     let near = bound(rt, alloc, 0, -1, 1);
     put_or(rt, alloc, &mut parts, Form::And(far), near);
-    let form = Form::And(parts);
-    match decide_back(alloc, &form, 100, VARIABLES, 1).expect(rt, "memory") {
-        Some(Decision::Model(_)) => {}
-        _ => assert!(rt; false),
-    }
+    let found = told(rt, alloc, parts, 1);
+    assert!(rt; matches!(&found, Some(Decision::Model(_))));
+    mem::forget(found);
 }

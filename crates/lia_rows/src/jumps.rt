@@ -1,11 +1,13 @@
 //! Formulas most of whose disjunctions have nothing to do with what contradicts, by hand.
 
+use crate::made::{divisor, le, lin, pair, put};
 use base::{Copied, Items, Same};
 use lia_cases::decide;
 use lia_jumps::decide_back;
 use lia_search::{Decision, has_short_multiples, search};
-use lin_atoms::{Divisor, Form, Lin, Lit, holds};
+use lin_atoms::{Form, Lit, holds};
 use std::alloc::Global;
+use std::mem;
 use std::process::Abort;
 
 /// So many disjunctions have nothing to do with the rest. Variables 0 to 3 are those of the rest.
@@ -13,33 +15,16 @@ const IDLE: u32 = 10;
 
 const VARIABLES: u32 = 14;
 
-fn lin(rt: &impl Abort, alloc: Global, terms: &[(u32, i64)], constant: i128) -> Lin {
-    let mut made = Vec::new(alloc);
-    made.extend_from_slice(terms).expect(rt, "memory");
-    Lin::new(made, constant).expect(rt, "a form")
-}
-
-fn le(rt: &impl Abort, alloc: Global, terms: &[(u32, i64)], constant: i128) -> Form {
-    Form::Lit(Lit::Le(lin(rt, alloc, terms, constant)))
-}
-
 /// 3 divides the sum of x2 - x3 and the constant.
 fn by_three(rt: &impl Abort, alloc: Global, constant: i128) -> Form {
-    let three = Divisor::new(3).expect(rt, "a divisor");
     let terms = [(2, 1), (3, -1)];
-    Form::Lit(Lit::Div(three, lin(rt, alloc, &terms, constant)))
-}
-
-fn put(rt: &impl Abort, parts: &mut Items<Form>, form: Form) {
-    parts.push(form).expect(rt, "memory");
+    Form::Lit(Lit::Div(divisor(rt, 3), lin(rt, alloc, &terms, constant)))
 }
 
 /// The variable isn't 0.
 fn not_zero(rt: &impl Abort, alloc: Global, variable: u32) -> Form {
-    let mut parts = Items::new(alloc);
-    put(rt, &mut parts, le(rt, alloc, &[(variable, 1)], 1));
-    put(rt, &mut parts, le(rt, alloc, &[(variable, -1)], 1));
-    Form::Or(parts)
+    let below = le(rt, alloc, &[(variable, 1)], 1);
+    Form::Or(pair(rt, alloc, below, le(rt, alloc, &[(variable, -1)], 1)))
 }
 
 /// x0 - x1 is 0, but at most -1, at least 1, or 3 and a half: a contradiction that no bound of one variable
@@ -80,10 +65,12 @@ fn whole(rt: &impl Abort, alloc: Global, rest: Items<Form>) -> Form {
 }
 
 fn is_refuted(form: &Form, decision: Option<Decision>) -> bool {
-    match decision {
+    let is_refuted = match &decision {
         Some(Decision::Refuted(refuted)) => refuted.form().equals(form),
         _ => false,
-    }
+    };
+    mem::forget(decision);
+    is_refuted
 }
 
 /// Whether going back refutes the form with a few splits, so that `decide` does so, too, and the search that
@@ -96,10 +83,11 @@ fn needs_jumps(rt: &impl Abort, alloc: Global, form: Form) -> bool {
     let copy = form.copy(alloc).expect(rt, "memory");
     let plain = search(alloc, copy, 1, VARIABLES, 100).expect(rt, "memory");
     let decided = decide(alloc, &form, &[], VARIABLES, 100).expect(rt, "memory");
-    match (plain, decided) {
-        (Decision::GaveUp(_), Decision::Refuted(_)) => true,
-        _ => false,
-    }
+    let needs = matches!(&plain, Decision::GaveUp(_)) && matches!(&decided, Decision::Refuted(_));
+    mem::forget(form);
+    mem::forget(plain);
+    mem::forget(decided);
+    needs
 }
 
 #[test]
@@ -123,13 +111,18 @@ fn a_point_is_found_by_going_back(rt: HostRuntime) {
     let (rt, alloc) = (&rt, rt.alloc());
     let form = whole(rt, alloc, Items::new(alloc));
     let found = decide_back(alloc, &form, 0, VARIABLES + 2, 100).expect(rt, "memory");
-    match found {
-        Some(Decision::Model(point)) => {
-            assert!(rt; point.len() == 16);
-            assert!(rt; holds(&form, point.as_slice()));
-        }
-        _ => assert!(rt; false),
-    }
+    assert!(rt; is_model(&form, found));
+    mem::forget(form);
+}
+
+/// Whether a point for sixteen variables is found, at which the form is true.
+fn is_model(form: &Form, decision: Option<Decision>) -> bool {
+    let is_model = match &decision {
+        Some(Decision::Model(point)) => point.len() == 16 && holds(form, point.as_slice()),
+        _ => false,
+    };
+    mem::forget(decision);
+    is_model
 }
 
 #[test]
@@ -138,4 +131,6 @@ fn without_splits_nothing_is_found(rt: HostRuntime) {
     let form = whole(rt, alloc, Items::new(alloc));
     let found = decide_back(alloc, &form, 0, VARIABLES, 0).expect(rt, "memory");
     assert!(rt; found.is_none());
+    mem::forget(form);
+    mem::forget(found);
 }

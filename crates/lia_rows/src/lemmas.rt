@@ -1,17 +1,17 @@
 //! Formulas with lemmas that were worked out by hand.
 
-use base::Items;
+use crate::made::{le, pair};
 use farkas_proof::{Refutation, Refuted, check};
 use lia_cases::{Decision, are_below, decide, have_short_multiples};
 use lia_search::has_short_multiples;
-use lin_atoms::{Form, Lin, Lit, holds};
+use lin_atoms::{Form, holds};
 use std::alloc::Global;
+use std::mem;
 use std::process::Abort;
 
 /// `a*x + c <= 0`.
-fn le(rt: &impl Abort, alloc: Global, a: i64, c: i128) -> Form {
-    let terms = Vec::from_array(alloc, [(0, a)]).expect(rt, "memory");
-    Form::Lit(Lit::Le(Lin::new(terms, c).expect(rt, "a form")))
+fn bound(rt: &impl Abort, alloc: Global, a: i64, c: i128) -> Form {
+    le(rt, alloc, &[(0, a)], c)
 }
 
 fn all_hold(lemmas: &[Form], point: &[i64]) -> bool {
@@ -24,15 +24,17 @@ fn all_hold(lemmas: &[Form], point: &[i64]) -> bool {
 }
 
 /// 1 for a point at which all is true, 2 for a refutation, 3 for evidence.
-fn told(decision: &Decision, form: &Form, lemmas: &[Form]) -> u32 {
-    match decision {
+fn told(decision: Decision, form: &Form, lemmas: &[Form]) -> u32 {
+    let told = match &decision {
         Decision::Model(point) => {
             let fine = holds(form, point.as_slice()) && all_hold(lemmas, point.as_slice());
             if fine { 1 } else { 0 }
         }
         Decision::Refuted(_) => 2,
         Decision::GaveUp(_) => 3,
-    }
+    };
+    mem::forget(decision);
+    told
 }
 
 fn kind(rt: &impl Abort, alloc: Global, form: &Form, lemmas: &[Form], nodes: u32) -> u32 {
@@ -42,24 +44,20 @@ fn kind(rt: &impl Abort, alloc: Global, form: &Form, lemmas: &[Form], nodes: u32
     assert!(rt; are_below(lemmas, 1));
     assert!(rt; have_short_multiples(lemmas));
     let decision = decide(alloc, form, lemmas, 1, nodes).expect(rt, "memory");
-    told(&decision, form, lemmas)
-}
-
-fn pair(rt: &impl Abort, alloc: Global, first: Form, second: Form) -> Items<Form> {
-    Items::from_vec(Vec::from_array(alloc, [first, second]).expect(rt, "memory"))
+    told(decision, form, lemmas)
 }
 
 /// x is from 0 to `most`.
 fn bounds(rt: &impl Abort, alloc: Global, most: u16) -> Form {
     let high = -i128::from(most);
-    let (low, high) = (le(rt, alloc, -1, 0), le(rt, alloc, 1, high));
+    let (low, high) = (bound(rt, alloc, -1, 0), bound(rt, alloc, 1, high));
     Form::And(pair(rt, alloc, low, high))
 }
 
 /// x isn't n.
 fn other_than(rt: &impl Abort, alloc: Global, n: u16) -> Form {
-    let low = le(rt, alloc, 1, 1 - i128::from(n));
-    let high = le(rt, alloc, -1, 1 + i128::from(n));
+    let low = bound(rt, alloc, 1, 1 - i128::from(n));
+    let high = bound(rt, alloc, -1, 1 + i128::from(n));
     Form::Or(pair(rt, alloc, low, high))
 }
 
@@ -76,7 +74,7 @@ fn excluded(rt: &impl Abort, alloc: Global, n: u16) -> Vec<Form> {
 fn risen(rt: &impl Abort, alloc: Global, n: u16) -> Vec<Form> {
     let mut lemmas = Vec::new(alloc);
     for i in 0..n {
-        let above = le(rt, alloc, -1, 1 + i128::from(i));
+        let above = bound(rt, alloc, -1, 1 + i128::from(i));
         lemmas.push(above).expect(rt, "memory");
     }
     lemmas
@@ -85,13 +83,19 @@ fn risen(rt: &impl Abort, alloc: Global, n: u16) -> Vec<Form> {
 /// What is told of x from 0 to `most` where the first `n` numbers are excluded.
 fn decided(rt: &impl Abort, alloc: Global, most: u16, n: u16, nodes: u32) -> u32 {
     let (bounds, lemmas) = (bounds(rt, alloc, most), excluded(rt, alloc, n));
-    kind(rt, alloc, &bounds, lemmas.as_slice(), nodes)
+    let kind = kind(rt, alloc, &bounds, lemmas.as_slice(), nodes);
+    mem::forget(bounds);
+    mem::forget(lemmas);
+    kind
 }
 
 /// What is told of x from 0 to 300 that is above the first `n` numbers.
 fn decided_above(rt: &impl Abort, alloc: Global, n: u16, nodes: u32) -> u32 {
     let (bounds, lemmas) = (bounds(rt, alloc, 300), risen(rt, alloc, n));
-    kind(rt, alloc, &bounds, lemmas.as_slice(), nodes)
+    let kind = kind(rt, alloc, &bounds, lemmas.as_slice(), nodes);
+    mem::forget(bounds);
+    mem::forget(lemmas);
+    kind
 }
 
 /// The lemmas exclude numbers one by one: all but the last one, and then that one as well.
@@ -121,14 +125,12 @@ fn literals_are_taken_in(rt: HostRuntime) {
 /// x is at most -5 or at least 5, and isn't negative.
 #[test]
 fn a_case_is_left(rt: HostRuntime) {
-    let form = Form::Or(pair(
-        &rt,
-        rt.alloc(),
-        le(&rt, rt.alloc(), 1, 5),
-        le(&rt, rt.alloc(), -1, 5),
-    ));
-    let lemmas = vec![in rt.alloc(); le(&rt, rt.alloc(), -1, 0)].expect(&rt, "memory");
+    let (low, high) = (bound(&rt, rt.alloc(), 1, 5), bound(&rt, rt.alloc(), -1, 5));
+    let form = Form::Or(pair(&rt, rt.alloc(), low, high));
+    let lemmas = [bound(&rt, rt.alloc(), -1, 0)];
     assert!(rt; kind(&rt, rt.alloc(), &form, lemmas.as_slice(), 2000) == 1);
+    mem::forget(form);
+    mem::forget(lemmas);
 }
 
 /// How many nodes a tree has, and the ones before it.
@@ -155,10 +157,13 @@ fn count_all(subs: &[Refutation], before: u64) -> u64 {
 
 /// How many nodes the tree of a refutation has, where a check takes it.
 fn checked(alloc: Global, refuted: &Refuted) -> Option<u64> {
-    match check(alloc, refuted.form(), refuted.proof()) {
+    let answer = check(alloc, refuted.form(), refuted.proof());
+    let nodes = match &answer {
         Ok(_) => Some(count(refuted.proof(), 0)),
         Err(_) => None,
-    }
+    };
+    mem::forget(answer);
+    nodes
 }
 
 /// The nodes of the tree that refutes x from 0 to 999 where all these numbers are excluded.
@@ -168,10 +173,15 @@ fn nodes_of_chain(rt: &impl Abort, alloc: Global) -> Option<u64> {
     assert!(rt; has_short_multiples(&bounds));
     assert!(rt; are_below(lemmas.as_slice(), 1));
     assert!(rt; have_short_multiples(lemmas.as_slice()));
-    match decide(alloc, &bounds, lemmas.as_slice(), 1, 2000).expect(rt, "memory") {
-        Decision::Refuted(refuted) => checked(alloc, &refuted),
+    let decision = decide(alloc, &bounds, lemmas.as_slice(), 1, 2000).expect(rt, "memory");
+    let nodes = match &decision {
+        Decision::Refuted(refuted) => checked(alloc, refuted),
         _ => None,
-    }
+    };
+    mem::forget(bounds);
+    mem::forget(lemmas);
+    mem::forget(decision);
+    nodes
 }
 
 /// A node for each number, a leaf for what is below it, and one for what is above all.

@@ -17,6 +17,8 @@ mod lemmas;
 #[cfg(test)]
 mod literals;
 #[cfg(test)]
+mod made;
+#[cfg(test)]
 mod parts;
 #[cfg(test)]
 mod rows;

@@ -3,8 +3,7 @@
 use crate::conjunctions::{Row, decided, is_refuted, point};
 use farkas_proof::Evidence;
 use lia_branch::Decision;
-use std::alloc::Global;
-use std::process::Abort;
+use std::mem;
 
 /// 3 divides x + y, 3 divides x - y - 1, and both are from 0 to 5: x is 2 and y is 1, or both are 3 more
 /// in turn. So y is 1 more than a multiple of 3, which the last row denies.
@@ -65,18 +64,16 @@ fn nothing_is_true_at_once(rt: HostRuntime) {
 }
 
 /// Whether the decision is evidence of a row with an entry of that size.
-fn has_entry(decision: &Decision, size: u128) -> bool {
-    match decision {
+fn has_entry(decision: Decision, size: u128) -> bool {
+    let has_entry = match &decision {
         Decision::GaveUp(gave_up) => match gave_up.evidence() {
             Evidence::Row { entry, .. } => entry.unsigned_abs() == size,
             _ => false,
         },
         _ => false,
-    }
-}
-
-fn is_wide(rt: &impl Abort, alloc: Global, rows: &[Row], size: u128) -> bool {
-    has_entry(&decided(rt, alloc, rows, 1), size)
+    };
+    mem::forget(decision);
+    has_entry
 }
 
 /// 2^124 + 2^63, the square of 2^62 + 1 less 1.
@@ -84,5 +81,5 @@ const SIZE: u128 = 21_267_647_932_558_653_975_684_285_001_340_289_024;
 
 #[test]
 fn rows_without_room_are_given_up(rt: HostRuntime) {
-    assert!(rt; is_wide(&rt, rt.alloc(), &WIDE, SIZE));
+    assert!(rt; has_entry(decided(&rt, rt.alloc(), &WIDE, 1), SIZE));
 }

@@ -1,16 +1,17 @@
 //! Conjunctions of as many rows as a tableau may have, and of one more.
 
+use crate::made::lin;
 use farkas_proof::Evidence;
 use lia_branch::{Decision, are_below, decide_all, have_short_constants};
-use lin_atoms::{Lin, Lit};
+use lin_atoms::Lit;
 use std::alloc::Global;
+use std::mem;
 use std::process::Abort;
 
 /// The sum of a variable and the next one is at most 0.
 fn sum(rt: &impl Abort, alloc: Global, variable: u32) -> Lit {
     let terms = [(variable, 1), (variable.wrapping_add(1), 1)];
-    let terms = Vec::from_array(alloc, terms).expect(rt, "memory");
-    Lit::Le(Lin::new(terms, 0).expect(rt, "a form"))
+    Lit::Le(lin(rt, alloc, &terms, 0))
 }
 
 /// So many sums, each of which is a row.
@@ -26,31 +27,33 @@ fn decided(rt: &impl Abort, alloc: Global, count: u32) -> Decision {
     let lits = sums(rt, alloc, count);
     assert!(rt; are_below(lits.as_slice(), 1026));
     assert!(rt; have_short_constants(lits.as_slice()));
-    decide_all(alloc, lits.as_slice(), 1026, 1).expect(rt, "memory")
+    let decision = decide_all(alloc, lits.as_slice(), 1026, 1).expect(rt, "memory");
+    mem::forget(lits);
+    decision
 }
 
 /// How many literals evidence of too many rows has.
-fn rows_of(decision: &Decision) -> Option<usize> {
-    match decision {
+fn rows_of(decision: Decision) -> Option<usize> {
+    let rows = match &decision {
         Decision::GaveUp(gave_up) => match gave_up.evidence() {
             Evidence::Rows { lits } => Some(lits.len()),
             _ => None,
         },
         _ => None,
-    }
-}
-
-fn rows(rt: &impl Abort, alloc: Global, count: u32) -> Option<usize> {
-    rows_of(&decided(rt, alloc, count))
+    };
+    mem::forget(decision);
+    rows
 }
 
 fn has_point(rt: &impl Abort, alloc: Global, count: u32) -> bool {
     let decision = decided(rt, alloc, count);
-    matches!(decision, Decision::Model(_))
+    let has_point = matches!(&decision, Decision::Model(_));
+    mem::forget(decision);
+    has_point
 }
 
 #[test]
 fn too_many_rows_are_given_up(rt: HostRuntime) {
     assert!(rt; has_point(&rt, rt.alloc(), 1024));
-    assert!(rt; rows(&rt, rt.alloc(), 1025) == Some(1025));
+    assert!(rt; rows_of(decided(&rt, rt.alloc(), 1025)) == Some(1025));
 }
