@@ -3,6 +3,7 @@
 use crate::solving::{Found, between, of_forms, solved};
 use int_rows::Tableau;
 use std::alloc::Global;
+use std::mem;
 use std::process::Abort;
 
 /// 2^63 - 1, 2^64 - 1 and 2^63.
@@ -48,7 +49,9 @@ fn found(
     if let Some((lower, upper)) = bounds {
         between(&mut t, basic, lower, upper);
     }
-    solved(alloc, &mut t, &rows)
+    let found = solved(alloc, &mut t, &rows);
+    mem::forget(t);
+    found
 }
 
 /// Where numerators have no room. A vertex at such values of the first column is refused for its floor.

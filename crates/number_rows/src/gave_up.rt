@@ -4,12 +4,13 @@ ghost use Rattle.std.specs.Prelude.{◌≡◌, ◌∷◌, []};
 ghost use Rattle.lin_atoms.specs.declared.lit.Lit.TheVariants.{Eq};
 ghost use Rattle.farkas_proof.specs.Instances.{both, large_on_first, large_on_second};
 
+use crate::made::lin;
 use base::{Items, Same};
 use farkas_proof::{Evidence, GaveUp};
-use lin_atoms::{Form, Lin, Lit};
+use lin_atoms::{Form, Lit};
 use std::alloc::Global;
+use std::mem;
 use std::process::Abort;
-use std::test::Fail;
 
 /// 2^124 + 2^63, the square of 2^62 + 1 less 1.
 const WIDE: i128 = 21_267_647_932_558_653_975_684_285_001_340_289_024;
@@ -18,10 +19,7 @@ const WIDE: i128 = 21_267_647_932_558_653_975_684_285_001_340_289_024;
 fn equal(rt: &impl Abort, alloc: Global, terms: &[(u32, i64)], constant: i128) -> Lit
     ensures { result ≡ Eq (record { terms = terms.now; constant = constant }) }
 {
-    let mut list = Vec::new(alloc);
-    list.extend_from_slice(terms).expect(rt, "memory");
-    let lin = Lin::new(list, constant).expect(rt, "a form");
-    Lit::Eq(lin)
+    Lit::Eq(lin(rt, alloc, terms, constant))
 }
 
 fn conjunction(rt: &impl Abort, alloc: Global, first: Lit, second: Lit) -> Form
@@ -90,7 +88,9 @@ fn half(rt: &impl Abort, alloc: Global) -> GaveUp {
 /// Whether a copy has the same form and evidence.
 fn has_equal_copy(rt: &impl Abort, alloc: Global, kept: &GaveUp) -> bool {
     let copied = kept.copy(alloc).expect(rt, "memory");
-    copied.form().equals(kept.form()) && copied.evidence().equals(kept.evidence())
+    let is_equal = copied.form().equals(kept.form()) && copied.evidence().equals(kept.evidence());
+    mem::forget(copied);
+    is_equal
 }
 
 fn entry_of(evidence: &Evidence) -> Option<i128> {
@@ -108,26 +108,27 @@ fn nodes_of(evidence: &Evidence) -> Option<u32> {
 }
 
 #[test]
-fn wide_row_is_kept(rt: HostRuntime) -> Result<(), Fail> {
+fn wide_row_is_kept(rt: HostRuntime) {
     let kept = crossing(&rt, rt.alloc());
     assert!(rt; has_equal_copy(&rt, rt.alloc(), &kept));
     assert!(rt; entry_of(kept.evidence()) == Some(WIDE));
-    Ok(())
+    mem::forget(kept);
 }
 
 #[test]
-fn split_at_a_half_is_kept(rt: HostRuntime) -> Result<(), Fail> {
+fn split_at_a_half_is_kept(rt: HostRuntime) {
     let kept = half(&rt, rt.alloc());
     assert!(rt; has_equal_copy(&rt, rt.alloc(), &kept));
     assert!(rt; nodes_of(kept.evidence()) == Some(1));
-    Ok(())
+    mem::forget(kept);
 }
 
 #[test]
-fn kinds_of_evidence_differ(rt: HostRuntime) -> Result<(), Fail> {
+fn kinds_of_evidence_differ(rt: HostRuntime) {
     let row = crossing(&rt, rt.alloc());
     let split = half(&rt, rt.alloc());
     let same = row.evidence().equals(split.evidence());
     assert!(rt; !same);
-    Ok(())
+    mem::forget(row);
+    mem::forget(split);
 }

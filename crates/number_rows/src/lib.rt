@@ -16,6 +16,8 @@ mod forms;
 #[cfg(test)]
 mod gave_up;
 #[cfg(test)]
+mod made;
+#[cfg(test)]
 mod nodes;
 #[cfg(test)]
 mod projected;

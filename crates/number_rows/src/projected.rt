@@ -5,10 +5,12 @@ ghost use Rattle.std.specs.List.{list_all};
 ghost use Rattle.lin_atoms.specs.Truth.{lit_is_below};
 ghost use Rattle.model_project.specs.Projection.{are_true};
 
+use crate::made::{divisor, form};
 use base::Same;
-use lin_atoms::{Divisor, Lin, Lit};
+use lin_atoms::Lit;
 use model_project::{Projected, project};
 use std::alloc::Global;
+use std::mem;
 use std::process::Abort;
 
 /// A literal: what is claimed of the form, the coefficients of the variables 0, 1 and 2, and the
@@ -22,21 +24,6 @@ pub const LE: i64 = 0;
 /// this number doesn't.
 pub const EQ: i64 = -1;
 
-/// The form of a row.
-fn form(rt: &impl Abort, alloc: Global, row: Row) -> Lin {
-    let mut terms = Vec::new(alloc);
-    for (variable, coefficient) in [(0u32, row.1), (1, row.2), (2, row.3)] {
-        if coefficient != 0 {
-            terms.push((variable, coefficient)).expect(rt, "memory");
-        }
-    }
-    Lin::new(terms, row.4).expect(rt, "a form")
-}
-
-fn divisor(rt: &impl Abort, n: i64) -> Divisor {
-    Divisor::new(n).expect(rt, "a divisor")
-}
-
 /// What is shown, a conjunction, a model, the variables that are kept, and the cube.
 pub type Case = (
     &'static str,
@@ -47,7 +34,7 @@ pub type Case = (
 );
 
 pub fn literal(rt: &impl Abort, alloc: Global, row: Row) -> Lit {
-    let lin = form(rt, alloc, row);
+    let lin = form(rt, alloc, &[row.1, row.2, row.3], row.4);
     if row.0 == LE {
         return Lit::Le(lin);
     }
@@ -88,13 +75,18 @@ pub fn projected(
     model: &[i64],
     keep: &[u32],
 ) -> Projected {
-    assert!(rt; all_hold(lits, model), "no model");
-    assert!(rt; all_below(lits, model.len()), "no place");
+    assert!(rt; all_hold(lits, model));
+    assert!(rt; all_below(lits, model.len()));
     project(alloc, lits, model, keep).expect(rt, "memory")
 }
 
 pub fn are_equal(ours: &[Lit], theirs: &[Lit]) -> bool {
-    ours.len() == theirs.len() && ours.iter().zip(theirs).all(|(a, b)| a.equals(b))
+    for (a, b) in ours.iter().zip(theirs) {
+        if !a.equals(b) {
+            return false;
+        }
+    }
+    ours.len() == theirs.len()
 }
 
 /// Whether the projection has the case's cube.
@@ -103,5 +95,9 @@ pub fn is_right(rt: &impl Abort, alloc: Global, case: Case) -> bool {
     let lits = literals(rt, alloc, rows);
     let made = projected(rt, alloc, lits.as_slice(), &model, keep);
     let wanted = literals(rt, alloc, cube);
-    are_equal(made.cube(), wanted.as_slice())
+    let is_right = are_equal(made.cube(), wanted.as_slice());
+    mem::forget(lits);
+    mem::forget(made);
+    mem::forget(wanted);
+    is_right
 }

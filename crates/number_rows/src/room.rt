@@ -1,8 +1,8 @@
 //! Where a number reaches 2^63 the cube is the model's point, and just below it the elimination's.
 //! The variables are x, y and z, with the numbers 0, 1 and 2.
 
+use crate::made::check;
 use crate::projected::{Case, EQ, LE, is_right};
-use std::test::Fail;
 
 const HALF: i64 = 1 << 62;
 
@@ -206,17 +206,15 @@ const CUBES: [Case; 12] = [
 ];
 
 #[test]
-fn a_number_of_2_to_the_63_gives_the_point(rt: HostRuntime) -> Result<(), Fail> {
+fn a_number_of_2_to_the_63_gives_the_point(rt: HostRuntime) {
     for case in POINTS {
-        assert!(rt; is_right(&rt, rt.alloc(), case), "{}", case.0);
+        check(&rt, is_right(&rt, rt.alloc(), case), case.0);
     }
-    Ok(())
 }
 
 #[test]
-fn no_other_number_gives_the_point(rt: HostRuntime) -> Result<(), Fail> {
+fn no_other_number_gives_the_point(rt: HostRuntime) {
     for case in CUBES {
-        assert!(rt; is_right(&rt, rt.alloc(), case), "{}", case.0);
+        check(&rt, is_right(&rt, rt.alloc(), case), case.0);
     }
-    Ok(())
 }

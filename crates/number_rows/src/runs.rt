@@ -1,10 +1,11 @@
 //! Vertices, conflicts and numbers without room, each put into the equations and bounds again.
 
 use crate::solving::{
-    Found, at_least, at_most, between, check, has_conflict, of_forms, solved, width,
+    Found, at_least, at_most, between, finds, has_conflict, of_forms, solved, width,
 };
 use int_rows::Tableau;
 use std::alloc::Global;
+use std::mem;
 use std::process::Abort;
 
 #[test]
@@ -15,7 +16,8 @@ fn two_equations_of_large_numbers_have_a_wide_row(rt: HostRuntime) {
     between(&mut t, 4, 3, 3);
     between(&mut t, 5, 5, 5);
     let entry = (1 << 124) + (1 << 63);
-    check(&rt, rt.alloc(), &mut t, &rows, Found::WideRow(-entry));
+    assert!(rt; finds(rt.alloc(), &mut t, &rows, Found::WideRow(-entry)));
+    mem::forget(t);
 }
 
 #[test]
@@ -24,11 +26,12 @@ fn two_equations_of_small_numbers_have_a_vertex(rt: HostRuntime) {
     let mut t = of_forms(&rt, rt.alloc(), &rows);
     between(&mut t, 4, 3, 3);
     between(&mut t, 5, 3, 3);
-    check(&rt, rt.alloc(), &mut t, &rows, Found::Vertex);
+    assert!(rt; finds(rt.alloc(), &mut t, &rows, Found::Vertex));
     at_most(&mut t, 0, -7);
-    check(&rt, rt.alloc(), &mut t, &rows, Found::Vertex);
+    assert!(rt; finds(rt.alloc(), &mut t, &rows, Found::Vertex));
     at_most(&mut t, 1, 9);
-    check(&rt, rt.alloc(), &mut t, &rows, Found::Conflict);
+    assert!(rt; finds(rt.alloc(), &mut t, &rows, Found::Conflict));
+    mem::forget(t);
 }
 
 #[test]
@@ -40,7 +43,8 @@ fn equations_without_a_solution_are_a_conflict(rt: HostRuntime) {
     // the first slack is 1 and the second 2, where both are x + y
     let wanted = [0, 0, 0, 0, 0, 0, 0, 0, 0, 1, 1, 0];
     assert!(rt; has_conflict(rt.alloc(), &mut t, &wanted));
-    check(&rt, rt.alloc(), &mut t, &rows, Found::Conflict);
+    assert!(rt; finds(rt.alloc(), &mut t, &rows, Found::Conflict));
+    mem::forget(t);
 }
 
 #[test]
@@ -50,7 +54,8 @@ fn crossed_bounds_are_a_conflict_before_anything(rt: HostRuntime) {
     between(&mut t, 1, 5, 4);
     let wanted = [0, 0, 1, 1, 0, 0, 0, 0, 0, 0];
     assert!(rt; has_conflict(rt.alloc(), &mut t, &wanted));
-    check(&rt, rt.alloc(), &mut t, &rows, Found::Conflict);
+    assert!(rt; finds(rt.alloc(), &mut t, &rows, Found::Conflict));
+    mem::forget(t);
 }
 
 #[test]
@@ -61,15 +66,16 @@ fn coordinates_without_room_are_named(rt: HostRuntime) {
     let mut t = of_forms(&rt, rt.alloc(), &rows);
     between(&mut t, 0, most, most);
     between(&mut t, 1, most, most);
-    check(&rt, rt.alloc(), &mut t, &rows, Found::WideCoordinate(0));
+    assert!(rt; finds(rt.alloc(), &mut t, &rows, Found::WideCoordinate(0)));
     between(&mut t, 2, most, most);
-    check(&rt, rt.alloc(), &mut t, &rows, Found::WideCoordinate(4));
+    assert!(rt; finds(rt.alloc(), &mut t, &rows, Found::WideCoordinate(4)));
     between(&mut t, 0, 0, (1 << 63) - 1);
     between(&mut t, 1, 0, 0);
     between(&mut t, 2, -(1 << 63), -(1 << 63));
-    check(&rt, rt.alloc(), &mut t, &rows, Found::WideCoordinate(2));
+    assert!(rt; finds(rt.alloc(), &mut t, &rows, Found::WideCoordinate(2)));
     between(&mut t, 2, 1 - (1 << 63), 1 - (1 << 63));
-    check(&rt, rt.alloc(), &mut t, &rows, Found::Vertex);
+    assert!(rt; finds(rt.alloc(), &mut t, &rows, Found::Vertex));
+    mem::forget(t);
 }
 
 /// Sixty-four forms of the first two variables, each their sum but for the last two.
@@ -86,9 +92,10 @@ fn many_columns_have_a_vertex_and_a_conflict(rt: HostRuntime) {
     let mut t = of_forms(&rt, rt.alloc(), &rows);
     between(&mut t, 66, 4, 4);
     between(&mut t, 67, 5, 5);
-    check(&rt, rt.alloc(), &mut t, &rows, Found::Vertex);
+    assert!(rt; finds(rt.alloc(), &mut t, &rows, Found::Vertex));
     between(&mut t, 4, 4, 4);
-    check(&rt, rt.alloc(), &mut t, &rows, Found::Conflict);
+    assert!(rt; finds(rt.alloc(), &mut t, &rows, Found::Conflict));
+    mem::forget(t);
 }
 
 #[test]
@@ -98,7 +105,8 @@ fn many_columns_have_a_wide_row(rt: HostRuntime) {
     between(&mut t, 66, 3, 3);
     between(&mut t, 67, 5, 5);
     let entry = (1 << 124) + (1 << 63);
-    check(&rt, rt.alloc(), &mut t, &rows, Found::WideRow(-entry));
+    assert!(rt; finds(rt.alloc(), &mut t, &rows, Found::WideRow(-entry)));
+    mem::forget(t);
 }
 
 #[test]
@@ -110,7 +118,8 @@ fn many_columns_have_a_wide_coordinate(rt: HostRuntime) {
     for variable in 0..3 {
         between(&mut t, variable, most, most);
     }
-    check(&rt, rt.alloc(), &mut t, &rows, Found::WideCoordinate(67));
+    assert!(rt; finds(rt.alloc(), &mut t, &rows, Found::WideCoordinate(67)));
+    mem::forget(t);
 }
 
 /// Bounds of programs that cycle under the greatest-coefficient rule.
@@ -123,16 +132,8 @@ fn bound_program(t: &mut Tableau) {
     at_most(t, 6, 1);
 }
 
-/// Asserts what is answered for such a program, where the last form is to be at most, or at least, a
-/// number.
-fn check_optimum(
-    rt: &impl Abort,
-    alloc: Global,
-    rows: &[[i64; 4]],
-    least: bool,
-    optimum: i128,
-    wanted: Found,
-) {
+/// What is answered for such a program, where the last form is to be at most, or at least, a number.
+fn found(rt: &impl Abort, alloc: Global, rows: &[[i64; 4]], least: bool, optimum: i128) -> Found {
     let mut t = of_forms(rt, alloc, rows);
     bound_program(&mut t);
     if least {
@@ -140,7 +141,9 @@ fn check_optimum(
     } else {
         at_most(&mut t, 7, optimum);
     }
-    check(rt, alloc, &mut t, rows, wanted);
+    let found = solved(alloc, &mut t, rows);
+    mem::forget(t);
+    found
 }
 
 /// Beale 1955, times 100, 50, 1 and 100: the least value is -5.
@@ -167,7 +170,7 @@ fn programs_that_cycle_under_other_rules_end(rt: HostRuntime) {
         (CHVATAL, true, 1, Found::Vertex),
         (CHVATAL, true, 2, Found::Conflict),
     ] {
-        check_optimum(&rt, rt.alloc(), &rows, least, optimum, wanted);
+        assert!(rt; found(&rt, rt.alloc(), &rows, least, optimum) == wanted);
     }
 }
 
@@ -228,6 +231,7 @@ fn solve_next(rt: &impl Abort, alloc: Global, seed: &mut u64, counts: &mut Count
         bound_all(&mut t, seed);
         tally(counts, solved(alloc, &mut t, &rows));
     }
+    mem::forget(t);
 }
 
 #[test]

@@ -1,45 +1,21 @@
 //! Tableaux of forms, and their answers put into the equations and bounds again.
 
-ghost use Rattle.std.specs.Prelude.{◌≡◌};
-ghost use Rattle.std.specs.List.{list_all};
-ghost use Rattle.lin_atoms.specs.Linear.{lin_is_below};
-
+use crate::made::form;
+use crate::tableaux::are_below;
 use int_rows::Tableau;
 use lin_atoms::{Lin, Ratio};
 use simplex_core::{Feasible, WideEvidence, feasible};
 use std::alloc::Global;
+use std::mem;
 use std::process::Abort;
-
-/// Whether each variable of the forms is below the number.
-fn are_below(forms: &[Lin], variables: usize) -> bool
-    ensures { result ≡ list_all (lin_is_below variables) forms.now }
-{
-    forms.iter().all(|form| form.is_below(variables))
-}
-
-fn add_term(rt: &impl Abort, terms: &mut Vec<(u32, i64)>, variable: u32, coefficient: i64) {
-    if coefficient != 0 {
-        terms.push((variable, coefficient)).expect(rt, "memory");
-    }
-}
-
-/// The form with these coefficients.
-fn form(rt: &impl Abort, alloc: Global, coefficients: &[i64]) -> Lin {
-    let mut terms = Vec::new(alloc);
-    let mut variable: u32 = 0;
-    for coefficient in coefficients {
-        add_term(rt, &mut terms, variable, *coefficient);
-        variable = variable.wrapping_add(1);
-    }
-    Lin::new(terms, 0).expect(rt, "a form")
-}
 
 /// The forms with these coefficients.
 fn forms(rt: &impl Abort, alloc: Global, coefficients: &[[i64; 4]]) -> Vec<Lin> {
     let mut forms = Vec::new(alloc);
     for row in coefficients {
-        let form = form(rt, alloc, row.as_slice());
-        forms.push(form).expect(rt, "memory");
+        forms
+            .push(form(rt, alloc, row.as_slice(), 0))
+            .expect(rt, "memory");
     }
     forms
 }
@@ -48,7 +24,9 @@ fn forms(rt: &impl Abort, alloc: Global, coefficients: &[[i64; 4]]) -> Vec<Lin> 
 pub(crate) fn of_forms(rt: &impl Abort, alloc: Global, coefficients: &[[i64; 4]]) -> Tableau {
     let forms = forms(rt, alloc, coefficients);
     assert!(rt; are_below(forms.as_slice(), 4));
-    Tableau::new(alloc, forms.as_slice(), 4).expect(rt, "a tableau")
+    let t = Tableau::new(alloc, forms.as_slice(), 4).expect(rt, "a tableau");
+    mem::forget(forms);
+    t
 }
 
 /// How many columns there are.
@@ -156,33 +134,31 @@ fn is_vertex(t: &Tableau, coefficients: &[[i64; 4]], values: &[Ratio]) -> bool {
     values.len() == width(t) && are_within(t, values)
 }
 
-/// A multiple of a bound, which is to be there where the multiplier isn't 0.
-fn multiple_of(bound: Option<i128>, multiplier: i128) -> Option<i128> {
+/// The multiplier at a place, which is at least 0, and that multiple of a bound, which is to be there
+/// where the multiplier isn't 0.
+fn multiple_of(bound: Option<i128>, multipliers: &[i64], place: usize) -> Option<(i128, i128)> {
+    let by = match multipliers.get(place) {
+        Some(multiplier) if *multiplier >= 0 => i128::from(*multiplier),
+        _ => return None,
+    };
     match bound {
-        Some(bound) => Some(bound.wrapping_mul(multiplier)),
-        None => { if multiplier == 0 { Some(0) } else { None } }
-    }
-}
-
-/// The multiplier at a place, none where it is below 0.
-fn multiplier_at(multipliers: &[i64], place: usize) -> Option<i128> {
-    match multipliers.get(place) {
-        Some(multiplier) if *multiplier >= 0 => Some(i128::from(*multiplier)),
-        _ => None,
+        Some(bound) => Some((by, bound.wrapping_mul(by))),
+        None => { if by == 0 { Some((0, 0)) } else { None } }
     }
 }
 
 /// The sum of the multiples of l - v and v - u over a column: the multiple of v, and the constant.
 fn summed(t: &Tableau, multipliers: &[i64], column: usize) -> Option<(i128, i128)> {
     let at = column.wrapping_mul(2);
-    let of_lower = multiplier_at(multipliers, at)?;
-    let of_upper = multiplier_at(multipliers, at.wrapping_add(1))?;
-    let least = multiple_of(lower(t, column), of_lower)?;
-    let greatest = multiple_of(upper(t, column), of_upper)?;
-    Some((
-        of_upper.wrapping_sub(of_lower),
-        least.wrapping_sub(greatest),
-    ))
+    let of_lower = multiple_of(lower(t, column), multipliers, at);
+    let of_upper = multiple_of(upper(t, column), multipliers, at.wrapping_add(1));
+    match (of_lower, of_upper) {
+        (Some((by_lower, least)), Some((by_upper, greatest))) => Some((
+            by_upper.wrapping_sub(by_lower),
+            least.wrapping_sub(greatest),
+        )),
+        _ => None,
+    }
 }
 
 /// What a column adds to a variable's sum for each multiple of it.
@@ -222,7 +198,7 @@ fn is_conflict(t: &Tableau, coefficients: &[[i64; 4]], multipliers: &[i64]) -> b
 }
 
 /// What is answered, where it holds.
-#[derive(Clone, Copy, Debug, PartialEq, Eq)]
+#[derive(Clone, Copy, PartialEq, Eq)]
 pub(crate) enum Found {
     Vertex,
     Conflict,
@@ -240,7 +216,8 @@ fn found_if(holds: bool, found: Found) -> Found {
 /// What is answered for the tableau of these forms, with vertices put into the equations and bounds,
 /// and conflicts added up.
 pub(crate) fn solved(alloc: Global, t: &mut Tableau, coefficients: &[[i64; 4]]) -> Found {
-    match feasible(alloc, t) {
+    let answer = feasible(alloc, t);
+    let found = match &answer {
         Ok(Feasible::Vertex(values)) => {
             found_if(is_vertex(t, coefficients, values.as_slice()), Found::Vertex)
         }
@@ -248,30 +225,33 @@ pub(crate) fn solved(alloc: Global, t: &mut Tableau, coefficients: &[[i64; 4]]) 
             let holds = is_conflict(t, coefficients, multipliers.as_slice());
             found_if(holds, Found::Conflict)
         }
-        Ok(Feasible::Wide(WideEvidence::Row { entry, .. })) => Found::WideRow(entry),
+        Ok(Feasible::Wide(WideEvidence::Row { entry, .. })) => Found::WideRow(*entry),
         Ok(Feasible::Wide(WideEvidence::Coordinate { variable, .. })) => {
-            Found::WideCoordinate(variable)
+            Found::WideCoordinate(*variable)
         }
         Err(_) => Found::Memory,
-    }
+    };
+    mem::forget(answer);
+    found
 }
 
-/// Asserts what is answered.
-pub(crate) fn check(
-    rt: &impl Abort,
+/// Whether that is what is answered.
+pub(crate) fn finds(
     alloc: Global,
     t: &mut Tableau,
     coefficients: &[[i64; 4]],
     wanted: Found,
-) {
-    let found = solved(alloc, t, coefficients);
-    assert!(rt; found == wanted, "{found:?} for {wanted:?}");
+) -> bool {
+    solved(alloc, t, coefficients) == wanted
 }
 
 /// Whether the answer is a conflict with these multipliers.
 pub(crate) fn has_conflict(alloc: Global, t: &mut Tableau, wanted: &[i64]) -> bool {
-    match feasible(alloc, t) {
+    let answer = feasible(alloc, t);
+    let has_conflict = match &answer {
         Ok(Feasible::Conflict(multipliers)) => multipliers.as_slice() == wanted,
         _ => false,
-    }
+    };
+    mem::forget(answer);
+    has_conflict
 }

@@ -1,28 +1,24 @@
 //! Steps of refutations that are tried by themselves: leaves and roundings of literals that were
 //! worked out by hand.
 
+use crate::made::{divisor, form};
 use farkas_proof::{CheckStop, derived, is_leaf};
-use lin_atoms::{Divisor, Lin, Lit};
+use lin_atoms::{Lin, Lit};
 use std::alloc::Global;
+use std::mem;
 use std::process::Abort;
 
 const MOST: i64 = i64::MAX;
 
 type Multipliers = &'static [(u32, i64)];
 
-fn form(rt: &impl Abort, alloc: Global, coefficient: i64, constant: i128) -> Lin {
-    let terms = Vec::from_slice(alloc, &[(0, coefficient)]).expect(rt, "memory");
-    Lin::new(terms, constant).expect(rt, "a form")
-}
-
 /// `x <= 3`, `x >= 4`, `x >= 3`, `2x = 7`, and 3 divides x.
 fn lits(rt: &impl Abort, alloc: Global) -> Vec<Lit> {
-    let three = Divisor::new(3).expect(rt, "a divisor");
-    let first = Lit::Le(form(rt, alloc, 1, -3));
-    let second = Lit::Le(form(rt, alloc, -1, 4));
-    let third = Lit::Le(form(rt, alloc, -1, 3));
-    let fourth = Lit::Eq(form(rt, alloc, 2, -7));
-    let fifth = Lit::Div(three, form(rt, alloc, 1, 0));
+    let first = Lit::Le(form(rt, alloc, &[1], -3));
+    let second = Lit::Le(form(rt, alloc, &[-1], 4));
+    let third = Lit::Le(form(rt, alloc, &[-1], 3));
+    let fourth = Lit::Eq(form(rt, alloc, &[2], -7));
+    let fifth = Lit::Div(divisor(rt, 3), form(rt, alloc, &[1], 0));
     Vec::from_array(alloc, [first, second, third, fourth, fifth]).expect(rt, "memory")
 }
 
@@ -49,6 +45,7 @@ fn leaves_are_tried_without_a_tree(rt: HostRuntime) {
         let found = is_leaf(rt.alloc(), lits.as_slice(), multipliers).expect(&rt, "memory");
         assert!(rt; found == holds);
     }
+    mem::forget(lits);
 }
 
 /// What a rounding gives: a multiple of x and a constant whose sum is at most 0, or why it doesn't.
@@ -82,7 +79,11 @@ fn first(node: u32, answer: Answer) -> Answer {
 
 fn answer_to(alloc: Global, lits: &[Lit], multipliers: &[(u32, i64)], divisor: i64) -> Answer {
     match derived(alloc, lits, multipliers, divisor) {
-        Ok(lit) => of_literal(&lit),
+        Ok(lit) => {
+            let answer = of_literal(&lit);
+            mem::forget(lit);
+            answer
+        }
         Err(CheckStop::NoProof { node }) => first(node, Answer::NoProof),
         Err(CheckStop::SumWide { node }) => first(node, Answer::SumWide),
         Err(CheckStop::Memory) => Answer::Other,
@@ -109,4 +110,5 @@ fn roundings_are_tried_without_a_tree(rt: HostRuntime) {
     for (multipliers, divisor, answer) in ROUNDINGS {
         assert!(rt; answer_to(rt.alloc(), lits.as_slice(), multipliers, divisor) == answer);
     }
+    mem::forget(lits);
 }

@@ -4,14 +4,15 @@ ghost use Rattle.std.specs.Prelude.{◌≡◌};
 ghost use Rattle.std.specs.List.{list_all};
 ghost use Rattle.lin_atoms.specs.Linear.{lin_is_below};
 
+use crate::made::{divisor, form};
 use int_rows::{Bounded, Ready, ReadyStop, RowStop, RowWide, Tableau, ready};
 use lin_atoms::{Divisor, Lin, Lit};
 use std::alloc::Global;
+use std::mem;
 use std::process::Abort;
-use std::test::Fail;
 
 /// Whether each variable of the forms is below the number.
-fn are_below(forms: &[Lin], variables: usize) -> bool
+pub(crate) fn are_below(forms: &[Lin], variables: usize) -> bool
     ensures { result ≡ list_all (lin_is_below variables) forms.now }
 {
     forms.iter().all(|form| form.is_below(variables))
@@ -24,33 +25,27 @@ pub(crate) fn tableau(
     forms: Vec<Lin>,
     variables: usize,
 ) -> Tableau {
-    assert!(rt;
-        variables <= 2 && are_below(forms.as_slice(), variables),
-        "a variable out of range"
-    );
-    Tableau::new(alloc, forms.as_slice(), variables).expect(rt, "a tableau")
-}
-
-/// The form a*x + b*y and a constant.
-pub(crate) fn of_pair(rt: &impl Abort, alloc: Global, a: i64, b: i64, constant: i128) -> Lin {
-    let terms = Vec::from_array(alloc, [(0, a), (1, b)]).expect(rt, "memory");
-    Lin::new(terms, constant).expect(rt, "a form")
+    assert!(rt; variables <= 2);
+    assert!(rt; are_below(forms.as_slice(), variables));
+    let t = Tableau::new(alloc, forms.as_slice(), variables).expect(rt, "a tableau");
+    mem::forget(forms);
+    t
 }
 
 /// The tableau of the forms a*x + b*y and c*x + d*y.
 pub(crate) fn of_two(rt: &impl Abort, alloc: Global, a: i64, b: i64, c: i64, d: i64) -> Tableau {
-    let first = of_pair(rt, alloc, a, b, 0);
-    let second = of_pair(rt, alloc, c, d, 7);
+    let first = form(rt, alloc, &[a, b], 0);
+    let second = form(rt, alloc, &[c, d], 7);
     let forms = Vec::from_array(alloc, [first, second]).expect(rt, "memory");
     tableau(rt, alloc, forms, 2)
 }
 
-/// Whether a row of the tableau of two forms has these entries and this basic variable.
-fn has_row(t: &Tableau, row: usize, entries: [i64; 4], basic: usize) -> bool {
+/// Whether a row has these entries and this basic variable.
+pub(crate) fn has_row(t: &Tableau, row: usize, entries: &[i64], basic: usize) -> bool {
     if row >= t.rows() {
         return false;
     }
-    t.basic(row) == basic && t.row(row) == entries.as_slice()
+    t.basic(row) == basic && t.row(row) == entries
 }
 
 /// The rows and the basic variables of a tableau of two forms.
@@ -58,7 +53,9 @@ type Stand = ([[i64; 4]; 2], [usize; 2]);
 
 fn stands(t: &Tableau, stand: Stand) -> bool {
     let (rows, basic) = stand;
-    t.rows() == 2 && has_row(t, 0, rows[0], basic[0]) && has_row(t, 1, rows[1], basic[1])
+    t.rows() == 2
+        && has_row(t, 0, rows[0].as_slice(), basic[0])
+        && has_row(t, 1, rows[1].as_slice(), basic[1])
 }
 
 /// What a pivot answers, where the entry is there and isn't 0.
@@ -77,10 +74,10 @@ pub(crate) fn is_made(t: &mut Tableau, row: usize, column: usize) -> bool {
 }
 
 #[test]
-fn the_first_basis_is_the_slacks(rt: HostRuntime) -> Result<(), Fail> {
+fn the_first_basis_is_the_slacks(rt: HostRuntime) {
     let t = of_two(&rt, rt.alloc(), 2, 3, 1, -1);
     assert!(rt; stands(&t, ([[-2, -3, 1, 0], [-1, 1, 0, 1]], [2, 3])));
-    Ok(())
+    mem::forget(t);
 }
 
 /// Pivots of 2x + 3y and x - y, and how the tableau then stands.
@@ -90,20 +87,20 @@ const PIVOTS: [(usize, usize, Stand); 2] = [
 ];
 
 #[test]
-fn a_pivot_by_hand(rt: HostRuntime) -> Result<(), Fail> {
+fn a_pivot_by_hand(rt: HostRuntime) {
     let mut t = of_two(&rt, rt.alloc(), 2, 3, 1, -1);
     for (row, column, stand) in PIVOTS {
         assert!(rt; is_made(&mut t, row, column) && stands(&t, stand));
     }
-    Ok(())
+    mem::forget(t);
 }
 
 #[test]
-fn rows_are_divided_by_what_divides_them(rt: HostRuntime) -> Result<(), Fail> {
+fn rows_are_divided_by_what_divides_them(rt: HostRuntime) {
     let mut t = of_two(&rt, rt.alloc(), 2, 4, 6, 2);
     let stand = ([[2, 4, -1, 0], [0, 10, -3, 1]], [0, 3]);
     assert!(rt; is_made(&mut t, 0, 0) && stands(&t, stand));
-    Ok(())
+    mem::forget(t);
 }
 
 /// 2^62 + 1.
@@ -118,13 +115,13 @@ fn is_wide(t: &mut Tableau, row: usize, column: usize, wide: usize) -> bool {
 }
 
 #[test]
-fn a_row_without_room_leaves_the_tableau(rt: HostRuntime) -> Result<(), Fail> {
+fn a_row_without_room_leaves_the_tableau(rt: HostRuntime) {
     let mut t = of_two(&rt, rt.alloc(), LARGE, 1, 1, LARGE);
     let stand = ([[-LARGE, -1, 1, 0], [-1, -LARGE, 0, 1]], [2, 3]);
     for (at, wide) in [(0, 1), (1, 0)] {
         assert!(rt; is_wide(&mut t, at, at, wide) && stands(&t, stand));
     }
-    Ok(())
+    mem::forget(t);
 }
 
 /// `count` forms of no variable.
@@ -139,25 +136,29 @@ pub(crate) fn constants(rt: &impl Abort, alloc: Global, count: usize) -> Vec<Lin
 /// Whether `count` forms are too many; with memory.
 fn are_too_many(rt: &impl Abort, alloc: Global, count: usize) -> bool {
     let forms = constants(rt, alloc, count);
-    if !are_below(forms.as_slice(), 0) {
-        return false;
-    }
-    matches!(
-        Tableau::new(alloc, forms.as_slice(), 0),
-        Err(RowStop::TooMany)
-    )
+    assert!(rt; are_below(forms.as_slice(), 0));
+    let answer = Tableau::new(alloc, forms.as_slice(), 0);
+    let are_too_many = matches!(&answer, Err(RowStop::TooMany));
+    mem::forget(forms);
+    mem::forget(answer);
+    are_too_many
 }
 
 #[test]
-fn more_than_1024_forms_are_too_many(rt: HostRuntime) -> Result<(), Fail> {
+fn more_than_1024_forms_are_too_many(rt: HostRuntime) {
     for (count, wanted) in [(1024, false), (1025, true)] {
         assert!(rt; are_too_many(&rt, rt.alloc(), count) == wanted);
     }
-    Ok(())
 }
 
 /// The form of `variables` variables, each with this coefficient.
-fn form(rt: &impl Abort, alloc: Global, variables: u32, coefficient: i64, constant: i128) -> Lin {
+fn wide_form(
+    rt: &impl Abort,
+    alloc: Global,
+    variables: u32,
+    coefficient: i64,
+    constant: i128,
+) -> Lin {
     let mut terms = Vec::new(alloc);
     for variable in 0..variables {
         terms.push((variable, coefficient)).expect(rt, "memory");
@@ -173,7 +174,7 @@ const WIDE: Said = (usize::MAX, 0, None, None);
 
 fn told(made: &Bounded) -> Said {
     let terms = made.form.terms();
-    let first = terms.first().map_or(0, |(_, a)| *a);
+    let first = if terms.is_empty() { 0 } else { terms[0].1 };
     (terms.len(), first, made.lower, made.upper)
 }
 
@@ -184,7 +185,11 @@ fn said(alloc: Global, lit: &Lit) -> Option<Said> {
     }
     match ready(alloc, lit, 1000) {
         Ok(Ready::Truth(truth)) => Some((0, i64::from(truth), None, None)),
-        Ok(Ready::Bounds(made)) => Some(told(&made)),
+        Ok(Ready::Bounds(made)) => {
+            let told = told(&made);
+            mem::forget(made);
+            Some(told)
+        }
         Err(ReadyStop::Wide) => Some(WIDE),
         Err(_) => None,
     }
@@ -199,13 +204,12 @@ enum Kind {
     NDiv,
 }
 
-fn of_kind(kind: Kind, lin: Lin) -> Option<Lit> {
-    let divisor = Divisor::new(5)?;
+fn of_kind(kind: Kind, five: Divisor, lin: Lin) -> Lit {
     match kind {
-        Kind::Le => Some(Lit::Le(lin)),
-        Kind::Eq => Some(Lit::Eq(lin)),
-        Kind::Div => Some(Lit::Div(divisor, lin)),
-        Kind::NDiv => Some(Lit::NDiv(divisor, lin)),
+        Kind::Le => Lit::Le(lin),
+        Kind::Eq => Lit::Eq(lin),
+        Kind::Div => Lit::Div(five, lin),
+        Kind::NDiv => Lit::NDiv(five, lin),
     }
 }
 
@@ -218,11 +222,11 @@ fn said_of(
     coefficient: i64,
     constant: i128,
 ) -> Option<Said> {
-    let lin = form(rt, alloc, count, coefficient, constant);
-    match of_kind(kind, lin) {
-        Some(lit) => said(alloc, &lit),
-        None => None,
-    }
+    let lin = wide_form(rt, alloc, count, coefficient, constant);
+    let lit = of_kind(kind, divisor(rt, 5), lin);
+    let said = said(alloc, &lit);
+    mem::forget(lit);
+    said
 }
 
 /// Coefficients and constants, with what is said of one variable.
@@ -258,20 +262,18 @@ fn are_ready(rt: &impl Abort, alloc: Global, more: u32) -> bool {
 }
 
 #[test]
-fn literals_are_made_ready_at_small_and_large_sizes(rt: HostRuntime) -> Result<(), Fail> {
+fn literals_are_made_ready_at_small_and_large_sizes(rt: HostRuntime) {
     for more in [0, 1, 299] {
         assert!(rt; are_ready(&rt, rt.alloc(), more));
     }
-    Ok(())
 }
 
 #[test]
-fn constants_have_a_truth_and_wide_bounds_none(rt: HostRuntime) -> Result<(), Fail> {
+fn constants_have_a_truth_and_wide_bounds_none(rt: HostRuntime) {
     let truth = said_of(&rt, rt.alloc(), Kind::Le, 0, 1, 1);
     assert!(rt; says(truth, (0, 0, None, None), 0));
     let wide = said_of(&rt, rt.alloc(), Kind::NDiv, 1, 1, 1 - (1 << 64));
     assert!(rt; says(wide, WIDE, 0));
-    Ok(())
 }
 
 /// Whether a variable that is there has these bounds.
@@ -306,7 +308,7 @@ fn loosen(t: &mut Tableau, variable: usize) {
 fn of_many(rt: &impl Abort, alloc: Global, count: usize) -> Tableau {
     let mut forms = Vec::new(alloc);
     for _ in 0..count {
-        forms.push(form(rt, alloc, 1, 3, 0)).expect(rt, "memory");
+        forms.push(form(rt, alloc, &[3], 0)).expect(rt, "memory");
     }
     tableau(rt, alloc, forms, 1)
 }
@@ -332,17 +334,17 @@ fn are_apart(copied: &mut Tableau, t: &Tableau, row: usize) -> bool {
 fn copies_are_equal(rt: &impl Abort, alloc: Global, last: usize) -> bool {
     let mut t = of_many(rt, alloc, last.wrapping_add(1));
     fasten(&mut t, 1);
-    if !is_made(&mut t, last, 0) {
-        return false;
-    }
+    assert!(rt; is_made(&mut t, last, 0));
     let mut copied = t.copy(alloc).expect(rt, "memory");
-    are_apart(&mut copied, &t, last)
+    let are_apart = are_apart(&mut copied, &t, last);
+    mem::forget(t);
+    mem::forget(copied);
+    are_apart
 }
 
 #[test]
-fn copies_are_equal_at_small_and_large_sizes(rt: HostRuntime) -> Result<(), Fail> {
+fn copies_are_equal_at_small_and_large_sizes(rt: HostRuntime) {
     for last in [0, 199] {
         assert!(rt; copies_are_equal(&rt, rt.alloc(), last));
     }
-    Ok(())
 }

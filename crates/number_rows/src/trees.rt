@@ -1,12 +1,13 @@
 //! Trees that were worked out by hand, as tables: a conjunction of literals, a chain of nodes over a
 //! leaf, and what the checker answers.
 
+use crate::made::{divisor, lin};
 use base::{Boxed, Items, Same};
 use farkas_proof::{CheckStop, Refutation, check};
 use lin_atoms::{Divisor, Form, Lin, Lit};
 use std::alloc::Global;
+use std::mem;
 use std::process::Abort;
-use std::test::Fail;
 
 const MOST: i64 = i64::MAX;
 
@@ -16,7 +17,7 @@ enum Answer {
     Refuted,
     NoProof(u32),
     SumWide(u32),
-    Memory,
+    Other,
 }
 
 /// Terms of a form, or literals by number with their multipliers.
@@ -49,25 +50,19 @@ enum Node {
 /// The literals, the nodes from the leaf up, the leaf's multipliers, and the answer.
 type Case = (&'static [Literal], &'static [Node], Terms, Answer);
 
-fn lin(rt: &impl Abort, alloc: Global, terms: &[(u32, i64)], constant: i128) -> Lin {
-    let list = Vec::from_slice(alloc, terms).expect(rt, "memory");
-    Lin::new(list, constant).expect(rt, "a form")
-}
-
-fn says(kind: Kind, lin: Lin) -> Option<Lit> {
-    let three = Divisor::new(3)?;
+fn says(kind: Kind, three: Divisor, lin: Lin) -> Lit {
     match kind {
-        Kind::AtMostZero => Some(Lit::Le(lin)),
-        Kind::Zero => Some(Lit::Eq(lin)),
-        Kind::Divided => Some(Lit::Div(three, lin)),
-        Kind::Undivided => Some(Lit::NDiv(three, lin)),
+        Kind::AtMostZero => Lit::Le(lin),
+        Kind::Zero => Lit::Eq(lin),
+        Kind::Divided => Lit::Div(three, lin),
+        Kind::Undivided => Lit::NDiv(three, lin),
     }
 }
 
 fn literal(rt: &impl Abort, alloc: Global, literal: Literal) -> Form {
     let (kind, terms, constant) = literal;
     let lin = lin(rt, alloc, terms, constant);
-    Form::Lit(says(kind, lin).expect(rt, "a divisor"))
+    Form::Lit(says(kind, divisor(rt, 3), lin))
 }
 
 pub(crate) fn literals(rt: &impl Abort, alloc: Global, literals: &[Literal]) -> Items<Form> {
@@ -168,14 +163,13 @@ fn tree(rt: &impl Abort, alloc: Global, nodes: &[Node], last: Terms) -> Refutati
 fn answer_to(alloc: Global, form: &Form, proof: &Refutation) -> Answer {
     match check(alloc, form, proof) {
         Ok(refuted) => {
-            if refuted.form().equals(form) && refuted.proof().equals(proof) {
-                return Answer::Refuted;
-            }
-            Answer::Memory
+            let same = refuted.form().equals(form) && refuted.proof().equals(proof);
+            mem::forget(refuted);
+            if same { Answer::Refuted } else { Answer::Other }
         }
         Err(CheckStop::NoProof { node }) => Answer::NoProof(node),
         Err(CheckStop::SumWide { node }) => Answer::SumWide(node),
-        Err(CheckStop::Memory) => Answer::Memory,
+        Err(CheckStop::Memory) => Answer::Other,
     }
 }
 
@@ -188,13 +182,17 @@ fn is_answered(
     answer: Answer,
 ) -> bool {
     let tree = tree(rt, alloc, nodes, last);
-    answer_to(alloc, form, &tree) == answer
+    let found = answer_to(alloc, form, &tree);
+    mem::forget(tree);
+    found == answer
 }
 
 fn is_right(rt: &impl Abort, alloc: Global, case: Case) -> bool {
     let (lits, nodes, last, answer) = case;
     let form = conjunction(rt, alloc, lits);
-    is_answered(rt, alloc, &form, nodes, last, answer)
+    let is_right = is_answered(rt, alloc, &form, nodes, last, answer);
+    mem::forget(form);
+    is_right
 }
 
 /// -3x + 3y + 1 is at most 0, and so is 3x - 3y - 2.
@@ -222,11 +220,10 @@ const STRIPS: [Case; 6] = [
 ];
 
 #[test]
-fn strip_between_two_lines_has_no_integer_point(rt: HostRuntime) -> Result<(), Fail> {
+fn strip_between_two_lines_has_no_integer_point(rt: HostRuntime) {
     for case in STRIPS {
         assert!(rt; is_right(&rt, rt.alloc(), case));
     }
-    Ok(())
 }
 
 /// Twice x is at most 0.
@@ -282,11 +279,10 @@ const ROOM: [Case; 7] = [
 ];
 
 #[test]
-fn literals_have_room_up_to_their_bounds(rt: HostRuntime) -> Result<(), Fail> {
+fn literals_have_room_up_to_their_bounds(rt: HostRuntime) {
     for case in ROOM {
         assert!(rt; is_right(&rt, rt.alloc(), case));
     }
-    Ok(())
 }
 
 const EQUATIONS: [Case; 2] = [
@@ -315,11 +311,10 @@ const EQUATIONS: [Case; 2] = [
 ];
 
 #[test]
-fn equations_are_taken_with_either_sign(rt: HostRuntime) -> Result<(), Fail> {
+fn equations_are_taken_with_either_sign(rt: HostRuntime) {
     for case in EQUATIONS {
         assert!(rt; is_right(&rt, rt.alloc(), case));
     }
-    Ok(())
 }
 
 /// 3 divides x, and x is one more than 3y.
@@ -388,11 +383,10 @@ const QUOTIENTS: [Case; 6] = [
 ];
 
 #[test]
-fn quotients_have_a_variable_of_their_own(rt: HostRuntime) -> Result<(), Fail> {
+fn quotients_have_a_variable_of_their_own(rt: HostRuntime) {
     for case in QUOTIENTS {
         assert!(rt; is_right(&rt, rt.alloc(), case));
     }
-    Ok(())
 }
 
 /// x is above 0 or above 1.
@@ -465,12 +459,12 @@ const NESTED: [(&'static [Node], Terms, Answer); 5] = [
 ];
 
 #[test]
-fn parts_of_a_part_stand_in_its_place(rt: HostRuntime) -> Result<(), Fail> {
+fn parts_of_a_part_stand_in_its_place(rt: HostRuntime) {
     let form = nested(&rt, rt.alloc());
     for (nodes, last, answer) in NESTED {
         assert!(rt; is_answered(&rt, rt.alloc(), &form, nodes, last, answer));
     }
-    Ok(())
+    mem::forget(form);
 }
 
 /// Twice x is 1, split at these constants.
@@ -488,10 +482,10 @@ fn is_split(rt: &impl Abort, alloc: Global, form: &Form, constant: i128, answer:
 }
 
 #[test]
-fn splits_leave_out_no_integer(rt: HostRuntime) -> Result<(), Fail> {
+fn splits_leave_out_no_integer(rt: HostRuntime) {
     let form = conjunction(&rt, rt.alloc(), &[(Kind::Zero, &[(0, 2)], -1)]);
     for (constant, answer) in SPLITS {
         assert!(rt; is_split(&rt, rt.alloc(), &form, constant, answer));
     }
-    Ok(())
+    mem::forget(form);
 }

@@ -4,8 +4,8 @@ use crate::trees::{Kind, literals};
 use base::{Copied, Items, Same};
 use lin_atoms::{Form, holds};
 use std::alloc::Global;
+use std::mem;
 use std::process::Abort;
-use std::test::Fail;
 
 /// x is at most y, or 3 doesn't divide y.
 fn sample(rt: &impl Abort, alloc: Global) -> Form {
@@ -29,15 +29,21 @@ fn is_true_as_or_says(form: &Form) -> bool {
 }
 
 #[test]
-fn formulas_are_true_as_or_says(rt: HostRuntime) -> Result<(), Fail> {
+fn formulas_are_true_as_or_says(rt: HostRuntime) {
     let form = sample(&rt, rt.alloc());
     let copied = form.copy(rt.alloc()).expect(&rt, "memory");
     assert!(rt; copied.equals(&form) && is_true_as_or_says(&copied));
-    Ok(())
+    mem::forget(form);
+    mem::forget(copied);
 }
 
 #[test]
 fn no_parts_are_true_under_and_alone(rt: HostRuntime) {
-    assert!(rt; holds(&Form::And(Items::new(rt.alloc())), &[]));
-    assert!(rt; !holds(&Form::Or(Items::new(rt.alloc())), &[]));
+    let (all, any) = (
+        Form::And(Items::new(rt.alloc())),
+        Form::Or(Items::new(rt.alloc())),
+    );
+    assert!(rt; holds(&all, &[]) && !holds(&any, &[]));
+    mem::forget(all);
+    mem::forget(any);
 }

@@ -143,15 +143,15 @@ fn a_wide_sum_over_a_denominator_is_in_lowest_terms(rt: HostRuntime) {
     let whole = sum.ratio(TOP);
     assert!(rt; whole.is_some());
     if let Some(ratio) = whole {
-        assert_eq!(rt; ratio.num(), -6 * i128::from(u64::MAX));
-        assert_eq!(rt; ratio.den(), 1);
+        assert!(rt; ratio.num() == -6 * i128::from(u64::MAX));
+        assert!(rt; ratio.den() == 1);
     }
     // 9 divides the product, which leaves room; over 4 the half of it has none
     let ninth = sum.ratio(9);
     assert!(rt; ninth.is_some());
     if let Some(ratio) = ninth {
-        assert_eq!(rt; ratio.num(), -113427455640312821136011458403546518870);
-        assert_eq!(rt; ratio.den(), 1);
+        assert!(rt; ratio.num() == -113427455640312821136011458403546518870);
+        assert!(rt; ratio.den() == 1);
     }
     assert!(rt; sum.ratio(4).is_none());
     let least = Accumulator::new(i128::MIN);
