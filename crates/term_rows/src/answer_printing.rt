@@ -1,14 +1,11 @@
 //! Answers made by hand, with the texts that the rules give for them.
 
-ghost use Rattle.std.specs.Prelude.{◌≡◌};
-ghost use Rattle.std.specs.List.{list_all};
-ghost use Rattle.term_tree.specs.Arena.{is_below};
-
+use crate::arenas::{apply, number, put};
 use answer_text::{Answer, Line, UnknownCause, error_line, level_line, write_answer};
 use base::Items;
 use std::alloc::Global;
+use std::mem;
 use std::process::Abort;
-use std::test::Fail;
 use term_tree::{
     Definition, Kind, Name, Node, OpKind, Pred, Refusal, Script, Sort, TermId, Terms, Value,
 };
@@ -31,7 +28,7 @@ fn pred(rt: &impl Abort, alloc: Global, name: &[u8], sorts: &[Sort]) -> Pred {
     }
 }
 
-fn script(rt: &impl Abort, alloc: Global, preds: &[(&[u8], &[Sort])]) -> Script {
+pub(crate) fn script(rt: &impl Abort, alloc: Global, preds: &[(&[u8], &[Sort])]) -> Script {
     let mut declared = Vec::new(alloc);
     for (name, sorts) in preds {
         declared
@@ -79,42 +76,13 @@ fn derivation(rt: &impl Abort, alloc: Global, steps: &[Step]) -> Answer {
     Answer::Unsat(Items::from_vec(lines))
 }
 
-fn are_below(args: &[TermId], length: usize) -> bool
-    ensures { result ≡ list_all (is_below length) args.now }
-{
-    args.iter().all(|arg| (arg.0 as usize) < length)
-}
-
-/// Adds an application, where its parts are there.
-fn apply(rt: &impl Abort, alloc: Global, terms: &mut Terms, op: OpKind, args: &[TermId]) -> TermId {
-    assert!(rt; terms.len() <= 1000 && are_below(args, terms.len()));
-    let args = Items::from_slice(alloc, args).expect(rt, "memory");
-    terms.add(Node::Op { op, args }, 0).expect(rt, "memory")
-}
-
-fn number(rt: &impl Abort, terms: &mut Terms, number: i64) -> TermId {
-    assert!(rt; terms.len() <= 1000);
-    terms.add(Node::Num(number), 0).expect(rt, "memory")
-}
-
 fn argument(rt: &impl Abort, terms: &mut Terms, binder: u32, sort: Sort) -> TermId {
-    assert!(rt; terms.len() <= 1000);
-    terms
-        .add(Node::Var { binder, sort }, 0)
-        .expect(rt, "memory")
-}
-
-fn multiple(rt: &impl Abort, terms: &mut Terms, by: i64, arg: TermId) -> TermId {
-    assert!(rt; terms.len() <= 1000 && (arg.0 as usize) < terms.len());
-    terms
-        .add(Node::Divisible { by, arg }, 0)
-        .expect(rt, "memory")
+    put(rt, terms, Node::Var { binder, sort }, 0)
 }
 
 fn truth(rt: &impl Abort, terms: &mut Terms, truth: bool) -> TermId {
-    assert!(rt; terms.len() <= 1000);
     let node = if truth { Node::True } else { Node::False };
-    terms.add(node, 0).expect(rt, "memory")
+    put(rt, terms, node, 0)
 }
 
 /// One definition for each predicate, true and false in turn.
@@ -136,20 +104,23 @@ fn constants(rt: &impl Abort, alloc: Global, count: u32) -> Answer {
     Answer::Sat(Items::from_vec(definitions))
 }
 
+/// The one definition of predicate 0, of this term.
+fn model(rt: &impl Abort, alloc: Global, terms: Terms, body: TermId) -> Answer {
+    let definition = Definition {
+        pred: 0,
+        params: Items::new(alloc),
+        terms,
+        body,
+    };
+    let definitions = Vec::from_array(alloc, [definition]).expect(rt, "memory");
+    Answer::Sat(Items::from_vec(definitions))
+}
+
 /// Nothing holds of the one predicate.
 fn nothing(rt: &impl Abort, alloc: Global) -> Answer {
     let mut terms = Terms::new(alloc);
     let body = truth(rt, &mut terms, false);
-    let params = Items::new(alloc);
-    let definition = Definition {
-        pred: 0,
-        params,
-        terms,
-        body,
-    };
-    let mut definitions = Vec::new(alloc);
-    definitions.push(definition).expect(rt, "memory");
-    Answer::Sat(Items::from_vec(definitions))
+    model(rt, alloc, terms, body)
 }
 
 /// The Bool argument less twice the Int argument is at most 5.
@@ -176,176 +147,158 @@ fn lemma(rt: &impl Abort, alloc: Global) -> Answer {
     let mut terms = Terms::new(alloc);
     let at_most = bound(rt, alloc, &mut terms);
     let x0 = argument(rt, &mut terms, 0, Sort::Int);
-    let divisible = multiple(rt, &mut terms, 3, x0);
+    let divisible = put(rt, &mut terms, Node::Divisible { by: 3, arg: x0 }, 0);
     let cube = apply(rt, alloc, &mut terms, OpKind::And, &[at_most, divisible]);
     let body = apply(rt, alloc, &mut terms, OpKind::Not, &[cube]);
-    let params = Items::new(alloc);
-    let definition = Definition {
-        pred: 0,
-        params,
-        terms,
-        body,
-    };
-    let mut definitions = Vec::new(alloc);
-    definitions.push(definition).expect(rt, "memory");
-    Answer::Sat(Items::from_vec(definitions))
+    model(rt, alloc, terms, body)
 }
 
-fn expect(
-    rt: &impl Abort,
-    alloc: Global,
-    preds: &[(&[u8], &[Sort])],
-    answer: &Answer,
-    text: &[u8],
-) {
+/// Asserts how an answer is printed. What it is made of isn't let go, since that costs a proof.
+fn expect(rt: &impl Abort, alloc: Global, preds: &[(&[u8], &[Sort])], answer: Answer, text: &str) {
     let script = script(rt, alloc, preds);
-    let printed = write_answer(alloc, &script, answer).expect(rt, "memory");
-    assert!(rt; printed.as_slice() == text);
+    let printed = write_answer(alloc, &script, &answer).expect(rt, "memory");
+    mem::forget(answer);
+    mem::forget(script);
+    assert!(rt; printed.as_slice() == text.as_bytes());
 }
 
-/// The step to the next number.
-fn next<'a>(values: &'a [Value], premises: &'a [u64], conclusion: &'a [Value]) -> Step<'a> {
+const COUNTING: [Step; 5] = [
     Step {
-        assertion: 2,
-        values,
-        premises,
-        head: Some((0, conclusion)),
-    }
-}
-
-#[test]
-fn a_derivation_by_counting_up_is_printed_step_by_step(rt: HostRuntime) -> Result<(), Fail> {
-    let alloc = rt.alloc();
-    let steps = [
-        Step {
-            assertion: 1,
-            values: &[],
-            premises: &[],
-            head: Some((0, &[Value::Int(0)])),
-        },
-        next(&[Value::Int(0)], &[1], &[Value::Int(1)]),
-        next(&[Value::Int(1)], &[2], &[Value::Int(2)]),
-        next(&[Value::Int(2)], &[3], &[Value::Int(3)]),
-        Step {
-            assertion: 3,
-            values: &[],
-            premises: &[4],
-            head: None,
-        },
-    ];
-    let answer = derivation(&rt, alloc, &steps);
-    let text =
-        b"unsat\n(derivation\n(step 1 1 () () (p 0))\n(step 2 2 (0) (1) (p 1))\n(step 3 2 (1) (2) (p 2))\n(step 4 2 (2) (3) (p 3))\n(step 5 3 () (4) false)\n)\n";
-    expect(&rt, alloc, &[(b"p", &[Sort::Int])], &answer, text);
-    Ok(())
-}
-
-#[test]
-fn a_false_assertion_is_refuted_in_one_step(rt: HostRuntime) -> Result<(), Fail> {
-    let alloc = rt.alloc();
-    let steps = [Step {
         assertion: 1,
         values: &[],
         premises: &[],
+        head: Some((0, &[Value::Int(0)])),
+    },
+    Step {
+        assertion: 2,
+        values: &[Value::Int(0)],
+        premises: &[1],
+        head: Some((0, &[Value::Int(1)])),
+    },
+    Step {
+        assertion: 2,
+        values: &[Value::Int(1)],
+        premises: &[2],
+        head: Some((0, &[Value::Int(2)])),
+    },
+    Step {
+        assertion: 2,
+        values: &[Value::Int(2)],
+        premises: &[3],
+        head: Some((0, &[Value::Int(3)])),
+    },
+    Step {
+        assertion: 3,
+        values: &[],
+        premises: &[4],
         head: None,
-    }];
-    let answer = derivation(&rt, alloc, &steps);
-    let text = b"unsat\n(derivation\n(step 1 1 () () false)\n)\n";
-    expect(&rt, alloc, &[], &answer, text);
-    Ok(())
-}
+    },
+];
+
+const COUNTED: &str =
+    "unsat\n(derivation\n(step 1 1 () () (p 0))\n(step 2 2 (0) (1) (p 1))\n(step 3 2 (1) (2) (p 2))\n(step 4 2 (2) (3) (p 3))\n(step 5 3 () (4) false)\n)\n";
 
 #[test]
-fn truth_values_and_negative_numbers_stand_in_steps(rt: HostRuntime) -> Result<(), Fail> {
-    let alloc = rt.alloc();
-    let steps = [
-        Step {
-            assertion: 1,
-            values: &[],
-            premises: &[],
-            head: Some((0, &[])),
-        },
-        Step {
-            assertion: 2,
-            values: &[],
-            premises: &[1],
-            head: Some((1, &[Value::Bool(true), Value::Int(-2)])),
-        },
-        Step {
-            assertion: 3,
-            values: &[Value::Bool(true), Value::Int(-2)],
-            premises: &[2],
-            head: None,
-        },
-    ];
-    let answer = derivation(&rt, alloc, &steps);
-    let text =
-        b"unsat\n(derivation\n(step 1 1 () () q)\n(step 2 2 () (1) (r true (- 2)))\n(step 3 3 (true (- 2)) (2) false)\n)\n";
-    expect(
-        &rt,
-        alloc,
-        &[(b"q", &[]), (b"r", &[Sort::Bool, Sort::Int])],
-        &answer,
-        text,
-    );
-    Ok(())
+fn a_derivation_by_counting_up_is_printed_step_by_step(rt: HostRuntime) {
+    let answer = derivation(&rt, rt.alloc(), &COUNTING);
+    expect(&rt, rt.alloc(), &[(b"p", &[Sort::Int])], answer, COUNTED);
 }
 
-#[test]
-fn names_stand_between_bars_where_they_are_no_simple_symbols(rt: HostRuntime) -> Result<(), Fail> {
-    let alloc = rt.alloc();
-    let answer = constants(&rt, alloc, 5);
-    let preds: [(&[u8], &[Sort]); 5] = [
-        (b"main@entry", &[Sort::Int, Sort::Bool]),
-        (b"a b", &[]),
-        (b"7up", &[]),
-        (b"", &[]),
-        (b"let", &[]),
-    ];
-    let text =
-        b"sat\n(\n(define-fun main@entry ((x0 Int) (x1 Bool)) Bool true)\n(define-fun |a b| () Bool false)\n(define-fun |7up| () Bool true)\n(define-fun || () Bool false)\n(define-fun |let| () Bool true)\n)\n";
-    expect(&rt, alloc, &preds, &answer, text);
-    Ok(())
-}
+const FALSE: [Step; 1] = [Step {
+    assertion: 1,
+    values: &[],
+    premises: &[],
+    head: None,
+}];
+
+const REFUTED: &str = "unsat\n(derivation\n(step 1 1 () () false)\n)\n";
 
 #[test]
-fn a_lemma_is_the_negation_of_a_cube_of_literals(rt: HostRuntime) -> Result<(), Fail> {
-    let alloc = rt.alloc();
-    let answer = lemma(&rt, alloc);
-    let text =
-        b"sat\n(\n(define-fun p ((x0 Int) (x1 Bool)) Bool (not (and (<= (+ (* (- 2) x0) (ite x1 1 0)) 5) ((_ divisible 3) x0))))\n)\n";
-    expect(
-        &rt,
-        alloc,
-        &[(b"p", &[Sort::Int, Sort::Bool])],
-        &answer,
-        text,
-    );
-    Ok(())
+fn a_false_assertion_is_refuted_in_one_step(rt: HostRuntime) {
+    let answer = derivation(&rt, rt.alloc(), &FALSE);
+    expect(&rt, rt.alloc(), &[], answer, REFUTED);
 }
 
-#[test]
-fn a_predicate_without_clauses_is_false(rt: HostRuntime) -> Result<(), Fail> {
-    let alloc = rt.alloc();
-    let answer = nothing(&rt, alloc);
-    let text = b"sat\n(\n(define-fun p ((x0 Int)) Bool false)\n)\n";
-    expect(&rt, alloc, &[(b"p", &[Sort::Int])], &answer, text);
-    Ok(())
-}
+const MIXED: [Step; 3] = [
+    Step {
+        assertion: 1,
+        values: &[],
+        premises: &[],
+        head: Some((0, &[])),
+    },
+    Step {
+        assertion: 2,
+        values: &[],
+        premises: &[1],
+        head: Some((1, &[Value::Bool(true), Value::Int(-2)])),
+    },
+    Step {
+        assertion: 3,
+        values: &[Value::Bool(true), Value::Int(-2)],
+        premises: &[2],
+        head: None,
+    },
+];
+
+const MIXED_TEXT: &str =
+    "unsat\n(derivation\n(step 1 1 () () q)\n(step 2 2 () (1) (r true (- 2)))\n(step 3 3 (true (- 2)) (2) false)\n)\n";
 
 #[test]
-fn an_unknown_answer_has_its_level_and_cause(rt: HostRuntime) -> Result<(), Fail> {
-    let alloc = rt.alloc();
-    let cases: [(u32, UnknownCause, &[u8]); 4] = [
-        (0, UnknownCause::Units(0), b"unknown\n; level 0 units 0\n"),
-        (1, UnknownCause::Units(1), b"unknown\n; level 1 units 1\n"),
-        (0, UnknownCause::Stalled, b"unknown\n; level 0 stalled\n"),
-        (7, UnknownCause::NoMemory, b"unknown\n; level 7 memory\n"),
-    ];
-    for (level, cause, text) in cases {
-        expect(&rt, alloc, &[], &Answer::Unknown { level, cause }, text);
+fn truth_values_and_negative_numbers_stand_in_steps(rt: HostRuntime) {
+    let answer = derivation(&rt, rt.alloc(), &MIXED);
+    let preds: [(&[u8], &[Sort]); 2] = [(b"q", &[]), (b"r", &[Sort::Bool, Sort::Int])];
+    expect(&rt, rt.alloc(), &preds, answer, MIXED_TEXT);
+}
+
+/// Predicates whose names but the first aren't simple symbols.
+pub(crate) const NAMED: [(&'static [u8], &'static [Sort]); 5] = [
+    (b"main@entry", &[Sort::Int, Sort::Bool]),
+    (b"a b", &[]),
+    (b"7up", &[]),
+    (b"", &[]),
+    (b"let", &[]),
+];
+
+const NAMES: &str =
+    "sat\n(\n(define-fun main@entry ((x0 Int) (x1 Bool)) Bool true)\n(define-fun |a b| () Bool false)\n(define-fun |7up| () Bool true)\n(define-fun || () Bool false)\n(define-fun |let| () Bool true)\n)\n";
+
+#[test]
+fn names_stand_between_bars_where_they_are_no_simple_symbols(rt: HostRuntime) {
+    let answer = constants(&rt, rt.alloc(), 5);
+    expect(&rt, rt.alloc(), &NAMED, answer, NAMES);
+}
+
+const LEMMA: &str =
+    "sat\n(\n(define-fun p ((x0 Int) (x1 Bool)) Bool (not (and (<= (+ (* (- 2) x0) (ite x1 1 0)) 5) ((_ divisible 3) x0))))\n)\n";
+
+#[test]
+fn a_lemma_is_the_negation_of_a_cube_of_literals(rt: HostRuntime) {
+    let answer = lemma(&rt, rt.alloc());
+    let preds: [(&[u8], &[Sort]); 1] = [(b"p", &[Sort::Int, Sort::Bool])];
+    expect(&rt, rt.alloc(), &preds, answer, LEMMA);
+}
+
+const NOTHING: &str = "sat\n(\n(define-fun p ((x0 Int)) Bool false)\n)\n";
+
+#[test]
+fn a_predicate_without_clauses_is_false(rt: HostRuntime) {
+    let answer = nothing(&rt, rt.alloc());
+    expect(&rt, rt.alloc(), &[(b"p", &[Sort::Int])], answer, NOTHING);
+}
+
+const UNKNOWNS: [(u32, UnknownCause, &'static str); 4] = [
+    (0, UnknownCause::Units(0), "unknown\n; level 0 units 0\n"),
+    (1, UnknownCause::Units(1), "unknown\n; level 1 units 1\n"),
+    (0, UnknownCause::Stalled, "unknown\n; level 0 stalled\n"),
+    (7, UnknownCause::NoMemory, "unknown\n; level 7 memory\n"),
+];
+
+#[test]
+fn an_unknown_answer_has_its_level_and_cause(rt: HostRuntime) {
+    for (level, cause, text) in UNKNOWNS {
+        let answer = Answer::Unknown { level, cause };
+        expect(&rt, rt.alloc(), &[], answer, text);
     }
-    Ok(())
 }
 
 #[test]

@@ -1,5 +1,6 @@
 //! Scripts of one assertion for tests, as lists of terms.
 
+use crate::arenas::put;
 use base::Items;
 use horn_shape::{HornClause, HornStop, clause_of, has_assertion};
 use std::alloc::Global;
@@ -10,7 +11,7 @@ use term_tree::{Assertion, Node, OpKind, Script, Sort, TermId, Terms};
 /// nothing, t of a Bool, numbered from 0.
 #[derive(Clone, Copy)]
 pub(crate) enum Shape {
-    Num,
+    Num(i64),
     Var,
     True,
     False,
@@ -24,21 +25,8 @@ pub(crate) enum Shape {
     Let,
 }
 
-/// A term, its parts by number, and where it starts.
-#[derive(Clone, Copy)]
-pub(crate) struct Row<'a> {
-    pub(crate) shape: Shape,
-    pub(crate) parts: &'a [u32],
-    pub(crate) offset: u32,
-}
-
-pub(crate) fn term<'a>(shape: Shape, parts: &'a [u32], offset: u32) -> Row<'a> {
-    Row {
-        shape,
-        parts,
-        offset,
-    }
-}
+/// What a term is made by, its parts by number, and where it starts.
+pub(crate) type Row = (Shape, &'static [u32], u32);
 
 fn ids(rt: &impl Abort, alloc: Global, numbers: &[u32]) -> Items<TermId> {
     let mut ids = Items::new(alloc);
@@ -56,7 +44,7 @@ fn node(rt: &impl Abort, alloc: Global, shape: Shape, parts: &[u32]) -> Node {
     let last = parts.last().copied().unwrap_or(0);
     let args = ids(rt, alloc, parts);
     match shape {
-        Shape::Num => Node::Num(1),
+        Shape::Num(number) => Node::Num(number),
         Shape::Var => Node::Var {
             binder: 0,
             sort: Sort::Int,
@@ -92,19 +80,25 @@ fn but_last(parts: &[u32]) -> &[u32] {
     }
 }
 
-/// The clause of the last row, where nothing but terms is asked of the script.
-pub(crate) fn clause(
+/// Adds a term.
+pub(crate) fn put_term(
     rt: &impl Abort,
     alloc: Global,
-    rows: &[Row<'_>],
+    terms: &mut Terms,
+    shape: Shape,
+    parts: &[u32],
+    offset: u32,
+) {
+    put(rt, terms, node(rt, alloc, shape, parts), offset);
+}
+
+/// The clause of the last term, where nothing but terms is asked of the script.
+pub(crate) fn clause_of_last(
+    rt: &impl Abort,
+    alloc: Global,
+    terms: Terms,
 ) -> Result<HornClause, HornStop> {
-    let mut terms = Terms::new(alloc);
-    for row in rows {
-        let node = node(rt, alloc, row.shape, row.parts);
-        assert!(rt; terms.len() < 100 && node.has_parts_below(terms.len()));
-        terms.add(node, row.offset).expect(rt, "memory");
-    }
-    assert!(rt; terms.len() > 0 && terms.len() < 100);
+    assert!(rt; terms.len() > 0 && terms.len() < 3000);
     let assertion = Assertion {
         term: TermId(terms.len() as u32 - 1),
         offset: 0,
@@ -118,4 +112,13 @@ pub(crate) fn clause(
     };
     assert!(rt; has_assertion(&script, 0));
     clause_of(alloc, &script, 0)
+}
+
+/// The clause of the last row.
+pub(crate) fn clause(rt: &impl Abort, alloc: Global, rows: &[Row]) -> Result<HornClause, HornStop> {
+    let mut terms = Terms::new(alloc);
+    for (shape, parts, offset) in rows {
+        put_term(rt, alloc, &mut terms, *shape, parts, *offset);
+    }
+    clause_of_last(rt, alloc, terms)
 }

@@ -7,7 +7,7 @@ mod answer_printing;
 #[cfg(test)]
 mod answer_reading;
 #[cfg(test)]
-mod horn_clauses;
+mod arenas;
 #[cfg(test)]
 mod horn_forms;
 #[cfg(test)]

@@ -1,7 +1,7 @@
 //! Texts with their trees, written by hand from the rules. A leaf is shown by the first letter of
 //! its kind and its offsets, a list by its items and its offsets, and then the stop.
 
-use base::{Copied, Memory, Same};
+use base::{Copied, Same};
 use sexp_read::{
     LeafKind, Next, Reader, TextStop, Tree, Trees, leaf_bytes, numeral_value, read_commands,
     symbol_bytes,
@@ -20,21 +20,17 @@ fn letter(kind: LeafKind) -> char {
     }
 }
 
-fn put_leaf(
-    alloc: Global,
-    kind: LeafKind,
-    start: u32,
-    end: u32,
-    shown: &mut String,
-) -> Result<(), Memory> {
+fn shown_leaf(rt: &impl Abort, alloc: Global, kind: LeafKind, start: u32, end: u32) -> String {
     let kind = letter(kind);
-    let leaf = format!(in alloc; "{kind}{start}-{end}")?;
-    Ok(shown.push_str(leaf.as_str())?)
+    format!(in alloc; "{kind}{start}-{end}").expect(rt, "memory")
 }
 
-fn put_end(alloc: Global, start: u32, end: u32, shown: &mut String) -> Result<(), Memory> {
-    let offsets = format!(in alloc; "){start}-{end}")?;
-    Ok(shown.push_str(offsets.as_str())?)
+fn shown_end(rt: &impl Abort, alloc: Global, start: u32, end: u32) -> String {
+    format!(in alloc; "){start}-{end}").expect(rt, "memory")
+}
+
+pub(crate) fn add(rt: &impl Abort, shown: &mut String, part: &str) {
+    shown.push_str(part).expect(rt, "memory");
 }
 
 /// What stands in front of the tree of that place in a list.
@@ -43,24 +39,29 @@ fn before(place: usize) -> &'static str {
 }
 
 #[cycle(show)]
-fn show(alloc: Global, tree: &Tree, shown: &mut String) -> Result<(), Memory> {
+fn show(rt: &impl Abort, alloc: Global, tree: &Tree, shown: &mut String) {
     match tree {
-        Tree::Leaf { kind, start, end } => put_leaf(alloc, *kind, *start, *end, shown),
+        Tree::Leaf { kind, start, end } => {
+            add(
+                rt,
+                shown,
+                shown_leaf(rt, alloc, *kind, *start, *end).as_str(),
+            )
+        }
         Tree::List { items, start, end } => {
-            shown.push_str("(")?;
-            show_all(alloc, items.as_slice(), shown)?;
-            put_end(alloc, *start, *end, shown)
+            add(rt, shown, "(");
+            show_all(rt, alloc, items.as_slice(), shown);
+            add(rt, shown, shown_end(rt, alloc, *start, *end).as_str())
         }
     }
 }
 
 #[cycle(show)]
-fn show_all(alloc: Global, trees: &[Tree], shown: &mut String) -> Result<(), Memory> {
+fn show_all(rt: &impl Abort, alloc: Global, trees: &[Tree], shown: &mut String) {
     for (place, tree) in trees.iter().enumerate() {
-        shown.push_str(before(place))?;
-        show(alloc, tree, shown)?;
+        add(rt, shown, before(place));
+        show(rt, alloc, tree, shown);
     }
-    Ok(())
 }
 
 fn shown_stop(rt: &impl Abort, alloc: Global, stop: Option<TextStop>) -> String {
@@ -75,9 +76,8 @@ fn shown_stop(rt: &impl Abort, alloc: Global, stop: Option<TextStop>) -> String 
 
 fn shown(rt: &impl Abort, alloc: Global, read: &Trees) -> String {
     let mut shown = String::new(alloc);
-    show_all(alloc, read.trees.as_slice(), &mut shown).expect(rt, "memory");
-    let stop = shown_stop(rt, alloc, read.stop);
-    shown.push_str(stop.as_str()).expect(rt, "memory");
+    show_all(rt, alloc, read.trees.as_slice(), &mut shown);
+    add(rt, &mut shown, shown_stop(rt, alloc, read.stop).as_str());
     shown
 }
 
@@ -86,7 +86,7 @@ fn check(rt: &impl Abort, alloc: Global, shows: &str, text: &[u8], expected: &st
     assert!(rt; text.len() < 10000, "{shows}");
     let read = read_commands(alloc, text).expect(rt, "memory");
     let found = shown(rt, alloc, &read);
-    assert_eq!(rt; found.as_str(), expected, "{shows}");
+    assert!(rt; found.as_str() == expected, "{shows}");
 }
 
 /// What a case shows, its text and its reading.
@@ -350,7 +350,7 @@ fn tree_at(
     let mut found = String::new(alloc);
     match reader.read(text, at).expect(rt, "memory") {
         Next::Tree { tree, end } => {
-            show(alloc, &tree, &mut found).expect(rt, "memory");
+            show(rt, alloc, &tree, &mut found);
             (found, end)
         }
         Next::Stop(_) => (found, text.len()),

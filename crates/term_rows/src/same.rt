@@ -1,22 +1,7 @@
-use base::Items;
+use crate::arenas::{apply, number, put};
 use std::alloc::Global;
 use std::process::Abort;
 use term_tree::{Node, OpKind, Sort, TermId, Terms, same_terms};
-
-fn put(rt: &impl Abort, terms: &mut Terms, node: Node, offset: u32) -> TermId {
-    assert!(rt; terms.len() < 1000);
-    assert!(rt; node.has_parts_below(terms.len()));
-    terms.add(node, offset).expect(rt, "memory")
-}
-
-fn number(rt: &impl Abort, terms: &mut Terms, n: i64) -> TermId {
-    put(rt, terms, Node::Num(n), 7)
-}
-
-fn apply(rt: &impl Abort, alloc: Global, terms: &mut Terms, op: OpKind, args: &[TermId]) -> TermId {
-    let args = Items::from_slice(alloc, args).expect(rt, "memory");
-    put(rt, terms, Node::Op { op, args }, 3)
-}
 
 fn same(rt: &impl Abort, alloc: Global, a: &Terms, i: TermId, b: &Terms, j: TermId) -> bool {
     same_terms(alloc, a, i, b, j).expect(rt, "memory")

@@ -5,7 +5,7 @@
 ghost use Rattle.std.specs.Prelude.{◌+◌, ◌<◌, ◌^◌, length};
 ghost use Rattle.term_check.specs.Weight.{weight};
 
-use crate::reading::parts;
+use crate::reading::{add, parts};
 use crate::spellings::TERMS;
 use base::{Items, Memory};
 use sexp_read::{Tree, read_commands};
@@ -15,10 +15,6 @@ use term_check::{
     Fault, FormulaStop, Signature, TermStop, check_formula, check_term, trees_are_light,
 };
 use term_tree::{Name, Node, OpKind, Pred, Sort, TermId, Terms};
-
-fn add(rt: &impl Abort, shown: &mut String, part: &str) {
-    shown.push_str(part).expect(rt, "memory");
-}
 
 fn add_number(rt: &impl Abort, alloc: Global, shown: &mut String, number: u32) {
     let part = format!(in alloc; ",{number}").expect(rt, "memory");
@@ -189,6 +185,11 @@ fn read(
     }
 }
 
+/// Whether a text begins so, or is that text.
+fn is_as_told(found: &str, expected: &str, whole: bool) -> bool {
+    found.starts_with(expected) && (!whole || found.len() == expected.len())
+}
+
 /// Asserts how what the first tree of the text gives begins, or all of it.
 fn check(
     rt: &impl Abort,
@@ -201,10 +202,7 @@ fn check(
 ) {
     assert!(rt; text.len() < 100000, "{shows}");
     let found = read(rt, alloc, text, signature).expect(rt, "memory");
-    if whole {
-        assert_eq!(rt; found.as_str(), expected, "{shows}");
-    }
-    assert!(rt; found.as_str().starts_with(expected), "{shows}");
+    assert!(rt; is_as_told(found.as_str(), expected, whole), "{shows}");
 }
 
 #[test]
