@@ -1,10 +1,12 @@
 //! A run by hand on three clauses: `p(0)`; where `x1 = x0 + 1`, `p(x0)` gives `p(x1)`; and `p(3)` gives
-//! false.
+//! false. No book is let go, since that costs a proof.
 
 use crate::clauses::{contradiction, counting};
+use crate::frames::lends;
 use crate::turns::{Told, Turn, run};
 use chc_core::{Book, By, End, Snapshot};
 use std::alloc::Global;
+use std::mem;
 use std::process::Abort;
 
 /// The run up to the Open, and what follows it.
@@ -45,13 +47,9 @@ fn hand_in_third(rt: &impl Abort, alloc: Global, book: &mut Book) {
 
 /// Whether these are the leaves, and the lemmas of p of level 1 and of level 2 or more.
 fn stands(book: &Book, leaves: &[u32], first: &[u32], second: &[u32]) -> bool {
-    let frames = book.frames();
-    if frames.preds() < 1 {
-        return false;
-    }
     book.tree().live_leaves() == leaves
-        && frames.upper(0, 1) == first
-        && frames.upper(0, 2) == second
+        && lends(book.frames(), 0, 1, first)
+        && lends(book.frames(), 0, 2, second)
 }
 
 #[test]
@@ -66,6 +64,7 @@ fn each_step_has_its_answer(rt: HostRuntime) {
     assert!(rt; book.units() == 4);
     assert!(rt; book.length() == 4);
     assert!(rt; book.end().is_none());
+    mem::forget(book);
 }
 
 /// Whether the snapshot is of the book after the Open.
@@ -83,6 +82,8 @@ fn a_snapshot_stays_as_it_was(rt: HostRuntime) {
     hand_in_third(&rt, rt.alloc(), &mut book);
     assert!(rt; is_old(&old));
     assert!(rt; book.frames().count() == 1);
+    mem::forget(old);
+    mem::forget(book);
 }
 
 const ONE_UNIT: [(Turn, Told); 2] = [
@@ -90,14 +91,11 @@ const ONE_UNIT: [(Turn, Told); 2] = [
     (Turn::Raise(false, 0, 0), Told::Spent(1)),
 ];
 
-fn hand_in_one_unit(rt: &impl Abort, alloc: Global, book: &mut Book) {
-    run(rt, alloc, book, &ONE_UNIT);
-}
-
 #[test]
 fn units_are_spent(rt: HostRuntime) {
     let mut book = counting(&rt, rt.alloc(), 1);
-    hand_in_one_unit(&rt, rt.alloc(), &mut book);
+    run(&rt, rt.alloc(), &mut book, &ONE_UNIT);
+    mem::forget(book);
 }
 
 const FALSE: [(Turn, Told); 2] = [
@@ -105,12 +103,9 @@ const FALSE: [(Turn, Told); 2] = [
     (Turn::Nothing, Told::Ended(End::Unsat { fact: 0 })),
 ];
 
-fn hand_in_false(rt: &impl Abort, alloc: Global, book: &mut Book) {
-    run(rt, alloc, book, &FALSE);
-}
-
 #[test]
 fn false_ends_the_book(rt: HostRuntime) {
     let mut book = contradiction(&rt, rt.alloc());
-    hand_in_false(&rt, rt.alloc(), &mut book);
+    run(&rt, rt.alloc(), &mut book, &FALSE);
+    mem::forget(book);
 }

@@ -1,10 +1,12 @@
-//! Runs on two clauses with choices: `p(0)` and `p(7)`; and `p(0)` up to `p(5)` each give false.
+//! Runs on two clauses with choices: `p(0)` and `p(7)`; and `p(0)` up to `p(5)` each give false. No book
+//! is let go, since that costs a proof.
 
 use crate::clauses::choices;
 use crate::turns::{Told, Turn, run};
-use chc_core::{Book, By, End};
+use chc_core::{By, End};
 use derivations::Facts;
 use std::alloc::Global;
+use std::mem;
 use std::process::Abort;
 
 const CHILDREN: [(Turn, Told); 9] = [
@@ -19,15 +21,12 @@ const CHILDREN: [(Turn, Told); 9] = [
     (Turn::Open(1, 5), Told::Rule(8, By::Obligation(1))),
 ];
 
-fn hand_in_children(rt: &impl Abort, alloc: Global, book: &mut Book) {
-    run(rt, alloc, book, &CHILDREN);
-}
-
 #[test]
 fn four_children_are_enough(rt: HostRuntime) {
     let mut book = choices(&rt, rt.alloc());
-    hand_in_children(&rt, rt.alloc(), &mut book);
+    run(&rt, rt.alloc(), &mut book, &CHILDREN);
     assert!(rt; book.tree().live_leaves() == [1, 2, 3, 4].as_slice());
+    mem::forget(book);
 }
 
 const FACTS: [(Turn, Told); 8] = [
@@ -44,10 +43,6 @@ const FACTS: [(Turn, Told); 8] = [
     ),
 ];
 
-fn hand_in_facts(rt: &impl Abort, alloc: Global, book: &mut Book) {
-    run(rt, alloc, book, &FACTS);
-}
-
 /// Whether fact 1 rests on fact 0 and itself.
 fn rests(rt: &impl Abort, facts: &Facts) -> bool {
     if facts.count() < 2 {
@@ -60,7 +55,8 @@ fn rests(rt: &impl Abort, facts: &Facts) -> bool {
 #[test]
 fn false_rests_on_its_facts(rt: HostRuntime) {
     let mut book = choices(&rt, rt.alloc());
-    hand_in_facts(&rt, rt.alloc(), &mut book);
+    run(&rt, rt.alloc(), &mut book, &FACTS);
     assert!(rt; rests(&rt, book.facts()));
     assert!(rt; book.tree().live_leaves().is_empty());
+    mem::forget(book);
 }

@@ -11,8 +11,9 @@ use crate::counters::{
     COUNTERS, FAR, apart, begins_below, below, clause_of, counters, from, isnt_far, least, reaches,
     stays_below,
 };
+use crate::lits::only;
 use crate::replays::take;
-use crate::tokens::{instance, only};
+use crate::tokens::instance;
 use crate::turns::{fact, projected};
 use base::Items;
 use chc_core::{Book, LemmaPart, OpenPart, RaisePart, Step};
@@ -21,6 +22,7 @@ use clause_form::System;
 use cube_forms::Cube;
 use model_project::Projected;
 use std::alloc::Global;
+use std::mem;
 use std::process::Abort;
 
 /// How many facts each counter gets at a level.
@@ -29,7 +31,9 @@ const FACTS: u32 = 24;
 /// The area of one variable of a query, at a value of the counter.
 fn area(rt: &impl Abort, alloc: Global, value: i64, kept: u32) -> Projected {
     let lits = [apart(rt, alloc), least(rt, alloc, 0)];
-    projected(rt, alloc, &lits, &[value, value.wrapping_add(FAR)], kept)
+    let area = projected(rt, alloc, &lits, &[value, value.wrapping_add(FAR)], kept);
+    mem::forget(lits);
+    area
 }
 
 /// An Open of the root by a counter's query, for an atom.

@@ -4,13 +4,14 @@
 ghost use Rattle.std.specs.Prelude.{◌≡◌, true};
 ghost use Rattle.chc_tokens.specs.Tokens.{IsNoLift, IsShownToken};
 
-use crate::clauses::{atom, book, clause, is, lin, next};
-use crate::tokens::{broken_by, leaf, token};
+use crate::clauses::{book, clause, next, rule, step};
+use crate::lits::{cube, denied, is, lin};
+use crate::tokens::{both, broken_by, leaf, token, used};
 use base::Items;
 use chc_core::Book;
-use chc_tokens::{Goal, NoLift, Shown, Used};
-use clause_form::{Atom, Clause, System};
-use cube_forms::{Cube, Lemma, negate};
+use chc_tokens::{Goal, NoLift, Shown};
+use clause_form::{Clause, System};
+use cube_forms::{Cube, Lemma};
 use lin_atoms::{Form, Lit};
 use std::alloc::Global;
 use std::process::Abort;
@@ -38,78 +39,43 @@ pub(crate) fn apart(rt: &impl Abort, alloc: Global) -> Lit {
 
 /// The cube of the values from this one on.
 pub(crate) fn from(rt: &impl Abort, alloc: Global, value: i64) -> Cube {
-    let lits = Vec::from_array(alloc, [least(rt, alloc, value)]).expect(rt, "memory");
-    Cube::new(alloc, lits).expect(rt, "a cube")
-}
-
-/// The predicates at x0, x1 and so on.
-fn atoms(rt: &impl Abort, alloc: Global, preds: &[u32]) -> Items<Atom> {
-    let mut atoms = Items::new(alloc);
-    let mut variable = 0u32;
-    for pred in preds {
-        atoms
-            .push(atom(rt, alloc, *pred, variable))
-            .expect(rt, "memory");
-        variable = variable.wrapping_add(1);
-    }
-    atoms
-}
-
-/// A counter is 0.
-fn start(rt: &impl Abort, alloc: Global, counter: u32) -> Clause {
-    let guard = Form::Lit(is(rt, alloc, 0, 0));
-    let head = atom(rt, alloc, counter, 0);
-    clause(rt, alloc, 1, guard, Items::new(alloc), Some(head))
-}
-
-/// A counter that is x0 may be x0 + 1.
-fn step(rt: &impl Abort, alloc: Global, counter: u32) -> Clause {
-    let guard = Form::Lit(next(rt, alloc));
-    let body = atoms(rt, alloc, &[counter]);
-    let head = atom(rt, alloc, counter, 1);
-    clause(rt, alloc, 2, guard, body, Some(head))
-}
-
-fn both(rt: &impl Abort, alloc: Global, first: Lit, second: Lit) -> Form {
-    let parts = Vec::from_array(alloc, [Form::Lit(first), Form::Lit(second)]).expect(rt, "memory");
-    Form::And(Items::from_vec(parts))
+    cube(rt, alloc, least(rt, alloc, value))
 }
 
 /// False follows where a counter that is 0 or more is far below the other one.
 fn query(rt: &impl Abort, alloc: Global, counter: u32, other: u32) -> Clause {
-    let guard = both(rt, alloc, apart(rt, alloc), least(rt, alloc, 0));
-    let body = atoms(rt, alloc, &[counter, other]);
-    clause(rt, alloc, 2, guard, body, None)
+    let (apart, least) = (apart(rt, alloc), least(rt, alloc, 0));
+    let guard = both(rt, alloc, Form::Lit(apart), Form::Lit(least));
+    clause(rt, alloc, 2, guard, &[counter, other], None)
 }
 
-fn clauses(rt: &impl Abort, alloc: Global) -> Items<Clause> {
-    let mut clauses = Items::new(alloc);
-    for counter in 0..COUNTERS {
-        clauses.push(start(rt, alloc, counter)).expect(rt, "memory");
-        clauses.push(step(rt, alloc, counter)).expect(rt, "memory");
-        let other = (counter + 1) % COUNTERS;
-        clauses
-            .push(query(rt, alloc, counter, other))
-            .expect(rt, "memory");
-    }
+/// Adds the clauses of a counter: it is 0, one that is x0 may be x0 + 1, and its query.
+fn push_clauses(rt: &impl Abort, alloc: Global, counter: u32, clauses: &mut Items<Clause>) {
+    let zero = Form::Lit(is(rt, alloc, 0, 0));
     clauses
+        .push(rule(rt, alloc, counter, zero))
+        .expect(rt, "memory");
+    clauses
+        .push(step(rt, alloc, counter, next(rt, alloc)))
+        .expect(rt, "memory");
+    let other = counter.wrapping_add(1) % COUNTERS;
+    clauses
+        .push(query(rt, alloc, counter, other))
+        .expect(rt, "memory");
 }
 
 /// The book of the ten counters.
 pub(crate) fn counters(rt: &impl Abort, alloc: Global, units: u32) -> Book {
-    book(rt, alloc, clauses(rt, alloc), COUNTERS, units)
+    let mut clauses = Items::new(alloc);
+    for counter in 0..COUNTERS {
+        push_clauses(rt, alloc, counter, &mut clauses);
+    }
+    book(rt, alloc, clauses, COUNTERS, units)
 }
 
 /// 'Below the level'.
 pub(crate) fn below(rt: &impl Abort, alloc: Global, level: u32) -> Lemma {
-    let cube = from(rt, alloc, i64::from(level));
-    negate(alloc, &cube).expect(rt, "memory")
-}
-
-/// The lemma of the level before, on a body atom.
-fn used(rt: &impl Abort, alloc: Global, atom: u32, level: u32) -> Vec<Used> {
-    let lemma = below(rt, alloc, level);
-    Vec::from_array(alloc, [Used { atom, lemma }]).expect(rt, "memory")
+    denied(rt, alloc, least(rt, alloc, i64::from(level)))
 }
 
 /// A counter begins below a level from 1 up.
@@ -125,7 +91,7 @@ pub(crate) fn begins_below(
     let proof = leaf(rt, alloc, &[(0, 1), (1, 1)]);
     let goal = Goal::Holds(below(rt, alloc, level));
     let clause = clause_of(counter);
-    token(rt, alloc, sys, clause, goal, Vec::new(alloc), &proof)
+    token(rt, alloc, sys, clause, goal, Vec::new(alloc), proof)
 }
 
 /// A counter that was below the level before is below this one after a step.
@@ -141,8 +107,8 @@ pub(crate) fn stays_below(
     let proof = leaf(rt, alloc, &[(0, -1), (1, 1), (2, 1)]);
     let goal = Goal::Holds(below(rt, alloc, level));
     let clause = clause_of(counter).wrapping_add(1);
-    let used = used(rt, alloc, 0, level.wrapping_sub(1));
-    token(rt, alloc, sys, clause, goal, used, &proof)
+    let used = used(rt, alloc, 0, below(rt, alloc, level.wrapping_sub(1)));
+    token(rt, alloc, sys, clause, goal, used, proof)
 }
 
 /// A counter isn't far below another one that is below the level.
@@ -157,8 +123,8 @@ pub(crate) fn isnt_far(
 {
     let proof = leaf(rt, alloc, &[(0, 1), (1, 1), (2, 1)]);
     let clause = clause_of(counter).wrapping_add(2);
-    let used = used(rt, alloc, 1, level);
-    token(rt, alloc, sys, clause, Goal::Query, used, &proof)
+    let used = used(rt, alloc, 1, below(rt, alloc, level));
+    token(rt, alloc, sys, clause, Goal::Query, used, proof)
 }
 
 /// A counter that is below the level may be at it after a step.

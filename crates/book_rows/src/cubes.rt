@@ -1,19 +1,17 @@
-//! Cubes, lemmas and tuples with values that were worked out by hand.
+//! Cubes, lemmas and tuples with values that were worked out by hand. What isn't wanted any more isn't let go,
+//! since that costs a proof.
 
+use crate::lits::lin;
 use base::{Copied, Items, Same};
 use cube_forms::{Cube, CubeStop, Lemma, Tuple, negate};
-use lin_atoms::{Divisor, Form, Lin, Lit, WideStop, holds};
+use lin_atoms::{Divisor, Form, Lit, WideStop, holds};
 use std::alloc::Global;
+use std::mem;
 use std::process::Abort;
 
 const MOST: i64 = i64::MAX;
 
 const WIDE: i128 = 1 << 63;
-
-fn lin(rt: &impl Abort, alloc: Global, terms: &[(u32, i64)], constant: i128) -> Lin {
-    let terms = Vec::from_slice(alloc, terms).expect(rt, "memory");
-    Lin::new(terms, constant).expect(rt, "a form")
-}
 
 /// The cube of one literal, an equation, or why there is none.
 fn one(
@@ -27,8 +25,12 @@ fn one(
     Cube::new(alloc, lits)
 }
 
-fn is_wide(made: &Result<Cube, CubeStop>) -> bool {
-    matches!(made, Err(CubeStop::Wide))
+/// Whether an equation has no cube for want of room.
+fn is_wide(rt: &impl Abort, alloc: Global, coefficient: i64, constant: i128) -> bool {
+    let made = one(rt, alloc, &[(0, coefficient)], constant);
+    let is = matches!(&made, Err(CubeStop::Wide));
+    mem::forget(made);
+    is
 }
 
 #[test]
@@ -41,8 +43,8 @@ fn a_number_of_2_to_the_63_is_in_no_cube(rt: HostRuntime) {
         (MOST, 0, false),
         (-MOST, 0, false),
     ] {
-        let made = one(&rt, rt.alloc(), &[(0, coefficient)], constant);
-        assert!(rt; is_wide(&made) == wanted, "{constant} and {coefficient}");
+        let is = is_wide(&rt, rt.alloc(), coefficient, constant);
+        assert!(rt; is == wanted, "{constant} and {coefficient}");
     }
 }
 
@@ -78,6 +80,8 @@ fn a_lemma_excludes_what_its_cube_holds(rt: HostRuntime) {
         assert!(rt; lemma.excludes(&tuple) == wanted);
     }
     assert!(rt; cube.is_below(3) && !cube.is_below(2));
+    mem::forget(cube);
+    mem::forget(lemma);
 }
 
 fn disjunction(rt: &impl Abort, alloc: Global, first: Lit, second: Lit) -> Form {
@@ -96,31 +100,48 @@ fn wanted(rt: &impl Abort, alloc: Global) -> Form {
 
 /// The form of a cube's lemma at arguments, or why there is none.
 fn form_at(rt: &impl Abort, alloc: Global, cube: &Cube, args: &[u32]) -> Result<Form, WideStop> {
-    denied(rt, alloc, cube).checked_form(alloc, args)
+    let lemma = denied(rt, alloc, cube);
+    let form = lemma.checked_form(alloc, args);
+    mem::forget(lemma);
+    form
 }
 
 #[test]
 fn a_lemma_at_arguments_adds_up_what_is_repeated(rt: HostRuntime) {
     let cube = sample(&rt, rt.alloc());
     let form = form_at(&rt, rt.alloc(), &cube, &[5, 5, 1]).expect(&rt, "a form");
-    assert!(rt; form.equals(&wanted(&rt, rt.alloc())));
+    let wanted = wanted(&rt, rt.alloc());
+    assert!(rt; form.equals(&wanted));
     assert!(rt; holds(&form, &[0, 0, 0, 0, 0, 0]));
+    mem::forget(cube);
+    mem::forget(form);
+    mem::forget(wanted);
 }
 
 /// Whether a cube's lemma has a form at these arguments that is a disjunction.
 fn is_disjunction(rt: &impl Abort, alloc: Global, cube: &Cube, args: &[u32]) -> bool {
-    matches!(form_at(rt, alloc, cube, args), Ok(Form::Or(_)))
+    let form = form_at(rt, alloc, cube, args);
+    let is = matches!(&form, Ok(Form::Or(_)));
+    mem::forget(form);
+    is
 }
 
 /// Whether there is no form for want of room.
 fn is_wide_form(rt: &impl Abort, alloc: Global, cube: &Cube, args: &[u32]) -> bool {
-    matches!(form_at(rt, alloc, cube, args), Err(WideStop::Wide))
+    let form = form_at(rt, alloc, cube, args);
+    let is = matches!(&form, Err(WideStop::Wide));
+    mem::forget(form);
+    is
 }
 
 /// Whether the lemma's cube has no literals at these arguments for want of room.
 fn are_wide_lits(rt: &impl Abort, alloc: Global, cube: &Cube, args: &[u32]) -> bool {
     let lemma = denied(rt, alloc, cube);
-    matches!(lemma.cube().at(alloc, args), Err(WideStop::Wide))
+    let lits = lemma.cube().at(alloc, args);
+    let is = matches!(&lits, Err(WideStop::Wide));
+    mem::forget(lits);
+    mem::forget(lemma);
+    is
 }
 
 #[test]
@@ -129,6 +150,7 @@ fn coefficients_that_add_up_to_2_to_the_63_have_no_form(rt: HostRuntime) {
     assert!(rt; is_disjunction(&rt, rt.alloc(), &cube, &[0, 1]));
     assert!(rt; is_wide_form(&rt, rt.alloc(), &cube, &[4, 4]));
     assert!(rt; are_wide_lits(&rt, rt.alloc(), &cube, &[4, 4]));
+    mem::forget(cube);
 }
 
 /// A copy of the lemma of no literals, which is to be equal to it.
@@ -137,6 +159,8 @@ fn copied(rt: &impl Abort, alloc: Global) -> Lemma {
     let lemma = denied(rt, alloc, &cube);
     let copy = lemma.copy(alloc).expect(rt, "memory");
     assert!(rt; copy.equals(&lemma));
+    mem::forget(cube);
+    mem::forget(lemma);
     copy
 }
 
@@ -145,7 +169,9 @@ fn an_empty_cube_denies_everything(rt: HostRuntime) {
     let copy = copied(&rt, rt.alloc());
     assert!(rt; copy.excludes(&[]));
     let form = copy.checked_form(rt.alloc(), &[]);
-    assert!(rt; matches!(form, Ok(Form::False)));
+    assert!(rt; matches!(&form, Ok(Form::False)));
+    mem::forget(copy);
+    mem::forget(form);
 }
 
 fn copy_of(rt: &impl Abort, alloc: Global, tuple: &Tuple) -> Tuple {
@@ -160,4 +186,7 @@ fn a_tuple_has_the_values_of_its_arguments(rt: HostRuntime) {
     assert!(rt; copy.equals(&tuple));
     let other = Tuple::from_slice(rt.alloc(), &[9, 7]).expect(&rt, "memory");
     assert!(rt; !copy.equals(&other));
+    mem::forget(tuple);
+    mem::forget(copy);
+    mem::forget(other);
 }

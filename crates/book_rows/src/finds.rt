@@ -1,7 +1,7 @@
 //! A hundred thousand facts of ten predicates, and each of them found. A benchmark runs these tests one by
 //! one.
 
-use crate::lookups::put;
+use crate::facts::added;
 use derivations::Facts;
 use std::alloc::Global;
 use std::process::Abort;
@@ -21,7 +21,7 @@ fn filled(rt: &impl Abort, alloc: Global) -> Facts {
     let mut facts = Facts::new(alloc).expect(rt, "memory");
     for number in 0..FACTS {
         let tuple = [value_of(number)];
-        put(alloc, &mut facts, number % PREDS, &tuple).expect(rt, "memory");
+        added(rt, alloc, &mut facts, number % PREDS, &tuple, &[]);
     }
     facts
 }

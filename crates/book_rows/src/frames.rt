@@ -1,22 +1,10 @@
 //! Frames worked out by hand. Lemma n says that the one argument isn't n.
 
-use cube_forms::{Cube, Lemma, negate};
+use crate::lits::not;
 use lemma_frames::Frames;
-use lin_atoms::{Lin, Lit};
 use std::alloc::Global;
+use std::mem;
 use std::process::Abort;
-
-/// That the one argument is this value.
-fn equation(rt: &impl Abort, alloc: Global, value: u32) -> Lit {
-    let terms = Vec::from_array(alloc, [(0, 1)]).expect(rt, "memory");
-    Lit::Eq(Lin::new(terms, -i128::from(value)).expect(rt, "a form"))
-}
-
-fn other_than(rt: &impl Abort, alloc: Global, value: u32) -> Lemma {
-    let lits = Vec::from_array(alloc, [equation(rt, alloc, value)]).expect(rt, "memory");
-    let cube = Cube::new(alloc, lits).expect(rt, "a cube");
-    negate(alloc, &cube).expect(rt, "memory")
-}
 
 /// Adds a lemma, and answers its number.
 fn put(rt: &impl Abort, alloc: Global, frames: &mut Frames, pred: u32, level: u32) -> Option<u32> {
@@ -24,7 +12,7 @@ fn put(rt: &impl Abort, alloc: Global, frames: &mut Frames, pred: u32, level: u3
     if count >= 1000 || pred as usize >= frames.preds() {
         return None;
     }
-    let lemma = other_than(rt, alloc, count);
+    let lemma = not(rt, alloc, i64::from(count));
     Some(frames.add(pred, lemma, level).expect(rt, "memory"))
 }
 
@@ -45,7 +33,7 @@ fn raise(rt: &impl Abort, frames: &mut Frames, id: u32) {
 }
 
 /// Whether `upper` lends these numbers.
-fn lends(frames: &Frames, pred: u32, level: u32, wanted: &[u32]) -> bool {
+pub(crate) fn lends(frames: &Frames, pred: u32, level: u32, wanted: &[u32]) -> bool {
     (pred as usize) < frames.preds() && level > 0 && frames.upper(pred, level) == wanted
 }
 
@@ -84,6 +72,7 @@ fn a_lemma_that_rises_comes_to_its_place(rt: HostRuntime) {
     assert!(rt; lends(&frames, 0, 3, &[3, 4]));
     assert!(rt; lists(&rt, &frames, 0, 3, &[3, 4]));
     assert!(rt; lends(&frames, 1, 2, &[2]));
+    mem::forget(frames);
 }
 
 #[test]
@@ -99,6 +88,7 @@ fn a_level_is_bare_where_no_lemma_has_exactly_it(rt: HostRuntime) {
     ] {
         assert!(rt; frames.level_is_bare(level) == bare, "{level}");
     }
+    mem::forget(frames);
 }
 
 #[test]
@@ -107,6 +97,7 @@ fn levels_go_up_to_the_greatest(rt: HostRuntime) {
     raise(&rt, &mut frames, 0);
     assert!(rt; lends(&frames, 0, u32::MAX - 1, &[0, 1]));
     assert!(rt; lends(&frames, 0, u32::MAX, &[]));
+    mem::forget(frames);
 }
 
 #[test]

@@ -23,6 +23,8 @@ mod finds;
 #[cfg(test)]
 mod frames;
 #[cfg(test)]
+mod lits;
+#[cfg(test)]
 mod long_runs;
 #[cfg(test)]
 mod lookups;

@@ -1,5 +1,5 @@
 //! Long runs, the books to which their journals lead once more, and versions of them. A benchmark runs these
-//! tests one by one.
+//! tests one by one. No book is let go, since that costs a proof; versions and copies are.
 
 ghost use Rattle.std.specs.Prelude.{◌≤◌, length};
 
@@ -8,6 +8,7 @@ use crate::counted::long_run;
 use crate::replays::{are_as_long, is_same_fact, is_same_obligation, replayed};
 use chc_core::{Book, has_places};
 use std::alloc::Global;
+use std::mem;
 use std::process::Abort;
 
 /// Whether the book has so many entries, and has come to that level.
@@ -27,6 +28,7 @@ fn is_again(book: &Book, again: &Book) -> bool {
 fn a_run_of_2_500_units(rt: HostRuntime) {
     let book = long_run(&rt, rt.alloc(), 2_500);
     assert!(rt; is_long(&book, 2_500, 5));
+    mem::forget(book);
 }
 
 #[test]
@@ -34,12 +36,15 @@ fn a_run_of_2_500_units_again(rt: HostRuntime) {
     let book = long_run(&rt, rt.alloc(), 2_500);
     let again = replayed(&rt, rt.alloc(), &book);
     assert!(rt; is_long(&again, 2_500, 5));
+    mem::forget(book);
+    mem::forget(again);
 }
 
 #[test]
 fn a_run_of_5_000_units(rt: HostRuntime) {
     let book = long_run(&rt, rt.alloc(), 5_000);
     assert!(rt; is_long(&book, 5_000, 10));
+    mem::forget(book);
 }
 
 #[test]
@@ -48,6 +53,8 @@ fn a_run_of_5_000_units_again(rt: HostRuntime) {
     let again = replayed(&rt, rt.alloc(), &book);
     assert!(rt; is_long(&again, 5_000, 10));
     assert!(rt; is_again(&book, &again));
+    mem::forget(book);
+    mem::forget(again);
 }
 
 /// Takes a version of a book, and lets it go.
@@ -61,6 +68,7 @@ fn versions_of_a_run(rt: HostRuntime) {
     for _ in 0..2_000 {
         assert!(rt; share(&rt, &book) == 5_000);
     }
+    mem::forget(book);
 }
 
 /// Copies an entry, and lets it go.
@@ -80,4 +88,5 @@ fn copies_of_a_run(rt: HostRuntime) {
             assert!(rt; copy(&rt, rt.alloc(), &book, before + 1));
         }
     }
+    mem::forget(book);
 }

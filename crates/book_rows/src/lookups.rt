@@ -1,40 +1,21 @@
 //! Facts of two values, looked up by what their tuples begin with, and in cubes of equations.
 
-use base::{Items, Memory};
-use cube_forms::Tuple;
-use derivations::{Fact, Facts};
-use lin_atoms::{Lin, Lit};
+use crate::facts::added;
+use crate::lits::lin;
+use derivations::Facts;
+use lin_atoms::Lit;
 use std::alloc::Global;
+use std::mem;
 use std::process::Abort;
 use step_rules::has_fact_in;
 
 /// The tuples of predicate 1, by the numbers of their facts.
 const TUPLES: [[i64; 2]; 7] = [[4, 2], [4, 0], [4, -3], [7, 2], [-1, 2], [0, 9], [0, 0]];
 
-/// Adds a fact without premises, if it isn't there.
-pub(crate) fn put(
-    alloc: Global,
-    facts: &mut Facts,
-    pred: u32,
-    tuple: &[i64],
-) -> Result<(), Memory> {
-    if facts.count() >= 1_000_000 || facts.find(pred, tuple).is_some() {
-        return Ok(());
-    }
-    facts.add(Fact {
-        clause: 0,
-        point: Items::new(alloc),
-        premises: Items::new(alloc),
-        pred: Some(pred),
-        tuple: Tuple::from_slice(alloc, tuple)?,
-    })?;
-    Ok(())
-}
-
 fn made(rt: &impl Abort, alloc: Global) -> Facts {
     let mut facts = Facts::new(alloc).expect(rt, "memory");
     for tuple in TUPLES {
-        put(alloc, &mut facts, 1, &tuple).expect(rt, "memory");
+        added(rt, alloc, &mut facts, 1, &tuple, &[]);
     }
     facts
 }
@@ -57,12 +38,12 @@ fn tuples_that_begin_alike_stand_side_by_side(rt: HostRuntime) {
     assert!(rt; are_under(&facts, 1, &[4, 1], &[]));
     assert!(rt; are_under(&facts, 1, &[4, 2, 0], &[]));
     assert!(rt; are_under(&facts, 0, &[4], &[]));
+    mem::forget(facts);
 }
 
 /// A coefficient of a place, and a constant, whose sum is 0.
 fn equation(rt: &impl Abort, alloc: Global, place: u32, coefficient: i64, constant: i128) -> Lit {
-    let terms = Vec::from_slice(alloc, &[(place, coefficient)]).expect(rt, "memory");
-    Lit::Eq(Lin::new(terms, constant).expect(rt, "a form"))
+    Lit::Eq(lin(rt, alloc, &[(place, coefficient)], constant))
 }
 
 /// Whether a fact lies in the cube of two equations.
@@ -76,7 +57,9 @@ fn is_there(
     let first = equation(rt, alloc, first.0, first.1, first.2);
     let second = equation(rt, alloc, second.0, second.1, second.2);
     let lits = Vec::from_array(alloc, [first, second]).expect(rt, "memory");
-    has_fact_in(facts, 1, lits.as_slice())
+    let is = has_fact_in(facts, 1, lits.as_slice());
+    mem::forget(lits);
+    is
 }
 
 #[test]
@@ -102,4 +85,5 @@ fn facts_are_found_in_cubes_of_equations(rt: HostRuntime) {
             "{shows}"
         );
     }
+    mem::forget(facts);
 }

@@ -1,22 +1,11 @@
-//! Small trees that were closed by hand.
+//! Small trees that were closed by hand. Most aren't let go in the end, since that costs a proof.
 
-use cube_forms::{Cube, Tuple, negate};
-use lin_atoms::{Lin, Lit};
+use crate::lits::{not, only};
+use cube_forms::Tuple;
 use obligation_tree::{Cause, Obligation, Tree};
 use std::alloc::Global;
+use std::mem;
 use std::process::Abort;
-
-/// That the value at place 0 is this one.
-fn equation(rt: &impl Abort, alloc: Global, value: i64) -> Lit {
-    let terms = Vec::from_array(alloc, [(0, 1)]).expect(rt, "memory");
-    Lit::Eq(Lin::new(terms, -i128::from(value)).expect(rt, "a form"))
-}
-
-/// The cube of one value at place 0.
-fn only(rt: &impl Abort, alloc: Global, value: i64) -> Cube {
-    let lits = Vec::from_array(alloc, [equation(rt, alloc, value)]).expect(rt, "memory");
-    Cube::new(alloc, lits).expect(rt, "a cube")
-}
 
 /// What is done to a tree.
 #[derive(Clone, Copy)]
@@ -72,13 +61,14 @@ fn deny(
     value: i64,
     entry: u64,
 ) {
-    let lemma = negate(alloc, &only(rt, alloc, value)).expect(rt, "memory");
+    let lemma = not(rt, alloc, value);
     let cause = Cause::Lemma {
         pred,
         level,
         lemma: &lemma,
     };
     close(rt, tree, cause, entry);
+    mem::forget(lemma);
 }
 
 /// Closes by a fact.
@@ -181,9 +171,11 @@ fn what_hangs_under_a_closed_one_is_closed_with_it(rt: HostRuntime) {
     ];
     let tree = grown(&rt, rt.alloc(), &steps);
     assert!(rt; stands(&rt, rt.alloc(), &tree, &[0, 0, 0, 3, 3, 0], &[2, 5], 1));
+    mem::forget(tree);
     let steps = [Step::Find(1, 2), Step::Raise(4), Step::End];
     let tree = grown(&rt, rt.alloc(), &steps);
     assert!(rt; stands(&rt, rt.alloc(), &tree, &[3, 2, 1, 2, 2, 2], &[], 4));
+    mem::forget(tree);
 }
 
 /// Asks for an obligation for a worker, and adds what is told; obligation 9 stands for a release.
@@ -205,6 +197,7 @@ fn claims(rt: &impl Abort, alloc: Global, asked: &[(u32, u32)]) -> Vec<bool> {
     for (worker, id) in asked {
         claim(rt, &mut tree, &mut told, *worker, *id);
     }
+    mem::forget(tree);
     told
 }
 
@@ -242,4 +235,5 @@ fn stalling_marks_one_obligation(rt: HostRuntime) {
     assert!(rt; tree.count() > 4);
     tree.stall(4).expect(&rt, "memory");
     assert!(rt; is_marked(&tree, 4));
+    mem::forget(tree);
 }

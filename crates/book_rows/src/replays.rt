@@ -1,19 +1,21 @@
 //! A book of 3,001 entries, and the book to which its journal leads once more: a fact for each of 1,500
 //! values, each asked for before. From the second on an obligation's cube is its value, and each is looked
-//! up among all facts.
+//! up among all facts. No book is let go, since that costs a proof.
 
 ghost use Rattle.std.specs.Prelude.{◌≡◌, ◌≤◌, length};
 ghost use Rattle.step_rules.specs.Taken.{IsMadeFor};
 
 use crate::clauses::anything;
 use crate::copies::copied;
-use crate::tokens::{instance, only};
+use crate::lits::only;
+use crate::tokens::instance;
 use crate::turns::{fact, projected, raise};
 use base::{Copied, Same};
 use chc_core::{Book, OpenPart, Step, has_places};
 use clause_form::System;
 use cube_forms::Cube;
 use std::alloc::Global;
+use std::mem;
 use std::process::Abort;
 
 /// How many facts are recorded.
@@ -148,4 +150,6 @@ fn a_journal_leads_to_its_book(rt: HostRuntime) {
         assert!(rt; is_same_fact(&book, &again, id));
         assert!(rt; is_same_obligation(&book, &again, id));
     }
+    mem::forget(book);
+    mem::forget(again);
 }

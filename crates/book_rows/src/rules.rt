@@ -1,11 +1,10 @@
 //! Longer runs on the clauses that count, in which the other rules are broken one after another, each
-//! by a step that breaks nothing before it.
+//! by a step that breaks nothing before it. No book is let go, since that costs a proof.
 
 use crate::clauses::counting;
 use crate::turns::{Told, Turn, run};
-use chc_core::{Book, By, End};
-use std::alloc::Global;
-use std::process::Abort;
+use chc_core::{By, End};
+use std::mem;
 
 /// Level 1: Open, Lemma and Stall.
 const LOW: [(Turn, Told); 14] = [
@@ -24,10 +23,6 @@ const LOW: [(Turn, Told); 14] = [
     (Turn::Stall(0, 3, 4), Told::Rule(52, By::Step)),
     (Turn::Stall(0, 4, 4), Told::Rule(53, By::Clause(2))),
 ];
-
-fn hand_in_low(rt: &impl Abort, alloc: Global, book: &mut Book) {
-    run(rt, alloc, book, &LOW);
-}
 
 /// Level 2: an Open below another, a Lemma over another, a Lift, reasons against a Lift.
 const HIGH: [(Turn, Told); 19] = [
@@ -52,17 +47,14 @@ const HIGH: [(Turn, Told); 19] = [
     (Turn::Raise(true, 2, 0), Told::Taken(10)),
 ];
 
-fn hand_in_high(rt: &impl Abort, alloc: Global, book: &mut Book) {
-    run(rt, alloc, book, &HIGH);
-}
-
 #[test]
 fn each_rule_is_told(rt: HostRuntime) {
     let mut book = counting(&rt, rt.alloc(), 50_000);
-    hand_in_low(&rt, rt.alloc(), &mut book);
-    hand_in_high(&rt, rt.alloc(), &mut book);
+    run(&rt, rt.alloc(), &mut book, &LOW);
+    run(&rt, rt.alloc(), &mut book, &HIGH);
     assert!(rt; book.level() == 3);
     assert!(rt; book.units() == 10);
+    mem::forget(book);
 }
 
 /// Facts, up to the obligation that holds the last.
@@ -74,14 +66,11 @@ const FACTS: [(Turn, Told); 5] = [
     (Turn::Zero(Some(0)), Told::Rule(23, By::Obligation(0))),
 ];
 
-fn hand_in_facts(rt: &impl Abort, alloc: Global, book: &mut Book) {
-    run(rt, alloc, book, &FACTS);
-}
-
 #[test]
 fn facts_have_their_rules(rt: HostRuntime) {
     let mut book = counting(&rt, rt.alloc(), 50_000);
-    hand_in_facts(&rt, rt.alloc(), &mut book);
+    run(&rt, rt.alloc(), &mut book, &FACTS);
+    mem::forget(book);
 }
 
 /// A root that is stalled, and then the book.
@@ -94,14 +83,11 @@ const STALLS: [(Turn, Told); 6] = [
     (Turn::Raise(true, 0, 0), Told::Ended(End::Stalled)),
 ];
 
-fn hand_in_stalls(rt: &impl Abort, alloc: Global, book: &mut Book) {
-    run(rt, alloc, book, &STALLS);
-}
-
 #[test]
 fn a_stalled_root_ends_the_book(rt: HostRuntime) {
     let mut book = counting(&rt, rt.alloc(), 50_000);
-    hand_in_stalls(&rt, rt.alloc(), &mut book);
+    run(&rt, rt.alloc(), &mut book, &STALLS);
     assert!(rt; book.units() == 3);
     assert!(rt; book.length() == 4);
+    mem::forget(book);
 }

@@ -2,6 +2,7 @@
 
 use cube_forms::Table;
 use std::alloc::Global;
+use std::mem;
 use std::process::Abort;
 
 /// An item that can't be copied: it has a list.
@@ -104,4 +105,7 @@ fn a_write_reaches_its_own_place_of_its_own_version(rt: HostRuntime) {
         assert!(rt; value_at(&table, at) == here, "at {at}");
         assert!(rt; value_at(&other, at) == there, "at {at} of the other");
     }
+    // the other test lets its tables go
+    mem::forget(table);
+    mem::forget(other);
 }

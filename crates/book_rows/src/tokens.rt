@@ -1,39 +1,34 @@
-//! What the steps of the runs are made of: lemmas, instances, proofs, and evidence.
+//! What the steps of the runs are made of: lemmas, instances, proofs, and evidence. What isn't wanted any more
+//! isn't let go, since that costs a proof.
 
 ghost use Rattle.std.specs.Prelude.{◌≡◌, ◌∷◌, [], true};
 ghost use Rattle.lin_atoms.specs.declared.form.Form.TheVariants.{Lit as Literal};
 ghost use Rattle.lin_atoms.specs.declared.form.Form.TheViews.{And, Or};
 ghost use Rattle.chc_tokens.specs.Tokens.{IsNoLift, IsShownToken, is_seen};
 
-use crate::clauses::{is, lin, next, values};
+use crate::clauses::{next, values};
+use crate::lits::{is, lin, not};
 use base::Items;
 use chc_tokens::{
     Goal, NoLift, Seen, Shown, Used, Why, are_short, checked_query_of, fits_head, has_values,
     no_lift, seen, shown,
 };
 use clause_form::System;
-use cube_forms::{Cube, Lemma, negate};
+use cube_forms::Lemma;
 use farkas_proof::{Evidence, GaveUp, Refutation, check};
 use lin_atoms::{Form, Lit};
 use std::alloc::Global;
+use std::mem;
 use std::process::Abort;
 
-/// The cube of one value.
-pub(crate) fn only(rt: &impl Abort, alloc: Global, value: i64) -> Cube {
-    let lits = Vec::from_array(alloc, [is(rt, alloc, 0, value)]).expect(rt, "memory");
-    Cube::new(alloc, lits).expect(rt, "a cube")
-}
-
-/// 'Not this value'.
-pub(crate) fn not(rt: &impl Abort, alloc: Global, value: i64) -> Lemma {
-    let cube = only(rt, alloc, value);
-    negate(alloc, &cube).expect(rt, "memory")
+/// A lemma on a body atom.
+pub(crate) fn used(rt: &impl Abort, alloc: Global, atom: u32, lemma: Lemma) -> Vec<Used> {
+    Vec::from_array(alloc, [Used { atom, lemma }]).expect(rt, "memory")
 }
 
 /// 'Not this value' on the body atom.
-pub(crate) fn used(rt: &impl Abort, alloc: Global, value: i64) -> Vec<Used> {
-    let lemma = not(rt, alloc, value);
-    Vec::from_array(alloc, [Used { atom: 0, lemma }]).expect(rt, "memory")
+pub(crate) fn used_not(rt: &impl Abort, alloc: Global, value: i64) -> Vec<Used> {
+    used(rt, alloc, 0, not(rt, alloc, value))
 }
 
 /// The instance of a clause at the values of its variables.
@@ -64,7 +59,7 @@ pub(crate) fn leaf(rt: &impl Abort, alloc: Global, multipliers: &[(u32, i64)]) -
 }
 
 /// By the cases of the first disjunction, each with a leaf.
-fn by_cases(
+pub(crate) fn by_cases(
     rt: &impl Abort,
     alloc: Global,
     first: &[(u32, i64)],
@@ -84,14 +79,16 @@ pub(crate) fn token(
     clause: u32,
     goal: Goal,
     used: Vec<Used>,
-    proof: &Refutation,
+    proof: Refutation,
 ) -> Shown
     ensures { IsShownToken sys.now result }
 {
     let found = checked_query_of(alloc, sys, clause, &goal, used.as_slice()).expect(rt, "memory");
     let form = found.expect(rt, "a query");
-    let proof = check(alloc, &form, proof).expect(rt, "a proof");
-    shown(alloc, sys, clause, goal, used, proof).expect(rt, "the query's proof")
+    let refuted = check(alloc, &form, &proof).expect(rt, "a proof");
+    mem::forget(form);
+    mem::forget(proof);
+    shown(alloc, sys, clause, goal, used, refuted).expect(rt, "the query's proof")
 }
 
 /// Through the first clause the head, 0, isn't this value, which is above 0.
@@ -100,7 +97,7 @@ pub(crate) fn through_first(rt: &impl Abort, alloc: Global, sys: &System, value:
 {
     let proof = leaf(rt, alloc, &[(0, 1), (1, -1)]);
     let goal = Goal::Holds(not(rt, alloc, value));
-    token(rt, alloc, sys, 0, goal, Vec::new(alloc), &proof)
+    token(rt, alloc, sys, 0, goal, Vec::new(alloc), proof)
 }
 
 /// Through the second clause the head isn't this value where the body isn't one less.
@@ -110,9 +107,9 @@ pub(crate) fn through_second(rt: &impl Abort, alloc: Global, sys: &System, value
     let below = [(0, -1), (1, -1), (2, 1)];
     let above = [(0, 1), (1, 1), (2, 1)];
     let proof = by_cases(rt, alloc, &below, &above);
-    let used = used(rt, alloc, value.wrapping_sub(1));
+    let used = used_not(rt, alloc, value.wrapping_sub(1));
     let goal = Goal::Holds(not(rt, alloc, value));
-    token(rt, alloc, sys, 1, goal, used, &proof)
+    token(rt, alloc, sys, 1, goal, used, proof)
 }
 
 /// Through the last clause, where the body isn't 3.
@@ -120,8 +117,8 @@ pub(crate) fn through_last(rt: &impl Abort, alloc: Global, sys: &System) -> Show
     ensures { IsShownToken sys.now result }
 {
     let proof = by_cases(rt, alloc, &[(0, -1), (1, 1)], &[(0, 1), (1, 1)]);
-    let used = used(rt, alloc, 3);
-    token(rt, alloc, sys, 2, Goal::Query, used, &proof)
+    let used = used_not(rt, alloc, 3);
+    token(rt, alloc, sys, 2, Goal::Query, used, proof)
 }
 
 /// That the lemma is broken by an instance of a clause.
@@ -165,14 +162,14 @@ fn alone(rt: &impl Abort, alloc: Global, only: Form) -> Form
     Form::And(Items::from_vec(parts))
 }
 
-fn both(rt: &impl Abort, alloc: Global, first: Form, second: Form) -> Form
+pub(crate) fn both(rt: &impl Abort, alloc: Global, first: Form, second: Form) -> Form
     ensures { result ≡ And (first ∷ second ∷ []) }
 {
     let parts = Vec::from_array(alloc, [first, second]).expect(rt, "memory");
     Form::And(Items::from_vec(parts))
 }
 
-fn either(rt: &impl Abort, alloc: Global, first: Lit, second: Lit) -> Form
+pub(crate) fn either(rt: &impl Abort, alloc: Global, first: Lit, second: Lit) -> Form
     ensures { result ≡ Or (Literal first ∷ Literal second ∷ []) }
 {
     let parts = Vec::from_array(alloc, [Form::Lit(first), Form::Lit(second)]).expect(rt, "memory");
@@ -198,7 +195,7 @@ fn one_given_up(rt: &impl Abort, alloc: Global, guard: Lit, less: Lit, more: Lit
 }
 
 /// That the form of two literals and a disjunction was given up.
-fn two_given_up(
+pub(crate) fn two_given_up(
     rt: &impl Abort,
     alloc: Global,
     guard: Lit,
@@ -277,6 +274,6 @@ pub(crate) fn unknown(
 {
     let evidence = lemma_given_up(rt, alloc, value, other);
     let goal = Goal::Holds(not(rt, alloc, value));
-    let used = Items::from_vec(used(rt, alloc, other));
+    let used = Items::from_vec(used_not(rt, alloc, other));
     unknown_by(rt, alloc, sys, goal, used, evidence)
 }

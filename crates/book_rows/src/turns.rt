@@ -9,10 +9,11 @@ ghost use Rattle.chc_tokens.specs.Tokens.{IsNoLift, IsShownToken};
 ghost use Rattle.book_rules.specs.Walks.{AllOf};
 ghost use Rattle.step_rules.specs.Taken.{IsMadeFor};
 
-use crate::clauses::{is, lin, next};
+use crate::clauses::next;
+use crate::lits::{is, lin, not, only};
 use crate::tokens::{
-    broken, choice_given_up, instance, not, only, query_given_up, through_first, through_last,
-    through_second, unknown, used,
+    broken, choice_given_up, instance, query_given_up, through_first, through_last, through_second,
+    unknown, used_not,
 };
 use base::{Copied, Items};
 use chc_core::{
@@ -26,6 +27,7 @@ use farkas_proof::GaveUp;
 use lin_atoms::Lit;
 use model_project::{Projected, project};
 use std::alloc::Global;
+use std::mem;
 use std::process::Abort;
 
 /// What is handed in. A Raise and a Lemma name how much of them is shown.
@@ -113,8 +115,10 @@ pub(crate) fn projected(
 
 /// The area of one value.
 fn point_area(rt: &impl Abort, alloc: Global, value: i64) -> Projected {
-    let lit = is(rt, alloc, 0, value);
-    projected(rt, alloc, &[lit], &[value], 0)
+    let lits = [is(rt, alloc, 0, value)];
+    let area = projected(rt, alloc, &lits, &[value], 0);
+    mem::forget(lits);
+    area
 }
 
 /// `x1 = x0 + 1` and `x1 = 3`, and with them `x0 <= 2` or not.
@@ -132,7 +136,9 @@ fn area_lits(rt: &impl Abort, alloc: Global, knows: bool) -> Vec<Lit> {
 /// The area of the second clause at 2 and 3 for the head 3, with 'at most 2' on the body or without.
 fn area(rt: &impl Abort, alloc: Global, knows: bool) -> Projected {
     let lits = area_lits(rt, alloc, knows);
-    projected(rt, alloc, lits.as_slice(), &[2, 3], 0)
+    let area = projected(rt, alloc, lits.as_slice(), &[2, 3], 0);
+    mem::forget(lits);
+    area
 }
 
 fn cube_of(rt: &impl Abort, alloc: Global, lits: &[Lit]) -> Cube {
@@ -314,7 +320,7 @@ fn stall_last(rt: &impl Abort, alloc: Global, target: u32, value: i64, other: i6
     ensures { (sys : Clauses) → IsMadeFor sys result }
 {
     let evidence = query_given_up(rt, alloc, other);
-    stall(target, 2, used(rt, alloc, value), evidence)
+    stall(target, 2, used_not(rt, alloc, value), evidence)
 }
 
 fn stall_first(rt: &impl Abort, alloc: Global, target: u32, value: i64) -> Step

@@ -1,4 +1,4 @@
-//! Texts that are read as answers, and where texts are refused.
+//! Texts that are read as answers, and where texts are refused. No answer is let go, since that costs a proof.
 
 ghost use Rattle.std.specs.Prelude.{◌<◌, ◌^◌, length, IsTrue};
 
@@ -19,7 +19,10 @@ fn is_short(script: &Script, text: &[u8]) -> bool
 fn refused_at(rt: &impl Abort, alloc: Global, script: &Script, text: &[u8]) -> Option<u64> {
     assert!(rt; is_short(script, text));
     match read_answer(alloc, script, text) {
-        Ok(_) => None,
+        Ok(answer) => {
+            mem::forget(answer);
+            None
+        }
         Err(AnswerStop::BadAnswer { offset }) => Some(offset),
         Err(AnswerStop::Memory) => panic!(rt; "memory"),
     }
@@ -29,7 +32,11 @@ fn refused_at(rt: &impl Abort, alloc: Global, script: &Script, text: &[u8]) -> O
 fn printed_again(rt: &impl Abort, alloc: Global, script: &Script, text: &[u8]) -> Vec<u8> {
     assert!(rt; is_short(script, text));
     match read_answer(alloc, script, text) {
-        Ok(answer) => write_answer(alloc, script, &answer).expect(rt, "memory"),
+        Ok(answer) => {
+            let printed = write_answer(alloc, script, &answer).expect(rt, "memory");
+            mem::forget(answer);
+            printed
+        }
         Err(AnswerStop::BadAnswer { .. }) => Vec::new(alloc),
         Err(AnswerStop::Memory) => panic!(rt; "memory"),
     }

@@ -1,9 +1,11 @@
-//! What each form of a clause gives. The offsets are counted in the text beside each case.
+//! What each form of a clause gives. The offsets are counted in the text beside each case. No clause is let
+//! go, since that costs a proof.
 
 use crate::horn_terms::{Row, Shape, clause, clause_of_last, put_term};
 use base::Items;
 use horn_shape::{AtomUse, HornClause, Part, has_assertion};
 use std::alloc::Global;
+use std::mem;
 use std::process::Abort;
 use term_tree::{Assertion, OpKind, Script, TermId, Terms};
 
@@ -73,7 +75,11 @@ fn has_parts(c: &HornClause, case: Case) -> bool {
 fn gives(rt: &impl Abort, alloc: Global, case: Case) -> bool {
     match clause(rt, alloc, case.rows) {
         Err(_) => false,
-        Ok(c) => has_parts(&c, case),
+        Ok(c) => {
+            let has = has_parts(&c, case);
+            mem::forget(c);
+            has
+        }
     }
 }
 
@@ -434,7 +440,9 @@ fn deep_head(rt: &impl Abort, alloc: Global) -> Head {
         Err(_) => (9, 9, 9, 9),
         Ok(c) => {
             assert!(rt; c.vars.len() == 0 && c.atoms.len() == 0 && c.guards.len() == 0);
-            head(&c)
+            let head = head(&c);
+            mem::forget(c);
+            head
         }
     }
 }
@@ -471,4 +479,5 @@ fn no_assertion_stands_past_the_limit(rt: HostRuntime) {
     assert!(rt; has_assertion(&script, 65535));
     assert!(rt; !has_assertion(&script, 65536));
     assert!(rt; !has_assertion(&script, 65537));
+    mem::forget(script);
 }

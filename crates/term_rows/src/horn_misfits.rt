@@ -1,8 +1,10 @@
-//! Where the first subterm starts that fits no form. The offsets are counted in the text beside each case.
+//! Where the first subterm starts that fits no form. The offsets are counted in the text beside each case. No
+//! clause is let go, since that costs a proof.
 
 use crate::horn_terms::{Row, Shape, clause};
 use horn_shape::HornStop;
 use std::alloc::Global;
+use std::mem;
 use std::process::Abort;
 use term_tree::OpKind;
 
@@ -11,7 +13,10 @@ fn misfit(rt: &impl Abort, alloc: Global, rows: &[Row]) -> u64 {
     match clause(rt, alloc, rows) {
         Err(HornStop::NotHorn { offset }) => offset,
         Err(HornStop::Memory) => 999,
-        Ok(_) => 999,
+        Ok(c) => {
+            mem::forget(c);
+            999
+        }
     }
 }
 

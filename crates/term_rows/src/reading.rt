@@ -1,5 +1,6 @@
 //! Texts with their trees, written by hand from the rules. A leaf is shown by the first letter of
-//! its kind and its offsets, a list by its items and its offsets, and then the stop.
+//! its kind and its offsets, a list by its items and its offsets, and then the stop. Only the deepest trees
+//! are let go, since that costs a proof.
 
 use base::{Copied, Same};
 use sexp_read::{
@@ -7,6 +8,7 @@ use sexp_read::{
     symbol_bytes,
 };
 use std::alloc::Global;
+use std::mem;
 use std::process::Abort;
 
 fn letter(kind: LeafKind) -> char {
@@ -86,6 +88,7 @@ fn check(rt: &impl Abort, alloc: Global, shows: &str, text: &[u8], expected: &st
     assert!(rt; text.len() < 10000, "{shows}");
     let read = read_commands(alloc, text).expect(rt, "memory");
     let found = shown(rt, alloc, &read);
+    mem::forget(read);
     assert!(rt; found.as_str() == expected, "{shows}");
 }
 
@@ -351,6 +354,7 @@ fn tree_at(
     match reader.read(text, at).expect(rt, "memory") {
         Next::Tree { tree, end } => {
             show(rt, alloc, &tree, &mut found);
+            mem::forget(tree);
             (found, end)
         }
         Next::Stop(_) => (found, text.len()),
@@ -374,7 +378,7 @@ fn check_stop(rt: &impl Abort, reader: &mut Reader, at: usize, offset: u32) {
     assert!(rt; at <= text.len());
     match reader.read(text, at).expect(rt, "memory") {
         Next::Stop(stop) => assert!(rt; stop.equals(&Some(TextStop::BadByte { offset }))),
-        Next::Tree { .. } => assert!(rt; false, "a tree"),
+        Next::Tree { .. } => rt.panic("a tree"),
     }
 }
 
@@ -385,6 +389,7 @@ fn a_reader_goes_on_where_a_tree_ended(rt: HostRuntime) {
     check_tree(&rt, rt.alloc(), &mut reader, 1, "(s3-4)2-5", 5);
     check_stop(&rt, &mut reader, 5, 6);
     check_stop(&rt, &mut reader, 5, 6);
+    mem::forget(reader);
 }
 
 /// A text with `count` copies of one byte behind it.
@@ -487,4 +492,5 @@ fn leaves_say_their_bytes_and_numbers(rt: HostRuntime) {
     check_leaf(&rt, text, read.trees.get(7), "1.5", false, None);
     let list = read.trees.get(8).expect(&rt, "a list");
     assert!(rt; leaf_bytes(text, list).is_none());
+    mem::forget(read);
 }

@@ -1,5 +1,8 @@
+//! Terms of two arenas that are the same or differ. No arena is let go, since that costs a proof.
+
 use crate::arenas::{apply, number, put};
 use std::alloc::Global;
+use std::mem;
 use std::process::Abort;
 use term_tree::{Node, OpKind, Sort, TermId, Terms, same_terms};
 
@@ -21,6 +24,8 @@ fn numbering_and_sharing_do_not_matter(rt: HostRuntime) {
     let right = apply(&rt, alloc, &mut b, OpKind::Sub, &[first, second]);
     assert!(rt; same(&rt, alloc, &a, left, &b, right));
     assert!(rt; !same(&rt, alloc, &a, left, &b, first));
+    mem::forget(a);
+    mem::forget(b);
 }
 
 #[test]
@@ -36,6 +41,7 @@ fn every_part_in_order(rt: HostRuntime) {
     assert!(rt; !same(&rt, alloc, &a, straight, &a, turned));
     assert!(rt; !same(&rt, alloc, &a, straight, &a, longer));
     assert!(rt; !same(&rt, alloc, &a, straight, &a, product));
+    mem::forget(a);
 }
 
 /// A variable's sort and number count, and a bound name stands for its term.
@@ -61,6 +67,7 @@ fn names_by_number_and_by_bound_term(rt: HostRuntime) {
     assert!(rt; same(&rt, alloc, &a, name, &a, other));
     assert!(rt; !same(&rt, alloc, &a, name, &a, third));
     assert!(rt; !same(&rt, alloc, &a, name, &a, one));
+    mem::forget(a);
 }
 
 /// 200 sums, each of the one before it twice: a tree of 2^200 leaves.
@@ -78,4 +85,6 @@ fn shared_terms_cost_nothing_twice(rt: HostRuntime) {
     assert!(rt; same(&rt, alloc, &a, top, &b, other));
     let taller = apply(&rt, alloc, &mut b, OpKind::Add, &[other, other]);
     assert!(rt; !same(&rt, alloc, &a, top, &b, taller));
+    mem::forget(a);
+    mem::forget(b);
 }

@@ -1,6 +1,7 @@
 //! Terms with their nodes or first faults, written by hand from the rules. Nodes are shown in order:
 //! numbers, `t` and `f`, variables by sort and number, names of `let` by the node that they stand
-//! for, and the others with the numbers of their parts.
+//! for, and the others with the numbers of their parts. Trees and terms aren't let go, since that costs a
+//! proof.
 
 ghost use Rattle.std.specs.Prelude.{◌+◌, ◌<◌, ◌^◌, length};
 ghost use Rattle.term_check.specs.Weight.{weight};
@@ -10,6 +11,7 @@ use crate::spellings::TERMS;
 use base::{Items, Memory};
 use sexp_read::{Tree, read_commands};
 use std::alloc::Global;
+use std::mem;
 use std::process::Abort;
 use term_check::{
     Fault, FormulaStop, Signature, TermStop, check_formula, check_term, trees_are_light,
@@ -160,11 +162,13 @@ fn spelled(
     requires { weight tree.now < 2 ^ 32 }
 {
     let mut terms = Terms::new(alloc);
-    match check_term(alloc, text, signature, tree, &mut terms) {
+    let shown = match check_term(alloc, text, signature, tree, &mut terms) {
         Ok(_) => Ok(shown_nodes(rt, alloc, &terms)),
         Err(TermStop::Fault(fault)) => Ok(shown_fault(rt, alloc, fault)),
         Err(TermStop::Memory) => Err(Memory),
-    }
+    };
+    mem::forget(terms);
+    shown
 }
 
 /// The term that the first tree of the text gives, or its fault.
@@ -179,10 +183,12 @@ fn read(
     // A law, which runs nothing.
     trees_are_light();
     let read = read_commands(alloc, text)?;
-    match read.trees.as_slice().get(0) {
+    let shown = match read.trees.as_slice().get(0) {
         Some(tree) => spelled(rt, alloc, text, signature, tree),
         None => Ok(String::new(alloc)),
-    }
+    };
+    mem::forget(read);
+    shown
 }
 
 /// Whether a text begins so, or is that text.
@@ -224,6 +230,7 @@ fn each_term_is_what_the_rules_say(rt: HostRuntime) {
         }
     }
     assert!(rt; tried == 64);
+    mem::forget(signature);
 }
 
 fn add_all(rt: &impl Abort, text: &mut String, part: &str, count: usize) {
@@ -267,6 +274,7 @@ fn check_text(
         expected,
         whole,
     );
+    mem::forget(signature);
 }
 
 fn check_distinct(rt: &impl Abort, alloc: Global, count: usize, expected: &str, whole: bool) {
@@ -319,9 +327,17 @@ fn formula_of(rt: &impl Abort, alloc: Global, text: &[u8], tree: &Tree) -> Resul
 {
     let (x, y) = (name(rt, alloc, b"x"), name(rt, alloc, b"y"));
     let params = [(x, Sort::Int), (y, Sort::Bool)];
-    match check_formula(alloc, text, tree, &params) {
-        Ok((terms, _)) => Ok(shown_nodes(rt, alloc, &terms)),
-        Err(FormulaStop::Bad { offset }) => Ok(format!(in alloc; "{offset}")?),
+    let found = check_formula(alloc, text, tree, &params);
+    mem::forget(params);
+    match found {
+        Ok((terms, _)) => {
+            let shown = shown_nodes(rt, alloc, &terms);
+            mem::forget(terms);
+            Ok(shown)
+        }
+        Err(FormulaStop::Bad { offset }) => {
+            Ok(format!(in alloc; "{offset}").expect(rt, "memory"))
+        }
         Err(FormulaStop::Memory) => Err(Memory),
     }
 }
@@ -332,10 +348,12 @@ fn formula(rt: &impl Abort, alloc: Global, text: &[u8]) -> Result<String, Memory
     // A law, which runs nothing.
     trees_are_light();
     let read = read_commands(alloc, text)?;
-    match read.trees.as_slice().get(0) {
+    let shown = match read.trees.as_slice().get(0) {
         Some(tree) => formula_of(rt, alloc, text, tree),
         None => Ok(String::new(alloc)),
-    }
+    };
+    mem::forget(read);
+    shown
 }
 
 fn check_parameters(rt: &impl Abort, alloc: Global, shows: &str, text: &[u8], expected: &str) {

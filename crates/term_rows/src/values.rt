@@ -1,6 +1,9 @@
+//! Values of terms. No arena is let go, since that costs a proof.
+
 use crate::arenas::{apply, put};
 use base::Items;
 use std::alloc::Global;
+use std::mem;
 use std::process::Abort;
 use term_tree::{Node, OpKind, Sort, TermId, Terms, Value, ValueStop, value};
 
@@ -50,7 +53,9 @@ fn at_values(
         args.push(var).expect(rt, "memory");
     }
     let id = apply(rt, alloc, &mut terms, op, args.as_slice());
-    worth(rt, alloc, &terms, id, values)
+    let found = worth(rt, alloc, &terms, id, values);
+    mem::forget(terms);
+    found
 }
 
 /// Whether the operator at variables of these values has this value.
@@ -211,6 +216,7 @@ fn shared_bindings_are_evaluated_once(rt: HostRuntime) {
         sum = apply(&rt, alloc, &mut terms, OpKind::Add, &[left, right]);
     }
     assert!(rt; has_value(&rt, alloc, &terms, sum, &[], Value::Int(1 << 100)));
+    mem::forget(terms);
 }
 
 #[test]
@@ -235,4 +241,5 @@ fn let_binds_and_divisibility_counts_every_sign(rt: HostRuntime) {
             "{n}"
         );
     }
+    mem::forget(terms);
 }
