@@ -1,5 +1,5 @@
 //! A run by hand on three clauses: `p(0)`; where `x1 = x0 + 1`, `p(x0)` gives `p(x1)`; and `p(3)` gives
-//! false. No book is let go, since that costs a proof.
+//! false. One book alone is let go, since that costs a proof.
 
 use crate::clauses::{contradiction, counting};
 use crate::frames::lends;
@@ -95,7 +95,6 @@ const ONE_UNIT: [(Turn, Told); 2] = [
 fn units_are_spent(rt: HostRuntime) {
     let mut book = counting(&rt, rt.alloc(), 1);
     run(&rt, rt.alloc(), &mut book, &ONE_UNIT);
-    mem::forget(book);
 }
 
 const FALSE: [(Turn, Told); 2] = [

@@ -469,27 +469,26 @@ fn check_leaf(
     assert!(rt; numeral_value(text, tree) == number, "number at {bytes}");
 }
 
+/// The bytes of a leaf, whether it is a symbol, and the number that it spells.
+const LEAVES: [(&'static str, bool, Option<u64>); 8] = [
+    ("let", true, None),
+    ("let", true, None),
+    ("a\"\"b", false, None),
+    ("42", false, Some(42)),
+    ("9223372036854775807", false, Some(9223372036854775807)),
+    ("9223372036854775808", false, None),
+    (":k", false, None),
+    ("1.5", false, None),
+];
+
 #[test]
 fn leaves_say_their_bytes_and_numbers(rt: HostRuntime) {
     let text = b"let |let| \"a\"\"b\" 42 9223372036854775807 9223372036854775808 :k 1.5 ()";
     let read = read_commands(rt.alloc(), text).expect(&rt, "memory");
     assert!(rt; read.trees.len() == 9);
-    check_leaf(&rt, text, read.trees.get(0), "let", true, None);
-    check_leaf(&rt, text, read.trees.get(1), "let", true, None);
-    check_leaf(&rt, text, read.trees.get(2), "a\"\"b", false, None);
-    check_leaf(&rt, text, read.trees.get(3), "42", false, Some(42));
-    let (most, over) = ("9223372036854775807", "9223372036854775808");
-    check_leaf(
-        &rt,
-        text,
-        read.trees.get(4),
-        most,
-        false,
-        Some(9223372036854775807),
-    );
-    check_leaf(&rt, text, read.trees.get(5), over, false, None);
-    check_leaf(&rt, text, read.trees.get(6), ":k", false, None);
-    check_leaf(&rt, text, read.trees.get(7), "1.5", false, None);
+    for (i, (bytes, is_symbol, number)) in LEAVES.iter().enumerate() {
+        check_leaf(&rt, text, read.trees.get(i), bytes, *is_symbol, *number);
+    }
     let list = read.trees.get(8).expect(&rt, "a list");
     assert!(rt; leaf_bytes(text, list).is_none());
     mem::forget(read);
