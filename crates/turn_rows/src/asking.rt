@@ -1,4 +1,5 @@
-//! Which clauses are asked first, and what is found of several.
+//! Which clauses are asked first, and what is found of several. Books and what is found aren't let go, since
+//! that costs a proof.
 
 ghost use Rattle.std.specs.Prelude.{◌<◌};
 ghost use Rattle.chc_core.specs.Views.{standing_of};
@@ -11,6 +12,7 @@ use chc_core::Book;
 use chc_tokens::Goal;
 use clause_queries::{Found, ask_all};
 use std::alloc::Global;
+use std::mem;
 use std::process::Abort;
 
 /// A predicate p over an integer.
@@ -59,7 +61,10 @@ fn check(rt: &impl Abort, alloc: Global, shows: &str, clauses: [&str; 2], k: u32
     let text = format!(in alloc; "{P}{first}{second}(check-sat)").expect(rt, "memory");
     let book = opened(rt, alloc, text.as_str(), 1);
     let found = asked(rt, alloc, &book, k);
-    assert!(rt; summary(&found) == expected, "{shows}");
+    let told = summary(&found);
+    mem::forget(found);
+    mem::forget(book);
+    assert!(rt; told == expected, "{shows}");
 }
 
 #[test]
@@ -128,13 +133,15 @@ fn used(rt: &impl Abort, alloc: Global, book: &Book, k: u32) -> usize
     requires thin { IsThin (standing_of book.now) }
 {
     let found = asked(rt, alloc, book, k);
-    match &found {
+    let used = match &found {
         Found::Refuted(proofs) => match proofs.as_slice() {
             [only] => only.used().len(),
             _ => panic!(rt; "one clause is asked"),
         },
         _ => panic!(rt; "false has no instance"),
-    }
+    };
+    mem::forget(found);
+    used
 }
 
 #[test]
@@ -146,4 +153,5 @@ fn a_lemma_that_another_one_implies_is_left_out(rt: HostRuntime) {
     // The second one alone.
     assert!(rt; lemmas_of_q(&book, 2) == 1);
     assert!(rt; used(&rt, rt.alloc(), &book, 2) == 1);
+    mem::forget(book);
 }

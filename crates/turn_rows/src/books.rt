@@ -14,6 +14,7 @@ use chc_core::Book;
 use clause_normal::read_clauses;
 use sort_check::{assertions_are_legal, check_text, scripts_are_within_limits};
 use std::alloc::Global;
+use std::mem;
 use std::process::Abort;
 use term_tree::Checked;
 
@@ -41,7 +42,9 @@ pub(crate) fn opened(rt: &impl Abort, alloc: Global, text: &str, units: u32) -> 
     let bytes = text.as_bytes();
     assert!(rt; bytes.len() < 10_000, "a long text");
     let checked = checked(alloc, bytes).expect(rt, "memory");
-    match read_clauses(alloc, &checked) {
+    let read = read_clauses(alloc, &checked);
+    mem::forget(checked);
+    match read {
         Ok(system) => begin(alloc, system, units).expect(rt, "memory"),
         Err(_) => panic!(rt; "a script that is refused"),
     }

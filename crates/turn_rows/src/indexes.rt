@@ -1,4 +1,4 @@
-//! What a search reads of clauses again and again.
+//! What a search reads of clauses again and again. Forms and systems aren't let go, since that costs a proof.
 
 ghost use Rattle.std.specs.Prelude.{◌<◌, ◌^◌, length};
 
@@ -7,6 +7,7 @@ use clause_form::{Atom, Clause, System};
 use clause_index::{FlatGuard, IndexedSystem};
 use lin_atoms::{Form, Lin, Lit};
 use std::alloc::Global;
+use std::mem;
 use std::process::Abort;
 use term_tree::Sort;
 
@@ -101,16 +102,47 @@ fn guard_at<'a>(rt: &impl Abort, indexed: &'a IndexedSystem, number: usize) -> F
     indexed.guard(number)
 }
 
-/// The literals of a guard are these.
-fn are_lits(rt: &impl Abort, guard: &FlatGuard, lits: &[Lit]) -> bool {
-    guard.lits_len() == lits.len()
-        && (0..lits.len()).all(|number| match lits.get(number) {
-            Some(lit) => {
-                assert!(rt; number < guard.lits_len(), "as many");
-                guard.lit(number).equals(lit)
-            }
-            None => false,
-        })
+/// The literal of a guard of that number is this one.
+fn is_lit_at(rt: &impl Abort, guard: &FlatGuard, number: usize, lit: &Lit) -> bool {
+    assert!(rt; number < guard.lits_len(), "as many");
+    guard.lit(number).equals(lit)
+}
+
+/// Asserts that the literals of a guard are these.
+fn check_lits(rt: &impl Abort, shows: &str, guard: &FlatGuard, lits: &[Lit]) {
+    assert!(rt; guard.lits_len() == lits.len(), "the number of {shows}");
+    let mut number: usize = 0;
+    for lit in lits {
+        assert!(rt; is_lit_at(rt, guard, number, lit), "{shows}");
+        number = number.wrapping_add(1);
+    }
+}
+
+/// Asserts that a guard's literals say so: at most each number, in order, and last that false holds, as 1 <= 0.
+fn check_bounds(
+    rt: &impl Abort,
+    alloc: Global,
+    shows: &str,
+    guard: &FlatGuard,
+    numbers: &[i128],
+    is_false: bool,
+) {
+    let mut lits = Vec::new(alloc);
+    for number in numbers {
+        lits.push(at_most(rt, alloc, *number)).expect(rt, "memory");
+    }
+    if is_false {
+        let lit = Lit::Le(Lin::of_constant(alloc, 1));
+        lits.push(lit).expect(rt, "memory");
+    }
+    check_lits(rt, shows, guard, lits.as_slice());
+    mem::forget(lits);
+}
+
+/// Asserts that a part is that form.
+fn check_part(rt: &impl Abort, shows: &str, part: &Form, form: Form) {
+    assert!(rt; part.equals(&form), "{shows}");
+    mem::forget(form);
 }
 
 /// The parts of a disjunction of that number.
@@ -125,27 +157,21 @@ fn a_guard_gives_its_literals_and_its_open_disjunctions(rt: HostRuntime) {
     let rt = &rt;
     let indexed = indexed(rt, alloc);
     let guard = guard_at(rt, &indexed, 0);
-    let (one, four) = (at_most(rt, alloc, 1), at_most(rt, alloc, 4));
-    let lits = [one, four, Lit::Le(Lin::of_constant(alloc, 1))];
-    assert!(rt;
-        are_lits(rt, &guard, lits.as_slice()),
-        "its own, then the inner one, and false as 1 <= 0"
-    );
+    let shows = "its own, then the inner one, and false as 1 <= 0";
+    check_bounds(rt, alloc, shows, &guard, &[1, 4], true);
     assert!(rt; guard.cases_len() == 2, "two disjunctions");
     let [two, three] = case_at(rt, &guard, 0) else {
         panic!(rt; "two parts of its own one")
     };
-    assert!(rt; two.equals(&lit(rt, alloc, 2)), "in order");
-    assert!(rt; three.equals(&lit(rt, alloc, 3)), "and no more");
+    check_part(rt, "in order", two, lit(rt, alloc, 2));
+    check_part(rt, "and no more", three, lit(rt, alloc, 3));
     let [both, seven] = case_at(rt, &guard, 1) else {
         panic!(rt; "two parts of the inner one")
     };
-    let (five, six) = (lit(rt, alloc, 5), lit(rt, alloc, 6));
-    assert!(rt;
-        both.equals(&Form::And(pair(rt, alloc, five, six))),
-        "a part stays closed"
-    );
-    assert!(rt; seven.equals(&lit(rt, alloc, 7)), "the other part");
+    let five_and_six = pair(rt, alloc, lit(rt, alloc, 5), lit(rt, alloc, 6));
+    check_part(rt, "a part stays closed", both, Form::And(five_and_six));
+    check_part(rt, "the other part", seven, lit(rt, alloc, 7));
+    mem::forget(indexed);
 }
 
 #[test]
@@ -153,24 +179,19 @@ fn a_guard_that_is_no_conjunction_gives_itself(rt: HostRuntime) {
     let alloc = rt.alloc();
     let rt = &rt;
     let indexed = indexed(rt, alloc);
-    let plain = guard_at(rt, &indexed, 2);
-    let lits = [at_most(rt, alloc, 8)];
-    assert!(rt; are_lits(rt, &plain, lits.as_slice()), "one literal");
-    assert!(rt; plain.cases_len() == 0, "nothing is open");
-    let nothing = guard_at(rt, &indexed, 1);
-    assert!(rt;
-        nothing.lits_len() == 0 && nothing.cases_len() == 0,
-        "true gives nothing"
-    );
-    let never = guard_at(rt, &indexed, 3);
-    let lits = [Lit::Le(Lin::of_constant(alloc, 1))];
-    assert!(rt; are_lits(rt, &never, lits.as_slice()), "false is 1 <= 0");
+    for (shows, number, lits, is_false, cases) in [
+        ("one literal", 2, [8].as_slice(), false, 0),
+        ("true gives nothing", 1, &[], false, 0),
+        ("false is 1 <= 0", 3, &[], true, 0),
+        ("a disjunction stays open", 4, &[], false, 1),
+    ] {
+        let guard = guard_at(rt, &indexed, number);
+        check_bounds(rt, alloc, shows, &guard, lits, is_false);
+        assert!(rt; guard.cases_len() == cases, "what is open");
+    }
     let either = guard_at(rt, &indexed, 4);
-    assert!(rt;
-        either.lits_len() == 0 && either.cases_len() == 1,
-        "a disjunction stays open"
-    );
     assert!(rt; case_at(rt, &either, 0).len() == 2, "as its two parts");
+    mem::forget(indexed);
 }
 
 #[test]
@@ -179,39 +200,32 @@ fn a_conjunction_in_a_conjunction_is_opened_however_deep_it_stands(rt: HostRunti
     let rt = &rt;
     let indexed = indexed(rt, alloc);
     let guard = guard_at(rt, &indexed, 5);
-    let lits = [
-        at_most(rt, alloc, 1),
-        at_most(rt, alloc, 2),
-        at_most(rt, alloc, 3),
-        at_most(rt, alloc, 4),
-        Lit::Le(Lin::of_constant(alloc, 1)),
-    ];
-    assert!(rt;
-        are_lits(rt, &guard, lits.as_slice()),
-        "from outside inwards"
+    check_bounds(
+        rt,
+        alloc,
+        "from outside inwards",
+        &guard,
+        &[1, 2, 3, 4],
+        true,
     );
     assert!(rt; guard.cases_len() == 1, "the disjunction of the innermost");
     let [_, seven] = case_at(rt, &guard, 0) else {
         panic!(rt; "two parts")
     };
-    assert!(rt; seven.equals(&lit(rt, alloc, 7)), "its second part");
+    check_part(rt, "its second part", seven, lit(rt, alloc, 7));
+    mem::forget(indexed);
 }
 
 #[test]
 fn clauses_are_listed_by_their_heads_in_order(rt: HostRuntime) {
-    let alloc = rt.alloc();
-    let rt = &rt;
-    let indexed = indexed(rt, alloc);
-    assert_eq!(rt;
-        indexed.with_head(Some(0)),
-        [0, 3].as_slice(),
-        "the first predicate"
-    );
-    assert_eq!(rt; indexed.with_head(Some(1)), [2, 5].as_slice(), "the second");
-    assert_eq!(rt;
-        indexed.with_head(None),
-        [1, 4].as_slice(),
-        "without a head"
-    );
-    assert!(rt; indexed.with_head(Some(2)).is_empty(), "no such predicate");
+    let indexed = indexed(&rt, rt.alloc());
+    for (shows, head, numbers) in [
+        ("the first predicate", Some(0), [0, 3].as_slice()),
+        ("the second", Some(1), &[2, 5]),
+        ("without a head", None, &[1, 4]),
+        ("no such predicate", Some(2), &[]),
+    ] {
+        assert!(&rt; indexed.with_head(head) == numbers, "{shows}");
+    }
+    mem::forget(indexed);
 }

@@ -1,4 +1,4 @@
-//! The journal of a whole search: a letter for each step.
+//! The journal of a whole search: a letter for each step. Books aren't let go, since that costs a proof.
 
 ghost use Rattle.chc_core.specs.Views.{standing_of};
 ghost use Rattle.obligation_turn.specs.Turns.{IsThin};
@@ -10,6 +10,7 @@ use book_loop::search;
 use chc_core::{Book, Step};
 use lin_atoms::{Lin, Lit};
 use std::alloc::Global;
+use std::mem;
 use std::process::Abort;
 
 /// The letter of a step: an Open, a Lemma, a Fact, a lift (U), a Raise or a Stall.
@@ -48,6 +49,7 @@ fn check(rt: &impl Abort, alloc: Global, shows: &str, text: &str, expected: &str
     let book = searched(rt, alloc, text);
     assert!(rt; book.end().is_some(), "the end of {shows}");
     let told = letters(rt, alloc, &book);
+    mem::forget(book);
     assert!(rt; told.as_str() == expected, "{shows}");
 }
 
@@ -110,4 +112,6 @@ fn the_area_takes_the_first_true_part_of_a_disjunction(rt: HostRuntime) {
     let lit = seven(&rt, rt.alloc());
     assert!(&rt; book.length() > 1);
     assert!(&rt; opens_only(&book.entry(2).step, &lit));
+    mem::forget(lit);
+    mem::forget(book);
 }
