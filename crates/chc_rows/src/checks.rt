@@ -1,7 +1,7 @@
 //! Calls of `check`: a script, the marker's line and an answer.
 
-use crate::cases::four;
-use crate::runs::{Ends, check_ran, run, run_over};
+use crate::cases::{four, joined};
+use crate::runs::{Ends, SMALL, check_ran, run};
 use crate::searches::CASES;
 use std::alloc::Global;
 use std::process::Abort;
@@ -29,10 +29,10 @@ fn check_told<W: Threads + Wait + Abort + Sync>(
     status: u8,
     told: &str,
 ) {
-    let input = format!(in alloc; "{script}{behind}").expect(rt, "memory");
-    let run = run(rt, alloc, &["check"], input.as_bytes());
-    check_ran(rt, behind, &run, status, told.as_bytes());
-    assert!(rt; run.report.book.is_none(), "nothing is searched");
+    let input = joined(rt, alloc, script, behind);
+    let ran = run(rt, alloc, &["check"], input.as_bytes(), &SMALL);
+    check_ran(rt, behind, &ran, status, told.as_bytes());
+    assert!(rt; ran.entries.is_none(), "nothing is searched");
 }
 
 #[test]
@@ -84,25 +84,20 @@ fn a_derivation_is_valid_or_wrong_at_a_step(rt: HostRuntime) {
     check_told(&rt, rt.alloc(), COUNTER, wrong.as_str(), 6, told);
 }
 
-/// Checks what is printed for the script, unless it is unknown.
-fn check_printed<W: Threads + Wait + Abort + Sync>(
-    rt: &W,
-    alloc: Global,
-    script: &str,
-    printed: &str,
-) {
-    if printed.starts_with("unknown") {
-        return;
-    }
-    let behind = format!(in alloc; "\n;;answer\n{printed}").expect(rt, "memory");
-    check_told(rt, alloc, script, behind.as_str(), 0, "valid\n");
+/// What stands behind a script with that answer.
+fn behind(rt: &impl Abort, alloc: Global, printed: &str) -> String {
+    joined(rt, alloc, "\n;;answer\n", printed)
 }
 
+/// What is printed is valid, unless it is unknown.
 #[test]
 fn printed_answers_are_valid(rt: HostRuntime) {
-    for case in CASES {
+    for case in CASES.split('¶') {
         if let Some((_, _, script, printed)) = four(case) {
-            check_printed(&rt, rt.alloc(), script, printed);
+            if !printed.starts_with("unknown") {
+                let behind = behind(&rt, rt.alloc(), printed);
+                check_told(&rt, rt.alloc(), script, behind.as_str(), 0, "valid\n");
+            }
         }
     }
 }
@@ -110,9 +105,11 @@ fn printed_answers_are_valid(rt: HostRuntime) {
 #[test]
 fn a_printed_value_that_is_free_is_valid(rt: HostRuntime) {
     let script = "(set-logic HORN)(assert (forall ((x Int)) (=> (= x x) false)))(check-sat)";
-    let ran = run(&rt, rt.alloc(), &["solve"], script.as_bytes());
+    let ran = run(&rt, rt.alloc(), &["solve"], script.as_bytes(), &SMALL);
     let printed = str::from_utf8(ran.held.as_slice()).expect(&rt, "text");
-    check_printed(&rt, rt.alloc(), script, printed);
+    assert!(&rt; !printed.starts_with("unknown"));
+    let behind = behind(&rt, rt.alloc(), printed);
+    check_told(&rt, rt.alloc(), script, behind.as_str(), 0, "valid\n");
 }
 
 #[test]
@@ -132,7 +129,7 @@ fn a_check_whose_sink_fails_is_status_4(rt: HostRuntime) {
     };
     let input = b"(set-logic HORN)(check-sat)\n;;answer\nsat ()".as_slice();
     let words = &["check", "--nodes", "1"];
-    let run = run_over(&rt, rt.alloc(), words, input, &ends);
-    check_ran(&rt, "a check whose sink fails", &run, 4, b"val");
-    assert!(rt; run.report.read.as_slice() == input, "all was read");
+    let ran = run(&rt, rt.alloc(), words, input, &ends);
+    check_ran(&rt, "a check whose sink fails", &ran, 4, b"val");
+    assert!(rt; ran.read.as_slice() == input, "all was read");
 }

@@ -1,11 +1,10 @@
 //! Assertions as clauses: which are answered, and which refusal is told of the others, at which place
 //! and in which order.
 
+use crate::cases::{add, repeated};
 use crate::readings::{check_run, check_table};
 use std::alloc::Global;
 use std::process::Abort;
-use std::sync::Wait;
-use std::thread::Threads;
 
 /// Assertions that are no Horn clauses, or whose linear forms are too wide. Each case is what it shows, how its text begins, the rest of the text, and the refusal.
 const REFUSED: &str = "\
@@ -158,10 +157,6 @@ fn clauses_with_heads_are_answered(rt: HostRuntime) {
 /// A script that declares a predicate p over an integer, up to here.
 const BEGINS: &str = "(set-logic HORN)(declare-fun p (Int) Bool)";
 
-fn add(rt: &impl Abort, text: &mut String, part: &str) {
-    text.push_str(part).expect(rt, "memory");
-}
-
 fn add_variable(rt: &impl Abort, alloc: Global, text: &mut String, number: usize) {
     let part = format!(in alloc; "(x{number} Int)").expect(rt, "memory");
     add(rt, text, part.as_str());
@@ -182,29 +177,16 @@ fn quantified(rt: &impl Abort, alloc: Global, variables: usize, body: &str) -> S
 
 /// A script with one implication, whose premise has `count` copies of this part.
 fn implied(rt: &impl Abort, alloc: Global, count: usize, part: &str) -> String {
-    let mut text = String::from_str(alloc, BEGINS).expect(rt, "memory");
-    add(rt, &mut text, "(assert (forall ((x Int)) (=> (and true");
-    for _ in 0..count {
-        add(rt, &mut text, part);
-    }
-    add(rt, &mut text, ") (p x))))(check-sat)");
-    text
+    let front = "(set-logic HORN)(declare-fun p (Int) Bool)(assert (forall ((x Int)) (=> (and true";
+    repeated(rt, alloc, front, part, count, ") (p x))))(check-sat)")
 }
 
-/// Asserts that a text is answered, or refused for its number of variables or atoms.
-fn check_count<W: Threads + Wait + Abort + Sync>(
-    rt: &W,
-    alloc: Global,
-    shows: &str,
-    text: String,
-    answered: bool,
-) {
+/// The status of a text that is answered, or refused for its number of variables or atoms, and what is told.
+fn told_of(answered: bool) -> (u8, &'static str) {
     if answered {
-        let told = "(define-fun p ((x0 Int)) Bool true)\n";
-        check_run(rt, alloc, shows, text.as_str(), 0, told);
+        (0, "(define-fun p ((x0 Int)) Bool true)\n")
     } else {
-        let told = "kind 17 Count at byte 42 after 2 commands";
-        check_run(rt, alloc, shows, text.as_str(), 1, told);
+        (1, "kind 17 Count at byte 42 after 2 commands")
     }
 }
 
@@ -216,7 +198,8 @@ fn a_clause_has_at_most_1024_variables_of_its_own(rt: HostRuntime) {
         ("a query of 1,025 variables", 1025, "(not (p 0))", false),
     ] {
         let text = quantified(&rt, rt.alloc(), variables, body);
-        check_count(&rt, rt.alloc(), shows, text, answered);
+        let (status, told) = told_of(answered);
+        check_run(&rt, rt.alloc(), shows, text.as_bytes(), status, told);
     }
 }
 
@@ -239,6 +222,7 @@ fn a_clause_has_at_most_64_body_atoms_and_2048_variables_in_all(rt: HostRuntime)
         ),
     ] {
         let text = implied(&rt, rt.alloc(), count, part);
-        check_count(&rt, rt.alloc(), shows, text, answered);
+        let (status, told) = told_of(answered);
+        check_run(&rt, rt.alloc(), shows, text.as_bytes(), status, told);
     }
 }

@@ -1,4 +1,4 @@
-use crate::runs::{Ends, check_ran, run_over};
+use crate::runs::{Ends, check_ran, run};
 
 #[test]
 fn a_source_that_fails_is_status_3_and_nothing_is_written(rt: HostRuntime) {
@@ -9,9 +9,9 @@ fn a_source_that_fails_is_status_3_and_nothing_is_written(rt: HostRuntime) {
         sink_fails: None,
     };
     let script = b"(set-logic HORN)(declare-fun p (Int) Bool)(assert (p 0))(check-sat)";
-    let run = run_over(&rt, rt.alloc(), &["solve"], script, &ends);
-    check_ran(&rt, "a source that fails", &run, 3, b"");
-    assert!(rt; run.report.read.is_empty(), "no bytes count as read");
+    let ran = run(&rt, rt.alloc(), &["solve"], script, &ends);
+    check_ran(&rt, "a source that fails", &ran, 3, b"");
+    assert!(rt; ran.read.is_empty(), "no bytes count as read");
 }
 
 #[test]
@@ -23,12 +23,9 @@ fn a_sink_that_fails_is_status_4_and_holds_a_prefix(rt: HostRuntime) {
         sink_fails: Some(2),
     };
     let script = b"(set-logic HORN)(check-sat)".as_slice();
-    let run = run_over(&rt, rt.alloc(), &["solve"], script, &ends);
-    check_ran(&rt, "a sink that fails", &run, 4, b"sat");
-    assert!(rt;
-        run.report.read.as_slice() == script,
-        "what was read is kept"
-    );
+    let ran = run(&rt, rt.alloc(), &["solve"], script, &ends);
+    check_ran(&rt, "a sink that fails", &ran, 4, b"sat");
+    assert!(rt; ran.read.as_slice() == script, "what was read is kept");
 }
 
 /// A counter from 0, and 3 gives false.
@@ -43,9 +40,9 @@ fn a_script_whose_source_fails_is_not_searched(rt: HostRuntime) {
         sink_step: 4,
         sink_fails: None,
     };
-    let run = run_over(&rt, rt.alloc(), &["solve"], COUNTER, &ends);
-    check_ran(&rt, "a counter whose source fails", &run, 3, b"");
-    assert!(rt; run.report.book.is_none(), "no book is opened");
+    let ran = run(&rt, rt.alloc(), &["solve"], COUNTER, &ends);
+    check_ran(&rt, "a counter whose source fails", &ran, 3, b"");
+    assert!(rt; ran.entries.is_none(), "no book is opened");
 }
 
 #[test]
@@ -56,9 +53,9 @@ fn a_derivation_that_cannot_be_written_is_status_4(rt: HostRuntime) {
         sink_step: 4,
         sink_fails: Some(3),
     };
-    let run = run_over(&rt, rt.alloc(), &["solve"], COUNTER, &ends);
-    check_ran(&rt, "a counter whose sink fails", &run, 4, b"unsat\n(d");
-    assert!(rt; run.report.book.is_some(), "the book has ended");
+    let ran = run(&rt, rt.alloc(), &["solve"], COUNTER, &ends);
+    check_ran(&rt, "a counter whose sink fails", &ran, 4, b"unsat\n(d");
+    assert!(rt; ran.entries.is_some(), "the book has ended");
 }
 
 /// Ends whose sink takes six bytes and then fails.
@@ -71,12 +68,12 @@ const SHORT: Ends = Ends {
 
 #[test]
 fn a_refusal_or_usage_that_cannot_be_written_is_status_4(rt: HostRuntime) {
-    let refused = run_over(&rt, rt.alloc(), &["solve"], b"", &SHORT);
+    let refused = run(&rt, rt.alloc(), &["solve"], b"", &SHORT);
     check_ran(&rt, "a refusal without room", &refused, 4, b"(error");
     assert!(rt;
-        refused.report.refusal.is_none(),
+        !refused.is_refused,
         "a refusal is told under status 1 alone"
     );
-    let usage = run_over(&rt, rt.alloc(), &["gen"], b"", &SHORT);
+    let usage = run(&rt, rt.alloc(), &["gen"], b"", &SHORT);
     check_ran(&rt, "usage without room", &usage, 4, b"usage:");
 }

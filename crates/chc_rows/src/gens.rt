@@ -1,6 +1,6 @@
 //! Calls of `gen`: the summary of a script that is made from a depth and a seed, and nothing is read.
 
-use crate::runs::{Ends, check_ran, run, run_over};
+use crate::runs::{Ends, SMALL, check_counts, check_ran, run};
 use std::alloc::Global;
 use std::process::Abort;
 use std::sync::Wait;
@@ -15,19 +15,10 @@ fn check_summed<W: Threads + Wait + Abort + Sync>(
     told: &str,
 ) {
     let words = &["gen", "--depth", depth, "--seed", seed];
-    let ran = run(rt, alloc, words, b"(set-logic HORN)(check-sat)");
+    let ran = run(rt, alloc, words, b"(set-logic HORN)(check-sat)", &SMALL);
     check_ran(rt, depth, &ran, 0, told.as_bytes());
-    assert!(rt; ran.report.read.is_empty(), "nothing is read");
-    let counts = ran.report.counts.as_slice();
-    let mut sum: u64 = 0;
-    for count in counts {
-        sum = sum.saturating_add(*count);
-    }
-    assert!(rt; counts.len() == 1, "the count of one worker");
-    match &ran.report.book {
-        Some(book) => assert!(rt; book.length() == sum, "one worker wrote all"),
-        None => assert!(rt; false, "a book of depth {depth}"),
-    }
+    assert!(rt; ran.read.is_empty(), "nothing is read");
+    check_counts(rt, &ran, 1);
 }
 
 #[test]
@@ -48,7 +39,7 @@ fn a_summary_that_cannot_be_written_is_status_4(rt: HostRuntime) {
         sink_fails: Some(2),
     };
     let words = &["gen", "--seed=7", "--depth=1"];
-    let ran = run_over(&rt, rt.alloc(), words, b"", &ends);
+    let ran = run(&rt, rt.alloc(), words, b"", &ends);
     check_ran(&rt, "a summary without room", &ran, 4, b"unsat ");
-    assert!(rt; ran.report.book.is_some(), "the book has ended");
+    assert!(rt; ran.entries.is_some(), "the book has ended");
 }

@@ -1,40 +1,29 @@
 //! Searches that end within so many units by one kind of guess, and don't without it.
 
 use crate::cases::four;
-use crate::runs::run;
-use std::alloc::Global;
-use std::process::Abort;
-use std::sync::Wait;
-use std::thread::Threads;
+use crate::runs::{SMALL, check_start, run};
 
 /// What a case shows, the units, the script, and the first line of its answer.
-const CASES: [&str; 2] = [
-    "a counter of laps of ten steps, whose counterexample has 16: bounds by the number of a step§\
+const CASES: &str = "\
+    a counter of laps of ten steps, whose counterexample has 16: bounds by the number of a step§\
         100§\
         (set-logic HORN)(declare-fun p (Int Int) Bool)(assert (p 0 0))(assert (forall ((x Int) (l Int)) (=> (and (p x l) (< x 9)) (p (+ x 1) l))))(assert (forall ((x Int) (l Int)) (=> (and (p x l) (>= x 9)) (p 0 (+ l 1)))))(assert (forall ((x Int) (l Int)) (=> (and (p x l) (>= x 5) (= l 1)) false)))(check-sat)§\
-        unsat\n",
-    "a loop in a loop that a place limits: clauses are run forward from a great limit§\
+        unsat\n¶\
+    a loop in a loop that a place limits: clauses are run forward from a great limit§\
         50§\
         (set-logic HORN)(declare-fun p (Int Int Int Int) Bool)(assert (forall ((n Int)) (=> (<= 0 n) (p 0 0 0 n))))(assert (forall ((a Int) (b Int) (s Int) (n Int)) (=> (and (p a b s n) (< a n) (< b 3)) (p a (+ b 1) (+ s 1) n))))(assert (forall ((a Int) (b Int) (s Int) (n Int)) (=> (and (p a b s n) (>= b 3)) (p (+ a 1) 0 s n))))(assert (forall ((a Int) (b Int) (s Int) (n Int)) (=> (and (p a b s n) (>= a n) (distinct s (* 3 n))) false)))(check-sat)§\
-        sat\n",
-];
-
-fn check_case<W: Threads + Wait + Abort + Sync>(rt: &W, alloc: Global, case: &str) {
-    if let Some((shows, units, script, begins)) = four(case) {
-        let words = ["solve", "--units", units];
-        let ran = run(rt, alloc, &words, script.as_bytes());
-        assert!(rt; ran.report.status == 0, "status of {shows}");
-        assert!(rt;
-            ran.held.as_slice().starts_with(begins.as_bytes()),
-            "answer of {shows}"
-        );
-    }
-}
+        sat\n";
 
 #[test]
 fn guesses_end_searches_in_few_units(rt: HostRuntime) {
-    for case in CASES {
-        assert!(&rt; four(case).is_some(), "four parts: {case}");
-        check_case(&rt, rt.alloc(), case);
+    let mut tried: usize = 0;
+    for case in CASES.split('¶') {
+        if let Some((shows, units, script, begins)) = four(case) {
+            let words = ["solve", "--units", units];
+            let ran = run(&rt, rt.alloc(), &words, script.as_bytes(), &SMALL);
+            check_start(&rt, shows, &ran, 0, begins.as_bytes());
+            tried = tried.saturating_add(1);
+        }
     }
+    assert!(rt; tried == 2);
 }

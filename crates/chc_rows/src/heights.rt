@@ -1,12 +1,9 @@
 //! A derivation that is far higher than the levels that its search closes.
 
-use crate::runs::{Ends, run_over};
+use crate::cases::add;
+use crate::runs::{Ends, check_start, run};
 use std::alloc::Global;
 use std::process::Abort;
-
-fn add(rt: &impl Abort, text: &mut String, part: &str) {
-    text.push_str(part).expect(rt, "memory");
-}
 
 /// Adds that d and p of each of these numbers give the predicate.
 fn add_rule(rt: &impl Abort, alloc: Global, text: &mut String, head: &str, from: u32, to: u32) {
@@ -50,10 +47,9 @@ fn a_derivation_of_height_150_is_printed(rt: HostRuntime) {
         sink_fails: None,
     };
     let text = script(&rt, rt.alloc());
-    let run = run_over(&rt, rt.alloc(), &["solve"], text.as_bytes(), &ends);
-    let held = run.held.as_slice();
-    assert!(rt; run.report.status == 0, "status");
-    assert!(rt; held.starts_with(FIRST), "the first lines");
+    let ran = run(&rt, rt.alloc(), &["solve"], text.as_bytes(), &ends);
+    let held = ran.held.as_slice();
+    check_start(&rt, "a derivation of height 150", &ran, 0, FIRST);
     assert!(rt; lines(held) == 157, "the number of lines");
     assert!(rt;
         held.ends_with(b"\n(step 154 8 () (53 104 153) false)\n)\n"),

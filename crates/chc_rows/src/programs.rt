@@ -1,8 +1,7 @@
 //! The whole program as `main` calls it: from the words that the system gives to the status.
 
-use crate::runs::{Ran, held_by, owned};
+use crate::runs::{SMALL, check_start, ends_of, owned, seen};
 use chc_cli::chc_main;
-use outside_io::{MemSink, MemSource};
 use std::alloc::Global;
 use std::env::Args;
 use std::io::{self, ErrorKind};
@@ -10,63 +9,44 @@ use std::process::Abort;
 use std::sync::Wait;
 use std::thread::Threads;
 
-/// Runs the program over a script without predicates, where the system gives these words.
-fn run_main<W: Threads + Wait + Abort + Sync>(
-    rt: &W,
-    alloc: Global,
-    args: io::Result<Args>,
-) -> Ran {
-    let script = Vec::from_slice(alloc, b"(set-logic HORN)(check-sat)").expect(rt, "memory");
-    let mut source = MemSource::new(script, 7, Vec::new(alloc));
-    let mut sink = MemSink::new(alloc, 4096, 5, Vec::new(alloc)).expect(rt, "memory");
-    let report = chc_main(rt, alloc, args, &mut source, &mut sink);
-    let held = held_by(rt, alloc, &sink);
-    Ran { report, held }
-}
-
-/// Runs the program, and asserts its status and how its output begins.
+/// Runs the program over a script without predicates, where the system gives these words, and asserts its
+/// status and how its output begins.
 fn check_main<W: Threads + Wait + Abort + Sync>(
     rt: &W,
     alloc: Global,
     args: io::Result<Args>,
     status: u8,
-    start: &str,
+    start: &[u8],
 ) {
-    let run = run_main(rt, alloc, args);
-    assert!(rt; run.report.status == status, "status {status}");
-    assert!(rt;
-        run.held.as_slice().starts_with(start.as_bytes()),
-        "the output of status {status}"
-    );
-    assert!(rt;
-        run.report.read.is_empty() == (status != 0),
-        "what was read under status {status}"
-    );
+    let (mut source, mut sink) = ends_of(rt, alloc, b"(set-logic HORN)(check-sat)", &SMALL);
+    let report = chc_main(rt, alloc, args, &mut source, &mut sink);
+    let ran = seen(rt, alloc, report, &sink);
+    check_start(rt, "a call of the program", &ran, status, start);
+    assert!(rt; ran.read.is_empty() == (status != 0), "what was read");
 }
 
-fn check_words<W: Threads + Wait + Abort + Sync>(
-    rt: &W,
-    alloc: Global,
-    words: &[&str],
-    status: u8,
-    start: &str,
-) {
-    let words = owned(rt, alloc, words);
-    check_main(rt, alloc, Ok(words.into_iter()), status, start);
+/// The words as the system gives them.
+fn given(rt: &impl Abort, alloc: Global, words: &[&str]) -> io::Result<Args> {
+    Ok(owned(rt, alloc, words).into_iter())
 }
 
 #[test]
 fn all_words_behind_the_name_are_taken(rt: HostRuntime) {
-    check_words(&rt, rt.alloc(), &["chc", "solve"], 0, "sat\n");
-    check_words(&rt, rt.alloc(), &["chc", "solve", "more"], 2, "usage: ");
-    check_words(&rt, rt.alloc(), &["solve"], 2, "usage: ");
-    check_words(&rt, rt.alloc(), &[], 2, "usage: ");
+    for (words, status, start) in [
+        (["chc", "solve"].as_slice(), 0, b"sat\n".as_slice()),
+        (&["chc", "solve", "more"], 2, b"usage: "),
+        (&["solve"], 2, b"usage: "),
+        (&[], 2, b"usage: "),
+    ] {
+        let args = given(&rt, rt.alloc(), words);
+        check_main(&rt, rt.alloc(), args, status, start);
+    }
 }
 
 #[test]
 fn words_that_are_no_text_are_usage_and_words_without_room_are_not(rt: HostRuntime) {
     let no_text = Err(ErrorKind::InvalidData.into());
-    check_main(&rt, rt.alloc(), no_text, 2, "usage: ");
+    check_main(&rt, rt.alloc(), no_text, 2, b"usage: ");
     let no_room = Err(ErrorKind::OutOfMemory.into());
-    check_main(&rt, rt.alloc(), no_room, 5, "(error \"out of memory\")\n");
+    check_main(&rt, rt.alloc(), no_room, 5, b"(error \"out of memory\")\n");
 }

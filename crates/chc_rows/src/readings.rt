@@ -1,8 +1,8 @@
 //! One text for each rule of the language of scripts that stands nowhere else here: what a reader
 //! of the rules could take in another way, most of all. Terms have a table of their own.
 
-use crate::cases::four;
-use crate::runs::{check_ran, run};
+use crate::cases::{error_line, four, joined, three};
+use crate::runs::{Ran, SMALL, check_ran, run};
 use std::alloc::Global;
 use std::process::Abort;
 use std::sync::Wait;
@@ -224,19 +224,29 @@ fn beginning(name: &str) -> &str {
     }
 }
 
-/// A case's text.
-fn text_of(rt: &impl Abort, alloc: Global, begins: &str, rest: &str) -> String {
-    let start = beginning(begins);
-    format!(in alloc; "{start}{rest}").expect(rt, "memory")
-}
-
 /// The output of that status with what is told.
 fn output_of(rt: &impl Abort, alloc: Global, status: u8, told: &str) -> String {
     if status == 0 {
         format!(in alloc; "sat\n(\n{told})\n").expect(rt, "memory")
     } else {
-        format!(in alloc; "(error \"{told}\")\n").expect(rt, "memory")
+        error_line(rt, alloc, told)
     }
+}
+
+/// Asserts what is told of a text, that all of it was read, and that it is refused under status 1 alone.
+fn check_text(
+    rt: &impl Abort,
+    alloc: Global,
+    shows: &str,
+    ran: &Ran,
+    text: &[u8],
+    status: u8,
+    told: &str,
+) {
+    let expected = output_of(rt, alloc, status, told);
+    check_ran(rt, shows, ran, status, expected.as_bytes());
+    assert!(rt; ran.read.as_slice() == text, "bytes read of {shows}");
+    assert!(rt; ran.is_refused == (status == 1), "refusal of {shows}");
 }
 
 /// Runs a text, and asserts its status and what is told.
@@ -244,13 +254,12 @@ pub fn check_run<W: Threads + Wait + Abort + Sync>(
     rt: &W,
     alloc: Global,
     shows: &str,
-    text: &str,
+    text: &[u8],
     status: u8,
     told: &str,
 ) {
-    let run = run(rt, alloc, &["solve"], text.as_bytes());
-    let expected = output_of(rt, alloc, status, told);
-    check_ran(rt, shows, &run, status, expected.as_bytes());
+    let ran = run(rt, alloc, &["solve"], text, &SMALL);
+    check_text(rt, alloc, shows, &ran, text, status, told);
 }
 
 /// Checks each case of a table by its status and what is told, and answers how many there are.
@@ -263,8 +272,25 @@ pub fn check_table<W: Threads + Wait + Abort + Sync>(
     let mut tried: usize = 0;
     for case in table.split('¶') {
         if let Some((shows, begins, rest, told)) = four(case) {
-            let text = text_of(rt, alloc, begins, rest);
-            check_run(rt, alloc, shows, text.as_str(), status, told);
+            let text = joined(rt, alloc, beginning(begins), rest);
+            check_run(rt, alloc, shows, text.as_bytes(), status, told);
+            tried = tried.saturating_add(1);
+        }
+    }
+    tried
+}
+
+/// The same for a table whose cases tell their whole text.
+pub fn check_texts<W: Threads + Wait + Abort + Sync>(
+    rt: &W,
+    alloc: Global,
+    table: &str,
+    status: u8,
+) -> usize {
+    let mut tried: usize = 0;
+    for case in table.split('¶') {
+        if let Some((shows, text, told)) = three(case) {
+            check_run(rt, alloc, shows, text.as_bytes(), status, told);
             tried = tried.saturating_add(1);
         }
     }

@@ -1,9 +1,5 @@
-use crate::cases::three;
-use crate::runs::{check_ran, run};
-use std::alloc::Global;
-use std::process::Abort;
-use std::sync::Wait;
-use std::thread::Threads;
+use crate::cases::repeated;
+use crate::readings::{check_run, check_texts};
 
 /// Texts with a fault of their bytes, or without a question. Each case is what it shows, the text, and the refusal.
 const TEXT: &str = "\
@@ -230,83 +226,34 @@ const NAMES: &str = "\
         (set-logic HORN)(declare-fun p (Int) Bool)(assert (exists ((x Int)) (p x)))(check-sat)§\
         kind 16 NotHorn at byte 50 after 2 commands";
 
-/// Runs a text, and asserts that it is refused so.
-fn check_refusal<W: Threads + Wait + Abort + Sync>(
-    rt: &W,
-    alloc: Global,
-    shows: &str,
-    text: &[u8],
-    expected: &str,
-) {
-    let run = run(rt, alloc, &["solve"], text);
-    let line = format!(in alloc; "(error \"{expected}\")\n").expect(rt, "memory");
-    check_ran(rt, shows, &run, 1, line.as_bytes());
-    assert!(rt; run.report.read.as_slice() == text, "bytes read of {shows}");
-    assert!(rt; run.report.refusal.is_some(), "refusal of {shows}");
-}
-
-/// Checks each case of a table, and answers how many there are.
-fn check_refusals<W: Threads + Wait + Abort + Sync>(rt: &W, alloc: Global, table: &str) -> usize {
-    let mut tried: usize = 0;
-    for case in table.split('¶') {
-        if let Some((shows, text, expected)) = three(case) {
-            check_refusal(rt, alloc, shows, text.as_bytes(), expected);
-            tried = tried.saturating_add(1);
-        }
-    }
-    tried
-}
-
 #[test]
 fn faults_of_the_text_are_refused_at_their_byte(rt: HostRuntime) {
-    assert!(rt; check_refusals(&rt, rt.alloc(), TEXT) == 14);
+    assert!(rt; check_texts(&rt, rt.alloc(), TEXT, 1) == 14);
 }
 
 #[test]
 fn wrong_forms_and_orders_are_refused_at_their_place(rt: HostRuntime) {
-    assert!(rt; check_refusals(&rt, rt.alloc(), FORM) == 27);
+    assert!(rt; check_texts(&rt, rt.alloc(), FORM, 1) == 27);
 }
 
 #[test]
 fn wrong_names_and_sorts_are_refused_at_their_place(rt: HostRuntime) {
-    assert!(rt; check_refusals(&rt, rt.alloc(), NAMES) == 31);
+    assert!(rt; check_texts(&rt, rt.alloc(), NAMES, 1) == 31);
 }
 
 #[test]
 fn a_byte_that_is_no_token_is_refused_first_of_all(rt: HostRuntime) {
     let text = b"\xff(set-logic HORN)(check-sat)".as_slice();
     let expected = "kind 2 BadByte at byte 0 after 0 commands";
-    check_refusal(&rt, rt.alloc(), "byte 255", text, expected);
-}
-
-/// A text with `count` copies of one part between two others.
-fn repeated(
-    rt: &impl Abort,
-    alloc: Global,
-    front: &str,
-    part: &str,
-    count: usize,
-    end: &str,
-) -> String {
-    let mut text = String::from_str(alloc, front).expect(rt, "memory");
-    for _ in 0..count {
-        text.push_str(part).expect(rt, "memory");
-    }
-    text.push_str(end).expect(rt, "memory");
-    text
+    check_run(&rt, rt.alloc(), "byte 255", text, 1, expected);
 }
 
 #[test]
 fn more_than_2000_open_lists_are_refused(rt: HostRuntime) {
     let text = repeated(&rt, rt.alloc(), "", "(", 2001, "");
     let expected = "kind 4 Deep at byte 2000 after 0 commands";
-    check_refusal(
-        &rt,
-        rt.alloc(),
-        "2,001 open lists",
-        text.as_bytes(),
-        expected,
-    );
+    let shows = "2,001 open lists";
+    check_run(&rt, rt.alloc(), shows, text.as_bytes(), 1, expected);
 }
 
 #[test]
@@ -314,5 +261,6 @@ fn more_than_256_arguments_are_refused(rt: HostRuntime) {
     let front = "(set-logic HORN)(declare-fun p (Int";
     let text = repeated(&rt, rt.alloc(), front, " Int", 256, ") Bool)(check-sat)");
     let expected = "kind 17 Count at byte 16 after 1 commands";
-    check_refusal(&rt, rt.alloc(), "257 arguments", text.as_bytes(), expected);
+    let shows = "257 arguments";
+    check_run(&rt, rt.alloc(), shows, text.as_bytes(), 1, expected);
 }

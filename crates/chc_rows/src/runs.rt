@@ -1,6 +1,12 @@
+//! Whole runs of the program's top call, and what is seen of them.
+//!
+//! A report isn't let go, as `main` doesn't let go its own: to let its book go part by part would be proved
+//! anew in each function that holds one.
+
 use chc_cli::{Report, chc_run};
 use outside_io::{MemSink, MemSource};
 use std::alloc::Global;
+use std::mem;
 use std::process::Abort;
 use std::sync::Wait;
 use std::thread::Threads;
@@ -15,10 +21,23 @@ pub struct Ends {
     pub sink_fails: Option<u64>,
 }
 
-/// What came of a run: its report, and what the sink holds.
+/// Ends that never fail, and move a few bytes in a turn.
+pub const SMALL: Ends = Ends {
+    source_step: 7,
+    source_fails: None,
+    sink_step: 5,
+    sink_fails: None,
+};
+
+/// What came of a run: what its report tells, and what the sink holds.
 #[derive(Drop)]
 pub struct Ran {
-    pub report: Report,
+    pub status: u8,
+    pub read: Vec<u8>,
+    pub is_refused: bool,
+    /// How many entries the book has, where there is one.
+    pub entries: Option<u64>,
+    pub counts: Vec<u64>,
     pub held: Vec<u8>,
 }
 
@@ -39,24 +58,36 @@ fn named(rt: &impl Abort, alloc: Global, turn: Option<u64>) -> Vec<u64> {
     }
 }
 
-fn source_of(rt: &impl Abort, alloc: Global, input: &[u8], ends: &Ends) -> MemSource {
+/// A source of the input and a sink with room, which behave so.
+pub fn ends_of(rt: &impl Abort, alloc: Global, input: &[u8], ends: &Ends) -> (MemSource, MemSink) {
     let bytes = Vec::from_slice(alloc, input).expect(rt, "memory");
     let fails = named(rt, alloc, ends.source_fails);
-    MemSource::new(bytes, ends.source_step.max(1), fails)
-}
-
-fn sink_of(rt: &impl Abort, alloc: Global, ends: &Ends) -> MemSink {
+    let source = MemSource::new(bytes, ends.source_step.max(1), fails);
     let fails = named(rt, alloc, ends.sink_fails);
-    MemSink::new(alloc, 1 << 20, ends.sink_step.max(1), fails).expect(rt, "memory")
+    let sink = MemSink::new(alloc, 1 << 20, ends.sink_step.max(1), fails);
+    (source, sink.expect(rt, "memory"))
 }
 
-/// What the sink holds.
-pub fn held_by(rt: &impl Abort, alloc: Global, sink: &MemSink) -> Vec<u8> {
-    Vec::from_slice(alloc, sink.held()).expect(rt, "memory")
+/// What is seen of a report and a sink.
+pub fn seen(rt: &impl Abort, alloc: Global, report: Report, sink: &MemSink) -> Ran {
+    let entries = match &report.book {
+        Some(book) => Some(book.length()),
+        None => None,
+    };
+    let ran = Ran {
+        status: report.status,
+        read: Vec::from_slice(alloc, report.read.as_slice()).expect(rt, "memory"),
+        is_refused: report.refusal.is_some(),
+        entries,
+        counts: Vec::from_slice(alloc, report.counts.as_slice()).expect(rt, "memory"),
+        held: Vec::from_slice(alloc, sink.held()).expect(rt, "memory"),
+    };
+    mem::forget(report);
+    ran
 }
 
 /// Runs the words over the input, with ends that behave so.
-pub fn run_over<W: Threads + Wait + Abort + Sync>(
+pub fn run<W: Threads + Wait + Abort + Sync>(
     rt: &W,
     alloc: Global,
     words: &[&str],
@@ -64,8 +95,7 @@ pub fn run_over<W: Threads + Wait + Abort + Sync>(
     ends: &Ends,
 ) -> Ran {
     let words = owned(rt, alloc, words);
-    let mut source = source_of(rt, alloc, input, ends);
-    let mut sink = sink_of(rt, alloc, ends);
+    let (mut source, mut sink) = ends_of(rt, alloc, input, ends);
     let report = chc_run(
         rt,
         alloc,
@@ -74,28 +104,27 @@ pub fn run_over<W: Threads + Wait + Abort + Sync>(
         &mut sink,
         &FreeGate,
     );
-    let held = held_by(rt, alloc, &sink);
-    Ran { report, held }
-}
-
-/// Runs the words over the input, with ends that never fail.
-pub fn run<W: Threads + Wait + Abort + Sync>(
-    rt: &W,
-    alloc: Global,
-    words: &[&str],
-    input: &[u8],
-) -> Ran {
-    let ends = Ends {
-        source_step: 7,
-        source_fails: None,
-        sink_step: 5,
-        sink_fails: None,
-    };
-    run_over(rt, alloc, words, input, &ends)
+    seen(rt, alloc, report, &sink)
 }
 
 /// Asserts the status of a run, and its output.
-pub fn check_ran(rt: &impl Abort, shows: &str, run: &Ran, status: u8, output: &[u8]) {
-    assert!(rt; run.report.status == status, "status of {shows}");
-    assert_eq!(rt; run.held.as_slice(), output, "output of {shows}");
+pub fn check_ran(rt: &impl Abort, shows: &str, ran: &Ran, status: u8, output: &[u8]) {
+    assert!(rt; ran.status == status, "status of {shows}");
+    assert!(rt; ran.held.as_slice() == output, "output of {shows}");
+}
+
+/// Asserts the status of a run, and how its output begins.
+pub fn check_start(rt: &impl Abort, shows: &str, ran: &Ran, status: u8, start: &[u8]) {
+    assert!(rt; ran.status == status, "status of {shows}");
+    assert!(rt; ran.held.as_slice().starts_with(start), "output of {shows}");
+}
+
+/// Asserts that each worker has a count, and that they sum to the length of the book's journal.
+pub fn check_counts(rt: &impl Abort, ran: &Ran, workers: usize) {
+    let mut sum: u64 = 0;
+    for count in ran.counts.as_slice() {
+        sum = sum.saturating_add(*count);
+    }
+    assert!(rt; ran.counts.len() == workers, "a count of each worker");
+    assert!(rt; ran.entries == Some(sum), "the sum of the counts");
 }

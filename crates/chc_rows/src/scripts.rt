@@ -1,9 +1,4 @@
-use crate::cases::three;
-use crate::runs::{check_ran, run};
-use std::alloc::Global;
-use std::process::Abort;
-use std::sync::Wait;
-use std::thread::Threads;
+use crate::readings::check_texts;
 
 /// What a case shows, its script, and the definitions of its answer.
 const SAT: &str = "\
@@ -50,32 +45,7 @@ const SAT: &str = "\
         (set-logic HORN)(declare-fun p (Int) Bool)(assert (forall ((x Int)) (forall ((x Int) (y Bool)) (=> y (p x)))))(check-sat)§\
         (define-fun p ((x0 Int)) Bool true)\n";
 
-/// Runs a script, and asserts that it is answered with these definitions.
-fn check_sat<W: Threads + Wait + Abort + Sync>(
-    rt: &W,
-    alloc: Global,
-    shows: &str,
-    script: &str,
-    definitions: &str,
-) {
-    let run = run(rt, alloc, &["solve"], script.as_bytes());
-    let answer = format!(in alloc; "sat\n(\n{definitions})\n").expect(rt, "memory");
-    check_ran(rt, shows, &run, 0, answer.as_bytes());
-    assert!(rt;
-        run.report.read.as_slice() == script.as_bytes(),
-        "bytes read of {shows}"
-    );
-    assert!(rt; run.report.refusal.is_none(), "refusal of {shows}");
-}
-
 #[test]
 fn scripts_whose_assertions_have_heads_are_sat_with_true(rt: HostRuntime) {
-    let mut tried: usize = 0;
-    for case in SAT.split('¶') {
-        if let Some((shows, script, definitions)) = three(case) {
-            check_sat(&rt, rt.alloc(), shows, script, definitions);
-            tried = tried.saturating_add(1);
-        }
-    }
-    assert!(rt; tried == 14);
+    assert!(rt; check_texts(&rt, rt.alloc(), SAT, 0) == 14);
 }

@@ -6,6 +6,7 @@ use crate::cases::three;
 use sexp_read::read_commands;
 use sort_check::check_script;
 use std::alloc::Global;
+use std::mem;
 use std::process::Abort;
 
 /// What a case shows, its text, how many predicates and assertions its legal commands have, and the refusal.
@@ -26,18 +27,17 @@ const TEXTS: &str = "\
         (set-logic HORN)§\
         0 0 kind 18 at byte 16 after 1 commands";
 
-/// How many predicates and assertions the text has, and its refusal.
-fn told(rt: &impl Abort, alloc: Global, text: &[u8]) -> String
-    requires { length text.now < 2 ^ 32 }
-{
-    let trees = read_commands(alloc, text).expect(rt, "memory");
-    let checked = check_script(alloc, text, &trees).expect(rt, "memory");
-    let preds = checked.script.preds.len();
-    let asserts = checked.script.asserts.len();
-    match &checked.stop {
+/// The numbers and the refusal as one line.
+fn shown(
+    rt: &impl Abort,
+    alloc: Global,
+    preds: usize,
+    asserts: usize,
+    stop: Option<(u8, u64, u32)>,
+) -> String {
+    match stop {
         None => format!(in alloc; "{preds} {asserts}").expect(rt, "memory"),
-        Some(refusal) => {
-            let (kind, offset, command) = (refusal.kind.number(), refusal.offset, refusal.command);
+        Some((kind, offset, command)) => {
             let told = format!(in alloc;
                 "{preds} {asserts} kind {kind} at byte {offset} after {command} commands"
             );
@@ -46,10 +46,27 @@ fn told(rt: &impl Abort, alloc: Global, text: &[u8]) -> String
     }
 }
 
+/// How many predicates and assertions the text has, and its refusal. Trees and scripts aren't let go.
+fn told(rt: &impl Abort, alloc: Global, text: &[u8]) -> String
+    requires { length text.now < 2 ^ 32 }
+{
+    let trees = read_commands(alloc, text).expect(rt, "memory");
+    let checked = check_script(alloc, text, &trees).expect(rt, "memory");
+    let preds = checked.script.preds.len();
+    let asserts = checked.script.asserts.len();
+    let stop = match &checked.stop {
+        None => None,
+        Some(refusal) => Some((refusal.kind.number(), refusal.offset, refusal.command)),
+    };
+    mem::forget(trees);
+    mem::forget(checked);
+    shown(rt, alloc, preds, asserts, stop)
+}
+
 fn check(rt: &impl Abort, alloc: Global, shows: &str, text: &[u8], expected: &str) {
     assert!(rt; text.len() < 1000, "{shows}");
     let found = told(rt, alloc, text);
-    assert_eq!(rt; found.as_str(), expected, "{shows}");
+    assert!(rt; found.as_str() == expected, "{shows}");
 }
 
 #[test]

@@ -1,4 +1,4 @@
-use crate::runs::{check_ran, run};
+use crate::runs::{SMALL, check_ran, run};
 use std::alloc::Global;
 use std::process::Abort;
 use std::sync::Wait;
@@ -14,43 +14,30 @@ fn check_usage<W: Threads + Wait + Abort + Sync>(
     shows: &str,
     words: &[&str],
 ) {
-    let run = run(rt, alloc, words, b"(set-logic HORN)(check-sat)");
-    check_ran(rt, shows, &run, 2, USAGE.as_bytes());
-    assert!(rt;
-        run.report.read.is_empty(),
-        "{shows} is answered without reading"
-    );
-    assert!(rt; run.report.refusal.is_none(), "{shows} refuses no script");
+    let ran = run(rt, alloc, words, b"(set-logic HORN)(check-sat)", &SMALL);
+    check_ran(rt, shows, &ran, 2, USAGE.as_bytes());
+    assert!(rt; ran.read.is_empty(), "nothing is read");
+    assert!(rt; !ran.is_refused, "no script is refused");
 }
 
 #[test]
 fn other_words_are_answered_with_the_usage_line(rt: HostRuntime) {
-    check_usage(&rt, rt.alloc(), "nothing", &[]);
-    check_usage(
-        &rt,
-        rt.alloc(),
-        "solve --workers 65",
-        &["solve", "--workers", "65"],
-    );
-    check_usage(
-        &rt,
-        rt.alloc(),
-        "check --nodes 0",
-        &["check", "--nodes", "0"],
-    );
-    check_usage(&rt, rt.alloc(), "solv", &["solv"]);
-    check_usage(&rt, rt.alloc(), "solve and an empty word", &["solve", ""]);
+    for (shows, words) in [
+        ("nothing", [].as_slice()),
+        ("solve --workers 65", &["solve", "--workers", "65"]),
+        ("check --nodes 0", &["check", "--nodes", "0"]),
+        ("solv", &["solv"]),
+        ("solve and an empty word", &["solve", ""]),
+    ] {
+        check_usage(&rt, rt.alloc(), shows, words);
+    }
 }
 
 #[test]
 fn options_are_taken_in_any_order_and_in_both_spellings(rt: HostRuntime) {
     let words = &["solve", "--nodes=7", "--workers", "1", "--units=0"];
-    let run = run(
-        &rt,
-        rt.alloc(),
-        words,
-        b"(set-logic HORN)(assert false)(check-sat)",
-    );
+    let script = b"(set-logic HORN)(assert false)(check-sat)";
+    let ran = run(&rt, rt.alloc(), words, script, &SMALL);
     let told = b"unknown\n; level 0 units 0\n";
-    check_ran(&rt, "a call without units", &run, 0, told);
+    check_ran(&rt, "a call without units", &ran, 0, told);
 }

@@ -1,10 +1,6 @@
 //! Several workers over one script: what is printed, and what their counts sum to.
 
-use crate::runs::{Ran, check_ran, run};
-use std::alloc::Global;
-use std::process::Abort;
-use std::sync::Wait;
-use std::thread::Threads;
+use crate::runs::{SMALL, check_counts, check_ran, check_start, run};
 
 /// p of 0, and of x + 1 with that of x, but not of 3: false has one derivation.
 const COUNTER: &[u8] =
@@ -17,34 +13,11 @@ const DERIVED: &[u8] =
 const SATURATING: &[u8] =
     b"(set-logic HORN)(declare-fun |main@entry| () Bool)(declare-fun |main@loop| (Int Int) Bool)(declare-fun |main@exit| (Int Int) Bool)(assert |main@entry|)(assert (forall ((A Int) (B Int)) (=> (and |main@entry| (= A 0) (= B 0)) (|main@loop| A B))))(assert (forall ((A Int) (B Int) (C Int) (D Int)) (let ((a!1 (and (< A 100) (= C (+ A 1)))) (a!2 (= D (ite (> B 50) B (+ B 2))))) (=> (and (|main@loop| A B) a!1 a!2) (|main@loop| C D)))))(assert (forall ((A Int) (B Int)) (=> (and (|main@loop| A B) (not (< A 100))) (|main@exit| A B))))(assert (forall ((A Int) (B Int)) (=> (and (|main@exit| A B) (not (<= B 52))) false)))(check-sat)";
 
-/// Asserts that each worker has a count, and that they sum to the length of the book's journal.
-fn check_counts(rt: &impl Abort, ran: &Ran, workers: usize) {
-    let counts = ran.report.counts.as_slice();
-    let mut sum: u64 = 0;
-    for count in counts {
-        sum = sum.saturating_add(*count);
-    }
-    assert!(rt; counts.len() == workers, "the counts of {workers} workers");
-    match &ran.report.book {
-        Some(book) => assert!(rt; book.length() == sum, "the sum of {workers} counts"),
-        None => assert!(rt; false, "a book of {workers} workers"),
-    }
-}
-
-/// Runs the script with so many workers.
-fn run_with<W: Threads + Wait + Abort + Sync>(
-    rt: &W,
-    alloc: Global,
-    workers: &str,
-    script: &[u8],
-) -> Ran {
-    run(rt, alloc, &["solve", "--workers", workers], script)
-}
-
 #[test]
 fn an_only_derivation_is_printed_with_any_number_of_workers(rt: HostRuntime) {
     for (word, workers) in [("1", 1), ("2", 2), ("8", 8)] {
-        let ran = run_with(&rt, rt.alloc(), word, COUNTER);
+        let words = ["solve", "--workers", word];
+        let ran = run(&rt, rt.alloc(), &words, COUNTER, &SMALL);
         check_ran(&rt, word, &ran, 0, DERIVED);
         check_counts(&rt, &ran, workers);
     }
@@ -52,19 +25,18 @@ fn an_only_derivation_is_printed_with_any_number_of_workers(rt: HostRuntime) {
 
 #[test]
 fn four_workers_find_definitions(rt: HostRuntime) {
-    let ran = run_with(&rt, rt.alloc(), "4", SATURATING);
-    let held = ran.held.as_slice();
-    assert!(rt; ran.report.status == 0, "status");
-    assert!(rt;
-        held.starts_with(b"sat\n(\n(define-fun main@entry () Bool true)\n"),
-        "the first lines"
-    );
+    let words = ["solve", "--workers", "4"];
+    let ran = run(&rt, rt.alloc(), &words, SATURATING, &SMALL);
+    let start = b"sat\n(\n(define-fun main@entry () Bool true)\n";
+    check_start(&rt, "four workers", &ran, 0, start);
     check_counts(&rt, &ran, 4);
 }
 
 #[test]
 fn sixty_four_workers_share_a_book_of_two_entries(rt: HostRuntime) {
-    let ran = run_with(&rt, rt.alloc(), "64", b"(set-logic HORN)(check-sat)");
+    let words = ["solve", "--workers", "64"];
+    let script = b"(set-logic HORN)(check-sat)";
+    let ran = run(&rt, rt.alloc(), &words, script, &SMALL);
     check_ran(&rt, "no clause at all", &ran, 0, b"sat\n(\n)\n");
     check_counts(&rt, &ran, 64);
 }
