@@ -1,47 +1,27 @@
 //! Formulas by hand.
 
 use crate::defined_texts::formula_under;
-use base::{Items, Same};
+use crate::made::{add, eq, le, two};
+use base::Same;
 use clause_normal::NormalStop;
-use lin_atoms::{Form, Lin, Lit};
+use lin_atoms::Form;
 use std::alloc::Global;
+use std::mem;
 use std::process::Abort;
-use std::test::Fail;
-
-fn lin(rt: &impl Abort, alloc: Global, terms: &[(u32, i64)], constant: i128) -> Lin {
-    let terms = Vec::from_slice(alloc, terms).expect(rt, "memory");
-    Lin::new(terms, constant).expect(rt, "a form")
-}
-
-fn le(rt: &impl Abort, alloc: Global, terms: &[(u32, i64)], constant: i128) -> Form {
-    Form::Lit(Lit::Le(lin(rt, alloc, terms, constant)))
-}
-
-fn eq(rt: &impl Abort, alloc: Global, terms: &[(u32, i64)], constant: i128) -> Form {
-    Form::Lit(Lit::Eq(lin(rt, alloc, terms, constant)))
-}
-
-fn both(rt: &impl Abort, alloc: Global, a: Form, b: Form) -> Form {
-    let parts = Vec::from_array(alloc, [a, b]).expect(rt, "memory");
-    Form::And(Items::from_vec(parts))
-}
 
 /// That the variable v is the magnitude of u.
 fn magnitude(rt: &impl Abort, alloc: Global, u: u32, v: u32) -> Form {
-    let positive = both(
-        rt,
-        alloc,
+    let (least, same) = (
         le(rt, alloc, &[(u, -1)], 0),
         eq(rt, alloc, &[(u, -1), (v, 1)], 0),
     );
-    let negative = both(
-        rt,
-        alloc,
+    let (most, denied) = (
         le(rt, alloc, &[(u, 1)], 1),
         eq(rt, alloc, &[(u, 1), (v, 1)], 0),
     );
-    let parts = Vec::from_array(alloc, [positive, negative]).expect(rt, "memory");
-    Form::Or(Items::from_vec(parts))
+    let positive = Form::And(two(rt, alloc, least, same));
+    let negative = Form::And(two(rt, alloc, most, denied));
+    Form::Or(two(rt, alloc, positive, negative))
 }
 
 /// Whether that is the formula of the assertion over p with one argument, under the definition by the
@@ -51,68 +31,54 @@ fn is_made(
     alloc: Global,
     assertion: &str,
     term: &str,
-    form: &Form,
+    form: Form,
     count: u32,
 ) -> bool {
     let text = format!(in alloc;
         "(set-logic HORN)(declare-fun p (Int) Bool){assertion}(check-sat)"
     ).expect(rt, "memory");
     let (text, term) = (text.as_bytes(), term.as_bytes());
-    if text.len() > 1000 || term.len() > 1000 {
-        return false;
-    }
-    match formula_under(alloc, text, term) {
-        Ok(Some((made, variables))) => made.equals(form) && variables == count,
-        Ok(None) => false,
+    assert!(rt; text.len() <= 1000 && term.len() <= 1000);
+    let found = formula_under(rt, alloc, text, term);
+    let is_made = match &found {
+        Ok((made, variables)) => made.equals(&form) && *variables == count,
         Err(NormalStop::Memory) => panic!(rt; "memory"),
         Err(_) => false,
-    }
+    };
+    mem::forget(found);
+    mem::forget(form);
+    is_made
 }
 
 /// p of a number implies p of the next one.
 const STEP: &str = "(assert (forall ((x Int)) (=> (p x) (p (+ x 1)))))";
 
 #[test]
-fn the_body_holds_and_the_head_does_not(rt: HostRuntime) -> Result<(), Fail> {
+fn the_body_holds_and_the_head_does_not(rt: HostRuntime) {
     let a = rt.alloc();
-    let parts = Vec::from_array(
-        a,
-        [
-            eq(&rt, a, &[(0, -1), (1, 1)], -1),
-            le(&rt, a, &[(0, 1)], -9),
-            le(&rt, a, &[(1, -1)], 10),
-        ],
-    )
-    .expect(&rt, "memory");
-    let form = Form::And(Items::from_vec(parts));
-    assert!(rt; is_made(&rt, a, STEP, "(< a 10)", &form, 2));
-    Ok(())
+    let (next, most) = (
+        eq(&rt, a, &[(0, -1), (1, 1)], -1),
+        le(&rt, a, &[(0, 1)], -9),
+    );
+    let mut parts = two(&rt, a, next, most);
+    add(&rt, &mut parts, le(&rt, a, &[(1, -1)], 10));
+    assert!(rt; is_made(&rt, a, STEP, "(< a 10)", Form::And(parts), 2));
 }
 
 #[test]
-fn each_use_has_auxiliary_variables_of_its_own(rt: HostRuntime) -> Result<(), Fail> {
+fn each_use_has_auxiliary_variables_of_its_own(rt: HostRuntime) {
     let a = rt.alloc();
-    let parts = Vec::from_array(
-        a,
-        [
-            eq(&rt, a, &[(0, -1), (1, 1)], -1),
-            magnitude(&rt, a, 0, 2),
-            le(&rt, a, &[(2, 1)], -9),
-            magnitude(&rt, a, 1, 3),
-            le(&rt, a, &[(3, -1)], 10),
-        ],
-    )
-    .expect(&rt, "memory");
-    let form = Form::And(Items::from_vec(parts));
-    assert!(rt; is_made(&rt, a, STEP, "(< (abs a) 10)", &form, 4));
-    Ok(())
+    let (next, first) = (eq(&rt, a, &[(0, -1), (1, 1)], -1), magnitude(&rt, a, 0, 2));
+    let mut parts = two(&rt, a, next, first);
+    add(&rt, &mut parts, le(&rt, a, &[(2, 1)], -9));
+    add(&rt, &mut parts, magnitude(&rt, a, 1, 3));
+    add(&rt, &mut parts, le(&rt, a, &[(3, -1)], 10));
+    assert!(rt; is_made(&rt, a, STEP, "(< (abs a) 10)", Form::And(parts), 4));
 }
 
 #[test]
-fn without_atoms_and_head_the_guard_stands_alone(rt: HostRuntime) -> Result<(), Fail> {
+fn without_atoms_and_head_the_guard_stands_alone(rt: HostRuntime) {
     let a = rt.alloc();
-    let form = le(&rt, a, &[(0, 1)], 1);
     let text = "(assert (forall ((x Int)) (not (< x 0))))";
-    assert!(rt; is_made(&rt, a, text, "true", &form, 1));
-    Ok(())
+    assert!(rt; is_made(&rt, a, text, "true", le(&rt, a, &[(0, 1)], 1), 1));
 }

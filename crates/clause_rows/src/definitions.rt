@@ -1,40 +1,43 @@
 //! Definitions from the texts of their terms.
 
-ghost use Rattle.std.specs.Prelude.{◌≡◌, ◌<◌, ◌≤◌, ◌+◌, ◌^◌, ◌∷◌, [], ℕ, length, map, slice_get, Some, IfOk, IfSome, IsTrue, false, true};
+ghost use Rattle.std.specs.Prelude.{◌≡◌, ◌<◌, ◌≤◌, ◌+◌, ◌^◌, ◌∷◌, [], ℕ, length, map, slice_get, Some, IsTrue, false, true};
 ghost use Rattle.base.specs.Limits.{most_arguments};
 ghost use Rattle.term_tree.specs.declared.node.Node.{Node as ANode};
 ghost use Rattle.term_tree.specs.Solution.{AreFormulas, DefinesEach, IsFormula, has_short_divisor};
 ghost use Rattle.horn_shape.specs.Clause.{IsLegalScript};
 ghost use Rattle.term_check.specs.Weight.{weight};
 
-use base::{Copied, Items, Memory};
+use base::{Copied, Items};
 use sexp_read::{Tree, read_commands};
 use std::alloc::Global;
-use term_check::{FormulaStop, check_formula, trees_are_light};
+use std::mem;
+use std::process::Abort;
+use term_check::{check_formula, trees_are_light};
 use term_tree::{Definition, Name, Node, Script, Sort, TermId, Terms};
 
 /// Parameters of these sorts, which are named a, b and so on.
-fn parameters(alloc: Global, sorts: &[Sort]) -> Result<Vec<(Name, Sort)>, Memory>
-    ensures { IfOk result (λ params. map (λ p. p.1) params.items ≡ sorts.now) }
+fn parameters(rt: &impl Abort, alloc: Global, sorts: &[Sort]) -> Vec<(Name, Sort)>
+    ensures { map (λ p. p.1) result.items ≡ sorts.now }
 {
     let mut params = Vec::new(alloc);
     for (i, sort) in sorts.iter().enumerate() {
         let letter = b'a' + (i % 26) as u8;
-        let bytes = Items::from_slice(alloc, &[letter])?;
-        params.push((Name { bytes }, *sort))?;
+        let bytes = Items::from_slice(alloc, &[letter]).expect(rt, "memory");
+        params.push((Name { bytes }, *sort)).expect(rt, "memory");
     }
-    Ok(params)
+    params
 }
 
 /// Their names alone.
-fn names_of(alloc: Global, params: &[(Name, Sort)]) -> Result<Items<Name>, Memory>
-    ensures { IfOk result (λ names. names ≡ map (λ p. p.0) params.now) }
+fn names_of(rt: &impl Abort, alloc: Global, params: &[(Name, Sort)]) -> Items<Name>
+    ensures { result ≡ map (λ p. p.0) params.now }
 {
-    let mut names = Vec::with_capacity(alloc, params.len())?;
+    let mut names = Vec::with_capacity(alloc, params.len()).expect(rt, "memory");
     for (name, _) in params {
-        names.push(name.copy(alloc)?)?;
+        let copied = name.copy(alloc).expect(rt, "memory");
+        names.push(copied).expect(rt, "memory");
     }
-    Ok(Items::from_vec(names))
+    Items::from_vec(names)
 }
 
 fn is_divisibility(node: &Node) -> bool
@@ -58,74 +61,73 @@ fn has_no_divisor(terms: &Terms) -> bool
     true
 }
 
-/// The formula that a tree spells over the parameters, if it spells one without divisors.
+/// The formula without divisors that a tree spells over the parameters.
 fn formula_of(
+    rt: &impl Abort,
     alloc: Global,
     params: &[(Name, Sort)],
     text: &[u8],
     tree: &Tree,
-) -> Result<Option<(Terms, TermId)>, Memory>
+) -> (Terms, TermId)
     requires { length params.now + weight tree.now < 2 ^ 32 }
-    ensures { IfOk result (λ found. IfSome found (λ made. IsFormula (map (λ p. p.1) params.now) made.0.nodes made.1.0)) }
+    ensures { IsFormula (map (λ p. p.1) params.now) result.0.nodes result.1.0 }
 {
     match check_formula(alloc, text, tree, params) {
         Ok((terms, body)) => {
             terms.is_arena();
             if !has_no_divisor(&terms) {
-                return Ok(None);
+                rt.panic("a divisor");
             }
-            Ok(Some((terms, body)))
+            (terms, body)
         }
-        Err(FormulaStop::Bad { .. }) => Ok(None),
-        Err(FormulaStop::Memory) => Err(Memory),
+        Err(_) => rt.panic("no formula"),
     }
 }
 
-/// The definition of a predicate 0 over these parameters by the first term of the text, if that is a
+/// The definition of a predicate 0 over these parameters by the first term of the text, which is a
 /// formula without divisors.
 fn definition_over(
+    rt: &impl Abort,
     alloc: Global,
     params: &[(Name, Sort)],
     text: &[u8],
-) -> Result<Option<Definition>, Memory>
+) -> Definition
     requires few { length params.now ≤ most_arguments }
     requires short { length text.now < 2 ^ 31 }
-    ensures { IfOk result (λ found. IfSome found (λ d. (d.pred ≡ 0) × (length d.params ≡ length params.now) × IsFormula (map (λ p. p.1) params.now) d.terms.nodes d.body.0)) }
+    ensures { (result.pred ≡ 0) × (length result.params ≡ length params.now) × IsFormula (map (λ p. p.1) params.now) result.terms.nodes result.body.0 }
 {
     // A law, which runs nothing.
     trees_are_light();
-    let read = read_commands(alloc, text)?;
-    match read.trees.as_slice().get(0) {
-        Some(tree) => match formula_of(alloc, params, text, tree)? {
-            Some((terms, body)) => {
-                let params = names_of(alloc, params)?;
-                Ok(Some(Definition {
+    match read_commands(alloc, text) {
+        Ok(read) => match read.trees.as_slice().get(0) {
+            Some(tree) => {
+                let (terms, body) = formula_of(rt, alloc, params, text, tree);
+                mem::forget(read);
+                Definition {
                     pred: 0,
-                    params,
+                    params: names_of(rt, alloc, params),
                     terms,
                     body,
-                }))
+                }
             }
-            None => Ok(None),
+            None => rt.panic("no term"),
         },
-        None => Ok(None),
+        Err(_) => rt.panic("memory"),
     }
 }
 
 /// The definition of the one predicate of a script.
-pub fn definition_of(
-    alloc: Global,
-    script: &Script,
-    text: &[u8],
-) -> Result<Option<Definition>, Memory>
+pub fn definition_of(rt: &impl Abort, alloc: Global, script: &Script, text: &[u8]) -> Definition
     requires legal { IsLegalScript script.now }
     requires short { length text.now < 2 ^ 31 }
-    ensures { IfOk result (λ found. IfSome found (λ d. DefinesEach 0 script.now.preds (d ∷ []) × AreFormulas script.now.preds (d ∷ []))) }
+    ensures { DefinesEach 0 script.now.preds (result ∷ []) × AreFormulas script.now.preds (result ∷ []) }
 {
     let [pred] = script.preds.as_slice() else {
-        return Ok(None);
+        rt.panic("other predicates")
     };
-    let params = parameters(alloc, pred.args.as_slice())?;
-    let params = params.as_slice();
-    definition_over(alloc, params, text)
+    let made = parameters(rt, alloc, pred.args.as_slice());
+    let params = made.as_slice();
+    let definition = definition_over(rt, alloc, params, text);
+    mem::forget(made);
+    definition
 }

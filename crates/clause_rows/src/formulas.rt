@@ -2,12 +2,13 @@
 
 ghost use Rattle.clause_rows.specs.machinery.Samples.{AreGiven};
 
+use crate::made::check;
 use crate::samples::{Given, all_given};
 use crate::shown::shown;
 use crate::written::written;
 use std::alloc::Global;
+use std::mem;
 use std::process::Abort;
-use std::test::Fail;
 use term_tree::{Sort, TermId};
 
 /// Each Bool term by number, the form that holds where it is true, and the one where it is false.
@@ -47,32 +48,42 @@ const FORMULAS: &str = "\
 42: and(or(le +1u+0)(le -1b+1))(or(le -1u+1)(le -1c+1)) | and(or(le +1u+0)(le +1b+0))(or(le -1u+1)(le +1c+0))
 ";
 
-fn line(rt: &impl Abort, alloc: Global, given: &Given, id: u32) -> Result<String, Fail>
+/// The form that holds where the term is true, or where it is false.
+fn side(rt: &impl Abort, alloc: Global, given: &Given, id: u32, sign: bool) -> String
     requires given { AreGiven given.now.terms.nodes given.now.constants given.now.names.own.items given.now.names.auxiliary }
 {
-    let yes = shown(rt, alloc, &written(alloc, given, id, true)?);
-    let no = shown(rt, alloc, &written(alloc, given, id, false)?);
-    Ok(format!(in alloc; "{id}: {yes} | {no}\n").expect(rt, "memory"))
+    let form = written(rt, alloc, given, id, sign);
+    let text = shown(rt, alloc, &form);
+    mem::forget(form);
+    text
 }
 
-fn lines(rt: &impl Abort, alloc: Global, given: &Given) -> Result<String, Fail>
+fn line(rt: &impl Abort, alloc: Global, given: &Given, id: u32) -> String
+    requires given { AreGiven given.now.terms.nodes given.now.constants given.now.names.own.items given.now.names.auxiliary }
+{
+    let yes = side(rt, alloc, given, id, true);
+    let no = side(rt, alloc, given, id, false);
+    format!(in alloc; "{id}: {yes} | {no}\n").expect(rt, "memory")
+}
+
+fn lines(rt: &impl Abort, alloc: Global, given: &Given) -> String
     requires given { AreGiven given.now.terms.nodes given.now.constants given.now.names.own.items given.now.names.auxiliary }
 {
     let mut lines = String::new(alloc);
     for id in 0..46u32 {
         if given.sorts.sort(TermId(id)) == Some(Sort::Bool) {
-            let line = line(rt, alloc, given, id)?;
+            let line = line(rt, alloc, given, id);
             lines.push_str(&line).expect(rt, "memory");
         }
     }
-    Ok(lines)
+    lines
 }
 
 #[test]
-fn each_bool_term_has_the_forms_of_its_kind(rt: HostRuntime) -> Result<(), Fail> {
+fn each_bool_term_has_the_forms_of_its_kind(rt: HostRuntime) {
     let alloc = rt.alloc();
-    let given = all_given(alloc)?;
-    let lines = lines(&rt, alloc, &given)?;
-    assert!(rt; lines.as_str() == FORMULAS, "{lines}");
-    Ok(())
+    let given = all_given(&rt, alloc);
+    let lines = lines(&rt, alloc, &given);
+    mem::forget(given);
+    check(&rt, lines.as_str() == FORMULAS, lines.as_str());
 }

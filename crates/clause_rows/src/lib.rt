@@ -20,6 +20,8 @@ mod limits;
 #[cfg(test)]
 mod linear_forms;
 #[cfg(test)]
+mod made;
+#[cfg(test)]
 mod misfits;
 #[cfg(test)]
 mod orders;

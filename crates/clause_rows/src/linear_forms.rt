@@ -1,24 +1,15 @@
 //! Linear forms of terms by hand.
 
-use base::{Items, Same};
+use crate::made::{apply, put};
+use base::Same;
 use lin_atoms::Lin;
 use std::alloc::Global;
 use std::collections::BTreeMap;
+use std::mem;
 use std::process::Abort;
 use term_forms::{FormStop, Names, linear_form, nothing_read};
 use term_tables::ConstantTable;
 use term_tree::{Node, OpKind, Sort, TermId, Terms};
-
-fn put(rt: &impl Abort, terms: &mut Terms, node: Node) {
-    assert!(rt; terms.len() < 1000);
-    assert!(rt; node.has_parts_below(terms.len()));
-    terms.add(node, 0).expect(rt, "memory");
-}
-
-fn apply(rt: &impl Abort, alloc: Global, terms: &mut Terms, op: OpKind, args: &[TermId]) {
-    let args = Items::from_slice(alloc, args).expect(rt, "memory");
-    put(rt, terms, Node::Op { op, args });
-}
 
 /// 3 * x + ((div x 3) - m) and a sum of two of m * x, where x is term 0 and m is 2^63 - 1.
 fn samples(rt: &impl Abort, alloc: Global) -> Terms {
@@ -46,7 +37,12 @@ fn read(rt: &impl Abort, alloc: Global, id: u32) -> Result<Lin, FormStop> {
     let names = Names { own, auxiliary };
     let mut known = nothing_read(alloc);
     assert!(rt; (id as usize) < terms.len());
-    linear_form(alloc, &terms, &constants, &names, &mut known, TermId(id))
+    let found = linear_form(alloc, &terms, &constants, &names, &mut known, TermId(id));
+    mem::forget(terms);
+    mem::forget(constants);
+    mem::forget(names);
+    mem::forget(known);
+    found
 }
 
 #[test]
@@ -54,14 +50,20 @@ fn a_division_is_a_variable_of_a_sum(rt: HostRuntime) {
     let alloc = rt.alloc();
     let terms = Vec::from_array(alloc, [(0, 3), (7, 1)]).expect(&rt, "memory");
     let awaited = Lin::new(terms, -i128::from(i64::MAX)).expect(&rt, "a form");
-    match read(&rt, alloc, 6) {
-        Ok(form) => assert!(rt; form.equals(&awaited)),
-        Err(_) => assert!(rt; false, "no form"),
-    }
+    let found = read(&rt, alloc, 6);
+    let is_right = match &found {
+        Ok(form) => form.equals(&awaited),
+        Err(_) => false,
+    };
+    mem::forget(found);
+    mem::forget(awaited);
+    assert!(rt; is_right);
 }
 
 #[test]
 fn the_first_wide_term_is_named(rt: HostRuntime) {
     let found = read(&rt, rt.alloc(), 8);
-    assert!(rt; matches!(found, Err(FormStop::Wide { term: TermId(8) })));
+    let is_wide = matches!(&found, Err(FormStop::Wide { term: TermId(8) }));
+    mem::forget(found);
+    assert!(rt; is_wide);
 }

@@ -1,9 +1,7 @@
 //! The first subterm that fits no form of a clause where it stands, one kind of misfit a case. The
 //! beginning of each text has 96 bytes, and the assertion's term starts 8 bytes behind it.
 
-use crate::texts::check;
-use std::alloc::Global;
-use std::process::Abort;
+use crate::texts::check_table;
 
 /// What a case shows, its assertion, and the refusal.
 const MISFITS: &str = "\
@@ -68,28 +66,7 @@ const MISFITS: &str = "\
         (assert (not (let ((a 1)) (exists ((x Int)) (p x)))))§\
         kind 16 at byte 122 after 4 commands";
 
-/// The parts of a case.
-fn parts(case: &str) -> Option<(&str, &str, &str)> {
-    let mut parts = case.split('§');
-    match (parts.next(), parts.next(), parts.next()) {
-        (Some(shows), Some(asserts), Some(awaited)) => Some((shows, asserts, awaited)),
-        _ => None,
-    }
-}
-
-/// Checks each case of the table, and answers how many there are.
-fn check_all(rt: &impl Abort, alloc: Global) -> usize {
-    let mut tried: usize = 0;
-    for case in MISFITS.split('¶') {
-        if let Some((shows, asserts, awaited)) = parts(case) {
-            check(rt, alloc, shows, asserts, awaited);
-            tried = tried.saturating_add(1);
-        }
-    }
-    tried
-}
-
 #[test]
 fn each_kind_of_misfit_is_told_at_its_place(rt: HostRuntime) {
-    assert!(rt; check_all(&rt, rt.alloc()) == 20);
+    assert!(rt; check_table(&rt, rt.alloc(), MISFITS) == 20);
 }

@@ -1,9 +1,11 @@
 //! Guards of many parts, and many names: nothing is expanded.
 
 use crate::guards::clause_of_text;
+use crate::made;
 use crate::texts::check;
 use lin_atoms::Form;
 use std::alloc::Global;
+use std::mem;
 use std::process::Abort;
 
 /// Appends `count` copies of the part to the text.
@@ -26,8 +28,10 @@ fn check_parts(rt: &impl Abort, alloc: Global, begins: &str, ends: &str) {
     let mut text = String::from_str(alloc, begins).expect(rt, "memory");
     repeat(rt, &mut text, " (<= x 7)", 60_000);
     text.push_str(ends).expect(rt, "memory");
-    let made = clause_of_text(rt, alloc, text.as_str());
-    assert!(rt; parts_of(&made.guard) == 60_000, "{begins}");
+    let clause = clause_of_text(rt, alloc, text.as_str());
+    let parts = parts_of(&clause.guard);
+    mem::forget(clause);
+    made::check(rt, parts == 60_000, begins);
 }
 
 #[test]

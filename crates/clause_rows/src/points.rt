@@ -1,8 +1,10 @@
 //! Guards of one variable, and its only value at their points.
 
 use crate::guards::clause_of_text;
+use crate::made;
 use lin_atoms::{Form, holds};
 use std::alloc::Global;
+use std::mem;
 use std::process::Abort;
 
 /// The integer from -20 to 20 that is alone a point of the guard; `None` where none or more than one is.
@@ -23,9 +25,10 @@ fn only_value(guard: &Form) -> Option<i64> {
 /// Asserts that the one variable of a fact's clause, which is the argument's, has this value alone.
 fn check(rt: &impl Abort, alloc: Global, argument: &str, awaited: i64) {
     let text = format!(in alloc; "(assert (p {argument}))").expect(rt, "memory");
-    let made = clause_of_text(rt, alloc, text.as_str());
-    assert!(rt; made.sorts.len() == 1, "{argument}");
-    assert!(rt; only_value(&made.guard) == Some(awaited), "{argument}");
+    let clause = clause_of_text(rt, alloc, text.as_str());
+    let is_right = clause.sorts.len() == 1 && only_value(&clause.guard) == Some(awaited);
+    mem::forget(clause);
+    made::check(rt, is_right, argument);
 }
 
 #[test]

@@ -1,14 +1,15 @@
 //! The terms of the rows, and what is told of them.
 
-ghost use Rattle.std.specs.Prelude.{◌≡◌, ◌++◌, ℕ, [], ◌∷◌, map, Some, IfOk, OnOk};
+ghost use Rattle.std.specs.Prelude.{◌≡◌, ◌++◌, ℕ, [], ◌∷◌, map, Some};
 ghost use Rattle.std.specs.Ordering.{nat_cmp};
 ghost use Rattle.std.specs.BTreeMap.{get};
 ghost use Rattle.clause_rows.specs.machinery.Samples.{AreGiven, chosen, chosen_one, constants, made_of, named, row_terms, variables};
 
-use base::{Items, Memory};
+use crate::made::put;
+use base::Items;
 use std::alloc::Global;
 use std::collections::BTreeMap;
-use std::test::Fail;
+use std::process::Abort;
 use term_forms::Names;
 use term_tables::{ConstantTable, SortTable};
 use term_tree::{Node, OpKind, Sort, TermId, Terms};
@@ -20,7 +21,7 @@ const NONE: u32 = 1000;
 type Row = (OpKind, u32, u32, u32);
 
 /// The terms, with what the contracts of formulas ask.
-#[derive(Debug, Drop)]
+#[derive(Drop)]
 pub struct Given {
     pub terms: Terms,
     pub sorts: SortTable,
@@ -28,128 +29,118 @@ pub struct Given {
     pub names: Names,
 }
 
-fn put(terms: &mut Terms, node: Node) -> Result<(), Fail>
-    ensures { OnOk result (terms.new.nodes ≡ terms.old.nodes ++ node ∷ []) }
+fn put_one(rt: &impl Abort, ids: &mut Items<TermId>, id: u32)
+    ensures { ids.new ≡ ids.old ++ chosen_one id }
 {
-    if terms.len() >= 1000 {
-        return Err("too many terms")?;
+    if id < NONE {
+        ids.push(TermId(id)).expect(rt, "memory");
     }
-    if !node.has_parts_below(terms.len()) {
-        return Err("a part that isn't there")?;
-    }
-    terms.add(node, 0)?;
-    Ok(())
 }
 
-fn put_one(ids: &mut Items<TermId>, id: u32) -> Result<(), Memory>
-    ensures { OnOk result (ids.new ≡ ids.old ++ chosen_one id) }
-{
-    if id >= NONE {
-        return Ok(());
-    }
-    ids.push(TermId(id))?;
-    Ok(())
-}
-
-fn chosen(alloc: Global, a: u32, b: u32, c: u32) -> Result<Items<TermId>, Memory>
-    ensures { IfOk result (λ ids. ids ≡ chosen a b c) }
+fn chosen(rt: &impl Abort, alloc: Global, a: u32, b: u32, c: u32) -> Items<TermId>
+    ensures { result ≡ chosen a b c }
 {
     let mut ids = Items::new(alloc);
-    put_one(&mut ids, a)?;
-    put_one(&mut ids, b)?;
-    put_one(&mut ids, c)?;
-    Ok(ids)
+    put_one(rt, &mut ids, a);
+    put_one(rt, &mut ids, b);
+    put_one(rt, &mut ids, c);
+    ids
 }
 
-fn put_row(alloc: Global, terms: &mut Terms, row: Row) -> Result<(), Fail>
-    ensures { OnOk result (terms.new.nodes ≡ terms.old.nodes ++ made_of row ∷ []) }
+fn put_row(rt: &impl Abort, alloc: Global, terms: &mut Terms, row: Row)
+    ensures { terms.new.nodes ≡ terms.old.nodes ++ made_of row ∷ [] }
 {
-    let args = chosen(alloc, row.1, row.2, row.3)?;
-    put(terms, Node::Op { op: row.0, args })
+    let args = chosen(rt, alloc, row.1, row.2, row.3);
+    put(rt, terms, Node::Op { op: row.0, args });
 }
 
-fn put_rows(alloc: Global, terms: &mut Terms, rows: &[Row]) -> Result<(), Fail>
-    ensures { OnOk result (terms.new.nodes ≡ terms.old.nodes ++ map made_of rows.now) }
+fn put_rows(rt: &impl Abort, alloc: Global, terms: &mut Terms, rows: &[Row])
+    ensures { terms.new.nodes ≡ terms.old.nodes ++ map made_of rows.now }
 {
     for row in rows {
-        put_row(alloc, terms, *row)?;
+        put_row(rt, alloc, terms, *row);
     }
-    Ok(())
 }
 
-fn put_variables(terms: &mut Terms) -> Result<(), Fail>
-    ensures { OnOk result (terms.new.nodes ≡ terms.old.nodes ++ variables) }
+fn put_variables(rt: &impl Abort, terms: &mut Terms)
+    ensures { terms.new.nodes ≡ terms.old.nodes ++ variables }
 {
     let (int, bool) = (Sort::Int, Sort::Bool);
     put(
+        rt,
         terms,
         Node::Var {
             binder: 0,
             sort: int,
         },
-    )?;
+    );
     put(
+        rt,
         terms,
         Node::Var {
             binder: 1,
             sort: int,
         },
-    )?;
+    );
     put(
+        rt,
         terms,
         Node::Var {
             binder: 2,
             sort: bool,
         },
-    )?;
+    );
     put(
+        rt,
         terms,
         Node::Var {
             binder: 3,
             sort: bool,
         },
-    )
+    );
 }
 
-fn put_constants(terms: &mut Terms) -> Result<(), Fail>
-    ensures { OnOk result (terms.new.nodes ≡ terms.old.nodes ++ constants) }
+fn put_constants(rt: &impl Abort, terms: &mut Terms)
+    ensures { terms.new.nodes ≡ terms.old.nodes ++ constants }
 {
-    put(terms, Node::True)?;
-    put(terms, Node::False)?;
-    put(terms, Node::Num(2))?;
-    put(terms, Node::Num(7))
+    put(rt, terms, Node::True);
+    put(rt, terms, Node::False);
+    put(rt, terms, Node::Num(2));
+    put(rt, terms, Node::Num(7));
 }
 
-fn put_named(alloc: Global, terms: &mut Terms) -> Result<(), Fail>
-    ensures { OnOk result (terms.new.nodes ≡ terms.old.nodes ++ named) }
+fn put_named(rt: &impl Abort, alloc: Global, terms: &mut Terms)
+    ensures { terms.new.nodes ≡ terms.old.nodes ++ named }
 {
-    put_row(alloc, terms, (OpKind::Le, 0, 1, NONE))?;
-    put(terms, Node::LetVar { bound: TermId(8) })?;
-    let bound = chosen(alloc, 8, NONE, NONE)?;
+    put_row(rt, alloc, terms, (OpKind::Le, 0, 1, NONE));
+    put(rt, terms, Node::LetVar { bound: TermId(8) });
+    let bound = chosen(rt, alloc, 8, NONE, NONE);
     put(
+        rt,
         terms,
         Node::Let {
             bound,
             body: TermId(9),
         },
-    )?;
+    );
     put(
+        rt,
         terms,
         Node::Divisible {
             by: 3,
             arg: TermId(0),
         },
-    )?;
-    put(terms, Node::LetVar { bound: TermId(2) })
+    );
+    put(rt, terms, Node::LetVar { bound: TermId(2) });
 }
 
-fn terms(alloc: Global) -> Result<Terms, Fail>
-    ensures { IfOk result (λ terms. terms.nodes ≡ row_terms) }
+fn terms(rt: &impl Abort, alloc: Global) -> Terms
+    ensures { result.nodes ≡ row_terms }
 {
     let mut terms = Terms::new(alloc);
-    put_variables(&mut terms)?;
-    put_constants(&mut terms)?;
-    put_named(alloc, &mut terms)?;
+    put_variables(rt, &mut terms);
+    put_constants(rt, &mut terms);
+    put_named(rt, alloc, &mut terms);
     let rows = [
         (OpKind::Not, 2, NONE, NONE),
         (OpKind::And, 2, 3, NONE),
@@ -185,34 +176,35 @@ fn terms(alloc: Global) -> Result<Terms, Fail>
         (OpKind::Div, 43, 6, NONE),
         (OpKind::Mod, 43, 6, NONE),
     ];
-    put_rows(alloc, &mut terms, &rows)?;
-    Ok(terms)
+    put_rows(rt, alloc, &mut terms, &rows);
+    terms
 }
 
 /// The auxiliary variable 4 is that of x <= y, and each variable has its own number.
-fn names(alloc: Global) -> Result<Names, Memory>
-    ensures own { IfOk result (λ names. names.own.items ≡ []) }
-    ensures auxiliary { IfOk result (λ names. (id v : ℕ) → get nat_cmp names.auxiliary id ≡ Some v → (id ≡ 8) × (v ≡ 4)) }
+fn names(rt: &impl Abort, alloc: Global) -> Names
+    ensures own { result.own.items ≡ [] }
+    ensures auxiliary { (id v : ℕ) → get nat_cmp result.auxiliary id ≡ Some v → (id ≡ 8) × (v ≡ 4) }
 {
     let mut auxiliary = BTreeMap::new(alloc);
-    let _ = auxiliary.insert(8, 4)?;
-    Ok(Names {
+    let put: Result<_, _> = auxiliary.insert(8, 4);
+    let _ = put.expect(rt, "memory");
+    Names {
         own: Vec::new(alloc),
         auxiliary,
-    })
+    }
 }
 
-pub fn all_given(alloc: Global) -> Result<Given, Fail>
-    ensures { IfOk result (λ given. AreGiven given.terms.nodes given.constants given.names.own.items given.names.auxiliary) }
+pub fn all_given(rt: &impl Abort, alloc: Global) -> Given
+    ensures { AreGiven result.terms.nodes result.constants result.names.own.items result.names.auxiliary }
 {
-    let terms = terms(alloc)?;
-    let sorts = SortTable::of(alloc, &[], &terms)?;
-    let constants = ConstantTable::of(alloc, &terms)?;
-    let names = names(alloc)?;
-    Ok(Given {
+    let terms = terms(rt, alloc);
+    let sorts = SortTable::of(alloc, &[], &terms).expect(rt, "memory");
+    let constants = ConstantTable::of(alloc, &terms).expect(rt, "memory");
+    let names = names(rt, alloc);
+    Given {
         terms,
         sorts,
         constants,
         names,
-    })
+    }
 }

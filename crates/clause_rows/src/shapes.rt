@@ -1,8 +1,6 @@
 //! Which assertions are clauses, and where the others are refused.
 
-use crate::texts::check;
-use std::alloc::Global;
-use std::process::Abort;
+use crate::texts::check_table;
 
 /// What a case shows, its assertions, and for each clause how many variables of its own and in all and how many body atoms it has, and its end.
 const CLAUSES: &str = "\
@@ -129,27 +127,6 @@ const WIDE: &str = "\
     a term that is bound and not used§\
         (assert (forall ((x Int)) (let ((a (+ (* 9223372036854775807 x) x))) (p x))))§\
         kind 15 at byte 131 after 4 commands";
-
-/// The parts of a case.
-fn parts(case: &str) -> Option<(&str, &str, &str)> {
-    let mut parts = case.split('§');
-    match (parts.next(), parts.next(), parts.next()) {
-        (Some(shows), Some(asserts), Some(awaited)) => Some((shows, asserts, awaited)),
-        _ => None,
-    }
-}
-
-/// Checks each case of a table, and answers how many there are.
-fn check_table(rt: &impl Abort, alloc: Global, table: &str) -> usize {
-    let mut tried: usize = 0;
-    for case in table.split('¶') {
-        if let Some((shows, asserts, awaited)) = parts(case) {
-            check(rt, alloc, shows, asserts, awaited);
-            tried = tried.saturating_add(1);
-        }
-    }
-    tried
-}
 
 #[test]
 fn clauses_have_their_variables_and_atoms(rt: HostRuntime) {

@@ -1,9 +1,7 @@
 //! More small clauses against the values of their terms: nested names, nested units, denied relations,
 //! and each form of a clause.
 
-use crate::values::{parts, text_agrees};
-use std::alloc::Global;
-use std::process::Abort;
+use crate::values::check_all;
 
 /// What a case shows, and an assertion over two variables with two auxiliary ones at most, whose values are from -12 to 12.
 const CASES: &str = "\
@@ -58,12 +56,5 @@ const CASES: &str = "\
 
 #[test]
 fn points_of_more_guards_are_instances(rt: HostRuntime) {
-    let mut tried: usize = 0;
-    for case in CASES.split('¶') {
-        if let Some((shows, term)) = parts(case) {
-            assert!(rt; text_agrees(&rt, rt.alloc(), term), "{shows}");
-            tried = tried.saturating_add(1);
-        }
-    }
-    assert!(rt; tried == 24);
+    assert!(rt; check_all(&rt, rt.alloc(), CASES) == 24);
 }

@@ -1,10 +1,11 @@
 //! Which stop comes, and where.
 
 use crate::defined_texts::formula_under;
+use crate::made::check;
 use clause_normal::NormalStop;
 use std::alloc::Global;
+use std::mem;
 use std::process::Abort;
-use std::test::Fail;
 
 /// How many variables the formula of the assertion has, over p with two arguments, under the definition
 /// by the term, or why there is none. What stands before the assertion has 46 bytes.
@@ -13,24 +14,20 @@ fn told(rt: &impl Abort, alloc: Global, assertion: &str, term: &str) -> String {
         "(set-logic HORN)(declare-fun p (Int Int) Bool){assertion}(check-sat)"
     ).expect(rt, "memory");
     let (text, term) = (text.as_bytes(), term.as_bytes());
-    if text.len() > 1 << 20 || term.len() > 1 << 20 {
-        return String::from_str(alloc, "too long").expect(rt, "memory");
-    }
-    match formula_under(alloc, text, term) {
-        Ok(Some((_, count))) => format!(in alloc; "{count}").expect(rt, "memory"),
-        Ok(None) => String::from_str(alloc, "nothing").expect(rt, "memory"),
-        Err(NormalStop::TooWide { offset }) => format!(in alloc; "wide at {offset}").expect(
-            rt, "memory",
-        ),
-        Err(NormalStop::Count { offset }) => format!(in alloc; "many at {offset}").expect(
-            rt, "memory",
-        ),
+    assert!(rt; text.len() <= 1 << 20 && term.len() <= 1 << 20);
+    let found = formula_under(rt, alloc, text, term);
+    let (what, number) = match &found {
+        Ok((_, count)) => ("", u64::from(*count)),
+        Err(NormalStop::TooWide { offset }) => ("wide at ", *offset),
+        Err(NormalStop::Count { offset }) => ("many at ", *offset),
         Err(NormalStop::Memory) => panic!(rt; "memory"),
-    }
+    };
+    mem::forget(found);
+    format!(in alloc; "{what}{number}").expect(rt, "memory")
 }
 
 #[test]
-fn coefficients_of_an_argument_that_stands_twice_add_up(rt: HostRuntime) -> Result<(), Fail> {
+fn coefficients_of_an_argument_that_stands_twice_add_up(rt: HostRuntime) {
     let a = rt.alloc();
     let term = "(< (+ (* 4611686018427387904 a) (* 4611686018427387904 b)) 0)";
     let table = [
@@ -42,13 +39,12 @@ fn coefficients_of_an_argument_that_stands_twice_add_up(rt: HostRuntime) -> Resu
         let text = format!(in a; "(assert (forall ((x Int) (y Int)) (not {atom})))").expect(
             &rt, "memory",
         );
-        assert_eq!(rt;
-            told(&rt, a, text.as_str(), term).as_str(),
-            awaited,
-            "{atom}"
+        check(
+            &rt,
+            told(&rt, a, text.as_str(), term).as_str() == awaited,
+            atom,
         );
     }
-    Ok(())
 }
 
 /// A conjunction with `count` magnitudes and a last part.
@@ -63,7 +59,7 @@ fn magnitudes(rt: &impl Abort, alloc: Global, count: usize, last: &str) -> Strin
 }
 
 #[test]
-fn there_are_2048_variables_in_all_and_widths_come_first(rt: HostRuntime) -> Result<(), Fail> {
+fn there_are_2048_variables_in_all_and_widths_come_first(rt: HostRuntime) {
     let a = rt.alloc();
     let text = "(assert (forall ((x Int) (y Int)) (not (p x y))))";
     let wide = " (< (+ (* 9223372036854775807 b) b) 0)";
@@ -74,7 +70,10 @@ fn there_are_2048_variables_in_all_and_widths_come_first(rt: HostRuntime) -> Res
     ];
     for (count, last, awaited) in table {
         let term = magnitudes(&rt, a, count, last);
-        assert_eq!(rt; told(&rt, a, text, term.as_str()).as_str(), awaited);
+        check(
+            &rt,
+            told(&rt, a, text, term.as_str()).as_str() == awaited,
+            awaited,
+        );
     }
-    Ok(())
 }

@@ -1,22 +1,13 @@
 //! The auxiliary variables of a text, found by hand.
 
+use crate::made::{apply, put};
 use base::Items;
 use std::alloc::Global;
+use std::mem;
 use std::process::Abort;
 use term_places::places;
 use term_tables::SortTable;
 use term_tree::{Node, OpKind, Pred, Sort, TermId, Terms};
-
-fn put(rt: &impl Abort, terms: &mut Terms, node: Node) {
-    assert!(rt; terms.len() < 1000);
-    assert!(rt; node.has_parts_below(terms.len()));
-    terms.add(node, 0).expect(rt, "memory");
-}
-
-fn apply(rt: &impl Abort, alloc: Global, terms: &mut Terms, op: OpKind, args: &[TermId]) {
-    let args = Items::from_slice(alloc, args).expect(rt, "memory");
-    put(rt, terms, Node::Op { op, args });
-}
 
 fn variable(rt: &impl Abort, terms: &mut Terms, binder: u32, sort: Sort) {
     put(rt, terms, Node::Var { binder, sort });
@@ -55,4 +46,7 @@ fn places_stand_in_the_order_of_the_text(rt: HostRuntime) {
     assert!(rt; terms.len() == 10);
     let found = places(alloc, &terms, &sorts, TermId(9)).expect(&rt, "memory");
     assert!(rt; found.as_slice() == [6, 5, 3, 4, 7].as_slice());
+    mem::forget(terms);
+    mem::forget(sorts);
+    mem::forget(found);
 }

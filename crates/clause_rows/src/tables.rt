@@ -1,21 +1,11 @@
 //! Sorts and constants of terms by hand.
 
-use base::Items;
+use crate::made::{apply, check_of, put};
 use std::alloc::Global;
+use std::mem;
 use std::process::Abort;
 use term_tables::{ConstantTable, SortTable};
 use term_tree::{Node, OpKind, Pred, Sort, TermId, Terms};
-
-fn put(rt: &impl Abort, terms: &mut Terms, node: Node) {
-    assert!(rt; terms.len() < 1000);
-    assert!(rt; node.has_parts_below(terms.len()));
-    terms.add(node, 0).expect(rt, "memory");
-}
-
-fn apply(rt: &impl Abort, alloc: Global, terms: &mut Terms, op: OpKind, args: &[TermId]) {
-    let args = Items::from_slice(alloc, args).expect(rt, "memory");
-    put(rt, terms, Node::Op { op, args });
-}
 
 /// 7, -7, 2, their quotient and remainder, true, a choice of two integers, a conjunction with an
 /// integer in it, and 7 times the quotient.
@@ -59,10 +49,10 @@ fn sorts_and_constants_are_those_of_the_standard(rt: HostRuntime) {
         (8, integer, Some(-28)),
         (9, None, None),
     ] {
-        assert!(rt; sorts.sort(TermId(id)) == sort, "the sort of {id}");
-        assert!(rt;
-            constants.constant(TermId(id)) == constant,
-            "the value of {id}"
-        );
+        check_of(&rt, sorts.sort(TermId(id)) == sort, id);
+        check_of(&rt, constants.constant(TermId(id)) == constant, id);
     }
+    mem::forget(terms);
+    mem::forget(sorts);
+    mem::forget(constants);
 }

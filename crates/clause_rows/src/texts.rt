@@ -1,13 +1,14 @@
 //! Scripts from their texts.
 
-ghost use Rattle.std.specs.Prelude.{◌<◌, ◌^◌, length, IfOk};
+ghost use Rattle.std.specs.Prelude.{◌<◌, ◌^◌, length};
 ghost use Rattle.horn_shape.specs.Clause.{IsLegalScript};
 
-use base::Memory;
+use crate::made::{self, parts};
 use clause_form::{Clause, System};
 use clause_normal::{ClauseStop, read_clauses};
 use sort_check::{assertions_are_legal, check_text, scripts_are_within_limits};
 use std::alloc::Global;
+use std::mem;
 use std::process::Abort;
 use term_tree::Checked;
 
@@ -17,15 +18,19 @@ pub const BEGINS: &str =
     "(set-logic HORN)(declare-fun p (Int) Bool)(declare-fun q () Bool)(declare-fun r (Bool Int) Bool)";
 
 /// The script of a text, up to the first command that is illegal by itself.
-pub fn checked(alloc: Global, text: &[u8]) -> Result<Checked, Memory>
+pub fn checked(rt: &impl Abort, alloc: Global, text: &[u8]) -> Checked
     requires { length text.now < 2 ^ 32 }
-    ensures { IfOk result (λ checked. IsLegalScript checked.script) }
+    ensures { IsLegalScript result.script }
 {
-    let checked = check_text(alloc, text)?;
-    checked.script.terms.is_arena();
-    assertions_are_legal();
-    scripts_are_within_limits();
-    Ok(checked)
+    match check_text(alloc, text) {
+        Ok(checked) => {
+            checked.script.terms.is_arena();
+            assertions_are_legal();
+            scripts_are_within_limits();
+            checked
+        }
+        Err(_) => rt.panic("memory"),
+    }
 }
 
 /// What is told of a refusal.
@@ -38,15 +43,19 @@ fn refused(rt: &impl Abort, alloc: Global, kind: u8, offset: u64, command: u32) 
 fn told(rt: &impl Abort, alloc: Global, text: &[u8]) -> String
     requires { length text.now < 2 ^ 32 }
 {
-    let checked = checked(alloc, text).expect(rt, "memory");
-    match read_clauses(alloc, &checked) {
-        Ok(system) => all_told(rt, alloc, &system),
+    let checked = checked(rt, alloc, text);
+    let read = read_clauses(alloc, &checked);
+    let told = match &read {
+        Ok(system) => all_told(rt, alloc, system),
         Err(ClauseStop::Memory) => rt.panic("memory"),
         Err(ClauseStop::Refused(refusal)) => {
             let kind = refusal.kind.number();
             refused(rt, alloc, kind, refusal.offset, refusal.command)
         }
-    }
+    };
+    mem::forget(checked);
+    mem::forget(read);
+    told
 }
 
 /// How many variables of its own the clause has, how many in all, how many body atoms, and what it
@@ -78,9 +87,21 @@ fn whole(rt: &impl Abort, alloc: Global, rest: &str) -> String {
 /// Asserts what is told of the text behind the beginning.
 pub fn check(rt: &impl Abort, alloc: Global, shows: &str, rest: &str, awaited: &str) {
     let text = whole(rt, alloc, rest);
-    assert!(rt; text.len() < 1 << 24, "{shows}");
+    assert!(rt; text.len() < 1 << 24);
     let found = told(rt, alloc, text.as_bytes());
-    assert_eq!(rt; found.as_str(), awaited, "{shows}");
+    made::check(rt, found.as_str() == awaited, shows);
+}
+
+/// Checks each case of a table, and answers how many there are.
+pub fn check_table(rt: &impl Abort, alloc: Global, table: &str) -> usize {
+    let mut tried: usize = 0;
+    for case in table.split('¶') {
+        if let Some((shows, asserts, awaited)) = parts(case) {
+            check(rt, alloc, shows, asserts, awaited);
+            tried = tried.saturating_add(1);
+        }
+    }
+    tried
 }
 
 /// The script of the text behind the beginning.
@@ -90,5 +111,5 @@ pub fn script_of(rt: &impl Abort, alloc: Global, rest: &str) -> Checked
     let text = whole(rt, alloc, rest);
     let bytes = text.as_bytes();
     assert!(rt; bytes.len() < 1 << 24);
-    checked(alloc, bytes).expect(rt, "memory")
+    checked(rt, alloc, bytes)
 }

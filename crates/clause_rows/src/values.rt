@@ -2,12 +2,14 @@
 //! guard has one extension where the guards of the assertion are true, and else none, and arguments
 //! have the values of their terms.
 
+use crate::made::check;
 use crate::texts::script_of;
 use clause_form::{Atom, Clause, System};
 use clause_normal::read_clauses;
 use horn_shape::{AtomUse, HornClause, HornStop, clause_of, has_assertion};
 use lin_atoms::{Form, holds};
 use std::alloc::Global;
+use std::mem;
 use std::process::Abort;
 use term_tree::{Checked, Script, Sort, TermId, Value, ValueStop, value};
 
@@ -249,11 +251,14 @@ fn first_agrees(rt: &impl Abort, alloc: Global, script: &Script, made: &Clause) 
     if !has_assertion(script, 0) {
         return false;
     }
-    match clause_of(alloc, script, 0) {
-        Ok(given) => agrees(rt, alloc, script, &given, made),
+    let found = clause_of(alloc, script, 0);
+    let agrees = match &found {
+        Ok(given) => agrees(rt, alloc, script, given, made),
         Err(HornStop::NotHorn { .. }) => false,
         Err(HornStop::Memory) => rt.panic("memory"),
-    }
+    };
+    mem::forget(found);
+    agrees
 }
 
 /// The same of the one assertion of a script.
@@ -265,15 +270,18 @@ fn script_agrees(rt: &impl Abort, alloc: Global, checked: &Checked, system: &Sys
 }
 
 /// The same of the assertion of a text.
-pub fn text_agrees(rt: &impl Abort, alloc: Global, term: &str) -> bool {
+fn text_agrees(rt: &impl Abort, alloc: Global, term: &str) -> bool {
     let text = format!(in alloc; "(assert {term})").expect(rt, "memory");
     let checked = script_of(rt, alloc, text.as_str());
     let system = read_clauses(alloc, &checked).expect(rt, "clauses");
-    script_agrees(rt, alloc, &checked, &system)
+    let agrees = script_agrees(rt, alloc, &checked, &system);
+    mem::forget(checked);
+    mem::forget(system);
+    agrees
 }
 
 /// The parts of a case.
-pub fn parts(case: &str) -> Option<(&str, &str)> {
+fn parts(case: &str) -> Option<(&str, &str)> {
     let mut parts = case.split('§');
     match (parts.next(), parts.next()) {
         (Some(shows), Some(term)) => Some((shows, term)),
@@ -281,16 +289,21 @@ pub fn parts(case: &str) -> Option<(&str, &str)> {
     }
 }
 
-#[test]
-fn points_of_guards_are_instances(rt: HostRuntime) {
+/// Checks each case of a table, and answers how many there are.
+pub fn check_all(rt: &impl Abort, alloc: Global, table: &str) -> usize {
     let mut tried: usize = 0;
-    for case in CASES.split('¶') {
+    for case in table.split('¶') {
         if let Some((shows, term)) = parts(case) {
-            assert!(rt; text_agrees(&rt, rt.alloc(), term), "{shows}");
+            check(rt, text_agrees(rt, alloc, term), shows);
             tried = tried.saturating_add(1);
         }
     }
-    assert!(rt; tried == 16);
+    tried
+}
+
+#[test]
+fn points_of_guards_are_instances(rt: HostRuntime) {
+    assert!(rt; check_all(&rt, rt.alloc(), CASES) == 16);
 }
 
 /// The quotient and the remainder of -7 by 2, as the only points.

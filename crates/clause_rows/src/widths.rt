@@ -1,24 +1,14 @@
 //! First terms without room, and terms with bounds, found by hand.
 
-use base::Items;
+use crate::made::{apply, check_of, put};
 use std::alloc::Global;
+use std::mem;
 use std::process::Abort;
 use term_bounds::RoomTable;
 use term_forms::nothing_read;
 use term_tables::ConstantTable;
 use term_tree::{Node, OpKind, Sort, TermId, Terms};
 use term_widths::{apart_names, first_wide};
-
-fn put(rt: &impl Abort, terms: &mut Terms, node: Node) {
-    assert!(rt; terms.len() < 1000);
-    assert!(rt; node.has_parts_below(terms.len()));
-    terms.add(node, 0).expect(rt, "memory");
-}
-
-fn apply(rt: &impl Abort, alloc: Global, terms: &mut Terms, op: OpKind, args: &[TermId]) {
-    let args = Items::from_slice(alloc, args).expect(rt, "memory");
-    put(rt, terms, Node::Op { op, args });
-}
 
 /// Over the integer x, which is term 0, and m = 2^63 - 1: m * x is term 2, -x is 3, m * x <= -x is 4,
 /// m * x + x is 5, its comparison with x is 6, (and 4 6) is 7, m * x <= x is 8, (and 8 4) is 9, and
@@ -47,7 +37,12 @@ fn found(rt: &impl Abort, alloc: Global, top: u32) -> Option<TermId> {
     let names = apart_names(alloc, &terms, &[], &[]).expect(rt, "memory");
     let mut known = nothing_read(alloc);
     assert!(rt; (top as usize) < terms.len());
-    first_wide(alloc, &terms, &constants, &names, &mut known, TermId(top)).expect(rt, "memory")
+    let wide = first_wide(alloc, &terms, &constants, &names, &mut known, TermId(top));
+    mem::forget(terms);
+    mem::forget(constants);
+    mem::forget(names);
+    mem::forget(known);
+    wide.expect(rt, "memory")
 }
 
 #[test]
@@ -63,7 +58,7 @@ fn integer_terms_come_before_comparisons_and_parts_before_the_whole(rt: HostRunt
         (10, Some(10)),
     ];
     for (top, place) in awaited {
-        assert!(rt; found(&rt, alloc, top) == place.map(TermId), "{top}");
+        check_of(&rt, found(&rt, alloc, top) == place.map(TermId), top);
     }
 }
 
@@ -86,6 +81,9 @@ fn a_term_has_a_bound_where_the_magnitudes_in_it_have_a_sum_below_2_to_63(rt: Ho
         (11, false),
     ];
     for (id, bounded) in awaited {
-        assert!(rt; rooms.has_room(TermId(id)) == bounded, "{id}");
+        check_of(&rt, rooms.has_room(TermId(id)) == bounded, id);
     }
+    mem::forget(terms);
+    mem::forget(constants);
+    mem::forget(rooms);
 }

@@ -3,4 +3,4 @@ use Rattle.clause_rows.proofs.definitions.names_of.Given as goal
 
 -- those so far
 abbrev pub invariant-loop-name : goal.invariant-loop-name
-invariant-loop-name l = l.names.items ≡ map (λ p. p.0) (take l.name-index l.params)
+invariant-loop-name g l = l.names.items ≡ map (λ p. p.0) (take l.name-index l.params)

@@ -5,4 +5,4 @@ use Rattle.clause_rows.proofs.definitions.parameters.Given as goal
 
 -- those so far
 abbrev pub invariant-loop-i : goal.invariant-loop-i
-invariant-loop-i l = map (λ (p : Name × Sort). p.1) l.params.items ≡ take l.i l.sorts
+invariant-loop-i g l = map (λ (p : Name × Sort). p.1) l.params.items ≡ take l.i l.sorts

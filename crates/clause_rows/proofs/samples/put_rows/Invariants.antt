@@ -4,4 +4,4 @@ use Rattle.clause_rows.proofs.samples.put_rows.Given as goal
 
 -- those so far stand before those of the rows to come
 abbrev pub invariant-loop-row : goal.invariant-loop-row
-invariant-loop-row l = l.terms.nodes ++ map made_of (drop l.row-index l.rows) ≡ l.fn.terms.nodes ++ map made_of l.rows
+invariant-loop-row g l = l.terms.nodes ++ map made_of (drop l.row-index l.rows) ≡ l.fn.terms.nodes ++ map made_of l.rows
