@@ -1,7 +1,7 @@
 -- What is read as a formula over parameters is one over their sorts.
 use Rattle.std.proofs.Common.{◌≡◌, ◌≤◌, ℕ, cond, ◌+◌, List, [], ◌∷◌, length, map, Bool, true, false, refl, sym, ap, subst, ◌∙◌, get_or, arith}
 use Rattle.std.proofs.lemmas.List.{length-map}
-use Rattle.std.specs.Prelude.{Option, Some, None, Result, Ok, Err, IfOk, IfSome}
+use Rattle.std.specs.Prelude.{Result, Ok, Err}
 use Rattle.std.specs.List.{AllByRecursion}
 use Rattle.base.specs.Limits.{most_arguments}
 use Rattle.sexp_read.specs.declared.tree.Tree.{Tree}
@@ -62,11 +62,6 @@ one_defined preds p params d one sorts is =
     let long : length d.params ≡ length p.args = is.1 ∙ sym (length-map params (λ q. q.1)) ∙ ap (λ (ss : List Sort). length ss) sorts in
     let formed : IsFormula p.args d.terms.nodes d.body.0 = subst (λ (ss : List Sort). IsFormula ss d.terms.nodes d.body.0) sorts is.2 in
     subst (λ (ps : List Pred). DefinesEach 0 ps (d ∷ []) × AreFormulas ps (d ∷ [])) (sym one) ((is.0, long, tt), (formed, tt))
-
-pub if_made : {A E : Type 0} (P Q : A → Type 0) (r : Result (Option A) E) → ((a : A) → P a → Q a) → IfOk r (λ o. IfSome o P) → IfOk r (λ o. IfSome o Q)
-if_made P Q (Ok None) f h = h
-if_made P Q (Ok (Some a)) f h = f a h
-if_made P Q (Err e) f h = h
 
 pub one_few : (preds : List Pred) (p : Pred) (params : List (Name × Sort)) → preds ≡ p ∷ [] → map (λ q. q.1) params ≡ p.args → AllByRecursion (λ (q : Pred). length q.args ≤ most_arguments) preds → length params ≤ most_arguments
 one_few preds p params one sorts all =
