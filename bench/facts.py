@@ -49,7 +49,7 @@ def main():
     words = argparse.ArgumentParser(description=__doc__, formatter_class=argparse.RawDescriptionHelpFormatter)
     words.add_argument("--size", type=int, default=16_000_000, help="bytes of the script")
     words.add_argument("--seed", type=int, default=1, help="of the numerals")
-    words.add_argument("--runs", type=int, default=3, help="of chc; z3 runs once")
+    words.add_argument("--runs", type=int, default=3, help="of each program")
     words.add_argument("--keep", metavar="FILE", help="writes the script to this file, and runs nothing")
     words = words.parse_args()
 

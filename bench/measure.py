@@ -88,12 +88,12 @@ def measure(name, words, path, runs):
 
 
 def compare(path, runs):
-    """Measures chc some times and z3 once, where it is installed."""
+    """Measures chc some times and then z3 as often, where it is installed."""
     ours, peak = measure("chc", [*launched(chc_program()), "solve"], path, runs)
     if shutil.which("z3") is None:
         print("z3 is not installed, so there is no ratio")
         return Measured(ours, peak, None)
-    theirs, _ = measure("z3", ["z3", "-in"], path, 1)
+    theirs, _ = measure("z3", ["z3", "-in"], path, runs)
     print(f"chc takes 1/{theirs / ours:.1f} of the time of z3")
     return Measured(ours, peak, theirs)
 

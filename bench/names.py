@@ -46,7 +46,7 @@ def write_script(file, names, name):
 def main():
     words = argparse.ArgumentParser(description=__doc__, formatter_class=argparse.RawDescriptionHelpFormatter)
     words.add_argument("--names", type=int, default=100_000, help="bound in the longer script")
-    words.add_argument("--runs", type=int, default=3, help="of chc; z3 runs once")
+    words.add_argument("--runs", type=int, default=3, help="of each program")
     words = words.parse_args()
     for kind, name in (("that begin alike", alike), ("of one sum of powers of 31", colliding)):
         for names in (words.names // 2, words.names):

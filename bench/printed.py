@@ -71,7 +71,7 @@ def main():
     words = argparse.ArgumentParser(description=__doc__, formatter_class=argparse.RawDescriptionHelpFormatter)
     words.add_argument("--assertions", type=int, default=10_000, help="of the longer script")
     words.add_argument("--seed", type=int, default=1, help="of the constants")
-    words.add_argument("--runs", type=int, default=3, help="of chc; z3 runs once")
+    words.add_argument("--runs", type=int, default=3, help="of each program")
     words.add_argument("--keep", metavar="FILE", help="writes the longer script to this file, and runs nothing")
     words = words.parse_args()
     if words.keep:

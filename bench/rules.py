@@ -35,7 +35,7 @@ def write_script(file, rules):
 def main():
     words = argparse.ArgumentParser(description=__doc__, formatter_class=argparse.RawDescriptionHelpFormatter)
     words.add_argument("--rules", type=int, default=65_000, help="of the longer script")
-    words.add_argument("--runs", type=int, default=3, help="of chc; z3 runs once")
+    words.add_argument("--runs", type=int, default=3, help="of each program")
     words = words.parse_args()
     measured = []
     for rules in (words.rules // 2, words.rules):
