@@ -4,6 +4,7 @@
 
 mod arena;
 mod laws;
+mod piece;
 mod pieces;
 mod script;
 #[cfg(test)]

@@ -1,4 +1,4 @@
-ghost use Rattle.std.specs.Prelude.{◌≡◌, ◌<◌, ◌≤◌, ◌^◌, ◌*◌, ◌+◌, ◌++◌, pos, IfOk, OnOk, IsTrue, length, codes, vec_len};
+ghost use Rattle.std.specs.Prelude.{◌≡◌, ◌<◌, ◌≤◌, ◌^◌, ◌*◌, ◌+◌, pos, IfOk, IsTrue, length, codes};
 ghost use Rattle.base.specs.Widths.{short_limit};
 ghost use Rattle.clause_gen.specs.Generated.{root_number, generated_nodes, generated_asserts, generated_preds, generated_script};
 ghost use Rattle.clause_gen.specs.machinery.Order.{are_in_order};
@@ -33,13 +33,6 @@ fn signed(n: u64) -> i64
     n as i64
 }
 
-fn push_all(nodes: &mut Vec<Node>, mut more: Vec<Node>) -> Result<(), Memory>
-    ensures { OnOk result (nodes.new.items ≡ nodes.old.items ++ more.items) }
-{
-    nodes.append(&mut more)?;
-    Ok(())
-}
-
 fn nodes(alloc: Global, depth: u32, start: u32) -> Result<Vec<Node>, Memory>
     requires depth { depth ≤ 12 }
     requires start { start < 1000 }
@@ -49,11 +42,11 @@ fn nodes(alloc: Global, depth: u32, start: u32) -> Result<Vec<Node>, Memory>
     let start = u64::from(start);
     let low = signed(start * width);
     let high = signed((start + 1) * width);
-    let mut nodes = leaves(alloc, low, high)?;
-    push_all(&mut nodes, children(alloc)?)?;
-    push_all(&mut nodes, parent(alloc)?)?;
-    let query = query(alloc, i64::from(depth), signed(start))?;
-    push_all(&mut nodes, query)?;
+    let mut nodes = Vec::new(alloc);
+    leaves(alloc, &mut nodes, low, high)?;
+    children(alloc, &mut nodes)?;
+    parent(alloc, &mut nodes)?;
+    query(alloc, &mut nodes, i64::from(depth), signed(start))?;
     Ok(nodes)
 }
 
