@@ -1,5 +1,5 @@
 -- The formulas of a text, where sorts and the values of constants are kept in tables.
-use Rattle.std.specs.Prelude.{◌≡◌, ◌<◌, ℕ, ◌+◌, List, [], ◌∷◌, length, slice_get, Option, Some, None, unwrap_or, Bool, true, false, ℤ, pos, if◌then◌else◌}
+use Rattle.std.specs.Prelude.{◌≡◌, ◌<◌, ℕ, ◌+◌, List, [], ◌∷◌, length, slice_get, Option, None, unwrap_or, Bool, true, false, ℤ, pos, if◌then◌else◌}
 use Rattle.term_tree.specs.declared.node.Node.{Node}
 use Rattle.term_tree.specs.Constants.{constant_of, has_short_constants, is_linear}
 use Rattle.term_tree.specs.Subterms.{EverySubterm, IsSubterm}

@@ -1,18 +1,17 @@
 //! Relations of two integer terms, by the difference of their forms.
 
-ghost use Rattle.std.specs.Prelude.{◌≡◌, ◌<◌, ◌-ℤ◌, [], ◌∷◌, ℕ, ℤ, Option, pos, negsuc, length, map, slice_get, Some, IfOk, IfSome, OnOk, IsTrue, true, false};
-ghost use Rattle.term_tree.specs.declared.node.Node.TheVariants.{Op};
+ghost use Rattle.std.specs.Prelude.{◌≡◌, ◌<◌, ◌&&◌, ◌||◌, [], ◌∷◌, ℕ, ℤ, Option, pos, negsuc, is_some, length, map, slice_get, IfOk, IfSome, OnOk, IsTrue, true, false};
 ghost use Rattle.lin_atoms.specs.Algebra.{collected};
 ghost use Rattle.lin_atoms.specs.Linear.{of_constant};
-ghost use Rattle.linear_terms.specs.Text.{is_truth};
 ghost use Rattle.linear_terms.specs.Linear.{Naming, is_narrow, less, variable_form};
 ghost use Rattle.linear_terms.specs.Formula.{joined, related, sides};
 ghost use Rattle.linear_terms.specs.Width.{is_relation};
-ghost use Rattle.term_tables.specs.machinery.Table.{constant_in, sort_in};
+ghost use Rattle.term_tables.specs.machinery.Table.{constant_in};
 ghost use Rattle.term_forms.specs.Found.{AreFound, form_by};
+ghost use Rattle.term_widths.specs.machinery.Apart.{is_variable_there};
 ghost use Rattle.term_widths.specs.machinery.Seen.{IsNarrowTerm};
 ghost use Rattle.term_formulas.specs.Written.{naming_by};
-ghost use Rattle.term_formulas.specs.machinery.Parts.{ComparesWithRoom};
+ghost use Rattle.term_formulas.specs.machinery.Parts.{ComparesWithRoom, is_number_there};
 
 use crate::relations::{Both, both_by_difference, by_difference, narrow_less};
 use base::Memory;
@@ -27,7 +26,8 @@ use term_widths::{is_relation, narrow_form};
 /// The variable that stands for the term, where it is one.
 fn variable_of(terms: &Terms, names: &Names, id: TermId) -> Option<u32>
     requires { id.0 < length terms.now.nodes }
-    ensures { (constant : ℕ → Option ℤ) → IfSome result (λ v. form_by constant (naming_by names.now) terms.now.nodes id.0 ≡ variable_form v) }
+    ensures found { is_some result ≡ is_variable_there (slice_get terms.now.nodes id.0) }
+    ensures is { (constant : ℕ → Option ℤ) → IfSome result (λ v. form_by constant (naming_by names.now) terms.now.nodes id.0 ≡ variable_form v) }
 {
     match terms.node(id) {
         Node::Var { binder, .. } => Some(name_of(names, *binder)),
@@ -38,7 +38,8 @@ fn variable_of(terms: &Terms, names: &Names, id: TermId) -> Option<u32>
 /// The number that the term is, where it is one.
 fn number_of(terms: &Terms, id: TermId) -> Option<i64>
     requires { id.0 < length terms.now.nodes }
-    ensures { (constant : ℕ → Option ℤ) (naming : Naming) → IfSome result (λ n. form_by constant naming terms.now.nodes id.0 ≡ of_constant n) }
+    ensures found { is_some result ≡ is_number_there (slice_get terms.now.nodes id.0) }
+    ensures is { (constant : ℕ → Option ℤ) (naming : Naming) → IfSome result (λ n. form_by constant naming terms.now.nodes id.0 ≡ of_constant n) }
 {
     match terms.node(id) {
         Node::Num(n) => Some(*n),
@@ -72,7 +73,7 @@ fn turned_apart(alloc: Global, v: u32, w: u32) -> Result<Vec<(u32, i64)>, Memory
 }
 
 /// A variable less another one.
-fn less_variable(alloc: Global, v: u32, w: u32) -> Result<Lin, Memory>
+fn variables_apart(alloc: Global, v: u32, w: u32) -> Result<Lin, Memory>
     ensures { IfOk result (λ d. d ≡ less (variable_form v) (variable_form w)) }
 {
     let terms = turned_apart(alloc, v, w)?;
@@ -91,11 +92,12 @@ pub(crate) fn less_leaf(
     id: TermId,
 ) -> Result<Option<Lin>, Memory>
     requires { id.0 < length terms.now.nodes }
-    ensures { (constant : ℕ → Option ℤ) → IfOk result (λ found. IfSome found (λ d.
+    ensures found { IfOk result (λ found. is_some found ≡ (is_variable_there (slice_get terms.now.nodes id.0) || is_number_there (slice_get terms.now.nodes id.0))) }
+    ensures is { (constant : ℕ → Option ℤ) → IfOk result (λ found. IfSome found (λ d.
         d ≡ less (variable_form v) (form_by constant (naming_by names.now) terms.now.nodes id.0))) }
 {
     if let Some(w) = variable_of(terms, names, id) {
-        return Ok(Some(less_variable(alloc, v, w)?));
+        return Ok(Some(variables_apart(alloc, v, w)?));
     }
     match number_of(terms, id) {
         Some(n) => Ok(Some(less_number(alloc, v, n)?)),
@@ -103,7 +105,7 @@ pub(crate) fn less_leaf(
     }
 }
 
-/// The difference of two sides of which no list is made.
+/// The difference of two sides of which no list is made: a variable, and a variable or a number.
 fn leaves_less(
     alloc: Global,
     terms: &Terms,
@@ -113,7 +115,9 @@ fn leaves_less(
 ) -> Result<Option<Lin>, Memory>
     requires first { a.0 < length terms.now.nodes }
     requires second { b.0 < length terms.now.nodes }
-    ensures { (constant : ℕ → Option ℤ) → IfOk result (λ found. IfSome found (λ d.
+    ensures found { IfOk result (λ found. is_some found ≡ (is_variable_there (slice_get terms.now.nodes a.0)
+        && (is_variable_there (slice_get terms.now.nodes b.0) || is_number_there (slice_get terms.now.nodes b.0)))) }
+    ensures is { (constant : ℕ → Option ℤ) → IfOk result (λ found. IfSome found (λ d.
         d ≡ less (form_by constant (naming_by names.now) terms.now.nodes a.0) (form_by constant (naming_by names.now) terms.now.nodes b.0))) }
 {
     match variable_of(terms, names, a) {

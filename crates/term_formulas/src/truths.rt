@@ -1,12 +1,13 @@
 //! Where a Bool term is true and where it is false, both at once.
 
-ghost use Rattle.std.specs.Prelude.{◌≡◌, ◌<◌, [], ◌∷◌, length, slice_get, Some, IfOk, IfSome, OnOk, true, false};
+ghost use Rattle.std.specs.Prelude.{◌≡◌, ◌<◌, [], ◌∷◌, is_some, length, slice_get, Some, IfOk, IfSome, OnOk, true, false};
 ghost use Rattle.term_tree.specs.declared.node.Node.TheVariants.{Op};
 ghost use Rattle.linear_terms.specs.Text.{are_truths};
 ghost use Rattle.linear_terms.specs.Width.{is_relation};
 ghost use Rattle.term_tables.specs.machinery.Table.{constant_in, sort_in};
 ghost use Rattle.term_forms.specs.Found.{AreFound};
 ghost use Rattle.term_formulas.specs.Written.{HasRoom, formula_by, naming_by};
+ghost use Rattle.term_formulas.specs.machinery.Parts.{relates_integers_there};
 
 use crate::relations::Both;
 use crate::sides::of_both_sides;
@@ -31,6 +32,7 @@ struct Relation {
 /// The relation of two integer terms that the term is, where it is one.
 fn relation_of(terms: &Terms, sorts: &SortTable, id: TermId) -> Option<Relation>
     requires { id.0 < length terms.now.nodes }
+    ensures found { is_some result ≡ relates_integers_there (sort_in sorts.now) (slice_get terms.now.nodes id.0) }
     ensures node { IfSome result (λ r. slice_get terms.now.nodes id.0 ≡ Some (Op r.op (r.first ∷ r.second ∷ []))) }
     ensures numbers { IfSome result (λ r. are_truths (sort_in sorts.now) (r.first ∷ r.second ∷ []) ≡ false) }
     ensures relation { IfSome result (λ r. is_relation r.op ≡ true) }

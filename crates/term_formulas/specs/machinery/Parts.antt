@@ -1,17 +1,18 @@
 -- Bits, and lists of formulas as the code makes them.
-use Rattle.std.specs.Prelude.{◌≡◌, ◌<◌, ℕ, ◌+◌, ◌==◌, List, [], ◌∷◌, length, map, Option, Some, Bool, true, false, not, slice_get, ◌⊎◌, IsTrue, ℤ, pos}
+use Rattle.std.specs.Prelude.{◌≡◌, ◌<◌, ℕ, ◌+◌, ◌==◌, ◌&&◌, List, [], ◌∷◌, length, map, Option, Some, Bool, true, false, not, slice_get, ◌⊎◌, IsTrue, ℤ, pos}
 use Rattle.std.specs.List.{AllByRecursion, list_all}
 use Rattle.term_tree.specs.declared.node.TermId.{TermId}
 use Rattle.term_tree.specs.declared.node.OpKind.{OpKind}
 use Rattle.term_tree.specs.declared.node.OpKind.TheVariants.{Ite, Abs, Div as Quotient, Mod as Remainder}
 use Rattle.term_tree.specs.declared.node.Node.{Node}
-use Rattle.term_tree.specs.declared.node.Node.TheVariants.{Op}
+use Rattle.term_tree.specs.declared.node.Node.TheVariants.{Num, Op}
 use Rattle.term_tree.specs.Arena.{is_below}
 use Rattle.term_tree.specs.Subterms.{is_part}
 use Rattle.lin_atoms.specs.Linear.{Linear, lin_all, of_constant}
 use Rattle.lin_atoms.specs.declared.form.Form.{Form}
 use Rattle.linear_terms.specs.Linear.{Naming, is_narrow, variable_form}
-use Rattle.linear_terms.specs.Width.{is_wide_relation}
+use Rattle.linear_terms.specs.Text.{Sorting, are_truths}
+use Rattle.linear_terms.specs.Width.{is_relation, is_wide_relation}
 use Rattle.term_forms.specs.Found.{form_by}
 use Rattle.term_widths.specs.machinery.Seen.{AreNarrowTerms}
 use Rattle.term_formulas.specs.Written.{HasRoom}
@@ -37,6 +38,15 @@ pub record ComparesWithRoom (constant : ℕ → Option ℤ) (naming : Naming) (n
   pub there : IsTrue (list_all (is_below (length nodes)) args)
   pub narrow : AreNarrowTerms constant naming nodes args
   pub sides : is_wide_relation (form_by constant naming nodes) (Some (Op op args)) ≡ false
+
+abbrev pub is_number_there : Option Node → Bool
+is_number_there (Some (Num n)) = true
+is_number_there _ = false
+
+-- a relation of two integer terms
+abbrev pub relates_integers_there : Sorting → Option Node → Bool
+relates_integers_there sorts (Some (Op op (a ∷ b ∷ []))) = is_relation op && not (are_truths sorts (a ∷ b ∷ []))
+relates_integers_there sorts _ = false
 
 -- a narrow form in which the variable doesn't occur
 abbrev pub IsApart : ℕ → Linear → Type 0

@@ -14,4 +14,4 @@ less_leaf-requires c = (made_room (constant_in c.args.constants.now) (naming_by 
 pub returns-in-Some-clause-is : goal.returns-in-Some-clause-is
 returns-in-Some-clause-is c =
     subst (λ (found : Option Linear). IfSome found (λ d. d ≡ less (variable_form c.args.v) (form_by (constant_in c.args.constants.now) (naming_by c.args.names.now) c.args.terms.now.nodes c.args.part.0)))
-    c.in-Some.is (c.in_ok-d.ensures (constant_in c.args.constants.now))
+    c.in-Some.is (c.in_ok-d.ensures.is (constant_in c.args.constants.now))

@@ -10,8 +10,8 @@ use Rattle.linear_terms.proofs.PartLemmas.{linear_at}
 use Rattle.term_forms.specs.Found.{form_by}
 use Rattle.term_formulas.proofs.sides.number_of.Goals as goal
 
-pub returns-in-Num : goal.returns-in-Num
-returns-in-Num c = λ constant naming.
+pub returns-in-Num-clause-is : goal.returns-in-Num-clause-is
+returns-in-Num-clause-is c = λ constant naming.
     let node = Num c.in-Num.n in
     let there : slice_get c.args.terms.now.nodes c.args.id.0 ≡ Some node = c.node.ensures.is ∙ ap (λ (n : Node). Some n) c.in-Num.is in
     let below : has_parts_below c.args.id.0 node ≡ true = ap (has_parts_below c.args.id.0) (sym c.in-Num.is) ∙ c.node.ensures.below in

@@ -12,4 +12,4 @@ returns-in-Some-clause-is c =
     let constant = constant_in c.args.constants.now in
     let naming = naming_by c.args.names.now in
     let nodes = c.args.terms.now.nodes in
-    subst (λ (found : Option Linear). IfSome found (λ d. d ≡ less (form_by constant naming nodes c.args.a.0) (form_by constant naming nodes c.args.b.0))) c.in-Some.is (c.in_ok-d.ensures constant)
+    subst (λ (found : Option Linear). IfSome found (λ d. d ≡ less (form_by constant naming nodes c.args.a.0) (form_by constant naming nodes c.args.b.0))) c.in-Some.is (c.in_ok-d.ensures.is constant)

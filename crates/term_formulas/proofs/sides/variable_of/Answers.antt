@@ -8,8 +8,8 @@ use Rattle.linear_terms.proofs.PartLemmas.{linear_at}
 use Rattle.term_formulas.specs.Written.{naming_by}
 use Rattle.term_formulas.proofs.sides.variable_of.Goals as goal
 
-pub returns-in-Var : goal.returns-in-Var
-returns-in-Var c = λ constant.
+pub returns-in-Var-clause-is : goal.returns-in-Var-clause-is
+returns-in-Var-clause-is c = λ constant.
     let node = Var c.in-Var.binder c.in-Var.sort in
     let there : slice_get c.args.terms.now.nodes c.args.id.0 ≡ Some node = c.node.ensures.is ∙ ap (λ (n : Node). Some n) c.in-Var.is in
     let below : has_parts_below c.args.id.0 node ≡ true = ap (has_parts_below c.args.id.0) (sym c.in-Var.is) ∙ c.node.ensures.below in
