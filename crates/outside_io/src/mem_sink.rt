@@ -7,7 +7,7 @@ use base::Memory;
 use std::alloc::Global;
 
 /// A sink in memory with room for `room` bytes, which takes a few at a time.
-#[derive(Debug, Drop)]
+#[derive(Drop)]
 pub struct MemSink {
     held: Vec<u8>,
     room: usize,

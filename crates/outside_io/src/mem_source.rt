@@ -5,7 +5,7 @@ use crate::source::Source;
 use crate::turn::{Failed, Turn};
 
 /// Bytes in memory, given a few at a time.
-#[derive(Debug, Drop)]
+#[derive(Drop)]
 pub struct MemSource {
     bytes: Vec<u8>,
     at: usize,

@@ -7,7 +7,7 @@ use std::io::{self, Write};
 
 /// Standard output, or any other writer. It tells no content, since a writer may have kept bytes back
 /// when it fails.
-#[derive(Debug, Drop)]
+#[derive(Drop)]
 pub struct StdSink<W> {
     inner: W,
     turns: u64,

@@ -6,7 +6,7 @@ use crate::turn::{Failed, Turn};
 use std::io::Read;
 
 /// Standard input, or any other reader. It tells no content.
-#[derive(Debug, Drop)]
+#[derive(Drop)]
 pub struct StdSource<R> {
     inner: R,
     turns: u64,
