@@ -1,13 +1,14 @@
 -- The sum of a multiple of terms and of other terms, term by term.
-use Rattle.std.proofs.Common.{◌≡◌, ◌<◌, ◌≤◌, ◌+◌, ◌&&◌, ℕ, zero, suc, List, [], ◌∷◌, ◌++◌, map, take, drop, length, get_or, refl, ap, sym, ◌∙◌, arith, true, ◌==◌}
+use Rattle.std.proofs.Common.{◌≡◌, ◌<◌, ◌≤◌, ◌+◌, ◌*◌, ◌^◌, ◌&&◌, ℕ, zero, suc, List, [], ◌∷◌, ◌++◌, map, take, drop, length, get_or, refl, ap, sym, ◌∙◌, arith, Bool, true, false, ◌==◌, FitsSigned}
 use Rattle.std.specs.Prelude.{ℤ, nat_abs, neg_ℤ, ◌+ℤ◌, ◌-ℤ◌, ◌*ℤ◌}
-use Rattle.std.specs.Int.{int_div_euclid}
-use Rattle.std.proofs.lemmas.Int.{ints}
+use Rattle.std.specs.Int.{int_div_euclid, w64, w128}
+use Rattle.std.proofs.Math.Nat.{mul-le-mul}
+use Rattle.std.proofs.lemmas.Int.{ints, unsigned_abs-mul}
 use Rattle.std.proofs.lemmas.List.{append-nil, drop_more, drop_all}
 use Rattle.std.specs.List.{list_all}
 use Rattle.lin_atoms.specs.Multiples.{is_multiple}
 use Rattle.lin_atoms.specs.Algebra.{term_on, with_term, collected, scaled_terms}
-use Rattle.lin_atoms.specs.Linear.{Linear, are_ordered}
+use Rattle.lin_atoms.specs.Linear.{Linear, are_ordered, fits, is_linear}
 use Rattle.lin_atoms.proofs.Public.{both-ordered, collected-same, ordered-at, ordered-cons, ordered-drop, ordered-weaker, scaled-drop, scaled-ordered, second-first, term_on-whole, with_term-front, with_term-same}
 use Rattle.int_rows.specs.Ready.{rounded}
 use Rattle.farkas_proof.proofs.SumLemmas.{term_step}
@@ -95,3 +96,32 @@ pub rounded-is : (d : ℤ) (ts : List (ℕ × ℤ)) (n : ℤ) (terms : List (ℕ
 rounded-is d ts n terms k e f =
     let twice : n ≡ neg_ℤ (neg_ℤ n) = omega (arith, ints) in
     same-parts terms (map (λ t. (t.0, int_div_euclid t.1 d)) ts) k (neg_ℤ (int_div_euclid (neg_ℤ (neg_ℤ n)) d)) e (f ∙ ap (λ z. neg_ℤ (int_div_euclid z d)) twice)
+
+-- products of numbers with 64 bits, and sums and differences with one
+product-abs : (k a : ℤ) → FitsSigned w64 k → FitsSigned w64 a → nat_abs (k *ℤ a) ≤ 2 ^ 126
+product-abs k a f g =
+    let p : nat_abs k ≤ 2 ^ 63 = omega (arith, ints, f.sfits) in
+    let q : nat_abs a ≤ 2 ^ 63 = omega (arith, ints, g.sfits) in
+    omega (arith, unsigned_abs-mul k a, mul-le-mul p q)
+
+pub product-fits : (k a p q : ℤ) → FitsSigned w64 k → FitsSigned w64 a → p ≡ k → q ≡ a → FitsSigned w128 (p *ℤ q)
+product-fits k a p q f g is same =
+    let small : nat_abs (p *ℤ q) ≤ 2 ^ 126 = rw (is, same) (product-abs k a f g) in
+    omega (arith, ints, small)
+
+pub sum-fits : (k a n p m : ℤ) → FitsSigned w64 k → FitsSigned w64 a → FitsSigned w64 n → p ≡ k *ℤ a → m ≡ n → FitsSigned w128 (p +ℤ m)
+sum-fits k a n p m f g h is same =
+    let small : nat_abs p ≤ 2 ^ 126 = rw is (product-abs k a f g) in
+    omega (arith, ints, small, h.sfits, same)
+
+pub rest-fits : (k a n p m : ℤ) → FitsSigned w64 k → FitsSigned w64 a → FitsSigned w64 n → p ≡ k *ℤ a → m ≡ n → FitsSigned w128 (m -ℤ p)
+rest-fits k a n p m f g h is same =
+    let small : nat_abs p ≤ 2 ^ 126 = rw is (product-abs k a f g) in
+    omega (arith, ints, small, h.sfits, same)
+
+first-true : (a b : Bool) → a && b ≡ true → a ≡ true
+first-true true b h = refl
+first-true false b h = absurd (cc)
+
+pub linear-ordered : (lin : Linear) → is_linear lin ≡ true → are_ordered 0 lin.terms ≡ true
+linear-ordered lin h = first-true (are_ordered 0 lin.terms) (fits lin) h

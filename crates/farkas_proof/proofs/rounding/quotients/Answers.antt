@@ -1,7 +1,8 @@
-use Rattle.std.proofs.Common.{◌≡◌, ◌<◌, ◌+◌, ◌++◌, ◌∷◌, [], ◌&&◌, ℕ, List, ap, sym, ◌∙◌, map, take, drop, length, get_or, true, rules, FitsSigned, refl}
+use Rattle.std.proofs.Common.{◌≡◌, ◌<◌, ◌+◌, ◌++◌, ◌∷◌, [], ◌&&◌, ℕ, List, ap, sym, ◌∙◌, map, take, drop, length, get_or, true, false, rules, FitsSigned, refl}
 use Rattle.std.specs.Prelude.{ℤ}
 use Rattle.std.specs.Int.{int_div_euclid, w64}
 use Rattle.std.proofs.lemmas.Int.{to_z-of_z}
+use Rattle.std.proofs.lemmas.List.{take_all}
 use Rattle.lin_atoms.specs.machinery.Accumulator.{Total}
 use Rattle.lin_atoms.specs.Linear.{are_short, is_short}
 use Rattle.farkas_proof.specs.machinery.Sum.{seen}
@@ -29,3 +30,26 @@ loop-term-preserved c =
       made = pushed ∙ ap (λ (us : List (ℕ × ℤ)). us ++ (item.0, c.in-Some.quotient) ∷ []) made ∙ ap (λ (e : ℕ × ℤ). map f (seen (take i ts)) ++ e ∷ []) pair ∙ sym (divided-more f ts i item h);
       told = sym (ap are_short (divided-rest f ts i item h) ∙ ap (λ b. b && are_short (map f (seen (drop (i + 1) ts)))) fits) ∙ told;
     })
+
+pub returns-clause-some : goal.returns-clause-some
+returns-clause-some c =
+    let d_fits : FitsSigned w64 c.args.divisor = c.ranges.divisor in
+    let f : ℕ × ℤ → ℕ × ℤ = λ t. (t.0, int_div_euclid t.1 c.args.divisor) in
+    let made = simp to_z-of_z at c.loop-term.invariant.made in
+    made ∙ ap (λ (ts : List (ℕ × Total)). map f (seen ts)) (take_all c.loop-term.term-index c.args.terms.now c.loop-term-test.false)
+
+pub returns-clause-none : goal.returns-clause-none
+returns-clause-none c = λ no. absurd (cc)
+
+pub returns-in-None-clause-none : goal.returns-in-None-clause-none
+returns-in-None-clause-none c =
+    let d_fits : FitsSigned w64 c.args.divisor = c.ranges.divisor in
+    let d = c.args.divisor in
+    let ts = c.args.terms.now in
+    let i = c.loop-term.term-index in
+    let item = c.term-item.result in
+    let f : ℕ × ℤ → ℕ × ℤ = λ t. (t.0, int_div_euclid t.1 d) in
+    let none = simp to_z-of_z at (c.in-None.ensures.none refl) in
+    let told = simp to_z-of_z at c.loop-term.invariant.told in
+    let wide : is_short (int_div_euclid (get_or ts i item).1.value d) ≡ false = ap (λ (t : ℕ × Total). is_short (int_div_euclid t.1.value d)) (sym c.term-item.is) ∙ none in
+    λ _. sym told ∙ ap are_short (divided-rest f ts i item c.loop-term-test.true) ∙ ap (λ b. b && are_short (map f (seen (drop (i + 1) ts)))) wide

@@ -4,7 +4,7 @@ use Rattle.std.specs.Int.{w64, w128}
 use Rattle.std.proofs.lemmas.Int.{ints, to_z-of_z}
 use Rattle.lin_atoms.specs.Algebra.{collected, scaled_terms}
 use Rattle.lin_atoms.specs.Linear.{are_ordered}
-use Rattle.farkas_proof.proofs.NarrowLemmas.{negated-less, same-parts}
+use Rattle.farkas_proof.proofs.NarrowLemmas.{linear-ordered, negated-less, same-parts}
 use Rattle.farkas_proof.proofs.SumLemmas.{ordered-made}
 use Rattle.farkas_proof.proofs.narrow.Narrow.add_multiple.Goals as goal
 
@@ -35,3 +35,27 @@ returns-then-is_empty-clause-ordered c = λ done.
     let k_fits : FitsSigned w64 c.args.k = c.ranges.k in
     let made = simp to_z-of_z at (c.put_multiple.ensures done) in
     ordered-made c.put_multiple.new.terms.items (scaled_terms c.args.k c.terms.result.now ++ c.args.self.now.terms.items) made
+
+pub returns-then-is_empty-clause-value : goal.returns-then-is_empty-clause-value
+returns-then-is_empty-clause-value c = λ done.
+    let self = c.args.self.now in
+    let k = c.args.k in
+    let k_fits : FitsSigned w64 k = c.ranges.k in
+    let n_fits : FitsSigned w64 c.in-Some.negated = search rules in
+    let s_fits : FitsSigned w64 self.negated = search rules in
+    let small : nat_abs c.constant.result < 2 ^ 64 = rw c.constant.ensures.is c.constant.ensures.long in
+    let a_fits : FitsSigned w128 c.constant.result = omega (arith, ints, small) in
+    let made = simp to_z-of_z at (c.put_multiple.ensures done) in
+    let terms = made ∙ ap (λ (ts : List (ℕ × ℤ)). collected (scaled_terms k ts ++ self.terms.items)) c.terms.ensures.is in
+    let less = simp to_z-of_z at c.in-Some.ensures in
+    let constant = negated-less c.in-Some.negated self.negated (k *ℤ c.constant.result) less ∙ ap (λ z. k *ℤ z +ℤ neg_ℤ self.negated) c.constant.ensures.is in
+    simp to_z-of_z (same-parts c.put_multiple.new.terms.items (collected (scaled_terms k c.args.lin.now.terms ++ self.terms.items)) (neg_ℤ c.in-Some.negated) (k *ℤ c.args.lin.now.constant +ℤ neg_ℤ self.negated) terms constant)
+
+pub put_multiple-requires-clause-rising : goal.put_multiple-requires-clause-rising
+put_multiple-requires-clause-rising c = ap (are_ordered 0) c.terms.ensures.is ∙ linear-ordered c.args.lin.now c.terms.ensures.legal
+
+pub merge-requires-clause-ours : goal.merge-requires-clause-ours
+merge-requires-clause-ours c = ap (are_ordered 0) c.terms-in-Some.ensures.is ∙ linear-ordered c.args.lin.now c.terms-in-Some.ensures.legal
+
+pub merge-requires-clause-theirs : goal.merge-requires-clause-theirs
+merge-requires-clause-theirs c = ap (are_ordered 0) c.as_slice.ensures.value ∙ c.requires
