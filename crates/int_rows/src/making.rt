@@ -180,16 +180,26 @@ fn less_multiple(alloc: Global, n: Divisor, q: u32, lin: &Lin) -> Result<Lin, Me
     }
 }
 
+/// A bound for a form without its constant.
+fn difference(bound: i64, lin: &Lin) -> i128
+    ensures { result ≡ bound -ℤ lin.now.constant }
+{
+    i128::from(bound) - lin.constant()
+}
+
+/// Whether a constant has room.
+fn is_long(constant: i128) -> bool
+    ensures { result ≡ is_long constant }
+{
+    constant.unsigned_abs() < 1 << 64
+}
+
 /// A bound for a form without its constant, unless it has no room.
 fn less_constant(bound: i64, lin: &Lin) -> Option<i128>
     ensures { SomeIff result (is_long (bound -ℤ lin.now.constant) ≡ true) (bound -ℤ lin.now.constant) }
 {
-    let less = i128::from(bound) - lin.constant();
-    if less.unsigned_abs() < 1 << 64 {
-        Some(less)
-    } else {
-        None
-    }
+    let less = difference(bound, lin);
+    if is_long(less) { Some(less) } else { None }
 }
 
 /// What is said by a rest that lies between two numbers.

@@ -1,6 +1,7 @@
+use Rattle.std.specs.List.{list_all}
 use Rattle.std.proofs.Common.{◌++◌, ◌∷◌, [], ◌+◌, ap, sym, ◌∙◌, map, take, List}
 use Rattle.std.specs.Prelude.{ℤ}
-use Rattle.std.proofs.lemmas.List.{map-append}
+use Rattle.std.proofs.lemmas.List.{map-append, take_all}
 use Rattle.lin_atoms.specs.Linear.{Linear, is_linear}
 use Rattle.int_rows.specs.Node.{equation, equations}
 use Rattle.int_rows.proofs.EquationLemmas.{all-more, equations-more}
@@ -20,3 +21,9 @@ loop-i-preserved c =
           ∙ sym (equations-more c.args.columns c.args.slack lins i d c.loop-i-test.true);
       legal = all-more is_linear lins i d c.loop-i-test.true c.loop-i.invariant.legal (ap is_linear (sym c.index-lins-i.is) ∙ c.constant-constant.ensures.legal);
     }
+
+pub returns-clause-is : goal.returns-clause-is
+returns-clause-is c = c.loop-i.invariant.made ∙ ap (equations c.args.columns c.args.slack) (take_all c.loop-i.i c.args.lins.now c.loop-i-test.false)
+
+pub returns-clause-legal : goal.returns-clause-legal
+returns-clause-legal c = ap (list_all is_linear) (sym (take_all c.loop-i.i c.args.lins.now c.loop-i-test.false)) ∙ c.loop-i.invariant.legal
