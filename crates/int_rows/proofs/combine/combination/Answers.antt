@@ -23,3 +23,9 @@ returns-clause-bound c =
     let second : FitsSigned w128 c.product-2.result = omega (arith, ints, c.product-2.ensures.bound) in
     let whole : FitsSigned w128 (c.product.result -ℤ c.product-2.result) = omega (arith, ints, c.product.ensures.bound, c.product-2.ensures.bound) in
     simp to_z-of_z (omega (arith, ints, c.product.ensures.bound, c.product-2.ensures.bound))
+
+pub overflow_sub-result : goal.overflow_sub-result
+overflow_sub-result c =
+    let first : FitsSigned w128 c.product.result = omega (arith, ints, c.product.ensures.bound) in
+    let second : FitsSigned w128 c.product-2.result = omega (arith, ints, c.product-2.ensures.bound) in
+    simp to_z-of_z (omega (arith, ints, c.product.ensures.bound, c.product-2.ensures.bound))
