@@ -24,9 +24,14 @@ impl Column {
     pub(crate) fn take_away(&mut self, times: i128, other: &mut Column) -> Option<()> {
         subtract(self.entries.as_mut_slice(), times, other.entries.as_slice())?;
         subtract(self.parts.as_mut_slice(), times, other.parts.as_slice())?;
-        other.near = other.near.checked_add(times.checked_mul(self.near)?)?;
+        other.near = more(other.near, times, self.near)?;
         Some(())
     }
+}
+
+/// A number plus `times` times another one.
+pub(crate) fn more(own: i128, times: i128, part: i128) -> Option<i128> {
+    own.checked_add(times.checked_mul(part)?)
 }
 
 /// The difference of a number and a multiple.

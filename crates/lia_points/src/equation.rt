@@ -1,5 +1,5 @@
 /// Multiples of unknowns, each by its number, add up to a value.
-#[derive(Debug, Drop)]
+#[derive(Drop)]
 pub struct Equation {
     /// The multiples, none of them 0 and none of one unknown twice.
     pub terms: Vec<(u32, i128)>,

@@ -59,10 +59,26 @@ pub(crate) fn form(
     variables: usize,
 ) -> Result<Vec<(u32, i128)>, Memory> {
     let mut terms = Vec::new(alloc);
-    for (variable, entry) in entries.iter().take(variables).enumerate() {
+    let own = &entries[..variables.min(entries.len())];
+    for (variable, entry) in own.iter().enumerate() {
         put_term(&mut terms, variable, *entry)?;
     }
     Ok(terms)
+}
+
+/// Whether the other term is there and the same, or, where it is to be turned, with the sign turned.
+fn is_term(term: &(u32, i128), other: Option<&(u32, i128)>, is_turned: bool) -> bool {
+    match other {
+        Some((variable, times)) => {
+            let times = if is_turned {
+                times.wrapping_neg()
+            } else {
+                *times
+            };
+            term.0 == *variable && term.1 == times
+        }
+        None => false,
+    }
 }
 
 /// Whether the one list of terms is the other, or, where it is to be turned, the other with each sign
@@ -71,13 +87,8 @@ fn is_same(terms: &[(u32, i128)], others: &[(u32, i128)], is_turned: bool) -> bo
     if terms.len() != others.len() {
         return false;
     }
-    for (one, other) in terms.iter().zip(others) {
-        let times = if is_turned {
-            other.1.wrapping_neg()
-        } else {
-            other.1
-        };
-        if one.0 != other.0 || one.1 != times {
+    for (at, term) in terms.iter().enumerate() {
+        if !is_term(term, others.get(at), is_turned) {
             return false;
         }
     }
@@ -125,6 +136,20 @@ impl Range {
     }
 }
 
+/// The equation that a variable with one value stands in.
+fn put_value(
+    alloc: Global,
+    equations: &mut Vec<Equation>,
+    variable: usize,
+    value: i128,
+) -> Result<(), Memory> {
+    if let Ok(variable) = u32::try_from(variable) {
+        let terms = vec![in alloc; (variable, 1)]?;
+        equations.push(Equation { terms, value })?;
+    }
+    Ok(())
+}
+
 /// The equations that single variables stand in.
 fn put_variables(
     alloc: Global,
@@ -133,9 +158,8 @@ fn put_variables(
 ) -> Result<(), Memory> {
     for variable in 0..tableau.columns() {
         let (lower, upper) = sides(tableau, variable);
-        if let (Some(value), Ok(variable)) = (one_value(lower, upper), u32::try_from(variable)) {
-            let terms = vec![in alloc; (variable, 1)]?;
-            equations.push(Equation { terms, value })?;
+        if let Some(value) = one_value(lower, upper) {
+            put_value(alloc, equations, variable, value)?;
         }
     }
     Ok(())
@@ -163,29 +187,45 @@ fn range_of(
     Ok(range)
 }
 
-fn ranges(alloc: Global, tableau: &Tableau) -> Result<Vec<Range>, Memory> {
-    let mut ranges = Vec::with_capacity(alloc, tableau.rows())?;
+fn put_ranges(alloc: Global, tableau: &Tableau, ranges: &mut Vec<Range>) -> Result<(), Memory> {
     'rows: for row in 0..tableau.rows() {
         let own = range_of(alloc, tableau, row, tableau.row(row), ranges.as_slice())?;
         ranges.push(own)?;
     }
-    Ok(ranges)
+    Ok(())
+}
+
+/// The equation of a form whose bounds leave one value.
+fn put_range(equations: &mut Vec<Equation>, range: Range) -> Result<(), Memory> {
+    let Range {
+        terms,
+        lower,
+        upper,
+    } = range;
+    if let Some(value) = one_value(lower, upper) {
+        equations.push(Equation { terms, value })?;
+    }
+    Ok(())
+}
+
+/// The equations of the forms, the last one first.
+fn put_forms(
+    alloc: Global,
+    tableau: &Tableau,
+    equations: &mut Vec<Equation>,
+) -> Result<(), Memory> {
+    let mut ranges = Vec::with_capacity(alloc, tableau.rows())?;
+    put_ranges(alloc, tableau, &mut ranges)?;
+    'ranges: while let Some(range) = ranges.pop() {
+        put_range(equations, range)?;
+    }
+    Ok(())
 }
 
 /// The equations of a tableau before its first pivot.
 pub(crate) fn equations(alloc: Global, tableau: &Tableau) -> Result<Vec<Equation>, Memory> {
     let mut equations = Vec::new(alloc);
     put_variables(alloc, tableau, &mut equations)?;
-    let mut ranges = ranges(alloc, tableau)?;
-    'ranges: while let Some(range) = ranges.pop() {
-        let Range {
-            terms,
-            lower,
-            upper,
-        } = range;
-        if let Some(value) = one_value(lower, upper) {
-            equations.push(Equation { terms, value })?;
-        }
-    }
+    put_forms(alloc, tableau, &mut equations)?;
     Ok(equations)
 }

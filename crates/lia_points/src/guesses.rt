@@ -4,10 +4,11 @@ ghost use Rattle.std.specs.Prelude.{◌≡◌, ◌<◌, ◌^◌, true};
 ghost use Rattle.std.specs.List.{list_all};
 ghost use Rattle.node_rows.specs.Known.{are_known, has_short_constant};
 
-use crate::column::Column;
+use crate::column::{Column, more};
+use crate::equation::Equation;
 use crate::forms::equations;
 use crate::limits::{Limit, limits};
-use crate::moves::{are_many, moved, moves};
+use crate::moves::{are_many, meets, moves};
 use crate::near::{Way, scaled};
 use crate::short::shorten;
 use crate::solving::{Met, Solving, solved};
@@ -50,11 +51,6 @@ fn clear(made: &mut [i128], unknowns: &[u32]) {
             *own = 0;
         }
     }
-}
-
-/// A number plus `times` times another one.
-fn more(own: i128, times: i128, part: i128) -> Option<i128> {
-    own.checked_add(times.checked_mul(part)?)
 }
 
 /// An unknown gets its part of a column.
@@ -116,6 +112,13 @@ fn narrowed(alloc: Global, made: &[i128]) -> Result<Option<Vec<i64>>, Memory> {
     Ok(Some(point))
 }
 
+/// All unknowns get their values.
+fn put_unknowns(made: &mut [i128], unknowns: &[u32], solving: &Solving, way: Way) -> Option<()> {
+    clear(made, unknowns);
+    put_done(made, unknowns, solving)?;
+    put_free(made, unknowns, solving.free.as_slice(), way)
+}
+
 /// The point that one way of rounding gives.
 fn guess(
     alloc: Global,
@@ -127,15 +130,10 @@ fn guess(
     let Some(mut made) = rounded(alloc, near, way)? else {
         return Ok(None);
     };
-    clear(made.as_mut_slice(), unknowns);
-    if put_done(made.as_mut_slice(), unknowns, solving).is_none() {
-        return Ok(None);
+    match put_unknowns(made.as_mut_slice(), unknowns, solving, way) {
+        Some(()) => narrowed(alloc, made.as_slice()),
+        None => Ok(None),
     }
-    let free = solving.free.as_slice();
-    if put_free(made.as_mut_slice(), unknowns, free, way).is_none() {
-        return Ok(None);
-    }
-    narrowed(alloc, made.as_slice())
 }
 
 fn put_guess(
@@ -159,20 +157,69 @@ fn put_moved(
     near: &[i128],
     unknowns: &[u32],
     solving: &Solving,
-    limits: Vec<Limit>,
+    limits: &mut [Limit],
 ) -> Result<(), Memory> {
-    if are_many(limits.as_slice(), near.len()) {
+    if are_many(limits, near.len()) {
         return Ok(());
     }
-    let Some(point) = guess(alloc, near, unknowns, solving, Way::Near)? else {
+    let Some(mut point) = guess(alloc, near, unknowns, solving, Way::Near)? else {
         return Ok(());
     };
-    let free = solving.free.as_slice();
-    let moves = moves(alloc, limits.as_slice(), unknowns, free, near.len())?;
-    if let Some(point) = moved(point, limits, moves.as_slice()) {
+    let moves = moves(alloc, limits, unknowns, solving.free.as_slice(), near.len())?;
+    if meets(point.as_mut_slice(), limits, moves.as_slice()) {
         guesses.push(point)?;
     }
     Ok(())
+}
+
+/// The points of solved equations.
+fn put_solved(
+    alloc: Global,
+    guesses: &mut Vec<Vec<i64>>,
+    near: &[i128],
+    unknowns: &[u32],
+    solving: &mut Solving,
+    limits: &mut [Limit],
+) -> Result<(), Memory> {
+    shorten(alloc, &mut solving.free)?;
+    put_moved(alloc, guesses, near, unknowns, solving, limits)?;
+    put_guess(alloc, guesses, near, unknowns, solving, Way::Down)?;
+    put_guess(alloc, guesses, near, unknowns, solving, Way::Up)?;
+    put_guess(alloc, guesses, near, unknowns, solving, Way::Near)
+}
+
+/// The points near a vertex at which the equations of these unknowns hold.
+fn put_points(
+    alloc: Global,
+    guesses: &mut Vec<Vec<i64>>,
+    near: &[i128],
+    equations: &[Equation],
+    unknowns: &[u32],
+    limits: &mut [Limit],
+) -> Result<(), Memory> {
+    let (mut solving, met) = solved(alloc, equations, equations.len(), unknowns, Some(near))?;
+    match met {
+        Met::Solved => put_solved(alloc, guesses, near, unknowns, &mut solving, limits),
+        Met::Unsolvable => Ok(()),
+        Met::Lost => Ok(()),
+    }
+}
+
+/// The points near a vertex at which the equations hold.
+fn put_near(
+    alloc: Global,
+    guesses: &mut Vec<Vec<i64>>,
+    near: &[i128],
+    equations: &[Equation],
+    limits: &mut [Limit],
+) -> Result<(), Memory> {
+    match unknowns(alloc, equations)? {
+        Some(unknowns) => {
+            let unknowns = unknowns.as_slice();
+            put_points(alloc, guesses, near, equations, unknowns, limits)
+        }
+        None => Ok(()),
+    }
 }
 
 /// The points near a vertex, the last the nearest.
@@ -182,25 +229,14 @@ fn from_vertex(
     guesses: &mut Vec<Vec<i64>>,
 ) -> Result<(), Memory> {
     let equations = equations(alloc, tableau)?;
-    let limits = limits(alloc, tableau)?;
-    let Some(near) = vertex(alloc, tableau)? else {
-        return Ok(());
-    };
-    let near = near.as_slice();
-    let Some(unknowns) = unknowns(alloc, equations.as_slice())? else {
-        return Ok(());
-    };
-    let unknowns = unknowns.as_slice();
-    let count = equations.len();
-    let (mut solving, met) = solved(alloc, equations.as_slice(), count, unknowns, Some(near))?;
-    if let Met::Solved = met {
-        shorten(alloc, &mut solving.free)?;
-        put_moved(alloc, guesses, near, unknowns, &solving, limits)?;
-        put_guess(alloc, guesses, near, unknowns, &solving, Way::Down)?;
-        put_guess(alloc, guesses, near, unknowns, &solving, Way::Up)?;
-        put_guess(alloc, guesses, near, unknowns, &solving, Way::Near)?;
+    let mut limits = limits(alloc, tableau)?;
+    match vertex(alloc, tableau)? {
+        Some(near) => {
+            let (near, equations) = (near.as_slice(), equations.as_slice());
+            put_near(alloc, guesses, near, equations, limits.as_mut_slice())
+        }
+        None => Ok(()),
     }
-    Ok(())
 }
 
 /// The values of the variables and quotients at a vertex, scaled.

@@ -3,6 +3,7 @@
 #![tactic(auto)]
 
 mod column;
+mod entries;
 mod equation;
 mod forms;
 mod guesses;
@@ -16,6 +17,7 @@ mod short;
 mod solving;
 mod unknowns;
 
+pub use entries::{set, zeros};
 pub use equation::Equation;
 pub use judging::point_near;
 pub use multipliers::Unsolvable;

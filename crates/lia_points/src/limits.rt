@@ -36,6 +36,16 @@ impl Limit {
         0
     }
 
+    /// What a value counts.
+    pub(crate) fn cost(&self, value: i64) -> u64 {
+        self.lack(value).unsigned_abs().saturating_mul(self.weight)
+    }
+
+    /// The value after an effect that is had so often.
+    pub(crate) fn raised(&self, effect: i64, times: i64) -> i64 {
+        self.value.saturating_add(effect.saturating_mul(times))
+    }
+
     /// What the form is at a point.
     pub(crate) fn value_at(&self, point: &[i64]) -> i64 {
         let mut sum: i64 = 0;
@@ -103,11 +113,16 @@ fn put_row(
 /// The bounds of a tableau before its first pivot that leave more than one value.
 pub(crate) fn limits(alloc: Global, tableau: &Tableau) -> Result<Vec<Limit>, Memory> {
     let mut limits = Vec::new(alloc);
+    put_all(alloc, tableau, &mut limits)?;
+    Ok(limits)
+}
+
+fn put_all(alloc: Global, tableau: &Tableau, limits: &mut Vec<Limit>) -> Result<(), Memory> {
     for variable in 0..tableau.columns() {
-        put_variable(alloc, tableau, &mut limits, variable)?;
+        put_variable(alloc, tableau, limits, variable)?;
     }
     'rows: for row in 0..tableau.rows() {
-        put_row(alloc, tableau, &mut limits, row, tableau.row(row))?;
+        put_row(alloc, tableau, limits, row, tableau.row(row))?;
     }
-    Ok(limits)
+    Ok(())
 }

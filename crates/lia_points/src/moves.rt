@@ -3,6 +3,7 @@
 //! no move makes that less (P. Morris, The Breakout Method for Escaping from Local Minima, 1993).
 
 use crate::column::Column;
+use crate::entries::{set, zeros};
 use crate::limits::Limit;
 use base::Memory;
 use std::alloc::Global;
@@ -24,11 +25,20 @@ pub(crate) struct Move {
 }
 
 /// A move that is made so often, and what the limits lack then.
-#[derive(Clone, Copy, Debug)]
+#[derive(Clone, Copy)]
 struct Choice {
     at: usize,
     times: i64,
     cost: u64,
+}
+
+/// What the limits' forms rise by.
+fn effects_of(alloc: Global, limits: &[Limit], parts: &[i64]) -> Result<Vec<i64>, Memory> {
+    let mut effects = Vec::with_capacity(alloc, limits.len())?;
+    for limit in limits {
+        effects.push(limit.value_at(parts))?;
+    }
+    Ok(effects)
 }
 
 fn put_move(
@@ -37,41 +47,39 @@ fn put_move(
     limits: &[Limit],
     parts: Vec<i64>,
 ) -> Result<(), Memory> {
-    let mut effects = Vec::with_capacity(alloc, limits.len())?;
-    for limit in limits {
-        effects.push(limit.value_at(parts.as_slice()))?;
-    }
+    let effects = effects_of(alloc, limits, parts.as_slice())?;
     moves.push(Move { parts, effects })?;
     Ok(())
 }
 
-/// `count` zeros.
-fn zeros(alloc: Global, count: usize) -> Result<Vec<i64>, Memory> {
-    let mut made = Vec::with_capacity(alloc, count)?;
-    for _ in 0..count {
-        made.push(0)?;
-    }
-    Ok(made)
-}
-
-fn set(parts: &mut [i64], at: usize, value: i128) {
-    if let (Some(own), Ok(value)) = (parts.get_mut(at), i64::try_from(value)) {
-        *own = value;
+/// The part becomes the value, where that has room.
+fn set_part(parts: &mut [i64], at: usize, value: i128) {
+    if let Ok(value) = i64::try_from(value) {
+        set(parts, at, value);
     }
 }
 
 /// The parts that a column has of the unknowns.
-fn parts_of(
+fn set_parts(parts: &mut [i64], unknowns: &[u32], column: &Column) {
+    for (at, part) in column.parts.iter().enumerate() {
+        if let Some(unknown) = unknowns.get(at) {
+            set_part(parts, *unknown as usize, *part);
+        }
+    }
+}
+
+/// The move of a column that is free.
+fn put_column(
     alloc: Global,
+    moves: &mut Vec<Move>,
+    limits: &[Limit],
     unknowns: &[u32],
     column: &Column,
     variables: usize,
-) -> Result<Vec<i64>, Memory> {
+) -> Result<(), Memory> {
     let mut parts = zeros(alloc, variables)?;
-    for (unknown, part) in unknowns.iter().zip(column.parts.as_slice()) {
-        set(parts.as_mut_slice(), *unknown as usize, *part);
-    }
-    Ok(parts)
+    set_parts(parts.as_mut_slice(), unknowns, column);
+    put_move(alloc, moves, limits, parts)
 }
 
 /// The move of one variable, where no equation has it.
@@ -83,12 +91,22 @@ fn put_single(
     variable: usize,
     variables: usize,
 ) -> Result<(), Memory> {
-    if unknowns.iter().all(|unknown| *unknown as usize != variable) {
-        let mut parts = zeros(alloc, variables)?;
-        set(parts.as_mut_slice(), variable, 1);
-        put_move(alloc, moves, limits, parts)?;
+    if is_unknown(unknowns, variable) {
+        return Ok(());
     }
-    Ok(())
+    let mut parts = zeros(alloc, variables)?;
+    set(parts.as_mut_slice(), variable, 1);
+    put_move(alloc, moves, limits, parts)
+}
+
+/// Whether the variable is among the unknowns.
+fn is_unknown(unknowns: &[u32], variable: usize) -> bool {
+    for unknown in unknowns {
+        if *unknown as usize == variable {
+            return true;
+        }
+    }
+    false
 }
 
 /// Whether there are too many effects of moves.
@@ -105,14 +123,25 @@ pub(crate) fn moves(
     variables: usize,
 ) -> Result<Vec<Move>, Memory> {
     let mut moves = Vec::new(alloc);
+    put_all(alloc, &mut moves, limits, unknowns, free, variables)?;
+    Ok(moves)
+}
+
+fn put_all(
+    alloc: Global,
+    moves: &mut Vec<Move>,
+    limits: &[Limit],
+    unknowns: &[u32],
+    free: &[Column],
+    variables: usize,
+) -> Result<(), Memory> {
     for column in free {
-        let parts = parts_of(alloc, unknowns, column, variables)?;
-        put_move(alloc, &mut moves, limits, parts)?;
+        put_column(alloc, moves, limits, unknowns, column, variables)?;
     }
     for variable in 0..variables {
-        put_single(alloc, &mut moves, limits, unknowns, variable, variables)?;
+        put_single(alloc, moves, limits, unknowns, variable, variables)?;
     }
-    Ok(moves)
+    Ok(())
 }
 
 /// How often a change by `each` is made until it is at least `lack`, or at most a `lack` below 0.
@@ -130,18 +159,26 @@ fn times_for(lack: i64, each: i64) -> Option<i64> {
 /// What the limits lack after a move that is made so often.
 fn cost(limits: &[Limit], own: &Move, times: i64) -> u64 {
     let mut cost: u64 = 0;
-    for (limit, effect) in limits.iter().zip(own.effects.as_slice()) {
-        let value = limit.value.saturating_add(effect.saturating_mul(times));
-        let lack = limit.lack(value).unsigned_abs();
-        cost = cost.saturating_add(lack.saturating_mul(limit.weight));
+    for (at, limit) in limits.iter().enumerate() {
+        if let Some(effect) = own.effects.get(at) {
+            cost = cost.saturating_add(limit.cost(limit.raised(*effect, times)));
+        }
     }
     cost
 }
 
+/// Whether the limit isn't met.
+fn is_broken(limit: Option<&Limit>) -> bool {
+    match limit {
+        Some(limit) => limit.lack(limit.value) != 0,
+        None => false,
+    }
+}
+
 /// The next limit that isn't met, from the one of that number on.
 fn next_broken(limits: &[Limit], from: usize) -> Option<usize> {
-    for (at, limit) in limits.iter().enumerate().skip(from) {
-        if limit.lack(limit.value) != 0 {
+    'next: for at in from..limits.len() {
+        if is_broken(limits.get(at)) {
             return Some(at);
         }
     }
@@ -186,14 +223,18 @@ fn best(limits: &[Limit], moves: &[Move], wanted: usize) -> Option<Choice> {
 
 /// A number rises.
 fn raise(values: &mut [i64], parts: &[i64], times: i64) {
-    for (own, part) in values.iter_mut().zip(parts) {
-        *own = own.saturating_add(part.saturating_mul(times));
+    for (at, own) in values.iter_mut().enumerate() {
+        if let Some(part) = parts.get(at) {
+            *own = own.saturating_add(part.saturating_mul(times));
+        }
     }
 }
 
 fn raise_limits(limits: &mut [Limit], effects: &[i64], times: i64) {
-    for (limit, effect) in limits.iter_mut().zip(effects) {
-        limit.value = limit.value.saturating_add(effect.saturating_mul(times));
+    for (at, limit) in limits.iter_mut().enumerate() {
+        if let Some(effect) = effects.get(at) {
+            limit.value = limit.raised(*effect, times);
+        }
     }
 }
 
@@ -201,8 +242,7 @@ fn raise_limits(limits: &mut [Limit], effects: &[i64], times: i64) {
 fn lacking(limits: &[Limit]) -> u64 {
     let mut sum: u64 = 0;
     for limit in limits {
-        let lack = limit.lack(limit.value).unsigned_abs();
-        sum = sum.saturating_add(lack.saturating_mul(limit.weight));
+        sum = sum.saturating_add(limit.cost(limit.value));
     }
     sum
 }
@@ -248,17 +288,16 @@ fn value_all(limits: &mut [Limit], point: &[i64]) {
     }
 }
 
-/// The point is moved until it meets all limits.
-pub(crate) fn moved(point: Vec<i64>, limits: Vec<Limit>, moves: &[Move]) -> Option<Vec<i64>> {
-    let (mut point, mut limits) = (point, limits);
-    value_all(limits.as_mut_slice(), point.as_slice());
+/// The point is moved until it meets all limits. Whether it then does.
+pub(crate) fn meets(point: &mut [i64], limits: &mut [Limit], moves: &[Move]) -> bool {
+    value_all(limits, point);
     let mut from: usize = 0;
     let (mut least, mut in_vain): (u64, u32) = (u64::MAX, 0);
     for _ in 0..MOST_STEPS {
-        let Some(wanted) = broken(limits.as_slice(), from) else {
-            return Some(point);
+        let Some(wanted) = broken(limits, from) else {
+            return true;
         };
-        let lack = lacking_once(limits.as_slice());
+        let lack = lacking_once(limits);
         in_vain = if lack < least {
             0
         } else {
@@ -266,10 +305,10 @@ pub(crate) fn moved(point: Vec<i64>, limits: Vec<Limit>, moves: &[Move]) -> Opti
         };
         least = least.min(lack);
         if in_vain > MOST_IN_VAIN {
-            return None;
+            return false;
         }
-        step(point.as_mut_slice(), limits.as_mut_slice(), moves, wanted);
+        step(point, limits, moves, wanted);
         from = wanted.saturating_add(1);
     }
-    None
+    false
 }

@@ -1,13 +1,14 @@
 //! Multiples of equations whose sum no integers solve.
 
 use crate::column::Column;
+use crate::entries::{set, zeros};
 use crate::solving::Solving;
 use base::Memory;
 use lin_atoms::gcd;
 use std::alloc::Global;
 
 /// Multipliers of equations: the divisor divides each coefficient of their sum, but not its value.
-#[derive(Debug, Drop)]
+#[derive(Drop)]
 pub struct Unsolvable {
     /// For each equation its multiplier, from 0 up to below the divisor.
     pub multipliers: Vec<i64>,
@@ -50,10 +51,25 @@ fn common(a: i128, b: i128) -> Option<i128> {
     i128::try_from(gcd(a.unsigned_abs(), b.unsigned_abs())).ok()
 }
 
+/// The magnitude of a number, divided.
+fn size_by(entry: i128, divisor: i128) -> Option<i128> {
+    entry.checked_abs()?.checked_div(divisor)
+}
+
+/// The quotient, with the other sign where it is to be turned.
+fn quotient(rest: i128, divisor: i128, is_turned: bool) -> Option<i128> {
+    let num = rest.checked_div(divisor)?;
+    if is_turned {
+        num.checked_neg()
+    } else {
+        Some(num)
+    }
+}
+
 impl Fractions {
     /// What the column has, less what the fractions that are there have of it.
-    fn rest(&self, column: &Column, pivots: &[usize], from: i128) -> Option<i128> {
-        let mut rest = from;
+    fn rest(&self, column: &Column, pivots: &[usize], from: Option<i128>) -> Option<i128> {
+        let mut rest = from?;
         let mut at = pivots.len();
         for num in self.nums.iter() {
             at = at.saturating_sub(1);
@@ -76,18 +92,49 @@ impl Fractions {
         }
     }
 
+    /// All are written with a denominator that is so many times as large.
+    fn scale(&mut self, factor: i128) -> Option<()> {
+        scale(self.nums.as_mut_slice(), factor)?;
+        self.den = self.den.checked_mul(factor)?;
+        Some(())
+    }
+
     /// The denominator gets what the entry has more than the number. The new numerator.
     fn scaled(&mut self, rest: i128, entry: i128) -> Option<i128> {
         let divisor = common(rest, entry)?;
-        let size = entry.checked_abs()?.checked_div(divisor)?;
-        scale(self.nums.as_mut_slice(), size)?;
-        self.den = self.den.checked_mul(size)?;
-        let num = rest.checked_div(divisor)?;
-        if entry < 0 {
-            num.checked_neg()
-        } else {
-            Some(num)
+        self.scale(size_by(entry, divisor)?)?;
+        quotient(rest, divisor, entry < 0)
+    }
+
+    /// The fraction of the equation that gave the column its value, where that of the column is `share`.
+    fn put_next(
+        &mut self,
+        column: &Column,
+        pivots: &[usize],
+        at: usize,
+        share: i128,
+    ) -> Result<Option<()>, Memory> {
+        let from = share.checked_mul(self.den);
+        match (self.rest(column, pivots, from), pivots.get(at)) {
+            (Some(rest), Some(own)) => self.put(rest, column.entry(*own)),
+            _ => Ok(None),
         }
+    }
+
+    /// The fractions of all equations, from the last one to the first.
+    fn put_all(&mut self, solving: &Solving, row: Option<usize>) -> Result<Option<()>, Memory> {
+        let pivots = solving.pivots.as_slice();
+        let mut at = pivots.len();
+        let mut is_last = true;
+        for column in solving.done.iter().rev() {
+            at = at.saturating_sub(1);
+            let share = share(column, row, is_last);
+            if self.put_next(column, pivots, at, share)?.is_none() {
+                return Ok(None);
+            }
+            is_last = false;
+        }
+        Ok(Some(()))
     }
 
     /// What the denominator has in common with all numerators, and the denominator divided by it.
@@ -120,28 +167,10 @@ pub(crate) fn fractions_of(
         nums: Vec::new(alloc),
         den: 1,
     };
-    let pivots = solving.pivots.as_slice();
-    let mut is_last = true;
-    for (column, own) in solving.done.iter().zip(pivots).rev() {
-        let from = share(column, row, is_last).checked_mul(fractions.den);
-        let Some(rest) = rest_of(&fractions, column, pivots, from) else {
-            return Ok(None);
-        };
-        if fractions.put(rest, column.entry(*own))?.is_none() {
-            return Ok(None);
-        }
-        is_last = false;
+    match fractions.put_all(solving, row)? {
+        Some(()) => Ok(Some(fractions)),
+        None => Ok(None),
     }
-    Ok(Some(fractions))
-}
-
-fn rest_of(
-    fractions: &Fractions,
-    column: &Column,
-    pivots: &[usize],
-    from: Option<i128>,
-) -> Option<i128> {
-    fractions.rest(column, pivots, from?)
 }
 
 /// The multiplier of a fraction: its numerator over the divisor, modulo it.
@@ -169,30 +198,24 @@ fn put_all(
     Some(())
 }
 
-pub(crate) fn set(made: &mut [i64], row: usize, value: i64) {
-    if let Some(own) = made.get_mut(row) {
-        *own = value;
-    }
-}
-
-/// `count` zeros.
-pub(crate) fn zeros(alloc: Global, count: usize) -> Result<Vec<i64>, Memory> {
-    let mut made = Vec::with_capacity(alloc, count)?;
-    for _ in 0..count {
-        made.push(0)?;
-    }
-    Ok(made)
-}
-
 /// The multipliers of the equations up to the one that has no solution.
 pub(crate) fn of_solving(
     alloc: Global,
     solving: &Solving,
     count: usize,
 ) -> Result<Option<Unsolvable>, Memory> {
-    let Some(fractions) = fractions_of(alloc, solving, None)? else {
-        return Ok(None);
-    };
+    match fractions_of(alloc, solving, None)? {
+        Some(fractions) => of_fractions(alloc, &fractions, solving.pivots.as_slice(), count),
+        None => Ok(None),
+    }
+}
+
+fn of_fractions(
+    alloc: Global,
+    fractions: &Fractions,
+    pivots: &[usize],
+    count: usize,
+) -> Result<Option<Unsolvable>, Memory> {
     let Some((common, divisor)) = fractions.divisor() else {
         return Ok(None);
     };
@@ -200,10 +223,9 @@ pub(crate) fn of_solving(
         return Ok(None);
     };
     let mut multipliers = zeros(alloc, count)?;
-    let pivots = solving.pivots.as_slice();
     match put_all(
         multipliers.as_mut_slice(),
-        &fractions,
+        fractions,
         pivots,
         common,
         divisor,

@@ -16,7 +16,7 @@ pub(crate) fn scaled(ratio: &Ratio) -> Option<i128> {
 }
 
 /// How a number is rounded.
-#[derive(Clone, Copy, Debug)]
+#[derive(Clone, Copy)]
 pub(crate) enum Way {
     Near,
     Up,

@@ -1,8 +1,9 @@
 //! What forms leave by a number, where equations of integers hold.
 
 use crate::column::Column;
+use crate::entries::{set, zeros};
 use crate::equation::Equation;
-use crate::multipliers::{Unsolvable, fractions_of, multiplier, of_solving, set, zeros};
+use crate::multipliers::{Fractions, Unsolvable, fractions_of, multiplier, of_solving};
 use crate::solving::{Met, Solving, solved};
 use crate::unknowns::unknowns;
 use base::Memory;
@@ -10,7 +11,7 @@ use lin_atoms::gcd;
 use std::alloc::Global;
 
 /// A form so many times, and multiples of equations: the divisor divides each coefficient of their sum.
-#[derive(Debug, Drop)]
+#[derive(Drop)]
 pub struct Residue {
     /// The form's number.
     pub form: usize,
@@ -22,7 +23,7 @@ pub struct Residue {
 }
 
 /// What equations of integers tell.
-#[derive(Debug, Drop)]
+#[derive(Drop)]
 pub enum Told {
     Unsolvable(Unsolvable),
     Residues(Vec<Residue>),
@@ -87,9 +88,24 @@ fn left_by(
     if common <= apart {
         return Ok(None);
     }
-    let Some(fractions) = fractions_of(alloc, solving, Some(row))? else {
-        return Ok(None);
-    };
+    match fractions_of(alloc, solving, Some(row))? {
+        Some(fractions) => {
+            let pivots = solving.pivots.as_slice();
+            of_fractions(alloc, &fractions, pivots, count, form, common)
+        }
+        None => Ok(None),
+    }
+}
+
+/// The residue of the form with these fractions, where the free columns have that in common.
+fn of_fractions(
+    alloc: Global,
+    fractions: &Fractions,
+    pivots: &[usize],
+    count: usize,
+    form: usize,
+    common: i128,
+) -> Result<Option<Residue>, Memory> {
     let Some((shared, den)) = fractions.divisor() else {
         return Ok(None);
     };
@@ -97,19 +113,35 @@ fn left_by(
         return Ok(None);
     };
     let mut multipliers = zeros(alloc, count)?;
-    let (nums, pivots) = (fractions.nums.as_slice(), solving.pivots.as_slice());
-    if put_all(multipliers.as_mut_slice(), nums, pivots, shared, divisor).is_none() {
-        return Ok(None);
+    let nums = fractions.nums.as_slice();
+    match put_all(multipliers.as_mut_slice(), nums, pivots, shared, divisor) {
+        Some(()) => Ok(Some(Residue {
+            form,
+            times,
+            multipliers,
+            divisor,
+        })),
+        None => Ok(None),
     }
-    Ok(Some(Residue {
-        form,
-        times,
-        multipliers,
-        divisor,
-    }))
 }
 
-/// The residues of the forms that may have none of what their bounds leave.
+/// Puts the residues of the forms that may have none of what their bounds leave behind the others.
+fn put_residues(
+    alloc: Global,
+    made: &mut Vec<Residue>,
+    solving: &Solving,
+    forms: &[Equation],
+    count: usize,
+) -> Result<(), Memory> {
+    for (form, row) in forms.iter().enumerate() {
+        if let Some(found) = left_by(alloc, solving, count, form, row.value)? {
+            made.push(found)?;
+        }
+    }
+    Ok(())
+}
+
+/// The residues of the forms that stand behind the first `count` rows.
 fn all_residues(
     alloc: Global,
     solving: &Solving,
@@ -117,12 +149,27 @@ fn all_residues(
     count: usize,
 ) -> Result<Vec<Residue>, Memory> {
     let mut made = Vec::new(alloc);
-    for (form, row) in rows.iter().skip(count).enumerate() {
-        if let Some(found) = left_by(alloc, solving, count, form, row.value)? {
-            made.push(found)?;
-        }
-    }
+    let forms = &rows[count.min(rows.len())..];
+    put_residues(alloc, &mut made, solving, forms, count)?;
     Ok(made)
+}
+
+/// What is told where the first `count` rows come to that.
+fn of_met(
+    alloc: Global,
+    solving: &Solving,
+    met: Met,
+    rows: &[Equation],
+    count: usize,
+) -> Result<Told, Memory> {
+    match met {
+        Met::Unsolvable => match of_solving(alloc, solving, count)? {
+            Some(found) => Ok(Told::Unsolvable(found)),
+            None => Ok(Told::Nothing),
+        },
+        Met::Solved => Ok(Told::Residues(all_residues(alloc, solving, rows, count)?)),
+        Met::Lost => Ok(Told::Nothing),
+    }
 }
 
 /// What the first `count` rows tell, as equations of integers, of the others, which are forms that have as
@@ -132,12 +179,5 @@ pub fn equations_tell(alloc: Global, rows: &[Equation], count: usize) -> Result<
         return Ok(Told::Nothing);
     };
     let (solving, met) = solved(alloc, rows, count, unknowns.as_slice(), None)?;
-    match met {
-        Met::Unsolvable => match of_solving(alloc, &solving, count)? {
-            Some(found) => Ok(Told::Unsolvable(found)),
-            None => Ok(Told::Nothing),
-        },
-        Met::Solved => Ok(Told::Residues(all_residues(alloc, &solving, rows, count)?)),
-        Met::Lost => Ok(Told::Nothing),
-    }
+    of_met(alloc, &solving, met, rows, count)
 }

@@ -23,7 +23,7 @@ pub(crate) struct Solving {
 }
 
 /// What equations come to.
-#[derive(Clone, Copy, Debug)]
+#[derive(Clone, Copy)]
 pub(crate) enum Met {
     Solved,
     /// The value of the last column isn't an integer.
@@ -141,6 +141,18 @@ impl Solving {
             Taken::Lost => Ok(Met::Lost),
         }
     }
+
+    /// Equations are met one after the other, until one can't be solved.
+    fn meet_all(&mut self, equations: &[Equation]) -> Result<Met, Memory> {
+        for (row, equation) in equations.iter().enumerate() {
+            match self.meet(row, equation.value)? {
+                Met::Solved => {}
+                Met::Unsolvable => return Ok(Met::Unsolvable),
+                Met::Lost => return Ok(Met::Lost),
+            }
+        }
+        Ok(Met::Solved)
+    }
 }
 
 /// The number less the product.
@@ -160,18 +172,13 @@ pub(crate) fn solved(
     unknowns: &[u32],
     near: Option<&[i128]>,
 ) -> Result<(Solving, Met), Memory> {
+    let free = columns(alloc, equations, unknowns, near)?;
     let mut solving = Solving {
         done: Vec::new(alloc),
         pivots: Vec::new(alloc),
         values: Vec::new(alloc),
-        free: columns(alloc, equations, unknowns, near)?,
+        free,
     };
-    for (row, equation) in equations.iter().take(count).enumerate() {
-        match solving.meet(row, equation.value)? {
-            Met::Solved => {}
-            Met::Unsolvable => return Ok((solving, Met::Unsolvable)),
-            Met::Lost => return Ok((solving, Met::Lost)),
-        }
-    }
-    Ok((solving, Met::Solved))
+    let met = solving.meet_all(&equations[..count.min(equations.len())])?;
+    Ok((solving, met))
 }

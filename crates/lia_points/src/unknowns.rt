@@ -23,19 +23,28 @@ fn put_all(unknowns: &mut Vec<u32>, terms: &[(u32, i128)]) -> Result<(), Memory>
     Ok(())
 }
 
+/// Puts the unknowns of the equations behind the others. Whether they aren't many.
+fn put_unknowns(unknowns: &mut Vec<u32>, equations: &[Equation]) -> Result<bool, Memory> {
+    for equation in equations {
+        put_all(unknowns, equation.terms.as_slice())?;
+        if unknowns.len() > MOST {
+            return Ok(false);
+        }
+    }
+    Ok(true)
+}
+
 /// The unknowns that occur, where neither they nor the equations are many.
 pub(crate) fn unknowns(alloc: Global, equations: &[Equation]) -> Result<Option<Vec<u32>>, Memory> {
     if equations.len() > MOST {
         return Ok(None);
     }
     let mut unknowns = Vec::new(alloc);
-    for equation in equations {
-        put_all(&mut unknowns, equation.terms.as_slice())?;
-        if unknowns.len() > MOST {
-            return Ok(None);
-        }
+    if put_unknowns(&mut unknowns, equations)? {
+        Ok(Some(unknowns))
+    } else {
+        Ok(None)
     }
-    Ok(Some(unknowns))
 }
 
 /// How often the terms have the unknown.
