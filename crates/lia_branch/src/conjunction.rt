@@ -30,8 +30,9 @@ fn conjunction(alloc: Global, lits: &[Lit]) -> Result<Form, Memory>
 /// nodes of a split tree. Each literal is rounded by itself, and no two are combined before the first
 /// run of the simplex on all of them; where a number of that run has no room, the conjunction is
 /// given up. What eight inner nodes don't decide is searched with going back: a refutation that
-/// doesn't use its own branch's literal is that of the node above. The variables are below `vars`, which is at most 2,048, `nodes` is at least 1, and the
-/// constant of each divisibility is below 2^63 in magnitude.
+/// doesn't use its own branch's literal is that of the node above. The variables are below `vars`,
+/// which is at most 2,048, `nodes` is at least 1, and the constant of each divisibility is below 2^63
+/// in magnitude.
 pub fn decide_all(alloc: Global, lits: &[Lit], vars: u32, nodes: u32) -> Result<Decision, Memory>
     requires below { list_all (lit_is_below vars) lits.now ≡ true }
     requires short { list_all has_short_constant lits.now ≡ true }
