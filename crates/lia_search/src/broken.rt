@@ -10,8 +10,8 @@ use crate::waiting::LeftOut;
 use base::Items;
 use lin_atoms::{Form, holds};
 
-/// Whether a part is true.
-fn any_holds(parts: &[Form], point: &[i64]) -> bool
+/// Whether a part of a disjunction is true at the point.
+pub fn any_holds(parts: &[Form], point: &[i64]) -> bool
     ensures { result ≡ list_any (truth point.now) parts.now }
 {
     for part in parts {

@@ -16,6 +16,7 @@ mod searching;
 mod short;
 mod waiting;
 
+pub use broken::any_holds;
 pub use decision::Decision;
 pub use searching::search;
 pub use short::has_short_multiples;

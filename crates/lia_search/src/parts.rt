@@ -118,6 +118,46 @@ pub(crate) fn side(alloc: Global, variable: u32, floor: i64) -> Result<Lin, Memo
     }
 }
 
+/// The node below that has one literal more.
+fn push_with<'a>(stack: &mut Vec<Open<'a>>, waiting: Open<'a>, lit: Lit) -> Result<(), Memory>
+    ensures { OnOk result (stack.new.items ≡ stack.old.items ++ with_lit waiting.entry lit ∷ []) }
+{
+    let mut below = waiting;
+    below.add(lit)?;
+    stack.push(below)?;
+    Ok(())
+}
+
+/// The node below where the variable or quotient is at most the number.
+fn push_low<'a>(
+    alloc: Global,
+    stack: &mut Vec<Open<'a>>,
+    waiting: Open<'a>,
+    variable: u32,
+    floor: i64,
+) -> Result<(), Memory>
+    ensures { OnOk result (stack.new.items ≡ stack.old.items ++ with_lit waiting.entry (at_most variable floor) ∷ []) }
+{
+    let lit = at_most(alloc, variable, floor)?;
+    push_with(stack, waiting, lit)?;
+    Ok(())
+}
+
+/// The node below where it is greater.
+fn push_high<'a>(
+    alloc: Global,
+    stack: &mut Vec<Open<'a>>,
+    waiting: Open<'a>,
+    variable: u32,
+    floor: i64,
+) -> Result<(), Memory>
+    ensures { OnOk result (stack.new.items ≡ stack.old.items ++ with_lit waiting.entry (at_least variable (floor +ℤ pos 1)) ∷ []) }
+{
+    let lit = above(alloc, variable, floor)?;
+    push_with(stack, waiting, lit)?;
+    Ok(())
+}
+
 /// The nodes below for the two sides of a branch: that at most the floor on top.
 pub(crate) fn push_sides<'a>(
     alloc: Global,
@@ -128,11 +168,8 @@ pub(crate) fn push_sides<'a>(
 ) -> Result<(), Memory>
     ensures { OnOk result (reverse stack.new.items ≡ with_lit waiting.entry (at_most variable floor) ∷ with_lit waiting.entry (at_least variable (floor +ℤ pos 1)) ∷ reverse stack.old.items) }
 {
-    let mut low = waiting.copy(alloc)?;
-    low.add(at_most(alloc, variable, floor)?)?;
-    let mut high = waiting;
-    high.add(above(alloc, variable, floor)?)?;
-    stack.push(high)?;
-    stack.push(low)?;
+    let low = waiting.copy(alloc)?;
+    push_high(alloc, stack, waiting, variable, floor)?;
+    push_low(alloc, stack, low, variable, floor)?;
     Ok(())
 }

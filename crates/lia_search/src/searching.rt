@@ -1,6 +1,6 @@
 //! A search from its start to what is decided.
 
-ghost use Rattle.std.specs.Prelude.{◌≡◌, ◌<◌, ◌≤◌, ◌^◌, drop, IfOk, pos, true};
+ghost use Rattle.std.specs.Prelude.{◌≡◌, ◌++◌, ◌∷◌, [], ◌<◌, ◌≤◌, ◌^◌, drop, IfOk, OnOk, pos, true};
 ghost use Rattle.base.specs.Limits.{most_variables};
 ghost use Rattle.lin_atoms.specs.Linear.{of_constant};
 ghost use Rattle.lin_atoms.specs.Truth.{is_below};
@@ -43,6 +43,22 @@ fn left_out<'a>(
     Ok(made)
 }
 
+/// A literal of the flattened form joins as the last, by its number.
+fn join(
+    alloc: Global,
+    lits: &mut Items<Lit>,
+    numbers: &mut Items<u32>,
+    lit: &Lit,
+    at: usize,
+) -> Result<(), Memory>
+    ensures lits { OnOk result (lits.new ≡ lits.old ++ lit.now ∷ []) }
+    ensures numbers { OnOk result (numbers.new ≡ numbers.old ++ at ∷ []) }
+{
+    lits.push(lit.copy(alloc)?)?;
+    numbers.push(numbered(at)?)?;
+    Ok(())
+}
+
 /// The first node: the first `taken` literals of the flattened form have joined.
 fn first<'a>(
     alloc: Global,
@@ -57,8 +73,7 @@ fn first<'a>(
     let mut numbers = Items::from_vec(Vec::with_capacity(alloc, count)?);
     let mut at = 0;
     'taken: while at < taken && at < lent.len() {
-        lits.push(lent[at].get().copy(alloc)?)?;
-        numbers.push(numbered(at)?)?;
+        join(alloc, &mut lits, &mut numbers, lent[at].get(), at)?;
         at += 1;
     }
     let left_out = left_out(alloc, lent, at)?;

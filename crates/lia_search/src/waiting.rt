@@ -45,14 +45,9 @@ pub(crate) struct Open<'a> {
 
 impl<'a> Copied for Open<'a> {
     fn copy(&self, alloc: Global) -> Result<Open<'a>, Memory> {
-        Ok(Open {
-            lits: self.lits.copy(alloc)?,
-            numbers: self.numbers.copy(alloc)?,
-            reasons: self.reasons.copy(alloc)?,
-            known: self.known,
-            left_out: self.left_out.copy(alloc)?,
-            cases: self.cases.copy(alloc)?,
-        })
+        let cases = self.cases.copy(alloc)?;
+        let copy = self.with_cases(alloc, cases)?;
+        Ok(copy)
     }
 }
 

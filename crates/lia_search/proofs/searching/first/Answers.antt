@@ -12,6 +12,6 @@ taken-preserved c =
     record {
       within = omega (arith, less);
       few = omega (arith, few);
-      lits = lits-more lits lits c.taken.lits _ at _ c.index-lent-at.result refl i.lits less c.index-lent-at.is (c.in_ok-copy.ensures ∙ c.get.ensures) c.in_ok-push.ensures.ok;
-      numbers = c.in_ok-push-2.ensures.ok ∙ ap (λ (k : ℕ). c.taken.numbers ++ k ∷ []) c.in_ok-numbered.ensures ∙ ap (λ (ns : List ℕ). ns ++ at ∷ []) i.numbers ∙ sym (range-more 0 at at (omega arith));
+      lits = lits-more lits lits c.taken.lits _ at _ c.index-lent-at.result refl i.lits less c.index-lent-at.is c.get.ensures c.in_ok-join.ensures.lits;
+      numbers = c.in_ok-join.ensures.numbers ∙ ap (λ (ns : List ℕ). ns ++ at ∷ []) i.numbers ∙ sym (range-more 0 at at (omega arith));
     }
