@@ -25,7 +25,7 @@ struct Cuts {
 }
 
 /// A bound that the vertex meets.
-#[derive(Clone, Copy, Debug)]
+#[derive(Clone, Copy)]
 struct Met {
     bound: Bound,
     /// 1 for an upper bound, -1 for a lower one.
@@ -118,10 +118,7 @@ impl Sum {
 
 /// `count` zeros.
 fn zeros(alloc: Global, count: usize) -> Result<Vec<i128>, Memory> {
-    let mut made = Vec::with_capacity(alloc, count)?;
-    for _ in 0..count {
-        made.push(0)?;
-    }
+    let made = vec![in alloc; 0; count]?;
     Ok(made)
 }
 

@@ -5,7 +5,7 @@ use crate::rows::{both, chain_of, is_refuted};
 use crate::sides::Sides;
 use base::Memory;
 use lia_close::numbered;
-use lia_points::{Equation, Residue, Told, equations_tell};
+use lia_points::{Equation, Residue, Told, equations_tell, set, zeros};
 use std::alloc::Global;
 
 /// Columns whose bounds are farther apart aren't looked at.
@@ -109,10 +109,7 @@ fn entries(
     multipliers: &[i64],
     more: Option<(usize, i64)>,
 ) -> Result<Vec<i64>, Memory> {
-    let mut entries = Vec::with_capacity(alloc, count)?;
-    for _ in 0..count {
-        entries.push(0)?;
-    }
+    let mut entries = zeros(alloc, count)?;
     for (column, times) in columns.iter().zip(multipliers) {
         set(entries.as_mut_slice(), *column, *times);
     }
@@ -120,12 +117,6 @@ fn entries(
         set(entries.as_mut_slice(), column, times);
     }
     Ok(entries)
-}
-
-fn set(entries: &mut [i64], at: usize, value: i64) {
-    if let Some(own) = entries.get_mut(at) {
-        *own = value;
-    }
 }
 
 /// The column of a residue's form, where `count` columns stand before those of forms.

@@ -49,7 +49,7 @@ fn divides(divisor: i64, entry: i64) -> bool {
 }
 
 /// What columns add up to, at least and at most.
-#[derive(Clone, Copy, Debug)]
+#[derive(Clone, Copy)]
 struct Sum {
     low: i128,
     high: i128,

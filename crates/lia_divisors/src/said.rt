@@ -15,7 +15,7 @@ use lin_atoms::{Divisor, Lin, Lit};
 use std::alloc::Global;
 
 /// A literal that is known, and its number.
-#[derive(Debug, Drop)]
+#[derive(Drop)]
 pub(crate) struct Said {
     pub(crate) number: u32,
     pub(crate) lit: Lit,

@@ -7,7 +7,7 @@ use lin_atoms::{Lin, Lit};
 use std::alloc::Global;
 
 /// A bound of a column, and the literal that gives it: with the sign, and divided.
-#[derive(Clone, Copy, Debug)]
+#[derive(Clone, Copy)]
 pub(crate) struct Bound {
     pub(crate) value: i128,
     pub(crate) number: u32,
@@ -16,7 +16,7 @@ pub(crate) struct Bound {
 }
 
 /// What a column is at least, and what it is at most.
-#[derive(Clone, Copy, Debug)]
+#[derive(Clone, Copy)]
 pub(crate) struct Sides {
     pub(crate) lower: Option<Bound>,
     pub(crate) upper: Option<Bound>,

@@ -15,7 +15,7 @@ pub(crate) struct Part {
 }
 
 /// Where a column is split: it is at most the number, or greater.
-#[derive(Clone, Copy, Debug)]
+#[derive(Clone, Copy)]
 pub(crate) struct Place {
     pub(crate) column: usize,
     pub(crate) most: i128,
