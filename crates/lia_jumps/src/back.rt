@@ -11,10 +11,11 @@ use crate::past::{Past, Seen};
 use crate::ranges::Ranges;
 use crate::telling::{Told, tell};
 use crate::used::put_used;
-use base::{Copied, Items, Memory};
+use base::Memory;
 use farkas_proof::Refutation;
 use lia_node::{above, at_most};
-use lin_atoms::{Form, Lit, holds};
+use lia_search::any_holds;
+use lin_atoms::Lit;
 use std::alloc::Global;
 
 /// So many splits are above one another at most.
@@ -67,7 +68,7 @@ pub(crate) struct Search<'a> {
 }
 
 /// How many parts a node with a fraction is split into at most, after `count` splits.
-fn parts_at(count: u32) -> u32 {
+fn parts_after(count: u32) -> u32 {
     if count.is_power_of_two() {
         return MOST_PARTS;
     }
@@ -85,16 +86,6 @@ fn first_broken(left_out: &[Numbered], point: &[i64]) -> Option<usize> {
         }
     }
     None
-}
-
-/// Whether a part is true at the point.
-fn any_holds(parts: &[Form], point: &[i64]) -> bool {
-    for part in parts {
-        if holds(part, point) {
-            return true;
-        }
-    }
-    false
 }
 
 /// Of the disjunctions that are false at the point one of which the fewest parts are left; of these one that was
@@ -260,7 +251,7 @@ impl<'a> Search<'a> {
         if let Some(closed) = known {
             return self.close(alloc, closed);
         }
-        match tell(alloc, &node, self.end, parts_at(self.count))? {
+        match tell(alloc, &node, self.end, parts_after(self.count))? {
             Told::Closed(tree) => self.close_by(alloc, tree),
             Told::Point(point) => self.meet(alloc, node, &seen, point),
             Told::Fraction(variable, floor) => self.branch(alloc, node, variable, floor),
