@@ -15,7 +15,7 @@ use lin_atoms::Lit;
 use std::alloc::Global;
 
 /// One literal, with a sign, is divided and rounded.
-#[derive(Clone, Copy, Debug)]
+#[derive(Clone, Copy)]
 pub(crate) struct Rounding {
     pub(crate) number: u32,
     pub(crate) sign: i64,

@@ -10,7 +10,7 @@ use lin_atoms::Lin;
 use std::alloc::Global;
 
 /// A node, as the search comes to it. What is below it is written behind it, in order.
-#[derive(Debug, Drop)]
+#[derive(Drop)]
 pub enum Step {
     /// A form is at most 0, or at least 1: two nodes are below.
     Split(Lin),
