@@ -1,7 +1,7 @@
 use farkas_proof::{GaveUp, Refuted};
 
 /// What is decided of a formula with lemmas.
-#[derive(Debug, Drop)]
+#[derive(Drop)]
 pub enum Outcome {
     /// Integers for the variables, in order of number, each below 2^63 in magnitude, at which the formula and
     /// all lemmas are true.
