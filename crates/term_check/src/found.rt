@@ -1,4 +1,4 @@
-ghost use Rattle.std.specs.Prelude.{◌≡◌, ◌++◌, [], ◌∷◌, IfOk};
+ghost use Rattle.std.specs.Prelude.{◌≡◌, ◌++◌, [], ◌∷◌, IfOk, OnOk};
 
 use crate::part::Part;
 use base::Memory;
@@ -24,8 +24,6 @@ pub struct FoundAll {
 
 impl FoundAll {
     /// None yet, with room for `count` terms, a list for their parts, and the number of the next variable.
-    /// They would else be moved through memory.
-    #[inline(always)]
     pub fn with_room(
         alloc: Global,
         parts: Vec<Part>,
@@ -43,21 +41,16 @@ impl FoundAll {
             next,
         })
     }
-}
 
-/// One more behind the others.
-pub fn with_next(all: FoundAll, found: Found) -> Result<FoundAll, Memory>
-    ensures ids { IfOk result (λ more. more.ids.items ≡ all.ids.items ++ found.id ∷ []) }
-    ensures parts { IfOk result (λ more. more.parts.items ≡ all.parts.items ++ found.part ∷ []) }
-    ensures next { IfOk result (λ more. more.next ≡ found.next) }
-{
-    let mut ids = all.ids;
-    let mut parts = all.parts;
-    ids.push(found.id)?;
-    parts.push(found.part)?;
-    Ok(FoundAll {
-        ids,
-        parts,
-        next: found.next,
-    })
+    /// One more behind the others.
+    pub fn add(&mut self, found: Found) -> Result<(), Memory>
+        ensures ids { OnOk result (self.new.ids.items ≡ self.old.ids.items ++ found.id ∷ []) }
+        ensures parts { OnOk result (self.new.parts.items ≡ self.old.parts.items ++ found.part ∷ []) }
+        ensures next { OnOk result (self.new.next ≡ found.next) }
+    {
+        self.ids.push(found.id)?;
+        self.parts.push(found.part)?;
+        self.next = found.next;
+        Ok(())
+    }
 }

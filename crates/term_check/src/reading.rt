@@ -3,7 +3,7 @@
 
 ghost use Rattle.std.specs.Prelude.{◌≡◌, ◌+◌, ◌^◌, ◌<◌, ◌≤◌, length, IfOk, OnOk};
 ghost use Rattle.term_check.specs.machinery.Known.{IsReady};
-ghost use Rattle.term_check.specs.machinery.Reading.{next_spelled, each_spelled, applied_list, any_list, IsGathered, Tells, TellsAll};
+ghost use Rattle.term_check.specs.machinery.Reading.{next_spelled, each_spelled, applied_list, any_list, IsGathered, Tells, TellsAll, TellsMore};
 ghost use Rattle.term_check.specs.machinery.Reading.{item_bound, all_bound, under_lets, let_list, under_variables, quantifier_list};
 ghost use Rattle.term_check.specs.Rules.{unless};
 ghost use Rattle.term_check.specs.Spelling.{spelled, nothing_yet, quantifier_fault, Gathered};
@@ -14,7 +14,7 @@ use crate::apply::{add_binding, add_quantifier, apply, read_leaf};
 use crate::binders::{binder_fault, items_of, let_names_fault, sorts_bound, variables_fault};
 use crate::bytes::are_same;
 use crate::context::Context;
-use crate::found::{Found, FoundAll, with_next};
+use crate::found::{Found, FoundAll};
 use crate::heads::{head_fault, head_of};
 use crate::stop::{TermStop, bad_form};
 use crate::trees::word_bytes;
@@ -137,33 +137,32 @@ fn read_arguments<'a>(
     let none = context.no_parts(args.len())?;
     let mut all = FoundAll::with_room(context.alloc(), none, args.len(), next)?;
     for arg in args {
-        match read_next(context, all, arg, terms) {
-            Ok(more) => all = more,
+        match read_next(context, &mut all, arg, terms) {
+            Ok(()) => {}
             Err(stop) => return Err(stop),
         }
     }
     Ok(all)
 }
 
-/// Reads one more tree behind those that were read, which would else be moved through memory.
+/// Reads one more tree behind those that were read.
 #[cycle(term)]
-#[inline(always)]
 fn read_next<'a>(
     context: &mut Context<'a>,
-    all: FoundAll,
+    all: &mut FoundAll,
     tree: &Tree,
     terms: &mut Terms,
-) -> Result<FoundAll, TermStop>
-    requires ready { IsReady context.old terms.old all.next (weight tree.now) }
-    ensures told { (g : Gathered) → IsGathered context.old.lets terms.old g all.ids.items all.parts.items all.next
-        → TellsAll context.old.lets (next_spelled context.old.text context.old.scope g tree.now) terms.new result }
+) -> Result<(), TermStop>
+    requires ready { IsReady context.old terms.old all.old.next (weight tree.now) }
+    ensures told { (g : Gathered) → IsGathered context.old.lets terms.old g all.old.ids.items all.old.parts.items all.old.next
+        → TellsMore context.old.lets (next_spelled context.old.text context.old.scope g tree.now) terms.new all.new result }
     ensures keeps { Keeps terms.old terms.new }
     ensures kept { OnOk result (context.new ≡ context.old) }
-    ensures next { IfOk result (λ more. more.next ≤ all.next + weight tree.now) }
-    ensures count { IfOk result (λ more. length more.ids.items ≡ length all.ids.items + 1) }
+    ensures next { OnOk result (all.new.next ≤ all.old.next + weight tree.now) }
+    ensures count { OnOk result (length all.new.ids.items ≡ length all.old.ids.items + 1) }
 {
     match read_term(context, all.next, tree, terms) {
-        Ok(found) => Ok(with_next(all, found)?),
+        Ok(found) => Ok(all.add(found)?),
         Err(stop) => Err(stop),
     }
 }
@@ -216,8 +215,8 @@ fn read_bound<'a>(
     let none = context.no_parts(items.len())?;
     let mut all = FoundAll::with_room(context.alloc(), none, items.len(), next)?;
     for item in items {
-        match read_item(context, all, items_of(item), terms) {
-            Ok(more) => all = more,
+        match read_item(context, &mut all, items_of(item), terms) {
+            Ok(()) => {}
             Err(stop) => return Err(stop),
         }
     }
@@ -228,21 +227,21 @@ fn read_bound<'a>(
 #[cycle(term)]
 fn read_item<'a>(
     context: &mut Context<'a>,
-    all: FoundAll,
+    all: &mut FoundAll,
     item: &[Tree],
     terms: &mut Terms,
-) -> Result<FoundAll, TermStop>
-    requires ready { IsReady context.old terms.old all.next (weights item.now) }
-    ensures told { (g : Gathered) → IsGathered context.old.lets terms.old g all.ids.items all.parts.items all.next
-        → TellsAll context.old.lets (item_bound context.old.text context.old.scope g item.now) terms.new result }
+) -> Result<(), TermStop>
+    requires ready { IsReady context.old terms.old all.old.next (weights item.now) }
+    ensures told { (g : Gathered) → IsGathered context.old.lets terms.old g all.old.ids.items all.old.parts.items all.old.next
+        → TellsMore context.old.lets (item_bound context.old.text context.old.scope g item.now) terms.new all.new result }
     ensures keeps { Keeps terms.old terms.new }
     ensures kept { OnOk result (context.new ≡ context.old) }
-    ensures next { IfOk result (λ more. more.next ≤ all.next + weights item.now) }
-    ensures count { IfOk result (λ more. length more.ids.items ≤ length all.ids.items + 1) }
+    ensures next { OnOk result (all.new.next ≤ all.old.next + weights item.now) }
+    ensures count { OnOk result (length all.new.ids.items ≤ length all.old.ids.items + 1) }
 {
     match item {
         [_, term] => read_next(context, all, term, terms),
-        _ => Ok(all),
+        _ => Ok(()),
     }
 }
 

@@ -123,3 +123,9 @@ abbrev pub TellsAll : List TermId → Result Gathered Fault → Arena → Result
 TellsAll lets outcome arena (Ok all) = (g : Gathered) × (outcome ≡ Ok g) × IsGathered lets arena g all.ids.items all.parts.items all.next
 TellsAll lets outcome arena (Err OutOfMemory) = Unit {0}
 TellsAll lets outcome arena (Err (Broken f)) = outcome ≡ Err f
+
+-- the same of terms that were gathered in place
+abbrev pub TellsMore : List TermId → Result Gathered Fault → Arena → FoundAll → Result (Unit {0}) TermStop → Type 0
+TellsMore lets outcome arena all (Ok done) = (g : Gathered) × (outcome ≡ Ok g) × IsGathered lets arena g all.ids.items all.parts.items all.next
+TellsMore lets outcome arena all (Err OutOfMemory) = Unit {0}
+TellsMore lets outcome arena all (Err (Broken f)) = outcome ≡ Err f

@@ -45,7 +45,7 @@ read_arguments-loop-arg-preserved t c =
     let weigh = weigh_next c.args.args.now c.loop-arg.arg-index c.arg-item.result c.loop-arg-test.true c.arg-item.is in
     record {
       told = turned (λ k g tree. next_spelled k.text k.scope g tree) (λ k g trees. each_spelled k.text k.scope g trees) (λ k g tree trees. refl) c.args.context.now c.loop-arg.context c.loop-arg.terms c.read_next.new.terms
-          c.loop-arg.all.ids.items c.in-Ok.more.ids.items c.loop-arg.all.parts.items c.in-Ok.more.parts.items c.loop-arg.all.next c.in-Ok.more.next c.args.args.now c.loop-arg.arg-index c.arg-item.result _ inv.kept c.loop-arg-test.true c.arg-item.is inv.told c.in-Ok.ensures.told;
+          c.loop-arg.all.ids.items c.read_next.new.all.ids.items c.loop-arg.all.parts.items c.read_next.new.all.parts.items c.loop-arg.all.next c.read_next.new.all.next c.args.args.now c.loop-arg.arg-index c.arg-item.result _ inv.kept c.loop-arg-test.true c.arg-item.is inv.told c.in-Ok.ensures.told;
       keeps = keeps_then c.args.terms.now c.loop-arg.terms c.read_next.new.terms inv.keeps c.in-Ok.ensures.keeps;
       kept = c.in-Ok.ensures.kept ∙ inv.kept;
       room = let room = inv.room in let next = c.in-Ok.ensures.next in omega (arith, room, next, weigh);
@@ -80,9 +80,9 @@ read_bound-loop-item-preserved t c =
     let same = ap weights c.items_of.ensures in
     record {
       told = turned (λ k g tree. item_bound k.text k.scope g (items_of tree)) (λ k g trees. all_bound k.text k.scope g trees) (λ k g tree trees. refl) c.args.context.now c.loop-item.context c.loop-item.terms c.read_item.new.terms
-          c.loop-item.all.ids.items c.in-Ok.more.ids.items c.loop-item.all.parts.items c.in-Ok.more.parts.items c.loop-item.all.next c.in-Ok.more.next c.args.items.now c.loop-item.item-index c.item-item.result _ inv.kept c.loop-item-test.true c.item-item.is inv.told
+          c.loop-item.all.ids.items c.read_item.new.all.ids.items c.loop-item.all.parts.items c.read_item.new.all.parts.items c.loop-item.all.next c.read_item.new.all.next c.args.items.now c.loop-item.item-index c.item-item.result _ inv.kept c.loop-item-test.true c.item-item.is inv.told
           (subst (λ (xs : List Tree). (g : Gathered) → IsGathered c.loop-item.context.lets c.loop-item.terms g c.loop-item.all.ids.items c.loop-item.all.parts.items c.loop-item.all.next
-          → (h : Gathered) × (item_bound c.loop-item.context.text c.loop-item.context.scope g xs ≡ Ok h) × IsGathered c.loop-item.context.lets c.read_item.new.terms h c.in-Ok.more.ids.items c.in-Ok.more.parts.items c.in-Ok.more.next) c.items_of.ensures c.in-Ok.ensures.told);
+          → (h : Gathered) × (item_bound c.loop-item.context.text c.loop-item.context.scope g xs ≡ Ok h) × IsGathered c.loop-item.context.lets c.read_item.new.terms h c.read_item.new.all.ids.items c.read_item.new.all.parts.items c.read_item.new.all.next) c.items_of.ensures c.in-Ok.ensures.told);
       keeps = keeps_then c.args.terms.now c.loop-item.terms c.read_item.new.terms inv.keeps c.in-Ok.ensures.keeps;
       kept = c.in-Ok.ensures.kept ∙ inv.kept;
       room = let room = inv.room in let next = c.in-Ok.ensures.next in omega (arith, room, next, weigh, inner, same);
@@ -106,7 +106,7 @@ pub read_item-read_next-requires : goal.read_item-read_next-requires
 read_item-read_next-requires t c =
     let one = second_weighs c.args.item.now c.term-item.result c.in-len2.len_at_least c.term-item.is in (
       let d = c.decreases in omega (arith, d, one),
-      ready_then c.args.context.now c.args.terms.now c.args.terms.now c.args.all.next (weights c.args.item.now) c.args.all.next (weight c.term-item.result) c.requires.ready (keeps_all c.args.terms.now) (omega (arith, one)) one,
+      ready_then c.args.context.now c.args.terms.now c.args.terms.now c.args.all.now.next (weights c.args.item.now) c.args.all.now.next (weight c.term-item.result) c.requires.ready (keeps_all c.args.terms.now) (omega (arith, one)) one,
     )
 
 pub read_let-read_bound-requires : goal.read_let-read_bound-requires
@@ -187,10 +187,10 @@ read_list-read_quantifier-requires-in-Some-3 t c =
 pub read_next-read_term-requires : goal.read_next-read_term-requires
 read_next-read_term-requires t c = (let d = c.decreases in omega (arith, d), c.requires.ready)
 
-pub read_next-returns-in_ok-with_next-in-Ok-clause-told : goal.read_next-returns-in_ok-with_next-in-Ok-clause-told
-read_next-returns-in_ok-with_next-in-Ok-clause-told t c =
-    let more = c.in_ok-with_next-in-Ok.ensures in
-    next_told c.args.context.now.lets c.args.context.now.text c.args.context.now.scope c.args.all.next c.args.tree.now c.args.terms.now c.read_term.new.terms c.in-Ok.found c.args.all.ids.items c.in_ok-with_next-in-Ok.field-0.ids.items c.args.all.parts.items c.in_ok-with_next-in-Ok.field-0.parts.items c.in_ok-with_next-in-Ok.field-0.next
+pub read_next-returns-in_ok-add-in-Ok-clause-told : goal.read_next-returns-in_ok-add-in-Ok-clause-told
+read_next-returns-in_ok-add-in-Ok-clause-told t c =
+    let more = c.in_ok-add-in-Ok.ensures in
+    next_told c.args.context.now.lets c.args.context.now.text c.args.context.now.scope c.args.all.now.next c.args.tree.now c.args.terms.now c.read_term.new.terms c.in-Ok.found c.args.all.now.ids.items _ c.args.all.now.parts.items _ _
     c.in-Ok.ensures.told c.in-Ok.ensures.keeps more.ids more.parts more.next
 
 pub read_quantifier-read_under_variables-requires : goal.read_quantifier-read_under_variables-requires
