@@ -2,7 +2,7 @@ use base::{Copied, Items, Memory, Same};
 use std::alloc::Global;
 
 /// A predicate, numbered from 0 in the order of the declarations, at variables of its clause.
-#[derive(Debug, Drop)]
+#[derive(Drop)]
 pub struct Atom {
     pub pred: u32,
     pub args: Items<u32>,

@@ -7,7 +7,7 @@ use term_tree::Sort;
 /// A Horn clause in normal form: where the guard holds and the body atoms are derivable, so is the
 /// head, or false. The variables are numbered from 0; a Bool variable is 0 or 1 where the guard
 /// holds.
-#[derive(Debug, Drop)]
+#[derive(Drop)]
 pub struct Clause {
     /// The number of the assertion that the clause was made of, from 0.
     pub assertion: u32,
