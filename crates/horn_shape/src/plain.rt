@@ -12,7 +12,7 @@ use term_tree::{Node, TermId, Terms};
 
 /// Which terms of a script have neither predicates nor quantifiers. It is found once, from each term's
 /// parts, and serves every assertion of the script.
-#[derive(Debug, Drop)]
+#[derive(Drop)]
 pub struct PlainTerms {
     flags: Vec<bool>,
 }
