@@ -9,6 +9,12 @@ index_mut-requires g c =
     let block = it.block in
     search rules
 
+pub returns-in_ok-push-clause-items : goal.returns-in_ok-push-clause-items
+returns-in_ok-push-clause-items g c =
+    let none : c.args.count ≡ 64 * (c.args.count / 64) = omega (arith, c.if-count-eq0.true) in
+    let it = added_after c.args.count c.args.blocks.now.items (c.args.count / 64) c.args.item c.requires none in
+    rw (c.in_ok-push.ensures.items, c.in_ok-new.ensures, c.in_ok-block.ensures) it.items
+
 pub returns-in_ok-push-clause-filled : goal.returns-in_ok-push-clause-filled
 returns-in_ok-push-clause-filled g c =
     let none : c.args.count ≡ 64 * (c.args.count / 64) = omega (arith, c.if-count-eq0.true) in
