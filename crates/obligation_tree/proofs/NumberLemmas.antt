@@ -1,7 +1,8 @@
 -- The numbers below another, and what tests keep of them.
-use Rattle.std.proofs.Common.{◌≡◌, ℕ, suc, zero, ◌+◌, ◌<◌, List, [], ◌∷◌, ◌++◌, length, get_or, filter, Bool, true, false, cond, ◌&&◌, ◌||◌, refl, ap, sym, ◌∙◌, subst, arith}
+use Rattle.std.proofs.Common.{◌≡◌, ℕ, suc, zero, ◌+◌, ◌<◌, ◌≤◌, List, [], ◌∷◌, ◌++◌, length, get_or, take, filter, Bool, true, false, cond, ◌&&◌, ◌||◌, refl, ap, sym, ◌∙◌, subst, arith}
 use Rattle.std.specs.List.{range_with_len, list_any}
-use Rattle.std.proofs.lemmas.List.{map-id}
+use Rattle.std.proofs.lemmas.List.{append-nil, map-id, take_all}
+use Rattle.std.proofs.lemmas.List.Elements.{filter_more}
 use Rattle.std.proofs.lemmas.List.FromFn.{map-range_with_len_more, get_or-range_with_len, length-range_with_len}
 
 pub range-suc : (n : ℕ) → range_with_len 0 (suc n) ≡ range_with_len 0 n ++ n ∷ []
@@ -77,3 +78,17 @@ kept-below p n = kept-filter p (λ i. i < n) (range_with_len 0 n) (λ k h.
     let long = length-range_with_len 0 n in
     let at : get_or (range_with_len 0 n) k 0 ≡ 0 + k = get_or-range_with_len 0 n k 0 (omega arith) in
     omega (arith, at, long))
+
+-- one more number in a loop that keeps those that pass
+pub kept-more : (p : ℕ → Bool) (xs : List ℕ) (i : ℕ) (before new : List ℕ) → i < length xs → p (get_or xs i 0) ≡ true → before ≡ filter p (take i xs) → new ≡ before ++ get_or xs i 0 ∷ [] → new ≡ filter p (take (i + 1) xs)
+kept-more p xs i before new within passes was pushed =
+    let more : filter p (take (i + 1) xs) ≡ filter p (take i xs) ++ get_or xs i 0 ∷ [] = filter_more p xs i 0 within ∙ ap (λ b. filter p (take i xs) ++ cond b (get_or xs i 0 ∷ []) []) passes in
+    pushed ∙ ap (λ (ys : List ℕ). ys ++ get_or xs i 0 ∷ []) was ∙ sym more
+
+pub kept-none : (p : ℕ → Bool) (xs : List ℕ) (i : ℕ) (before : List ℕ) → i < length xs → p (get_or xs i 0) ≡ false → before ≡ filter p (take i xs) → before ≡ filter p (take (i + 1) xs)
+kept-none p xs i before within fails was =
+    let same : filter p (take (i + 1) xs) ≡ filter p (take i xs) = filter_more p xs i 0 within ∙ ap (λ b. filter p (take i xs) ++ cond b (get_or xs i 0 ∷ []) []) fails ∙ append-nil (filter p (take i xs)) in
+    was ∙ sym same
+
+pub kept-all : (p : ℕ → Bool) (xs : List ℕ) (i : ℕ) (before : List ℕ) → length xs ≤ i → before ≡ filter p (take i xs) → before ≡ filter p xs
+kept-all p xs i before ended was = was ∙ ap (filter p) (take_all i xs ended)
