@@ -9,7 +9,7 @@ use thiserror::Error;
 pub struct Failed;
 
 /// How the last turn of a source or a sink went. A turn is one call of `take` or `put`.
-#[derive(Clone, Copy, Debug, PartialEq, Eq)]
+#[derive(Clone, Copy)]
 pub enum Turn {
     /// There was none yet.
     Before,
