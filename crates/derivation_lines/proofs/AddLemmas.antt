@@ -1,11 +1,12 @@
 -- What the code adds, value by value and line by line.
-use Rattle.std.proofs.Common.{◌≡◌, ℕ, zero, suc, ◌+◌, ◌<◌, ◌≤◌, List, [], ◌∷◌, ◌++◌, length, drop, get_or, refl, ap, sym, ◌∙◌, subst, append_assoc, arith}
+use Rattle.std.proofs.Common.{◌≡◌, ℕ, zero, suc, ◌+◌, ◌<◌, ◌≤◌, List, [], ◌∷◌, ◌++◌, length, drop, get_or, refl, ap, sym, ◌∙◌, subst, append_assoc, add-one, drop-cons, arith}
 use Rattle.std.specs.Prelude.{ℤ, slice_get, Option, Some, None, option_map}
 use Rattle.std.specs.List.{cons_option}
 use Rattle.std.proofs.lemmas.List.{length_push}
 use Rattle.std.proofs.lemmas.Option.{slice_get_read}
+use Rattle.term_tree.specs.declared.scalar.Value.{Value}
 use Rattle.term_tree.specs.declared.sort.Sort.{Sort}
-use Rattle.term_tree.specs.Truth.{as_values}
+use Rattle.term_tree.specs.Truth.{as_value, as_values}
 use Rattle.clause_form.specs.System.{Clauses}
 use Rattle.derivations.specs.Facts.{height_of}
 use Rattle.derivations.specs.declared.fact.Fact.{Fact as KeptFact}
@@ -15,7 +16,7 @@ use Rattle.step_rules.proofs.Public.{fact_of-at}
 use Rattle.answer_text.specs.declared.answer.Line.{Line}
 use Rattle.derivation_laws.specs.Steps.{script_step}
 use Rattle.derivation_lines.specs.Lines.{line_of, lines_from}
-use Rattle.derivation_lines.specs.machinery.Adding.{HasAdded, kept_step}
+use Rattle.derivation_lines.specs.machinery.Adding.{HasAdded, kept_step, steps_left}
 
 -- values
 
@@ -35,7 +36,26 @@ sorts-end sorts point at past = ap (λ (ss : List Sort). as_values ss (drop at p
 pub point-end : (sorts : List Sort) (point : List ℤ) (at : ℕ) → length point ≤ at → as_values (drop at sorts) (drop at point) ≡ []
 point-end sorts point at past = ap (as_values (drop at sorts)) (drop-end point at past) ∙ no-values (drop at sorts)
 
+-- the item at a place and those behind it
+opened : {X : Type 0} (xs : List X) (at : ℕ) (x : X) → at < length xs → drop at xs ≡ get_or xs at x ∷ drop (at + 1) xs
+opened xs at x within = drop-cons xs at x within ∙ ap (λ (k : ℕ). get_or xs at x ∷ drop k xs) (sym (add-one at))
+
+pub values-more : (sorts : List Sort) (point : List ℤ) (at : ℕ) (s : Sort) (n : ℤ) (old new all : List Value) (value : Value) → at < length sorts → at < length point
+    → value ≡ as_value (get_or sorts at s) (get_or point at n) → new ≡ old ++ value ∷ [] → old ++ as_values (drop at sorts) (drop at point) ≡ all
+    → new ++ as_values (drop (at + 1) sorts) (drop (at + 1) point) ≡ all
+values-more sorts point at s n old new all value sorted pointed is pushed so_far =
+    let rest : List Value = as_values (drop (at + 1) sorts) (drop (at + 1) point) in
+    ap (λ (vs : List Value). vs ++ rest) pushed ∙ append_assoc old (value ∷ []) rest ∙ ap (λ (v : Value). old ++ v ∷ rest) is
+    ∙ ap (λ (ss : List Sort). old ++ as_values ss (get_or point at n ∷ drop (at + 1) point)) (sym (opened sorts at s sorted))
+    ∙ ap (λ (ns : List ℤ). old ++ as_values (drop at sorts) ns) (sym (opened point at n pointed)) ∙ so_far
+
 -- lines
+
+pub lines-more : (sys : Clauses) (facts : List Fact) (among : List ℕ) (i : ℕ) (old new all : List Line) → i < length among → HasAdded sys facts among (get_or among i 0) old new
+    → old ++ lines_from (suc (length old)) (steps_left sys facts among (drop i among)) ≡ all → new ++ lines_from (suc (length new)) (steps_left sys facts among (drop (i + 1) among)) ≡ all
+lines-more sys facts among i old new all within added so_far =
+    added (steps_left sys facts among (drop (i + 1) among))
+    ∙ ap (λ (left : List ℕ). old ++ lines_from (suc (length old)) (steps_left sys facts among left)) (sym (opened among i 0 within)) ∙ so_far
 
 turned : (k : ℕ) → k + 1 ≡ suc k
 turned k = omega arith
