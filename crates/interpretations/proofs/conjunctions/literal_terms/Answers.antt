@@ -1,9 +1,11 @@
-use Rattle.std.proofs.Common.{◌+◌, take, arith}
+use Rattle.std.proofs.Common.{rules, ◌+◌, take, arith}
 use Rattle.std.specs.List.{sum_by}
+use Rattle.std.specs.Prelude.{IsErrOf}
 use Rattle.std.proofs.lemmas.List.Sums.{sum_by-take-le}
 use Rattle.interpretations.specs.Size.{literal_size}
-use Rattle.interpretations.specs.Terms.{IsLiteralOf}
-use Rattle.interpretations.proofs.LoopLemmas.{all-added, more-added, size-more}
+use Rattle.interpretations.specs.declared.stop.DefinitionStop.TheVariants.{Full}
+use Rattle.interpretations.specs.Terms.{Each, IsLiteralOf}
+use Rattle.interpretations.proofs.LoopLemmas.{all-added, full-size, more-added, size-more}
 use Rattle.interpretations.proofs.conjunctions.literal_terms.Goals as goal
 
 pub loop-lit-preserved : goal.loop-lit-preserved
@@ -13,6 +15,12 @@ loop-lit-preserved c =
     (sum_by literal_size (take (c.loop-lit.lit-index + 1) c.args.cube.now)) c.args.terms.now.nodes c.loop-lit.terms.nodes c.literal.new.terms.nodes c.args.cube.now c.loop-lit.lit-index
     c.loop-lit.parts.items c.push.new.items.items c.lit-item.result c.in_ok-part.part c.loop-lit-test.true c.lit-item.is c.in_ok-push.ensures (omega (arith, size)) c.loop-lit.invariant
     c.in_ok-part.ensures.added
+
+pub returns-in_err-part-clause-full : goal.returns-in_err-part-clause-full
+returns-in_err-part-clause-full c = λ h.
+    let told : IsErrOf c.literal.result Full = search rules in
+    full-size (λ nodes ids. Each (IsLiteralOf nodes c.args.sorts.now) (take c.loop-lit.lit-index c.args.cube.now) ids) literal_size c.args.terms.now.nodes c.loop-lit.terms.nodes c.args.cube.now
+    c.loop-lit.lit-index c.loop-lit.parts.items c.lit-item.result c.loop-lit-test.true c.lit-item.is c.loop-lit.invariant (c.literal.ensures.full told)
 
 pub returns-clause-added : goal.returns-clause-added
 returns-clause-added c =
