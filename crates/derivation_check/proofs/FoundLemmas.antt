@@ -1,5 +1,5 @@
 -- What is found at one step.
-use Rattle.std.proofs.Common.{◌≡◌, ℕ, zero, suc, ◌<◌, ◌≤◌, List, length, Bool, true, false, inl, inr, refl, ap, sym, ◌∙◌, subst, arith}
+use Rattle.std.proofs.Common.{◌≡◌, ℕ, zero, suc, ◌<◌, ◌≤◌, List, [], ◌∷◌, ◌++◌, length, Bool, true, false, inl, inr, refl, ap, sym, ◌∙◌, subst, arith}
 use Rattle.std.proofs.lemmas.Bool.{cases_lt}
 use Rattle.std.proofs.lemmas.Option.{slice_get_within}
 use Rattle.std.specs.Prelude.{Some, None, Ok, Err, slice_get}
@@ -16,6 +16,15 @@ use Rattle.derivation_lines.specs.Claims.{IsLine}
 use Rattle.derivation_check.specs.Findings.{AreRightBefore, HasWide, IsPartOf, IsLineReached, IsWideAt, IsWrongAt}
 use Rattle.derivation_check.specs.machinery.Tests.{AreClausesOf, IsJudged, is_right, is_shaped, unless_right}
 use Rattle.derivation_check.proofs.RightLemmas.{is_right_by, right_is, shape_is}
+
+-- what holds of each item at its place, where one more is put behind them
+pub each-more : {X : Type 0} (P : ℕ → X → Type 0) (items : List X) (x : X) (n : ℕ) → length items ≡ n → P n x → ((i : ℕ) (y : X) → slice_get items i ≡ Some y → P i y)
+    → (i : ℕ) (y : X) → slice_get (items ++ x ∷ []) i ≡ Some y → P i y
+each-more P [] x n long last each zero y at = let is : x ≡ y = cc in subst (λ (k : ℕ). P k y) (sym long) (subst (P n) is last)
+each-more P [] x n long last each (suc i) y at = absurd (cc)
+each-more P (z ∷ items) x n long last each zero y at = each zero y at
+each-more P (z ∷ items) x zero long last each (suc i) y at = absurd (omega (arith, long))
+each-more P (z ∷ items) x (suc n) long last each (suc i) y at = each-more (λ k. P (suc k)) items x n (omega (arith, long)) last (λ j w there. each (suc j) w there) i y at
 
 differs : true ≡ false → ⊥
 differs e = absurd (cc)

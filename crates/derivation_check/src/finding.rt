@@ -1,7 +1,7 @@
 use term_tree::TermId;
 
 /// What is found of lines that claim to derive false. Steps are numbered from 1.
-#[derive(Clone, Copy, Debug, PartialEq, Eq)]
+#[derive(Clone, Copy)]
 pub enum Finding {
     /// Each step is right, and the last concludes false.
     Derives,
