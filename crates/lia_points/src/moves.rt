@@ -159,10 +159,8 @@ fn times_for(lack: i64, each: i64) -> Option<i64> {
 /// What the limits lack after a move that is made so often.
 fn cost(limits: &[Limit], own: &Move, times: i64) -> u64 {
     let mut cost: u64 = 0;
-    for (at, limit) in limits.iter().enumerate() {
-        if let Some(effect) = own.effects.get(at) {
-            cost = cost.saturating_add(limit.cost(limit.raised(*effect, times)));
-        }
+    for (limit, effect) in limits.iter().zip(own.effects.as_slice()) {
+        cost = cost.saturating_add(limit.cost(limit.raised(*effect, times)));
     }
     cost
 }
@@ -223,18 +221,14 @@ fn best(limits: &[Limit], moves: &[Move], wanted: usize) -> Option<Choice> {
 
 /// A number rises.
 fn raise(values: &mut [i64], parts: &[i64], times: i64) {
-    for (at, own) in values.iter_mut().enumerate() {
-        if let Some(part) = parts.get(at) {
-            *own = own.saturating_add(part.saturating_mul(times));
-        }
+    for (own, part) in values.iter_mut().zip(parts) {
+        *own = own.saturating_add(part.saturating_mul(times));
     }
 }
 
 fn raise_limits(limits: &mut [Limit], effects: &[i64], times: i64) {
-    for (at, limit) in limits.iter_mut().enumerate() {
-        if let Some(effect) = effects.get(at) {
-            limit.value = limit.raised(*effect, times);
-        }
+    for (limit, effect) in limits.iter_mut().zip(effects) {
+        limit.value = limit.raised(*effect, times);
     }
 }
 
