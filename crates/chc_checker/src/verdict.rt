@@ -3,7 +3,7 @@ use farkas_proof::GaveUp;
 use term_tree::TermId;
 
 /// Where an answer is wrong. Assertions and steps are numbered from 1, as they are printed.
-#[derive(Debug, Drop)]
+#[derive(Drop)]
 pub enum Place {
     /// The text has its first fault there; or the term of a definition that starts there has no room for
     /// its numbers at the arguments of an assertion.
@@ -17,14 +17,14 @@ pub enum Place {
 }
 
 /// What isn't shown: the first assertion or step of which nothing is known.
-#[derive(Debug, Drop)]
+#[derive(Drop)]
 pub enum Hidden {
     Assertion(u32),
     Step(u64),
 }
 
 /// Why it isn't shown.
-#[derive(Debug, Drop)]
+#[derive(Drop)]
 pub enum Unshown {
     /// The formula of the instances that make the assertion false was given up.
     Query(GaveUp),
@@ -36,7 +36,7 @@ pub enum Unshown {
 }
 
 /// What is found of an answer to a script.
-#[derive(Debug, Drop)]
+#[derive(Drop)]
 pub enum Verdict {
     /// The definitions are a solution, or the steps derive false.
     Valid,
