@@ -55,6 +55,17 @@ fn settled(decision: Decision) -> Option<Decision>
     }
 }
 
+/// Whether a formula can be decided over variables below `vars`.
+fn is_ready(form: &Form, vars: u32) -> bool
+    ensures below { result ≡ true → is_below vars form.now ≡ true }
+    ensures short { result ≡ true → has_short_multiples form.now ≡ true }
+{
+    if !form.is_below(vars as usize) {
+        return false;
+    }
+    has_short_multiples(form)
+}
+
 /// What is decided of a formula without its links; none where it has none, or that was given up.
 fn asked_without_links(
     alloc: Global,
@@ -69,10 +80,7 @@ fn asked_without_links(
     let Some(made) = without_links(alloc, form, vars)? else {
         return Ok(None);
     };
-    if !made.is_below(vars as usize) {
-        return Ok(None);
-    }
-    if !has_short_multiples(&made) {
+    if !is_ready(&made, vars) {
         return Ok(None);
     }
     let decision = asked(alloc, made, vars, nodes)?;
