@@ -1,2 +1,3 @@
 pub mod ConstantLemmas
+pub mod LoopLemmas
 pub mod TableLemmas

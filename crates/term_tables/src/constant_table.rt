@@ -10,7 +10,7 @@ use term_tree::{TermId, Terms};
 
 /// The value of every term that is a constant, where it and all constants in it are below 2^63 in
 /// magnitude. It is found once, from the values of each term's parts.
-#[derive(Debug, Drop)]
+#[derive(Drop)]
 pub struct ConstantTable {
     constants: Vec<Kept>,
 }

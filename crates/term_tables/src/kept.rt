@@ -8,7 +8,7 @@ use std::marker::Model;
 
 /// The value of a constant below 2^63 in magnitude, or none, which -2^63 stands for. It takes 8 bytes,
 /// since a script has millions of terms.
-#[derive(Debug, Drop)]
+#[derive(Drop)]
 pub(crate) struct Kept {
     word: i64,
 }

@@ -9,7 +9,7 @@ use term_tree::{Pred, Sort, TermId, Terms};
 
 /// The sort of every term, where it is well sorted. It is found once, from the sorts of each term's
 /// parts, and serves every assertion of a script.
-#[derive(Debug, Drop)]
+#[derive(Drop)]
 pub struct SortTable {
     sorts: Vec<Option<Sort>>,
 }
