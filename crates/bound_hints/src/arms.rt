@@ -29,24 +29,27 @@ pub(crate) struct Arm {
     pub(crate) lits: Vec<Lit>,
 }
 
+/// Adds the way of these literals.
+pub(crate) fn push_way(alloc: Global, ways: &mut Vec<Way>, lits: &[Lit]) -> Result<(), Memory> {
+    let lits = copied(alloc, lits)?;
+    ways.push(Way { lits })?;
+    Ok(())
+}
+
 fn copies(alloc: Global, ways: &[Way]) -> Result<Vec<Way>, Memory> {
     let mut made = Vec::new(alloc);
     for way in ways {
-        let lits = copied(alloc, way.lits.as_slice())?;
-        made.push(Way { lits })?;
+        push_way(alloc, &mut made, way.lits.as_slice())?;
     }
     Ok(made)
 }
 
-/// Each way with one more literal.
-fn with_lit(alloc: Global, ways: Vec<Way>, lit: &Lit) -> Result<Vec<Way>, Memory> {
-    let mut made = Vec::with_capacity(alloc, ways.len())?;
-    for way in ways {
-        let Way { mut lits } = way;
-        lits.push(lit.copy(alloc)?)?;
-        made.push(Way { lits })?;
+/// Adds the literal to each way.
+fn add_lit(alloc: Global, ways: &mut Vec<Way>, lit: &Lit) -> Result<(), Memory> {
+    for way in ways.iter_mut() {
+        way.lits.push(lit.copy(alloc)?)?;
     }
-    Ok(made)
+    Ok(())
 }
 
 /// How many ways so many ways through the formula as well are.
@@ -83,59 +86,79 @@ fn any_counted(parts: &[Form], ways: usize) -> Option<usize> {
     Some(count)
 }
 
-/// The ways so far through the formula as well.
-#[cycle(expanded)]
-fn expanded(alloc: Global, form: &Form, ways: Vec<Way>) -> Result<Vec<Way>, Memory> {
+/// Makes the ways so far those through the formula as well.
+#[cycle(expand)]
+fn expand(alloc: Global, form: &Form, ways: &mut Vec<Way>) -> Result<(), Memory> {
     match form {
-        Form::True => Ok(ways),
-        Form::False => Ok(Vec::new(alloc)),
-        Form::Lit(lit) => with_lit(alloc, ways, lit),
-        Form::And(parts) => all_expanded(alloc, parts.as_slice(), ways),
-        Form::Or(parts) => any_expanded(alloc, parts.as_slice(), ways),
+        Form::True => Ok(()),
+        Form::False => {
+            *ways = Vec::new(alloc);
+            Ok(())
+        }
+        Form::Lit(lit) => add_lit(alloc, ways, lit),
+        Form::And(parts) => expand_all(alloc, parts.as_slice(), ways),
+        Form::Or(parts) => expand_any(alloc, parts.as_slice(), ways),
     }
 }
 
-#[cycle(expanded)]
-fn all_expanded(alloc: Global, parts: &[Form], ways: Vec<Way>) -> Result<Vec<Way>, Memory> {
-    let mut ways = ways;
+#[cycle(expand)]
+fn expand_all(alloc: Global, parts: &[Form], ways: &mut Vec<Way>) -> Result<(), Memory> {
     for part in parts {
-        ways = expanded(alloc, part, ways)?;
+        expand(alloc, part, ways)?;
     }
-    Ok(ways)
+    Ok(())
 }
 
-#[cycle(expanded)]
-fn any_expanded(alloc: Global, parts: &[Form], ways: Vec<Way>) -> Result<Vec<Way>, Memory> {
+#[cycle(expand)]
+fn expand_any(alloc: Global, parts: &[Form], ways: &mut Vec<Way>) -> Result<(), Memory> {
     if any_counted(parts, ways.len()).is_none() {
-        return Ok(ways);
+        return Ok(());
     }
     let mut made = Vec::new(alloc);
+    push_each(alloc, parts, ways.as_slice(), &mut made)?;
+    *ways = made;
+    Ok(())
+}
+
+/// Adds the ways through each of the parts.
+#[cycle(expand)]
+fn push_each(
+    alloc: Global,
+    parts: &[Form],
+    ways: &[Way],
+    made: &mut Vec<Way>,
+) -> Result<(), Memory> {
     for part in parts {
-        let own = expanded(alloc, part, copies(alloc, ways.as_slice())?)?;
-        made = joined(made, own)?;
+        let mut own = copies(alloc, ways)?;
+        expand(alloc, part, &mut own)?;
+        made.append(&mut own)?;
     }
-    Ok(made)
+    Ok(())
 }
 
-fn joined(first: Vec<Way>, second: Vec<Way>) -> Result<Vec<Way>, Memory> {
-    let mut made = first;
-    for way in second {
-        made.push(way)?;
-    }
-    Ok(made)
-}
-
-/// The ways through a guard: its literals, and one part of each disjunction.
-fn ways(alloc: Global, guard: &FlatGuard) -> Result<Vec<Way>, Memory> {
+/// The guard's literals.
+fn literals(alloc: Global, guard: &FlatGuard) -> Result<Vec<Lit>, Memory> {
     let mut lits = Vec::with_capacity(alloc, guard.lits_len())?;
     for number in 0..guard.lits_len() {
         lits.push(guard.lit(number).copy(alloc)?)?;
     }
+    Ok(lits)
+}
+
+/// Makes the ways so far those through one part of each of the guard's disjunctions as well.
+fn expand_cases(alloc: Global, guard: &FlatGuard, made: &mut Vec<Way>) -> Result<(), Memory> {
+    for number in 0..guard.cases_len() {
+        expand_any(alloc, guard.case(number), made)?;
+    }
+    Ok(())
+}
+
+/// The ways through a guard: its literals, and one part of each disjunction.
+fn ways(alloc: Global, guard: &FlatGuard) -> Result<Vec<Way>, Memory> {
+    let lits = literals(alloc, guard)?;
     let mut made = Vec::new(alloc);
     made.push(Way { lits })?;
-    for number in 0..guard.cases_len() {
-        made = any_expanded(alloc, guard.case(number), made)?;
-    }
+    expand_cases(alloc, guard, &mut made)?;
     Ok(made)
 }
 
@@ -148,6 +171,16 @@ fn count_of(guard: &FlatGuard) -> usize {
     count
 }
 
+/// Whether none of the ways is too long.
+fn are_short(ways: &[Way]) -> bool {
+    for way in ways {
+        if way.lits.len() > MOST_LITS {
+            return false;
+        }
+    }
+    true
+}
+
 /// Adds the ways of a clause; whether none is too long.
 fn push_arms(
     alloc: Global,
@@ -155,14 +188,25 @@ fn push_arms(
     number: usize,
     guard: &FlatGuard,
 ) -> Result<bool, Memory> {
-    for way in ways(alloc, guard)? {
-        if way.lits.len() > MOST_LITS {
-            return Ok(false);
-        }
+    let ways = ways(alloc, guard)?;
+    if !are_short(ways.as_slice()) {
+        return Ok(false);
+    }
+    for way in ways {
         arms.push(Arm {
             clause: number,
             lits: way.lits,
         })?;
+    }
+    Ok(true)
+}
+
+/// Adds the ways of all clauses; whether none is too long.
+fn push_all(alloc: Global, arms: &mut Vec<Arm>, sys: &IndexedSystem) -> Result<bool, Memory> {
+    for number in 0..sys.clauses().len() {
+        if !push_arms(alloc, arms, number, &sys.guard(number))? {
+            return Ok(false);
+        }
     }
     Ok(true)
 }
@@ -185,10 +229,9 @@ pub(crate) fn arms_of(alloc: Global, sys: &IndexedSystem) -> Result<Option<Vec<A
         return Ok(None);
     }
     let mut arms = Vec::new(alloc);
-    for number in 0..sys.clauses().len() {
-        if !push_arms(alloc, &mut arms, number, &sys.guard(number))? {
-            return Ok(None);
-        }
+    if push_all(alloc, &mut arms, sys)? {
+        Ok(Some(arms))
+    } else {
+        Ok(None)
     }
-    Ok(Some(arms))
 }

@@ -27,33 +27,31 @@ const AT_ONCE: usize = 3;
 /// For how many queries one counts that is given up.
 const GIVEN_UP: u32 = 50;
 
-/// An answer of the solver.
-#[derive(Drop)]
-enum Decided {
-    Point(Vec<i64>),
-    Refuted,
-    GivenUp,
-}
-
-/// An answer of a query with bounds.
+/// An answer of a query.
 #[derive(Drop)]
 pub(crate) enum Answer {
     /// A point of the clause's variables that meets the goal and all bounds.
     Met(Vec<i64>),
     /// There is none, by these bounds.
-    Refuted(Vec<Use>),
+    Refuted,
     GivenUp,
 }
 
-fn solved(alloc: Global, form: Form, vars: u32) -> Result<Decided, Memory> {
+/// What was decided, whose point is taken out.
+fn answer_of(alloc: Global, found: &mut Decision) -> Answer {
+    match found {
+        Decision::Model(point) => Answer::Met(std::mem::replace(point, Vec::new(alloc))),
+        Decision::Refuted(_) => Answer::Refuted,
+        Decision::GaveUp(_) => Answer::GivenUp,
+    }
+}
+
+fn solved(alloc: Global, form: Form, vars: u32) -> Result<Answer, Memory> {
     if vars > MOST_VARIABLES || !form.is_below(vars as usize) || !has_short_multiples(&form) {
-        return Ok(Decided::GivenUp);
+        return Ok(Answer::GivenUp);
     }
-    match decide_owned(alloc, form, Items::new(alloc), vars, MOST_NODES)? {
-        Decision::Model(point) => Ok(Decided::Point(point)),
-        Decision::Refuted(_) => Ok(Decided::Refuted),
-        Decision::GaveUp(_) => Ok(Decided::GivenUp),
-    }
+    let mut found = decide_owned(alloc, form, Items::new(alloc), vars, MOST_NODES)?;
+    Ok(answer_of(alloc, &mut found))
 }
 
 fn push_lits(alloc: Global, parts: &mut Items<Form>, lits: &[Lit]) -> Result<(), Memory> {
@@ -80,6 +78,19 @@ fn push_lemma(
     }
 }
 
+/// Adds the bound on the atom.
+fn push_bound(
+    alloc: Global,
+    parts: &mut Items<Form>,
+    bound: &Bound,
+    atom: &Atom,
+) -> Result<(), Memory> {
+    match &bound.lemma {
+        Some(lemma) => push_lemma(alloc, parts, lemma, atom),
+        None => Ok(()),
+    }
+}
+
 /// Adds the bounds on the atoms.
 fn push_uses(
     alloc: Global,
@@ -89,13 +100,10 @@ fn push_uses(
     uses: &[Use],
 ) -> Result<(), Memory> {
     for one in uses {
-        match (bounds.get(one.bound), atoms.get(one.atom)) {
-            (Some(bound), Some(atom)) => {
-                if let Some(lemma) = &bound.lemma {
-                    push_lemma(alloc, parts, lemma, atom)?;
-                }
+        if let Some(bound) = bounds.get(one.bound) {
+            if let Some(atom) = atoms.get(one.atom) {
+                push_bound(alloc, parts, bound, atom)?;
             }
-            _ => {}
         }
     }
     Ok(())
@@ -110,25 +118,34 @@ fn cost(parts: usize, vars: u32) -> u32 {
     parts.saturating_mul(vars).saturating_add(100) / 100
 }
 
+/// Counts a query of so many parts; the number of the clause's variables, unless too much was asked.
+fn charged(clause: &Clause, parts: usize, left: &mut u32) -> Option<u32> {
+    let vars = match u32::try_from(clause.sorts.len()) {
+        Ok(vars) => vars,
+        Err(_) => return None,
+    };
+    let cost = cost(parts, vars);
+    if *left < cost {
+        *left = 0;
+        return None;
+    }
+    *left = left.saturating_sub(cost);
+    Some(vars)
+}
+
 /// Asks the solver, and counts the query.
 fn asked(
     alloc: Global,
     clause: &Clause,
     parts: Items<Form>,
     left: &mut u32,
-) -> Result<Decided, Memory> {
-    let vars = match u32::try_from(clause.sorts.len()) {
-        Ok(vars) => vars,
-        Err(_) => return Ok(Decided::GivenUp),
+) -> Result<Answer, Memory> {
+    let vars = match charged(clause, parts.len(), left) {
+        Some(vars) => vars,
+        None => return Ok(Answer::GivenUp),
     };
-    let cost = cost(parts.len(), vars);
-    if *left < cost {
-        *left = 0;
-        return Ok(Decided::GivenUp);
-    }
-    *left = left.saturating_sub(cost);
     let answer = solved(alloc, Form::And(parts), vars)?;
-    if let Decided::GivenUp = answer {
+    if let Answer::GivenUp = answer {
         *left = left.saturating_sub(GIVEN_UP);
     }
     Ok(answer)
@@ -142,6 +159,18 @@ fn is_used(uses: &[Use], bound: usize, atom: usize) -> bool {
         }
     }
     false
+}
+
+/// Whether the bound excludes the tuple of an atom on which it isn't in use, and stands.
+fn is_new(
+    uses: &[Use],
+    bounds: &[Bound],
+    bound: &Bound,
+    at: usize,
+    number: usize,
+    tuple: &[i64],
+) -> bool {
+    bound.excludes(tuple) && !is_used(uses, at, number) && stands(bounds, bound)
 }
 
 /// Adds the first bounds that exclude the tuple of an atom.
@@ -158,73 +187,108 @@ fn push_excluding(
         if bound.pred != pred || uses.len() >= most {
             return Ok(());
         }
-        let is_new = bound.excludes(tuple) && !is_used(uses.as_slice(), at, number);
-        if is_new && stands(bounds, bound) {
+        if is_new(uses.as_slice(), bounds, bound, at, number, tuple) {
+            let version = bound.version;
             uses.push(Use {
                 bound: at,
                 atom: number,
-                version: bound.version,
+                version,
             })?;
         }
     }
     Ok(())
 }
 
-/// Adds bounds that the point breaks; whether there are any.
+/// Adds bounds that exclude the atom's tuple at the point.
+fn push_breaking(
+    alloc: Global,
+    uses: &mut Vec<Use>,
+    bounds: &[Bound],
+    atom: &Atom,
+    number: usize,
+    point: &[i64],
+) -> Result<(), Memory> {
+    let tuple = Tuple::at(alloc, point, atom.args.as_slice())?;
+    push_excluding(uses, bounds, atom.pred, number, tuple.as_slice())
+}
+
+/// Adds bounds that the point breaks.
 fn push_broken(
     alloc: Global,
     uses: &mut Vec<Use>,
     bounds: &[Bound],
     atoms: &[Atom],
     point: &[i64],
-) -> Result<bool, Memory> {
-    let count = uses.len();
+) -> Result<(), Memory> {
     for (number, atom) in atoms.iter().enumerate() {
-        let tuple = Tuple::at(alloc, point, atom.args.as_slice())?;
-        push_excluding(uses, bounds, atom.pred, number, tuple.as_slice())?;
+        push_breaking(alloc, uses, bounds, atom, number, point)?;
     }
-    Ok(uses.len() > count)
+    Ok(())
 }
 
-/// The query with these bounds.
-fn query(
+/// Adds the parts of the query with these bounds.
+fn push_parts(
+    alloc: Global,
+    parts: &mut Items<Form>,
+    clause: &Clause,
+    arm: &Arm,
+    bounds: &[Bound],
+    goal: &[Lit],
+    uses: &[Use],
+) -> Result<(), Memory> {
+    push_lits(alloc, parts, arm.lits.as_slice())?;
+    push_lits(alloc, parts, goal)?;
+    push_uses(alloc, parts, bounds, clause.atoms.as_slice(), uses)
+}
+
+/// Asks the arm for a point that meets the goal and these bounds.
+fn ask(
     alloc: Global,
     clause: &Clause,
     arm: &Arm,
     bounds: &[Bound],
     goal: &[Lit],
     uses: &[Use],
-) -> Result<Items<Form>, Memory> {
+    left: &mut u32,
+) -> Result<Answer, Memory> {
     let mut parts = Items::new(alloc);
-    push_lits(alloc, &mut parts, arm.lits.as_slice())?;
-    push_lits(alloc, &mut parts, goal)?;
-    push_uses(alloc, &mut parts, bounds, clause.atoms.as_slice(), uses)?;
-    Ok(parts)
+    push_parts(alloc, &mut parts, clause, arm, bounds, goal, uses)?;
+    asked(alloc, clause, parts, left)
+}
+
+/// Whether the answer stands: bounds that its point breaks are added, and it stands if there are none.
+fn is_last(
+    alloc: Global,
+    answer: &Answer,
+    uses: &mut Vec<Use>,
+    bounds: &[Bound],
+    atoms: &[Atom],
+) -> Result<bool, Memory> {
+    match answer {
+        Answer::Met(point) => {
+            let count = uses.len();
+            push_broken(alloc, uses, bounds, atoms, point.as_slice())?;
+            Ok(uses.len() <= count)
+        }
+        _ => Ok(true),
+    }
 }
 
 /// Asks the arm for a point that meets the goal and the bounds on its body atoms: first with the bounds
-/// that are handed in, then with those that points break.
+/// that are handed in, then with those that points break, which are added to them.
 pub(crate) fn visit(
     alloc: Global,
     clause: &Clause,
     arm: &Arm,
     bounds: &[Bound],
     goal: &[Lit],
-    first: Vec<Use>,
+    uses: &mut Vec<Use>,
     left: &mut u32,
 ) -> Result<Answer, Memory> {
-    let mut uses = first;
-    let atoms = clause.atoms.as_slice();
     for _ in 0..MOST_TURNS {
-        let parts = query(alloc, clause, arm, bounds, goal, uses.as_slice())?;
-        match asked(alloc, clause, parts, left)? {
-            Decided::Refuted => return Ok(Answer::Refuted(uses)),
-            Decided::GivenUp => return Ok(Answer::GivenUp),
-            Decided::Point(point) => {
-                if !push_broken(alloc, &mut uses, bounds, atoms, point.as_slice())? {
-                    return Ok(Answer::Met(point));
-                }
-            }
+        let answer = ask(alloc, clause, arm, bounds, goal, uses.as_slice(), left)?;
+        if is_last(alloc, &answer, uses, bounds, clause.atoms.as_slice())? {
+            return Ok(answer);
         }
     }
     Ok(Answer::GivenUp)
@@ -238,10 +302,10 @@ pub(crate) fn point_of(
     goal: &[Lit],
     left: &mut u32,
 ) -> Result<Option<Vec<i64>>, Memory> {
-    let parts = query(alloc, clause, arm, &[], goal, &[])?;
-    match asked(alloc, clause, parts, left)? {
-        Decided::Point(point) => Ok(Some(point)),
-        _ => Ok(None),
+    match ask(alloc, clause, arm, &[], goal, &[], left)? {
+        Answer::Met(point) => Ok(Some(point)),
+        Answer::Refuted => Ok(None),
+        Answer::GivenUp => Ok(None),
     }
 }
 
@@ -266,32 +330,46 @@ fn is_refuted(
     uses: &[Use],
     left: &mut u32,
 ) -> Result<bool, Memory> {
-    let parts = query(alloc, clause, arm, bounds, goal, uses)?;
-    match asked(alloc, clause, parts, left)? {
-        Decided::Refuted => Ok(true),
-        _ => Ok(false),
+    match ask(alloc, clause, arm, bounds, goal, uses, left)? {
+        Answer::Met(_point) => Ok(false),
+        Answer::Refuted => Ok(true),
+        Answer::GivenUp => Ok(false),
     }
 }
 
-/// Of the bounds with which a query is refuted those that are needed for it: the last ones are left out
-/// first.
+/// Leaves out the bound at a place, if the query is refuted without it.
+fn leave_out(
+    alloc: Global,
+    clause: &Clause,
+    arm: &Arm,
+    bounds: &[Bound],
+    goal: &[Lit],
+    uses: &mut Vec<Use>,
+    at: usize,
+    left: &mut u32,
+) -> Result<(), Memory> {
+    let fewer = without(alloc, uses.as_slice(), at)?;
+    if is_refuted(alloc, clause, arm, bounds, goal, fewer.as_slice(), left)? {
+        *uses = fewer;
+    }
+    Ok(())
+}
+
+/// Of the bounds with which a query is refuted those that are needed for it stay: the last ones are left
+/// out first.
 pub(crate) fn core_of(
     alloc: Global,
     clause: &Clause,
     arm: &Arm,
     bounds: &[Bound],
     goal: &[Lit],
-    uses: Vec<Use>,
+    uses: &mut Vec<Use>,
     left: &mut u32,
-) -> Result<Vec<Use>, Memory> {
-    let mut kept = uses;
-    let mut at = kept.len();
-    for _ in 0..kept.len() {
-        at = at.saturating_sub(1);
-        let fewer = without(alloc, kept.as_slice(), at)?;
-        if is_refuted(alloc, clause, arm, bounds, goal, fewer.as_slice(), left)? {
-            kept = fewer;
-        }
+) -> Result<(), Memory> {
+    let count = uses.len();
+    for number in 0..count {
+        let at = count.saturating_sub(number).saturating_sub(1);
+        leave_out(alloc, clause, arm, bounds, goal, uses, at, left)?;
     }
-    Ok(kept)
+    Ok(())
 }

@@ -1,7 +1,7 @@
 //! A bound of a part, and what was asked about it.
 
-use crate::forms::{copied, value_at};
-use base::{Copied, Memory};
+use crate::forms::{copied, push_copies, value_at};
+use base::Memory;
 use cube_forms::{Cube, CubeStop, Lemma, negate};
 use lin_atoms::{Lin, Lit};
 use std::alloc::Global;
@@ -70,6 +70,14 @@ fn passing(alloc: Global, part: &Lin, limit: i64) -> Result<Option<Lin>, Memory>
     }
 }
 
+/// The condition, and that the form is at most 0.
+fn with_bound(alloc: Global, condition: &[Lit], lin: Lin) -> Result<Vec<Lit>, Memory> {
+    let mut lits = Vec::new(alloc);
+    push_copies(alloc, &mut lits, condition)?;
+    lits.push(Lit::Le(lin))?;
+    Ok(lits)
+}
+
 fn lemma_at(
     alloc: Global,
     condition: &[Lit],
@@ -77,11 +85,7 @@ fn lemma_at(
     limit: i64,
 ) -> Result<Option<Lemma>, Memory> {
     match passing(alloc, part, limit)? {
-        Some(lin) => {
-            let mut lits = copied(alloc, condition)?;
-            lits.push(Lit::Le(lin))?;
-            denying(alloc, lits)
-        }
+        Some(lin) => denying(alloc, with_bound(alloc, condition, lin)?),
         None => Ok(None),
     }
 }
@@ -115,16 +119,17 @@ fn all_hold(lits: &[Lit], tuple: &[i64]) -> bool {
     true
 }
 
-/// The bound of the part under the condition, before a tuple was met.
-pub(crate) fn new_bound(
+/// Adds the bound of the part under the condition, before a tuple was met.
+pub(crate) fn push_bound(
     alloc: Global,
+    bounds: &mut Vec<Bound>,
     pred: u32,
     condition: Vec<Lit>,
     part: Lin,
     plain: Option<usize>,
-) -> Result<Bound, Memory> {
+) -> Result<(), Memory> {
     let lemma = lemma_of(alloc, condition.as_slice(), &part, Limit::Nothing)?;
-    Ok(Bound {
+    bounds.push(Bound {
         pred,
         condition,
         part,
@@ -134,7 +139,8 @@ pub(crate) fn new_bound(
         version: 0,
         rises: 0,
         memos: Vec::new(alloc),
-    })
+    })?;
+    Ok(())
 }
 
 impl Bound {

@@ -2,11 +2,12 @@
 
 use crate::arms::Arm;
 use crate::asking::{Answer, visit};
-use crate::bound::{Bound, Limit, Memo, Use, first_of, stands};
+use crate::bound::{Bound, Limit, Use, first_of, stands};
 use crate::conditions::thresholds;
+use crate::memos::{is_kept, push_first, remember};
 use crate::table::{About, Table};
 use crate::unmoved::unmoved;
-use base::Memory;
+use base::{Items, Memory};
 use clause_form::{Atom, Clause, System};
 use cube_forms::{Lemma, Tuple};
 use lin_atoms::{Lit, WideStop};
@@ -130,151 +131,116 @@ pub(crate) fn raise(
     Ok(())
 }
 
-/// Whether the bounds are as they were.
-fn are_unchanged(bounds: &[Bound], uses: &[Use]) -> bool {
-    for one in uses {
-        match bounds.get(one.bound) {
-            Some(bound) => {
-                if bound.version != one.version {
-                    return false;
-                }
-            }
-            None => return false,
-        }
-    }
-    true
-}
-
-/// What the arm refuted the bound with last.
-fn memo_of(bound: &Bound, arm: usize) -> Option<&Memo> {
-    for memo in bound.memos.as_slice() {
-        if memo.arm == arm {
-            return Some(memo);
-        }
-    }
-    None
-}
-
-/// Whether the arm refuted the bound as it is, with bounds that haven't changed.
-fn is_kept(bounds: &[Bound], bound: &Bound, arm: usize) -> bool {
-    match memo_of(bound, arm) {
-        Some(memo) => {
-            memo.version == bound.version && are_unchanged(bounds, memo.uses.as_slice())
-        }
-        None => false,
-    }
-}
-
-/// The bounds that the arm refuted the bound with last, as they are now.
-fn first_uses(
-    alloc: Global,
-    bounds: &[Bound],
-    bound: &Bound,
-    arm: usize,
-) -> Result<Vec<Use>, Memory> {
-    let mut made = Vec::new(alloc);
-    let memo = match memo_of(bound, arm) {
-        Some(memo) => memo,
-        None => return Ok(made),
-    };
-    for one in memo.uses.as_slice() {
-        if let Some(used) = bounds.get(one.bound) {
-            if stands(bounds, used) {
-                made.push(Use {
-                    bound: one.bound,
-                    atom: one.atom,
-                    version: used.version,
-                })?;
-            }
-        }
-    }
-    Ok(made)
-}
-
-/// The memos without that of the arm.
-fn forgotten(alloc: Global, memos: Vec<Memo>, arm: usize) -> Result<Vec<Memo>, Memory> {
-    let mut made = Vec::new(alloc);
-    for memo in memos {
-        if memo.arm != arm {
-            made.push(memo)?;
-        }
-    }
-    Ok(made)
-}
-
-/// Remembers what the arm refuted the bound with.
-fn remember(alloc: Global, bound: &mut Bound, arm: usize, uses: Vec<Use>) -> Result<(), Memory> {
-    let memos = std::mem::replace(&mut bound.memos, Vec::new(alloc));
-    let mut memos = forgotten(alloc, memos, arm)?;
-    memos.push(Memo {
-        arm,
-        version: bound.version,
-        uses,
-    })?;
-    bound.memos = memos;
-    Ok(())
-}
-
 /// What a lemma denies, at arguments.
 pub(crate) fn goal_of(
     alloc: Global,
     lemma: &Lemma,
     args: &[u32],
-) -> Result<Option<Vec<Lit>>, Memory> {
+) -> Result<Option<Items<Lit>>, Memory> {
     match lemma.cube().at(alloc, args) {
-        Ok(lits) => {
-            let goal = crate::forms::copied(alloc, lits.as_slice())?;
-            Ok(Some(goal))
-        }
+        Ok(lits) => Ok(Some(lits)),
         Err(WideStop::Wide) => Ok(None),
         Err(WideStop::Memory) => Err(Memory),
     }
 }
 
-/// Asks the arm whether it keeps the bound.
+/// Asks the arm for a point of the goal, which is what the bound's lemma denies. What refutes it is added.
+fn ask_goal(
+    alloc: Global,
+    bounds: &[Bound],
+    clause: &Clause,
+    arm: (usize, &Arm),
+    bound: (usize, &Bound),
+    goal: &Items<Lit>,
+    uses: &mut Vec<Use>,
+    left: &mut u32,
+) -> Result<Answer, Memory> {
+    if let Some(one) = unmoved(alloc, clause, bound.0, bound.1, goal)? {
+        uses.push(one)?;
+        return Ok(Answer::Refuted);
+    }
+    push_first(uses, bounds, bound.1, arm.0)?;
+    visit(alloc, clause, arm.1, bounds, goal.as_slice(), uses, left)
+}
+
+/// Asks the arm whether it keeps the bound. What refutes the question is added.
 fn ask_of(
     alloc: Global,
     bounds: &[Bound],
     clause: &Clause,
     arm: (usize, &Arm),
     head: &Atom,
-    at: usize,
-    bound: &Bound,
+    bound: (usize, &Bound),
+    uses: &mut Vec<Use>,
     left: &mut u32,
 ) -> Result<Answer, Memory> {
-    let lemma = match &bound.lemma {
+    let lemma = match &bound.1.lemma {
         Some(lemma) => lemma,
         None => return Ok(Answer::GivenUp),
     };
-    let goal = match goal_of(alloc, lemma, head.args.as_slice())? {
-        Some(goal) => goal,
-        None => return Ok(Answer::GivenUp),
-    };
-    if let Some(uses) = unmoved(alloc, clause, at, bound, lemma, goal.as_slice())? {
-        return Ok(Answer::Refuted(uses));
+    match goal_of(alloc, lemma, head.args.as_slice())? {
+        Some(goal) => ask_goal(alloc, bounds, clause, arm, bound, &goal, uses, left),
+        None => Ok(Answer::GivenUp),
     }
-    let first = first_uses(alloc, bounds, bound, arm.0)?;
-    visit(alloc, clause, arm.1, bounds, goal.as_slice(), first, left)
 }
 
-/// What becomes of a bound that was asked for; whether something changed.
+/// Asks the arm at a place whether it keeps a bound, if it has to be asked.
+fn ask_about(
+    alloc: Global,
+    table: &Table,
+    clause: &Clause,
+    number: usize,
+    head: &Atom,
+    at: usize,
+    uses: &mut Vec<Use>,
+    left: &mut u32,
+) -> Result<Option<Answer>, Memory> {
+    let bounds = table.bounds.as_slice();
+    match (bounds.get(at), table.arms.as_slice().get(number)) {
+        (Some(bound), Some(arm)) => {
+            if bound.pred != head.pred || !stands(bounds, bound) || is_kept(bounds, bound, number) {
+                return Ok(None);
+            }
+            let own = (at, bound);
+            let answer = ask_of(alloc, bounds, clause, (number, arm), head, own, uses, left)?;
+            Ok(Some(answer))
+        }
+        _ => Ok(None),
+    }
+}
+
+/// Raises the bounds of the head's predicate that its tuple at the point breaks.
+fn raise_at(
+    alloc: Global,
+    table: &mut Table,
+    head: &Atom,
+    point: &[i64],
+    asked: Option<usize>,
+) -> Result<(), Memory> {
+    let tuple = Tuple::at(alloc, point, head.args.as_slice())?;
+    raise(alloc, table, head.pred, tuple.as_slice(), asked)
+}
+
+/// What becomes of a bound that was asked for; whether something changed. What refuted the question is
+/// taken.
 fn taken(
     alloc: Global,
     table: &mut Table,
     number: usize,
     head: &Atom,
     at: usize,
-    answer: Answer,
+    answer: &Answer,
+    uses: &mut Vec<Use>,
 ) -> Result<bool, Memory> {
     match answer {
         Answer::Met(point) => {
-            let tuple = Tuple::at(alloc, point.as_slice(), head.args.as_slice())?;
-            raise(alloc, table, head.pred, tuple.as_slice(), Some(at))?;
+            raise_at(alloc, table, head, point.as_slice(), Some(at))?;
             Ok(true)
         }
-        Answer::Refuted(uses) => {
+        Answer::Refuted => {
             if let Some(bound) = table.bounds.as_mut_slice().get_mut(at) {
-                remember(alloc, bound, number, uses)?;
+                let own = std::mem::replace(uses, Vec::new(alloc));
+                remember(bound, number, own)?;
             }
             Ok(false)
         }
@@ -297,17 +263,11 @@ fn ask_once(
     at: usize,
     left: &mut u32,
 ) -> Result<bool, Memory> {
-    let bounds = table.bounds.as_slice();
-    let answer = match (bounds.get(at), table.arms.as_slice().get(number)) {
-        (Some(bound), Some(arm)) => {
-            if bound.pred != head.pred || !stands(bounds, bound) || is_kept(bounds, bound, number) {
-                return Ok(false);
-            }
-            ask_of(alloc, bounds, clause, (number, arm), head, at, bound, left)?
-        }
-        _ => return Ok(false),
-    };
-    taken(alloc, table, number, head, at, answer)
+    let mut uses = Vec::new(alloc);
+    match ask_about(alloc, table, clause, number, head, at, &mut uses, left)? {
+        Some(answer) => taken(alloc, table, number, head, at, &answer, &mut uses),
+        None => Ok(false),
+    }
 }
 
 /// Asks the arm about a bound until it keeps it; whether something changed.
@@ -354,6 +314,24 @@ fn settle_all(
     Ok(changed)
 }
 
+/// Asks the arm at a place for any point.
+fn ask_any(
+    alloc: Global,
+    table: &Table,
+    clause: &Clause,
+    number: usize,
+    left: &mut u32,
+) -> Result<Answer, Memory> {
+    let bounds = table.bounds.as_slice();
+    match table.arms.as_slice().get(number) {
+        Some(arm) => {
+            let mut uses = Vec::new(alloc);
+            visit(alloc, clause, arm, bounds, &[], &mut uses, left)
+        }
+        None => Ok(Answer::GivenUp),
+    }
+}
+
 /// Asks the arm for any tuple of its head; whether there is one.
 fn reach(
     alloc: Global,
@@ -363,18 +341,10 @@ fn reach(
     head: &Atom,
     left: &mut u32,
 ) -> Result<bool, Memory> {
-    let bounds = table.bounds.as_slice();
-    let answer = match table.arms.as_slice().get(number) {
-        Some(arm) => {
-            let first = Vec::new(alloc);
-            visit(alloc, clause, arm, bounds, &[], first, left)?
-        }
-        None => return Ok(false),
-    };
-    match answer {
+    let answer = ask_any(alloc, table, clause, number, left)?;
+    match &answer {
         Answer::Met(point) => {
-            let tuple = Tuple::at(alloc, point.as_slice(), head.args.as_slice())?;
-            raise(alloc, table, head.pred, tuple.as_slice(), None)?;
+            raise_at(alloc, table, head, point.as_slice(), None)?;
             Ok(true)
         }
         _ => Ok(false),

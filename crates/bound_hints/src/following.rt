@@ -15,6 +15,21 @@ const MOST_FAR: usize = 10;
 /// How great the first place of a far tuple is at least.
 const FAR: usize = 9;
 
+/// A form of one variable, where its numbers have room.
+fn form_of(
+    alloc: Global,
+    variable: u32,
+    coefficient: i64,
+    constant: i128,
+) -> Result<Option<Lin>, Memory> {
+    let mut terms = Vec::new(alloc);
+    terms.push((variable, coefficient))?;
+    match Lin::new(terms, constant) {
+        Ok(lin) => Ok(Some(lin)),
+        Err(_) => Ok(None),
+    }
+}
+
 /// That the variable is at least so much.
 fn push_least(
     alloc: Global,
@@ -22,16 +37,45 @@ fn push_least(
     variable: u32,
     least: usize,
 ) -> Result<(), Memory> {
-    let mut terms = Vec::new(alloc);
-    terms.push((variable, -1))?;
     let constant = match i128::try_from(least) {
         Ok(constant) => constant,
         Err(_) => 0,
     };
-    if let Ok(lin) = Lin::new(terms, constant) {
+    if let Some(lin) = form_of(alloc, variable, -1, constant)? {
         goal.push(Lit::Le(lin))?;
     }
     Ok(())
+}
+
+/// That the variable has this value.
+fn push_value(alloc: Global, lits: &mut Vec<Lit>, variable: u32, value: i64) -> Result<(), Memory> {
+    let less = i128::from(value).saturating_neg();
+    if let Some(lin) = form_of(alloc, variable, 1, less)? {
+        lits.push(Lit::Eq(lin))?;
+    }
+    Ok(())
+}
+
+/// Meets a tuple at which the variable is great, too, as far as the goal lets it be.
+fn meet_at_least(
+    alloc: Global,
+    clause: &Clause,
+    arm: &Arm,
+    head: &Atom,
+    goal: &mut Vec<Lit>,
+    term: (u32, usize),
+    met: &mut Vec<Met>,
+    left: &mut u32,
+) -> Result<(), Memory> {
+    let count = goal.len();
+    push_least(alloc, goal, term.0, term.1)?;
+    match point_of(alloc, clause, arm, goal.as_slice(), left)? {
+        Some(point) => meet(alloc, met, head, point.as_slice(), None),
+        None => {
+            goal.truncate(count);
+            Ok(())
+        }
+    }
 }
 
 /// Meets a tuple of a clause without body atoms whose places are great, each by itself, as far as they can
@@ -49,17 +93,9 @@ fn meet_far(
     }
     let mut goal = Vec::new(alloc);
     for (place, variable) in head.args.as_slice().iter().enumerate() {
-        let count = goal.len();
         let least = place.saturating_mul(2).saturating_add(FAR);
-        push_least(alloc, &mut goal, *variable, least)?;
-        match point_of(alloc, clause, arm, goal.as_slice(), left)? {
-            Some(point) => meet(alloc, met, head, point.as_slice(), None)?,
-            None => {
-                if goal.len() > count {
-                    let _last = goal.pop();
-                }
-            }
-        }
+        let term = (*variable, least);
+        meet_at_least(alloc, clause, arm, head, &mut goal, term, met, left)?;
     }
     Ok(())
 }
@@ -69,12 +105,7 @@ fn equations(alloc: Global, atom: &Atom, tuple: &[i64]) -> Result<Vec<Lit>, Memo
     let mut lits = Vec::new(alloc);
     for (place, variable) in atom.args.as_slice().iter().enumerate() {
         if let Some(value) = tuple.get(place) {
-            let mut terms = Vec::new(alloc);
-            terms.push((*variable, 1))?;
-            let less = i128::from(*value).saturating_neg();
-            if let Ok(lin) = Lin::new(terms, less) {
-                lits.push(Lit::Eq(lin))?;
-            }
+            push_value(alloc, &mut lits, *variable, *value)?;
         }
     }
     Ok(lits)
@@ -95,30 +126,33 @@ struct Seen {
     are_known: Vec<bool>,
 }
 
+/// Nothing is known of so many variables.
+fn unseen(alloc: Global, count: usize) -> Result<Seen, Memory> {
+    let values = vec![in alloc; 0; count]?;
+    let are_known = vec![in alloc; false; count]?;
+    Ok(Seen { values, are_known })
+}
+
+/// Takes in that the variable has this value.
+fn see(seen: &mut Seen, variable: u32, value: i64) {
+    let at = variable as usize;
+    if let Some(own) = seen.values.as_mut_slice().get_mut(at) {
+        *own = value;
+    }
+    if let Some(known) = seen.are_known.as_mut_slice().get_mut(at) {
+        *known = true;
+    }
+}
+
 /// What the atom's arguments stand for where this is its tuple.
 fn seen_at(alloc: Global, clause: &Clause, atom: &Atom, tuple: &[i64]) -> Result<Seen, Memory> {
-    let mut values = Vec::new(alloc);
-    let mut are_known = Vec::new(alloc);
-    for _ in clause.sorts.as_slice() {
-        values.push(0)?;
-        are_known.push(false)?;
-    }
+    let mut seen = unseen(alloc, clause.sorts.len())?;
     for (place, variable) in atom.args.as_slice().iter().enumerate() {
         if let Some(value) = tuple.get(place) {
-            let at = *variable as usize;
-            match (
-                values.as_mut_slice().get_mut(at),
-                are_known.as_mut_slice().get_mut(at),
-            ) {
-                (Some(own), Some(known)) => {
-                    *own = *value;
-                    *known = true;
-                }
-                _ => {}
-            }
+            see(&mut seen, *variable, *value);
         }
     }
-    Ok(Seen { values, are_known })
+    Ok(seen)
 }
 
 /// Whether the literal is false by what is known of variables.
@@ -132,6 +166,16 @@ fn is_false(seen: &Seen, lit: &Lit) -> bool {
     !lit.holds(seen.values.as_slice())
 }
 
+/// Whether one of the literals is false by what is known of variables.
+fn has_false(seen: &Seen, lits: &[Lit]) -> bool {
+    for lit in lits {
+        if is_false(seen, lit) {
+            return true;
+        }
+    }
+    false
+}
+
 /// Whether a literal of the arm is false where the atom's tuple is this, so that the arm needn't be asked.
 fn is_closed(
     alloc: Global,
@@ -141,12 +185,7 @@ fn is_closed(
     tuple: &[i64],
 ) -> Result<bool, Memory> {
     let seen = seen_at(alloc, clause, atom, tuple)?;
-    for lit in arm.lits.as_slice() {
-        if is_false(&seen, lit) {
-            return Ok(true);
-        }
-    }
-    Ok(false)
+    Ok(has_false(&seen, arm.lits.as_slice()))
 }
 
 /// That the atom has this tuple, where no literal of the arm is false then.
@@ -198,6 +237,24 @@ fn follow_by(
     }
 }
 
+/// Meets the head's tuple at the point, and far ones, where it follows from none.
+fn meet_more(
+    alloc: Global,
+    clause: &Clause,
+    arm: &Arm,
+    head: &Atom,
+    met: &mut Vec<Met>,
+    point: &[i64],
+    from: Option<usize>,
+    left: &mut u32,
+) -> Result<(), Memory> {
+    meet(alloc, met, head, point, from)?;
+    if from.is_none() {
+        meet_far(alloc, clause, arm, head, met, left)?;
+    }
+    Ok(())
+}
+
 /// Asks one arm for a tuple that follows; whether false does.
 fn follow_arm(
     alloc: Global,
@@ -218,10 +275,7 @@ fn follow_arm(
     match &clause.head {
         Some(head) => {
             if let Some(point) = follow_by(alloc, clause, arm, one, left)? {
-                meet(alloc, met, head, point.as_slice(), from)?;
-                if from.is_none() {
-                    meet_far(alloc, clause, arm, head, met, left)?;
-                }
+                meet_more(alloc, clause, arm, head, met, point.as_slice(), from, left)?;
             }
             Ok(false)
         }

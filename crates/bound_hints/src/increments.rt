@@ -114,15 +114,47 @@ fn ends_of(alloc: Global, arm: &Arm, variables: usize) -> Result<Vec<Ends>, Memo
     Ok(ends)
 }
 
+/// The range between two numbers, where both are known.
+fn between(first: Option<i64>, second: Option<i64>) -> Option<Range> {
+    match (first, second) {
+        (Some(first), Some(second)) => Some(Range {
+            low: first.min(second),
+            high: first.max(second),
+        }),
+        _ => None,
+    }
+}
+
+/// So many times a number that may be known.
+fn times(known: Option<i64>, coefficient: i64) -> Option<i64> {
+    match known {
+        Some(value) => value.checked_mul(coefficient),
+        None => None,
+    }
+}
+
 /// The range of a number of times a variable.
 fn multiple(ends: &[Ends], variable: u32, coefficient: i64) -> Option<Range> {
-    let own = ends.get(variable as usize)?;
-    let low = own.low?.checked_mul(coefficient)?;
-    let high = own.high?.checked_mul(coefficient)?;
-    Some(Range {
-        low: low.min(high),
-        high: low.max(high),
-    })
+    match ends.get(variable as usize) {
+        Some(own) => between(times(own.low, coefficient), times(own.high, coefficient)),
+        None => None,
+    }
+}
+
+/// The range of a sum.
+fn added(first: Range, second: Range) -> Option<Range> {
+    between(
+        first.low.checked_add(second.low),
+        first.high.checked_add(second.high),
+    )
+}
+
+/// The sum so far with one more term.
+fn with_term(ends: &[Ends], sum: Range, variable: u32, coefficient: i64) -> Option<Range> {
+    match multiple(ends, variable, coefficient) {
+        Some(own) => added(sum, own),
+        None => None,
+    }
 }
 
 /// The range of the form but for two variables.
@@ -137,10 +169,9 @@ fn rest(ends: &[Ends], lin: &Lin, first: u32, second: u32) -> Option<Range> {
     };
     for (variable, coefficient) in lin.terms() {
         if *variable != first && *variable != second {
-            let own = multiple(ends, *variable, *coefficient)?;
-            sum = Range {
-                low: sum.low.checked_add(own.low)?,
-                high: sum.high.checked_add(own.high)?,
+            sum = match with_term(ends, sum, *variable, *coefficient) {
+                Some(more) => more,
+                None => return None,
             };
         }
     }
@@ -158,16 +189,18 @@ fn known_at(ranges: &[Option<Range>], variable: u32) -> Option<Range> {
 /// that is known, and its opposite at the other one.
 fn moved(from: Range, rest: Range, coefficient: i64) -> Option<Range> {
     if coefficient == 1 {
-        Some(Range {
-            low: from.low.checked_add(rest.low)?,
-            high: from.high.checked_add(rest.high)?,
-        })
+        added(from, rest)
     } else {
-        Some(Range {
-            low: from.low.checked_sub(rest.high)?,
-            high: from.high.checked_sub(rest.low)?,
-        })
+        between(
+            from.low.checked_sub(rest.high),
+            from.high.checked_sub(rest.low),
+        )
     }
+}
+
+/// Whether the terms are of two variables, the first with 1 or -1 and the second with its opposite.
+fn are_opposite(term: (u32, i64), to: (u32, i64)) -> bool {
+    term.0 != to.0 && (term.1 == 1 || term.1 == -1) && term.1.checked_add(to.1) == Some(0)
 }
 
 /// What the equation says of a variable that isn't known, by one that is.
@@ -178,15 +211,13 @@ fn by_term(
     term: (u32, i64),
     to: (u32, i64),
 ) -> Option<Range> {
-    let from = known_at(ranges, term.0)?;
-    let fits = term.0 != to.0
-        && (term.1 == 1 || term.1 == -1)
-        && term.1.checked_add(to.1) == Some(0);
-    if !fits {
+    if !are_opposite(term, to) {
         return None;
     }
-    let rest = rest(ends, lin, term.0, to.0)?;
-    moved(from, rest, term.1)
+    match (known_at(ranges, term.0), rest(ends, lin, term.0, to.0)) {
+        (Some(from), Some(rest)) => moved(from, rest, term.1),
+        _ => None,
+    }
 }
 
 fn by_terms(ends: &[Ends], ranges: &[Option<Range>], lin: &Lin, to: (u32, i64)) -> Option<Range> {
@@ -223,6 +254,15 @@ fn relax_all(ends: &[Ends], ranges: &mut Vec<Option<Range>>, arm: &Arm) {
     }
 }
 
+/// The difference of a variable to this one, which is known of itself alone.
+fn start_at(variable: usize, from: u32) -> Option<Range> {
+    if variable == from as usize {
+        Some(Range { low: 0, high: 0 })
+    } else {
+        None
+    }
+}
+
 /// For each variable in which range its difference to this one lies, as far as that is known.
 fn differences(
     alloc: Global,
@@ -232,11 +272,7 @@ fn differences(
 ) -> Result<Vec<Option<Range>>, Memory> {
     let mut ranges = Vec::new(alloc);
     for (variable, _) in ends.iter().enumerate() {
-        if variable == from as usize {
-            ranges.push(Some(Range { low: 0, high: 0 }))?;
-        } else {
-            ranges.push(None)?;
-        }
+        ranges.push(start_at(variable, from))?;
     }
     spread(ends, &mut ranges, arm);
     Ok(ranges)
@@ -254,19 +290,51 @@ pub(crate) struct Increment {
     pub(crate) steps: Vec<Option<i64>>,
 }
 
+/// The least number of a range, or the greatest.
+fn end_of(range: Option<Range>, least: bool) -> Option<i64> {
+    match range {
+        Some(range) => Some(if least { range.low } else { range.high }),
+        None => None,
+    }
+}
+
 /// The least increments, or the greatest.
 fn chosen(alloc: Global, ranges: &[Option<Range>], least: bool) -> Result<Increment, Memory> {
     let mut steps = Vec::new(alloc);
     for range in ranges {
-        match range {
-            Some(range) => {
-                let step = if least { range.low } else { range.high };
-                steps.push(Some(step))?;
-            }
-            None => steps.push(None)?,
-        }
+        steps.push(end_of(*range, least))?;
     }
     Ok(Increment { steps })
+}
+
+/// The range of the increment of a place with these arguments in the body and in the head.
+fn range_at(
+    alloc: Global,
+    ends: &[Ends],
+    arm: &Arm,
+    from: u32,
+    to: Option<&u32>,
+) -> Result<Option<Range>, Memory> {
+    let known = differences(alloc, ends, arm, from)?;
+    match to {
+        Some(to) => Ok(known_at(known.as_slice(), *to)),
+        None => Ok(None),
+    }
+}
+
+/// Adds the ranges of the increments of all places.
+fn push_ranges(
+    alloc: Global,
+    made: &mut Vec<Option<Range>>,
+    ends: &[Ends],
+    arm: &Arm,
+    body: &[u32],
+    head: &[u32],
+) -> Result<(), Memory> {
+    for (place, from) in body.iter().enumerate() {
+        made.push(range_at(alloc, ends, arm, *from, head.get(place))?)?;
+    }
+    Ok(())
 }
 
 /// The ranges of the increments of all places.
@@ -279,13 +347,7 @@ fn ranges(
 ) -> Result<Vec<Option<Range>>, Memory> {
     let ends = ends_of(alloc, arm, variables)?;
     let mut made = Vec::new(alloc);
-    for (place, from) in body.iter().enumerate() {
-        let known = differences(alloc, ends.as_slice(), arm, *from)?;
-        match head.get(place) {
-            Some(to) => made.push(known_at(known.as_slice(), *to))?,
-            None => made.push(None)?,
-        }
-    }
+    push_ranges(alloc, &mut made, ends.as_slice(), arm, body, head)?;
     Ok(made)
 }
 
@@ -299,6 +361,19 @@ fn is_open(ranges: &[Option<Range>]) -> bool {
         }
     }
     false
+}
+
+/// Adds the least increments, and the greatest where they differ.
+fn push_chosen(
+    alloc: Global,
+    made: &mut Vec<Increment>,
+    ranges: &[Option<Range>],
+) -> Result<(), Memory> {
+    made.push(chosen(alloc, ranges, true)?)?;
+    if is_open(ranges) {
+        made.push(chosen(alloc, ranges, false)?)?;
+    }
+    Ok(())
 }
 
 fn push_increments(
@@ -317,10 +392,7 @@ fn push_increments(
                 atom.args.as_slice(),
                 head.args.as_slice(),
             )?;
-            made.push(chosen(alloc, ranges.as_slice(), true)?)?;
-            if is_open(ranges.as_slice()) {
-                made.push(chosen(alloc, ranges.as_slice(), false)?)?;
-            }
+            push_chosen(alloc, made, ranges.as_slice())?;
         }
     }
     Ok(())

@@ -1,5 +1,8 @@
 //! Tuples that were met.
 
+ghost use Rattle.std.specs.Prelude.{◌≡◌, take};
+ghost use Rattle.bound_hints.specs.Walks.{most_met};
+
 use base::Memory;
 use clause_form::Atom;
 use cube_forms::Tuple;
@@ -29,10 +32,14 @@ pub struct Walk {
 
 impl Walk {
     /// The first ones that were met.
-    pub fn first(&self) -> &[Met] {
+    pub fn first(&self) -> &[Met]
+        ensures { result.now ≡ take most_met self.now.met.items }
+    {
         let all = self.met.as_slice();
-        let count = MOST_MET.min(all.len());
-        &all[..count]
+        if all.len() <= MOST_MET {
+            return all;
+        }
+        &all[..MOST_MET]
     }
 }
 
@@ -62,14 +69,6 @@ fn has(met: &[Met], pred: u32, tuple: &[i64]) -> bool {
     false
 }
 
-fn values(alloc: Global, tuple: &[i64]) -> Result<Vec<i64>, Memory> {
-    let mut made = Vec::new(alloc);
-    for value in tuple {
-        made.push(*value)?;
-    }
-    Ok(made)
-}
-
 /// The number of steps by which what follows from a tuple is met.
 fn depth_from(met: &[Met], from: Option<usize>) -> i64 {
     match from {
@@ -81,6 +80,28 @@ fn depth_from(met: &[Met], from: Option<usize>) -> i64 {
     }
 }
 
+/// Adds the tuple, unless it was met.
+fn take(
+    alloc: Global,
+    met: &mut Vec<Met>,
+    pred: u32,
+    tuple: &[i64],
+    from: Option<usize>,
+) -> Result<(), Memory> {
+    if has(met.as_slice(), pred, tuple) {
+        return Ok(());
+    }
+    let depth = depth_from(met.as_slice(), from);
+    let tuple = Vec::from_slice(alloc, tuple)?;
+    met.push(Met {
+        pred,
+        tuple,
+        depth,
+        is_followed: false,
+    })?;
+    Ok(())
+}
+
 /// Takes the head's tuple at the point in, which follows from one that was met.
 pub(crate) fn meet(
     alloc: Global,
@@ -90,15 +111,5 @@ pub(crate) fn meet(
     from: Option<usize>,
 ) -> Result<(), Memory> {
     let tuple = Tuple::at(alloc, point, head.args.as_slice())?;
-    if has(met.as_slice(), head.pred, tuple.as_slice()) {
-        return Ok(());
-    }
-    let depth = depth_from(met.as_slice(), from);
-    met.push(Met {
-        pred: head.pred,
-        tuple: values(alloc, tuple.as_slice())?,
-        depth,
-        is_followed: false,
-    })?;
-    Ok(())
+    take(alloc, met, head.pred, tuple.as_slice(), from)
 }

@@ -5,8 +5,9 @@ use crate::asking::{Answer, core_of, visit};
 use crate::bound::{Bound, Memo, Use};
 use crate::fixing::{are_reached, goal_of};
 use crate::table::Table;
-use base::Memory;
+use base::{Items, Memory};
 use clause_form::{Clause, System};
+use lin_atoms::Lit;
 use std::alloc::Global;
 
 /// The rank of what rests on itself.
@@ -66,42 +67,57 @@ fn is_marked(needed: &[bool], at: usize) -> bool {
     }
 }
 
-/// What an arm refuted the bound with, without what isn't needed for that.
-fn core_memo(
+/// What the bound's lemma denies at the head of the clause, if both have one.
+fn goal_at(
+    alloc: Global,
+    bounds: &[Bound],
+    at: usize,
+    clause: &Clause,
+) -> Result<Option<Items<Lit>>, Memory> {
+    let head = match &clause.head {
+        Some(head) => head,
+        None => return Ok(None),
+    };
+    match bounds.get(at) {
+        Some(bound) => match &bound.lemma {
+            Some(lemma) => goal_of(alloc, lemma, head.args.as_slice()),
+            None => Ok(None),
+        },
+        None => Ok(None),
+    }
+}
+
+/// Leaves out of what an arm refuted the bound with what isn't needed for that; whether the bound still has
+/// a lemma.
+fn shorten_memo(
     alloc: Global,
     table: &Table,
     sys: &System,
     at: usize,
-    memo: Memo,
+    memo: &mut Memo,
     left: &mut u32,
-) -> Result<Option<Memo>, Memory> {
+) -> Result<bool, Memory> {
     let bounds = table.bounds.as_slice();
-    let (bound, arm) = match (bounds.get(at), table.arms.as_slice().get(memo.arm)) {
-        (Some(bound), Some(arm)) => (bound, arm),
-        _ => return Ok(None),
+    let arm = match table.arms.as_slice().get(memo.arm) {
+        Some(arm) => arm,
+        None => return Ok(false),
     };
-    let (clause, lemma) = match (sys.clauses().get(arm.clause), &bound.lemma) {
-        (Some(clause), Some(lemma)) => (clause, lemma),
-        _ => return Ok(None),
+    let clause = match sys.clauses().get(arm.clause) {
+        Some(clause) => clause,
+        None => return Ok(false),
     };
-    let args = match &clause.head {
-        Some(head) => head.args.as_slice(),
-        None => return Ok(None),
-    };
-    let goal = match goal_of(alloc, lemma, args)? {
-        Some(goal) => goal,
-        None => return Ok(None),
-    };
-    let uses = core_of(alloc, clause, arm, bounds, goal.as_slice(), memo.uses, left)?;
-    Ok(Some(Memo {
-        arm: memo.arm,
-        version: memo.version,
-        uses,
-    }))
+    match goal_at(alloc, bounds, at, clause)? {
+        Some(goal) => {
+            let uses = &mut memo.uses;
+            core_of(alloc, clause, arm, bounds, goal.as_slice(), uses, left)?;
+            Ok(true)
+        }
+        None => Ok(false),
+    }
 }
 
 /// The same of all arms.
-fn core_memos(
+fn shortened(
     alloc: Global,
     table: &Table,
     sys: &System,
@@ -111,7 +127,8 @@ fn core_memos(
 ) -> Result<Vec<Memo>, Memory> {
     let mut made = Vec::new(alloc);
     for memo in memos {
-        if let Some(memo) = core_memo(alloc, table, sys, at, memo, left)? {
+        let mut memo = memo;
+        if shorten_memo(alloc, table, sys, at, &mut memo, left)? {
             made.push(memo)?;
         }
     }
@@ -136,7 +153,7 @@ fn shorten(
     left: &mut u32,
 ) -> Result<(), Memory> {
     let memos = taken(alloc, table, at);
-    let memos = core_memos(alloc, table, sys, at, memos, left)?;
+    let memos = shortened(alloc, table, sys, at, memos, left)?;
     mark_memos(needed, memos.as_slice());
     if let Some(bound) = table.bounds.as_mut_slice().get_mut(at) {
         bound.memos = memos;
@@ -163,6 +180,23 @@ fn shorten_needed(
     Ok(changed)
 }
 
+/// Marks what needed bounds rest on, of which some are done.
+fn mark_from(
+    alloc: Global,
+    table: &mut Table,
+    sys: &System,
+    needed: &mut Vec<bool>,
+    done: &mut Vec<bool>,
+    left: &mut u32,
+) -> Result<(), Memory> {
+    for _ in 0..MOST_PASSES {
+        if !shorten_needed(alloc, table, sys, needed, done, left)? {
+            return Ok(());
+        }
+    }
+    Ok(())
+}
+
 /// Marks what needed bounds rest on.
 fn mark_below(
     alloc: Global,
@@ -171,13 +205,8 @@ fn mark_below(
     needed: &mut Vec<bool>,
     left: &mut u32,
 ) -> Result<(), Memory> {
-    let mut done = none(alloc, table.bounds.as_slice())?;
-    for _ in 0..MOST_PASSES {
-        if !shorten_needed(alloc, table, sys, needed, &mut done, left)? {
-            return Ok(());
-        }
-    }
-    Ok(())
+    let mut done = none(alloc, table.bounds.len())?;
+    mark_from(alloc, table, sys, needed, &mut done, left)
 }
 
 /// Asks an arm of a query; whether the bounds refute it.
@@ -193,14 +222,15 @@ fn ask_query(
         return Ok(true);
     }
     let bounds = table.bounds.as_slice();
-    let first = Vec::new(alloc);
-    match visit(alloc, clause, arm, bounds, &[], first, left)? {
-        Answer::Refuted(uses) => {
-            let core = core_of(alloc, clause, arm, bounds, &[], uses, left)?;
-            mark_uses(needed, core.as_slice());
+    let mut uses = Vec::new(alloc);
+    match visit(alloc, clause, arm, bounds, &[], &mut uses, left)? {
+        Answer::Refuted => {
+            core_of(alloc, clause, arm, bounds, &[], &mut uses, left)?;
+            mark_uses(needed, uses.as_slice());
             Ok(true)
         }
-        _ => Ok(false),
+        Answer::Met(_point) => Ok(false),
+        Answer::GivenUp => Ok(false),
     }
 }
 
@@ -266,12 +296,24 @@ fn ranks_of(alloc: Global, bounds: &[Bound]) -> Result<Vec<u32>, Memory> {
     Ok(ranks)
 }
 
-fn none(alloc: Global, bounds: &[Bound]) -> Result<Vec<bool>, Memory> {
-    let mut made = Vec::new(alloc);
-    for _ in bounds {
-        made.push(false)?;
-    }
+fn none(alloc: Global, count: usize) -> Result<Vec<bool>, Memory> {
+    let made = vec![in alloc; false; count]?;
     Ok(made)
+}
+
+/// Marks the bounds that are needed to refute the queries; whether the bounds refute each.
+fn mark_needed(
+    alloc: Global,
+    table: &mut Table,
+    sys: &System,
+    needed: &mut Vec<bool>,
+    left: &mut u32,
+) -> Result<bool, Memory> {
+    let is_safe = ask_queries(alloc, table, sys, needed, left)?;
+    if is_safe {
+        mark_below(alloc, table, sys, needed, left)?;
+    }
+    Ok(is_safe)
 }
 
 /// Whether the bounds refute the queries, and which of them are needed for that.
@@ -281,11 +323,8 @@ pub(crate) fn needs_of(
     sys: &System,
     left: &mut u32,
 ) -> Result<Needs, Memory> {
-    let mut needed = none(alloc, table.bounds.as_slice())?;
-    let is_safe = ask_queries(alloc, table, sys, &mut needed, left)?;
-    if is_safe {
-        mark_below(alloc, table, sys, &mut needed, left)?;
-    }
+    let mut needed = none(alloc, table.bounds.len())?;
+    let is_safe = mark_needed(alloc, table, sys, &mut needed, left)?;
     let ranks = ranks_of(alloc, table.bounds.as_slice())?;
     Ok(Needs {
         is_safe,

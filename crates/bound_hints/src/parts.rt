@@ -1,9 +1,9 @@
 //! Linear parts over the places of a predicate, of which bounds are looked for.
 
-use crate::forms::{has_lin, lin_of, part_of};
+use crate::forms::{form_of, has_lin, lin_of, part_of};
 use crate::increments::Increment;
 use crate::places::Guarded;
-use base::{Copied, Memory};
+use base::Memory;
 use lin_atoms::{Lin, Lit};
 use std::alloc::Global;
 
@@ -35,9 +35,10 @@ const MOST_TIMES: u32 = 3;
 const GREATEST: i64 = 1_000_000_000;
 
 fn push_new(parts: &mut Vec<Lin>, part: Lin, most: usize) -> Result<(), Memory> {
-    if parts.len() < most && !has_lin(parts.as_slice(), &part) {
-        parts.push(part)?;
+    if parts.len() >= most || has_lin(parts.as_slice(), &part) {
+        return Ok(());
     }
+    parts.push(part)?;
     Ok(())
 }
 
@@ -58,14 +59,33 @@ fn push_terms(
     terms: &[(u32, i64)],
     most: usize,
 ) -> Result<(), Memory> {
-    let mut kept = Vec::new(alloc);
-    for term in terms {
-        kept.push(*term)?;
+    match form_of(alloc, terms)? {
+        Some(lin) => push_both(alloc, parts, &lin, most),
+        None => Ok(()),
     }
-    match Lin::new(kept, 0) {
-        Ok(lin) => push_both(alloc, parts, &lin, most),
-        Err(_) => Ok(()),
-    }
+}
+
+/// The same of two terms.
+fn push_two(
+    alloc: Global,
+    parts: &mut Vec<Lin>,
+    first: (u32, i64),
+    second: (u32, i64),
+    most: usize,
+) -> Result<(), Memory> {
+    push_terms(alloc, parts, &[first, second], most)
+}
+
+/// The same of three terms.
+fn push_three(
+    alloc: Global,
+    parts: &mut Vec<Lin>,
+    first: (u32, i64),
+    second: (u32, i64),
+    third: (u32, i64),
+    most: usize,
+) -> Result<(), Memory> {
+    push_terms(alloc, parts, &[first, second, third], most)
 }
 
 fn push_units(alloc: Global, parts: &mut Vec<Lin>, places: u32) -> Result<(), Memory> {
@@ -108,10 +128,11 @@ fn push_kept(
         return Ok(());
     }
     let own = second.1.saturating_neg();
-    push_terms(
+    push_two(
         alloc,
         parts,
-        &[(first.0, own), (second.0, first.1)],
+        (first.0, own),
+        (second.0, first.1),
         MOST_OF_INCREMENTS,
     )
 }
@@ -164,8 +185,8 @@ fn push_increments(
 fn push_pairs(alloc: Global, parts: &mut Vec<Lin>, places: u32, first: u32) -> Result<(), Memory> {
     for second in 0..places {
         if first < second {
-            push_terms(alloc, parts, &[(first, 1), (second, -1)], MOST_PARTS)?;
-            push_terms(alloc, parts, &[(first, 1), (second, 1)], MOST_PARTS)?;
+            push_two(alloc, parts, (first, 1), (second, -1), MOST_PARTS)?;
+            push_two(alloc, parts, (first, 1), (second, 1), MOST_PARTS)?;
         }
     }
     Ok(())
@@ -230,22 +251,13 @@ fn push_beside(
     if !is_step(first.1) || !is_step(second.1) {
         return Ok(());
     }
-    let own = second.1.saturating_neg();
+    let left = (first.0, second.1.saturating_neg());
+    let right = (second.0, first.1);
     for times in 0..MOST_TIMES {
         let more = i64::from(times).saturating_add(1);
         let less = more.saturating_neg();
-        push_terms(
-            alloc,
-            parts,
-            &[(first.0, own), (second.0, first.1), (place, more)],
-            most,
-        )?;
-        push_terms(
-            alloc,
-            parts,
-            &[(first.0, own), (second.0, first.1), (place, less)],
-            most,
-        )?;
+        push_three(alloc, parts, left, right, (place, more), most)?;
+        push_three(alloc, parts, left, right, (place, less), most)?;
     }
     Ok(())
 }
@@ -291,6 +303,22 @@ fn push_with_fixed(
     Ok(())
 }
 
+/// Adds parts of each increment with each of these places.
+fn push_each_with_fixed(
+    alloc: Global,
+    parts: &mut Vec<Lin>,
+    increments: &[Increment],
+    places: &[u32],
+    most: usize,
+) -> Result<(), Memory> {
+    for place in places {
+        for increment in increments {
+            push_with_fixed(alloc, parts, increment.steps.as_slice(), *place, most)?;
+        }
+    }
+    Ok(())
+}
+
 /// Adds parts of increments with places that none of them moves.
 fn push_all_with_fixed(
     alloc: Global,
@@ -299,10 +327,33 @@ fn push_all_with_fixed(
     places: u32,
 ) -> Result<(), Memory> {
     let most = parts.len().saturating_add(MOST_WITH_FIXED).min(MOST_PARTS);
-    for fixed in fixed(alloc, increments, places)? {
-        for increment in increments {
-            push_with_fixed(alloc, parts, increment.steps.as_slice(), fixed, most)?;
-        }
+    let fixed = fixed(alloc, increments, places)?;
+    push_each_with_fixed(alloc, parts, increments, fixed.as_slice(), most)
+}
+
+/// Adds the parts of a predicate with so many places.
+fn push_parts(
+    alloc: Global,
+    parts: &mut Vec<Lin>,
+    guarded: &[Guarded],
+    increments: &[Increment],
+    shared: Option<&Vec<Lin>>,
+    places: usize,
+    is_whole: bool,
+) -> Result<(), Memory> {
+    let count = match u32::try_from(places) {
+        Ok(count) => count,
+        Err(_) => 0,
+    };
+    push_units(alloc, parts, count)?;
+    push_shared(alloc, parts, shared)?;
+    push_guards(alloc, parts, guarded)?;
+    push_increments(alloc, parts, increments)?;
+    if places <= MOST_IN_PAIRS {
+        push_all_pairs(alloc, parts, count)?;
+    }
+    if is_whole {
+        push_all_with_fixed(alloc, parts, increments, count)?;
     }
     Ok(())
 }
@@ -318,19 +369,8 @@ pub(crate) fn parts_of(
     is_whole: bool,
 ) -> Result<Vec<Lin>, Memory> {
     let mut parts = Vec::new(alloc);
-    let count = match u32::try_from(places) {
-        Ok(count) => count,
-        Err(_) => 0,
-    };
-    push_units(alloc, &mut parts, count)?;
-    push_shared(alloc, &mut parts, shared)?;
-    push_guards(alloc, &mut parts, guarded)?;
-    push_increments(alloc, &mut parts, increments)?;
-    if places <= MOST_IN_PAIRS {
-        push_all_pairs(alloc, &mut parts, count)?;
-    }
-    if is_whole {
-        push_all_with_fixed(alloc, &mut parts, increments, count)?;
-    }
+    push_parts(
+        alloc, &mut parts, guarded, increments, shared, places, is_whole,
+    )?;
     Ok(parts)
 }

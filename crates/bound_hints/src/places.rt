@@ -1,7 +1,7 @@
 //! Literals of guards over the places of one predicate.
 
 use crate::arms::Arm;
-use crate::forms::{has_lit, lin_of, tidied};
+use crate::forms::{lin_of, push_new, tidied};
 use base::Memory;
 use clause_form::{Atom, Clause, System};
 use cube_forms::lit_at;
@@ -48,39 +48,57 @@ fn is_placed(lit: &Lit, names: &[u32]) -> bool {
     true
 }
 
+/// The literal in its simplest form, if it has a variable.
+fn kept(alloc: Global, lit: &Lit) -> Result<Option<Lit>, Memory> {
+    if lin_of(lit).terms().len() == 0 {
+        return Ok(None);
+    }
+    Ok(Some(tidied(alloc, lit)?))
+}
+
 /// The literal over places, if each of its variables has one, and one is left.
 fn placed(alloc: Global, lit: &Lit, names: &[u32]) -> Result<Option<Lit>, Memory> {
     if !is_placed(lit, names) {
         return Ok(None);
     }
     match lit_at(alloc, lit, names) {
-        Ok(made) => {
-            if lin_of(&made).terms().len() == 0 {
-                return Ok(None);
-            }
-            Ok(Some(tidied(alloc, made)?))
-        }
+        Ok(made) => kept(alloc, &made),
         Err(WideStop::Wide) => Ok(None),
         Err(WideStop::Memory) => Err(Memory),
     }
 }
 
-/// The literals of the arm over the places of an atom of its clause, each once.
-pub(crate) fn lits_on(
+/// Adds the literals over places, each once.
+fn push_placed(
     alloc: Global,
+    made: &mut Vec<Lit>,
+    lits: &[Lit],
+    names: &[u32],
+) -> Result<(), Memory> {
+    for lit in lits {
+        if let Some(lit) = placed(alloc, lit, names)? {
+            push_new(made, lit)?;
+        }
+    }
+    Ok(())
+}
+
+/// Adds the literals of the arm over the places of an atom of its clause, each once.
+fn push_on(
+    alloc: Global,
+    made: &mut Vec<Lit>,
     clause: &Clause,
     arm: &Arm,
     atom: &Atom,
-) -> Result<Vec<Lit>, Memory> {
+) -> Result<(), Memory> {
     let names = names_of(alloc, atom.args.as_slice(), clause.sorts.len())?;
+    push_placed(alloc, made, arm.lits.as_slice(), names.as_slice())
+}
+
+/// The literals of the arm over the places of an atom of its clause, each once.
+fn lits_on(alloc: Global, clause: &Clause, arm: &Arm, atom: &Atom) -> Result<Vec<Lit>, Memory> {
     let mut made = Vec::new(alloc);
-    for lit in arm.lits.as_slice() {
-        if let Some(lit) = placed(alloc, lit, names.as_slice())? {
-            if !has_lit(made.as_slice(), &lit) {
-                made.push(lit)?;
-            }
-        }
-    }
+    push_on(alloc, &mut made, clause, arm, atom)?;
     Ok(made)
 }
 

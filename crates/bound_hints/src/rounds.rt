@@ -1,9 +1,11 @@
 //! When bounds are looked for, and what was found.
 
+ghost use Rattle.std.specs.Prelude.{◌≡◌, [], true, false, IfOk};
+
 use crate::bound::Bound;
 use crate::candidates::{Needed, cubes_at, needed_of};
 use crate::fixing::{fix, raise};
-use crate::met::Walk;
+use crate::met::{Met, Walk};
 use crate::needing::{Needs, needs_of};
 use crate::table::{Size, Table, table_of};
 use base::Memory;
@@ -12,6 +14,7 @@ use clause_index::IndexedSystem;
 use cube_forms::Cube;
 use lin_atoms::Lin;
 use std::alloc::Global;
+use std::marker::Model;
 
 /// The work that a round may take for each unit that was spent.
 const WORK_OF_A_UNIT: u32 = 24;
@@ -91,7 +94,32 @@ fn work_of(round: u32, units: u32) -> u32 {
         .min(MOST_WORK)
 }
 
-/// What a round over the table finds, whose bounds first rise by what was met.
+/// Raises the bounds by the tuples that were met.
+fn raise_by(alloc: Global, table: &mut Table, met: &[Met]) -> Result<(), Memory> {
+    for one in met {
+        raise(alloc, table, one.pred, one.tuple.as_slice(), None)?;
+    }
+    Ok(())
+}
+
+/// What a round over the table finds, whose bounds first rise by what was met. It takes the bounds out.
+fn settled(
+    alloc: Global,
+    table: &mut Table,
+    sys: &System,
+    walk: &Walk,
+    left: &mut u32,
+) -> Result<Outcome, Memory> {
+    raise_by(alloc, table, walk.first())?;
+    if !fix(alloc, table, sys, left)? {
+        return Ok(Outcome::Dropped);
+    }
+    let needs = needs_of(alloc, table, sys, left)?;
+    let bounds = std::mem::replace(&mut table.bounds, Vec::new(alloc));
+    Ok(Outcome::Fixed(Found { bounds, needs }))
+}
+
+/// The same of a table that isn't needed any more.
 fn found_in(
     alloc: Global,
     table: Table,
@@ -101,17 +129,7 @@ fn found_in(
 ) -> Result<Outcome, Memory> {
     let mut table = table;
     let mut left = left;
-    for one in walk.first() {
-        raise(alloc, &mut table, one.pred, one.tuple.as_slice(), None)?;
-    }
-    if !fix(alloc, &mut table, sys, &mut left)? {
-        return Ok(Outcome::Dropped);
-    }
-    let needs = needs_of(alloc, &mut table, sys, &mut left)?;
-    Ok(Outcome::Fixed(Found {
-        bounds: table.bounds,
-        needs,
-    }))
+    settled(alloc, &mut table, sys, walk, &mut left)
 }
 
 fn round_of(
@@ -131,9 +149,21 @@ fn round_of(
     }
 }
 
+/// Contracts see whether the bounds refute each query, as far as is known.
+impl Model for Bounds {
+    ghost use Rattle.std.specs.Prelude.{Bool, false};
+    ghost use Rattle.std.specs.Option.{option_map_or};
+
+    ghost Value = { Bool };
+
+    ghost view = { λ b. option_map_or (λ f. f.needs.is_safe) b.found false };
+}
+
 impl Bounds {
     /// Nothing was found yet.
-    pub fn new() -> Bounds {
+    pub fn new() -> Bounds
+        ensures { result ≡ false }
+    {
         Bounds {
             found: None,
             round: 0,
@@ -143,7 +173,9 @@ impl Bounds {
     }
 
     /// Whether the bounds refute each query, as far as is known.
-    pub fn are_safe(&self) -> bool {
+    pub fn are_safe(&self) -> bool
+        ensures { result ≡ self.now }
+    {
         match &self.found {
             Some(found) => found.needs.is_safe,
             None => false,
@@ -151,7 +183,9 @@ impl Bounds {
     }
 
     /// Whether it is time to look for more bounds.
-    pub fn are_due(&self, level: u32, units: u32) -> bool {
+    pub fn are_due(&self, level: u32, units: u32) -> bool
+        ensures { result ≡ true → self.now ≡ false }
+    {
         level >= level_of(self.round)
             && units >= self.wait
             && self.round < ROUNDS
@@ -169,7 +203,9 @@ impl Bounds {
         walk: &Walk,
         level: u32,
         units: u32,
-    ) -> Result<(), Memory> {
+    ) -> Result<(), Memory>
+        ensures { self.old ≡ true → self.new ≡ true }
+    {
         if !self.are_due(level, units) {
             return Ok(());
         }
@@ -198,7 +234,9 @@ impl Bounds {
 
     /// The cubes that needed bounds exclude, those that rest on nothing first; none where the bounds
     /// don't refute each query.
-    pub fn needed(&self, alloc: Global) -> Result<Vec<Needed>, Memory> {
+    pub fn needed(&self, alloc: Global) -> Result<Vec<Needed>, Memory>
+        ensures { self.now ≡ false → IfOk result (λ made. made.items ≡ []) }
+    {
         match &self.found {
             Some(found) => needed_of(alloc, found.bounds.as_slice(), &found.needs),
             None => Ok(Vec::new(alloc)),

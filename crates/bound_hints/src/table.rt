@@ -1,7 +1,7 @@
 //! The bounds that are looked for.
 
 use crate::arms::{Arm, Way, arms_of};
-use crate::bound::{Bound, new_bound};
+use crate::bound::{Bound, push_bound};
 use crate::conditions::conditions;
 use crate::forms::{copied, part_of};
 use crate::increments::increments;
@@ -58,8 +58,8 @@ fn push_plain(
     parts: &[Lin],
 ) -> Result<(), Memory> {
     for part in parts {
-        let condition = Vec::new(alloc);
-        bounds.push(new_bound(alloc, pred, condition, part.copy(alloc)?, None)?)?;
+        let own = part.copy(alloc)?;
+        push_bound(alloc, bounds, pred, Vec::new(alloc), own, None)?;
     }
     Ok(())
 }
@@ -76,6 +76,20 @@ fn is_about(alloc: Global, condition: &[Lit], part: &Lin) -> Result<bool, Memory
     }
 }
 
+/// Adds the bound of a part under the condition.
+fn push_one(
+    alloc: Global,
+    bounds: &mut Vec<Bound>,
+    pred: u32,
+    condition: &[Lit],
+    part: &Lin,
+    plain: usize,
+) -> Result<(), Memory> {
+    let part = part.copy(alloc)?;
+    let own = copied(alloc, condition)?;
+    push_bound(alloc, bounds, pred, own, part, Some(plain))
+}
+
 /// Adds the bound of each part under the condition.
 fn push_under(
     alloc: Global,
@@ -88,12 +102,29 @@ fn push_under(
 ) -> Result<(), Memory> {
     for (at, part) in parts.iter().enumerate() {
         if bounds.len() < most && !is_about(alloc, condition, part)? {
-            let plain = Some(first.saturating_add(at));
-            let own = copied(alloc, condition)?;
-            bounds.push(new_bound(alloc, pred, own, part.copy(alloc)?, plain)?)?;
+            push_one(
+                alloc,
+                bounds,
+                pred,
+                condition,
+                part,
+                first.saturating_add(at),
+            )?;
         }
     }
     Ok(())
+}
+
+/// Adds the bound that no tuple meets the condition.
+fn push_none(
+    alloc: Global,
+    bounds: &mut Vec<Bound>,
+    pred: u32,
+    condition: &[Lit],
+) -> Result<(), Memory> {
+    let own = copied(alloc, condition)?;
+    let none = Lin::of_constant(alloc, 0);
+    push_bound(alloc, bounds, pred, own, none, None)
 }
 
 /// Adds the bounds under each condition.
@@ -109,13 +140,83 @@ fn push_conditional(
     for way in conditions {
         let condition = way.lits.as_slice();
         if bounds.len() < most {
-            let none = Lin::of_constant(alloc, 0);
-            let own = copied(alloc, condition)?;
-            bounds.push(new_bound(alloc, pred, own, none, None)?)?;
+            push_none(alloc, bounds, pred, condition)?;
             push_under(alloc, bounds, pred, condition, parts, first, most)?;
         }
     }
     Ok(())
+}
+
+/// The parts of a predicate.
+fn parts_for(
+    alloc: Global,
+    table: &Table,
+    sys: &System,
+    pred: u32,
+    places: usize,
+    guarded: &[Guarded],
+    shared: Option<&Vec<Lin>>,
+    is_whole: bool,
+) -> Result<Vec<Lin>, Memory> {
+    let steps = increments(alloc, sys, table.arms.as_slice(), pred)?;
+    parts_of(alloc, guarded, steps.as_slice(), shared, places, is_whole)
+}
+
+/// Adds the bounds of these parts, without a condition and under each of so many.
+fn push_bounds(
+    alloc: Global,
+    bounds: &mut Vec<Bound>,
+    pred: u32,
+    guarded: &[Guarded],
+    parts: &[Lin],
+    count: usize,
+    most: usize,
+) -> Result<(), Memory> {
+    let first = bounds.len();
+    push_plain(alloc, bounds, pred, parts)?;
+    let under = conditions(alloc, guarded, count)?;
+    let most = first.saturating_add(most);
+    push_conditional(alloc, bounds, pred, under.as_slice(), parts, first, most)
+}
+
+/// Adds the bounds of a predicate of which guards say this.
+fn push_guarded(
+    alloc: Global,
+    table: &mut Table,
+    sys: &System,
+    pred: u32,
+    places: usize,
+    guarded: &[Guarded],
+    shared: Option<&Vec<Lin>>,
+    size: Size,
+) -> Result<(), Memory> {
+    if places == 0 || places > MOST_PLACES || table.bounds.len() >= MOST_BOUNDS {
+        return Ok(());
+    }
+    let parts = parts_for(
+        alloc,
+        table,
+        sys,
+        pred,
+        places,
+        guarded,
+        shared,
+        size.is_whole,
+    )?;
+    let count = if places < MANY_PLACES || size.is_whole {
+        size.conditions
+    } else {
+        0
+    };
+    push_bounds(
+        alloc,
+        &mut table.bounds,
+        pred,
+        guarded,
+        parts.as_slice(),
+        count,
+        size.bounds,
+    )
 }
 
 /// Adds the bounds of a predicate, and what guards say of it.
@@ -129,36 +230,35 @@ fn push_pred(
     size: Size,
 ) -> Result<(), Memory> {
     let own = guards_of(alloc, sys, table.arms.as_slice(), pred)?;
-    if places > 0 && places <= MOST_PLACES && table.bounds.len() < MOST_BOUNDS {
-        let steps = increments(alloc, sys, table.arms.as_slice(), pred)?;
-        let parts = parts_of(
-            alloc,
-            own.as_slice(),
-            steps.as_slice(),
-            shared,
-            places,
-            size.is_whole,
-        )?;
-        let first = table.bounds.len();
-        push_plain(alloc, &mut table.bounds, pred, parts.as_slice())?;
-        let count = if places < MANY_PLACES || size.is_whole {
-            size.conditions
-        } else {
-            0
-        };
-        let under = conditions(alloc, own.as_slice(), count)?;
-        push_conditional(
-            alloc,
-            &mut table.bounds,
-            pred,
-            under.as_slice(),
-            parts.as_slice(),
-            first,
-            first.saturating_add(size.bounds),
-        )?;
-    }
+    push_guarded(
+        alloc,
+        table,
+        sys,
+        pred,
+        places,
+        own.as_slice(),
+        shared,
+        size,
+    )?;
     table.about.push(About { guarded: own })?;
     table.reached.push(false)?;
+    Ok(())
+}
+
+/// Adds the bounds of each predicate.
+fn push_preds(
+    alloc: Global,
+    table: &mut Table,
+    sys: &System,
+    shared: &[Vec<Lin>],
+    size: Size,
+) -> Result<(), Memory> {
+    for (pred, sorts) in sys.preds().iter().enumerate() {
+        if let Ok(pred) = u32::try_from(pred) {
+            let forms = shared.get(pred as usize);
+            push_pred(alloc, table, sys, pred, sorts.len(), forms, size)?;
+        }
+    }
     Ok(())
 }
 
@@ -174,18 +274,12 @@ pub(crate) fn table_of(
         Some(arms) => arms,
         None => return Ok(None),
     };
-    let sys = indexed.plain();
     let mut table = Table {
         arms,
         bounds: Vec::new(alloc),
         about: Vec::new(alloc),
         reached: Vec::new(alloc),
     };
-    for (pred, sorts) in sys.preds().iter().enumerate() {
-        if let Ok(pred) = u32::try_from(pred) {
-            let forms = shared.get(pred as usize);
-            push_pred(alloc, &mut table, sys, pred, sorts.len(), forms, size)?;
-        }
-    }
+    push_preds(alloc, &mut table, indexed.plain(), shared, size)?;
     Ok(Some(table))
 }

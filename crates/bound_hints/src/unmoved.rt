@@ -2,23 +2,18 @@
 
 use crate::bound::{Bound, Use};
 use crate::fixing::goal_of;
-use base::{Memory, Same};
+use base::{Items, Memory, Same};
 use clause_form::Clause;
 use cube_forms::Lemma;
 use lin_atoms::Lit;
 use std::alloc::Global;
 
-/// Whether both lists have the same literals in the same order.
-fn are_same(lits: &[Lit], others: &[Lit]) -> bool {
-    if lits.len() != others.len() {
-        return false;
+/// Whether the lemma denies these literals at the arguments.
+fn denies(alloc: Global, lemma: &Lemma, args: &[u32], goal: &Items<Lit>) -> Result<bool, Memory> {
+    match goal_of(alloc, lemma, args)? {
+        Some(own) => Ok(own.equals(goal)),
+        None => Ok(false),
     }
-    for (lit, other) in lits.iter().zip(others.iter()) {
-        if !lit.equals(other) {
-            return false;
-        }
-    }
-    true
 }
 
 /// The first body atom of the bound's predicate at which the bound's lemma denies the literals of the goal,
@@ -28,15 +23,11 @@ fn atom_of(
     clause: &Clause,
     pred: u32,
     lemma: &Lemma,
-    goal: &[Lit],
+    goal: &Items<Lit>,
 ) -> Result<Option<usize>, Memory> {
     for (number, atom) in clause.atoms.as_slice().iter().enumerate() {
-        if atom.pred == pred {
-            if let Some(own) = goal_of(alloc, lemma, atom.args.as_slice())? {
-                if are_same(goal, own.as_slice()) {
-                    return Ok(Some(number));
-                }
-            }
+        if atom.pred == pred && denies(alloc, lemma, atom.args.as_slice(), goal)? {
+            return Ok(Some(number));
         }
     }
     Ok(None)
@@ -48,19 +39,18 @@ pub(crate) fn unmoved(
     clause: &Clause,
     at: usize,
     bound: &Bound,
-    lemma: &Lemma,
-    goal: &[Lit],
-) -> Result<Option<Vec<Use>>, Memory> {
+    goal: &Items<Lit>,
+) -> Result<Option<Use>, Memory> {
+    let lemma = match &bound.lemma {
+        Some(lemma) => lemma,
+        None => return Ok(None),
+    };
     match atom_of(alloc, clause, bound.pred, lemma, goal)? {
-        Some(atom) => {
-            let mut uses = Vec::new(alloc);
-            uses.push(Use {
-                bound: at,
-                atom,
-                version: bound.version,
-            })?;
-            Ok(Some(uses))
-        }
+        Some(atom) => Ok(Some(Use {
+            bound: at,
+            atom,
+            version: bound.version,
+        })),
         None => Ok(None),
     }
 }

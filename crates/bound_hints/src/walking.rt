@@ -85,15 +85,20 @@ fn run(
     Ok(false)
 }
 
+/// Runs the system's clauses forward, unless there are too many ways through them; whether false follows
+/// from one of the tuples that are met.
+fn run_all(alloc: Global, indexed: &IndexedSystem, met: &mut Vec<Met>) -> Result<bool, Memory> {
+    let mut left = CHAIN_WORK;
+    match arms_of(alloc, indexed)? {
+        Some(arms) => run(alloc, arms.as_slice(), indexed.plain(), met, &mut left),
+        None => Ok(false),
+    }
+}
+
 /// The tuples that are met by running clauses with at most one body atom forward; none where the system has
 /// too many ways through its clauses.
 pub fn walked(alloc: Global, indexed: &IndexedSystem) -> Result<Walk, Memory> {
-    let sys = indexed.plain();
     let mut met = Vec::new(alloc);
-    let mut left = CHAIN_WORK;
-    let is_broken = match arms_of(alloc, indexed)? {
-        Some(arms) => run(alloc, arms.as_slice(), sys, &mut met, &mut left)?,
-        None => false,
-    };
+    let is_broken = run_all(alloc, indexed, &mut met)?;
     Ok(Walk { met, is_broken })
 }
