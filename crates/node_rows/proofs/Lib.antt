@@ -10,4 +10,5 @@ pub mod PointLemmas
 pub mod Public
 pub mod RowLemmas
 pub mod SaidLemmas
+pub mod SlackLemmas
 pub mod TidyLemmas
