@@ -1,7 +1,7 @@
 //! The command line, as `clap` is told of it.
 
 ghost use Rattle.std.specs.Prelude.{◌≡◌, ◌≢◌, ◌↔◌, map, IfOk, IsTrue, None, false};
-ghost use Rattle.clap.specs.Words.{app_of, kind_of, rule_of};
+ghost use Rattle.clap.specs.Words.{app_of, kind_of, rule_of, with_rule, with_subcommand};
 ghost use Rattle.clap.specs.declared.builder.command.Command.TheViews.{out-Command};
 ghost use Rattle.solve_words.specs.Command.{alone, check, chc, gen, option, solve};
 ghost use Rattle.solve_words.specs.Parsed.{IsParsedAs};
@@ -20,19 +20,28 @@ fn option<'a>(alloc: Global, name: &'a str) -> Arg<'a>
     Arg::new(alloc, name).long(name).action(ArgAction::Set)
 }
 
+/// The command with the option of that name more.
+fn with_option<'a>(
+    alloc: Global,
+    command: Command<'a>,
+    name: &'a str,
+) -> Result<Command<'a>, AllocError>
+    ensures shape { IfOk result (λ more. app_of more
+        ≡ with_rule (app_of command.entry) (option name.entry.now)) }
+    ensures local { IfOk result (λ more. (out-Command command.entry).has_globals ≡ false
+        → (out-Command more).has_globals ≡ false) }
+{
+    command.arg(option(alloc, name))
+}
+
 /// `solve`, with three options.
 fn solve<'a>(alloc: Global) -> Result<Command<'a>, AllocError>
     ensures shape { IfOk result (λ command. app_of command ≡ alone solve) }
     ensures local { IfOk result (λ command. (out-Command command).has_globals ≡ false) }
 {
-    let workers = option(alloc, "workers");
-    let units = option(alloc, "units");
-    let nodes = option(alloc, "nodes");
-    let command = Command::new(alloc, "solve")
-        .arg(workers)?
-        .arg(units)?
-        .arg(nodes)?;
-    Ok(command)
+    let workers = with_option(alloc, Command::new(alloc, "solve"), "workers")?;
+    let units = with_option(alloc, workers, "units")?;
+    with_option(alloc, units, "nodes")
 }
 
 /// `check`, with one.
@@ -40,9 +49,7 @@ fn check<'a>(alloc: Global) -> Result<Command<'a>, AllocError>
     ensures shape { IfOk result (λ command. app_of command ≡ alone check) }
     ensures local { IfOk result (λ command. (out-Command command).has_globals ≡ false) }
 {
-    let nodes = option(alloc, "nodes");
-    let command = Command::new(alloc, "check").arg(nodes)?;
-    Ok(command)
+    with_option(alloc, Command::new(alloc, "check"), "nodes")
 }
 
 /// `gen`, with two.
@@ -50,10 +57,24 @@ fn generate<'a>(alloc: Global) -> Result<Command<'a>, AllocError>
     ensures shape { IfOk result (λ command. app_of command ≡ alone gen) }
     ensures local { IfOk result (λ command. (out-Command command).has_globals ≡ false) }
 {
-    let depth = option(alloc, "depth");
-    let seed = option(alloc, "seed");
-    let command = Command::new(alloc, "gen").arg(depth)?.arg(seed)?;
-    Ok(command)
+    let depth = with_option(alloc, Command::new(alloc, "gen"), "depth")?;
+    with_option(alloc, depth, "seed")
+}
+
+/// The command with `check` more.
+fn with_check<'a>(alloc: Global, command: Command<'a>) -> Result<Command<'a>, AllocError>
+    ensures { IfOk result (λ more. app_of more ≡ with_subcommand (app_of command.entry) check) }
+{
+    let check = check(alloc)?;
+    command.subcommand(check)
+}
+
+/// The command with `gen` more.
+fn with_generate<'a>(alloc: Global, command: Command<'a>) -> Result<Command<'a>, AllocError>
+    ensures { IfOk result (λ more. app_of more ≡ with_subcommand (app_of command.entry) gen) }
+{
+    let generate = generate(alloc)?;
+    command.subcommand(generate)
 }
 
 /// The whole command line: one of the three is wanted, and there is no help.
@@ -61,17 +82,14 @@ fn chc<'a>(alloc: Global) -> Result<Command<'a>, AllocError>
     ensures { IfOk result (λ command. app_of command ≡ chc) }
 {
     let solve = solve(alloc)?;
-    let check = check(alloc)?;
-    let generate = generate(alloc)?;
-    let command = Command::new(alloc, "chc")
+    let first = Command::new(alloc, "chc")
         .no_binary_name(true)
         .disable_help_flag(true)
         .disable_help_subcommand(true)
         .subcommand_required(true)
-        .subcommand(solve)?
-        .subcommand(check)?
-        .subcommand(generate)?;
-    Ok(command)
+        .subcommand(solve)?;
+    let second = with_check(alloc, first)?;
+    with_generate(alloc, second)
 }
 
 /// Whether this is want of memory.

@@ -1,5 +1,7 @@
-use Rattle.std.proofs.Common.{◌≡◌, ap, ap₂, ◌∙◌, true, codes}
-use Rattle.clap.specs.Simple.{App, Shape, app_of, app_of_fields, on_top, with_subcommand}
+use Rattle.std.proofs.Common.{ap, ap₂, ◌∙◌, true}
+use Rattle.std.proofs.lemmas.Result.{IfOk-weaker}
+use Rattle.clap.specs.Simple.{App, Shape, app_of_fields, on_top, with_subcommand}
+use Rattle.solve_words.specs.Command.{check, gen}
 use Rattle.solve_words.proofs.command.chc.Goals as goal
 
 pub returns : goal.returns
@@ -9,7 +11,7 @@ returns c =
     ∙ ap (on_top (λ (s : Shape). record s { disable_help_subcommand = true })) (ap app_of_fields c.disable_help_flag.ensures
     ∙ ap (on_top (λ (s : Shape). record s { disable_help_flag = true })) (ap app_of_fields c.no_binary_name.ensures
     ∙ ap (on_top (λ (s : Shape). record s { no_binary_name = true })) c.new.ensures.app))) in
-    c.in_ok-command.ensures.shape c.in_ok-generate.ensures.local
-    ∙ ap₂ with_subcommand (c.in_ok-subcommand-2.ensures.shape c.in_ok-check.ensures.local
-    ∙ ap₂ with_subcommand (c.in_ok-subcommand.ensures.shape c.in_ok-solve.ensures.local
-    ∙ ap₂ with_subcommand base (ap (λ (a : App). a.top) c.in_ok-solve.ensures.shape)) (ap (λ (a : App). a.top) c.in_ok-check.ensures.shape)) (ap (λ (a : App). a.top) c.in_ok-generate.ensures.shape)
+    let first = c.in_ok-first.ensures.shape c.in_ok-solve.ensures.local
+    ∙ ap₂ with_subcommand base (ap (λ (a : App). a.top) c.in_ok-solve.ensures.shape) in
+    let second = c.in_ok-second.ensures ∙ ap (λ (a : App). with_subcommand a check) first in
+    IfOk-weaker c.with_generate.result _ _ (λ more is. is ∙ ap (λ (a : App). with_subcommand a gen) second) c.with_generate.ensures

@@ -1,11 +1,13 @@
-use Rattle.std.proofs.Common.{ap₂, ◌∙◌, ◌||◌, Bool}
-use Rattle.clap.specs.Simple.{with_rule}
+use Rattle.std.proofs.Common.{ap, ◌∙◌, codes}
+use Rattle.std.proofs.lemmas.Result.{IfOk-weaker}
+use Rattle.clap.specs.Simple.{App, with_rule}
+use Rattle.solve_words.specs.Command.{option}
 use Rattle.solve_words.proofs.command.check.Goals as goal
 
 pub returns-clause-shape : goal.returns-clause-shape
 returns-clause-shape c =
-    c.in_ok-command.ensures.shape c.option-nodes.ensures.local ∙ ap₂ with_rule c.new.ensures.app c.option-nodes.ensures.rule
+    IfOk-weaker c.with_option.result _ _ (λ more is. is ∙ ap (λ (a : App). with_rule a (option (codes "nodes"))) c.new.ensures.app) c.with_option.ensures.shape
 
 pub returns-clause-local : goal.returns-clause-local
 returns-clause-local c =
-    c.in_ok-command.ensures.globals ∙ ap₂ (λ (a b : Bool). a || b) c.new.ensures.local c.option-nodes.ensures.local
+    IfOk-weaker c.with_option.result _ _ (λ more stays. stays c.new.ensures.local) c.with_option.ensures.local

@@ -1,15 +1,14 @@
-use Rattle.std.proofs.Common.{ap₂, ◌∙◌, ◌||◌, Bool}
-use Rattle.clap.specs.Simple.{with_rule}
+use Rattle.std.proofs.Common.{ap, ◌∙◌, codes}
+use Rattle.std.proofs.lemmas.Result.{IfOk-weaker}
+use Rattle.clap.specs.Simple.{App, with_rule}
+use Rattle.solve_words.specs.Command.{option}
 use Rattle.solve_words.proofs.command.generate.Goals as goal
 
 pub returns-clause-shape : goal.returns-clause-shape
 returns-clause-shape c =
-    c.in_ok-command.ensures.shape c.option-seed.ensures.local
-    ∙ ap₂ with_rule (c.in_ok-arg.ensures.shape c.option-depth.ensures.local
-    ∙ ap₂ with_rule c.new.ensures.app c.option-depth.ensures.rule) c.option-seed.ensures.rule
+    let depth = c.in_ok-depth.ensures.shape ∙ ap (λ (a : App). with_rule a (option (codes "depth"))) c.new.ensures.app in
+    IfOk-weaker c.with_option-2.result _ _ (λ more is. is ∙ ap (λ (a : App). with_rule a (option (codes "seed"))) depth) c.with_option-2.ensures.shape
 
 pub returns-clause-local : goal.returns-clause-local
 returns-clause-local c =
-    c.in_ok-command.ensures.globals
-    ∙ ap₂ (λ (a b : Bool). a || b) (c.in_ok-arg.ensures.globals
-    ∙ ap₂ (λ (a b : Bool). a || b) c.new.ensures.local c.option-depth.ensures.local) c.option-seed.ensures.local
+    IfOk-weaker c.with_option-2.result _ _ (λ more stays. stays (c.in_ok-depth.ensures.local c.new.ensures.local)) c.with_option-2.ensures.local

@@ -1,17 +1,15 @@
-use Rattle.std.proofs.Common.{ap₂, ◌∙◌, ◌||◌, Bool}
-use Rattle.clap.specs.Simple.{with_rule}
+use Rattle.std.proofs.Common.{ap, ◌∙◌, codes}
+use Rattle.std.proofs.lemmas.Result.{IfOk-weaker}
+use Rattle.clap.specs.Simple.{App, with_rule}
+use Rattle.solve_words.specs.Command.{option}
 use Rattle.solve_words.proofs.command.solve.Goals as goal
 
 pub returns-clause-shape : goal.returns-clause-shape
 returns-clause-shape c =
-    c.in_ok-command.ensures.shape c.option-nodes.ensures.local
-    ∙ ap₂ with_rule (c.in_ok-arg-2.ensures.shape c.option-units.ensures.local
-    ∙ ap₂ with_rule (c.in_ok-arg.ensures.shape c.option-workers.ensures.local
-    ∙ ap₂ with_rule c.new.ensures.app c.option-workers.ensures.rule) c.option-units.ensures.rule) c.option-nodes.ensures.rule
+    let workers = c.in_ok-workers.ensures.shape ∙ ap (λ (a : App). with_rule a (option (codes "workers"))) c.new.ensures.app in
+    let units = c.in_ok-units.ensures.shape ∙ ap (λ (a : App). with_rule a (option (codes "units"))) workers in
+    IfOk-weaker c.with_option-3.result _ _ (λ more is. is ∙ ap (λ (a : App). with_rule a (option (codes "nodes"))) units) c.with_option-3.ensures.shape
 
 pub returns-clause-local : goal.returns-clause-local
 returns-clause-local c =
-    c.in_ok-command.ensures.globals
-    ∙ ap₂ (λ (a b : Bool). a || b) (c.in_ok-arg-2.ensures.globals
-    ∙ ap₂ (λ (a b : Bool). a || b) (c.in_ok-arg.ensures.globals
-    ∙ ap₂ (λ (a b : Bool). a || b) c.new.ensures.local c.option-workers.ensures.local) c.option-units.ensures.local) c.option-nodes.ensures.local
+    IfOk-weaker c.with_option-3.result _ _ (λ more stays. stays (c.in_ok-units.ensures.local (c.in_ok-workers.ensures.local c.new.ensures.local))) c.with_option-3.ensures.local
