@@ -1,6 +1,6 @@
 -- Which terms have neither predicates nor quantifiers, by their nodes.
-use Rattle.std.proofs.Common.{◌≡◌, ℕ, zero, suc, take, ◌+◌, ◌<◌, ◌≤◌, ◌^◌, List, [], ◌∷◌, ◌++◌, length, Bool, true, false, ◌&&◌, inl, inr, refl, ap, sym, ◌∙◌, arith}
-use Rattle.std.proofs.lemmas.List.{get_or_append_left, get_or_past, get_or_push}
+use Rattle.std.proofs.Common.{◌≡◌, ℕ, zero, suc, take, drop, get_or, ◌+◌, ◌<◌, ◌≤◌, ◌^◌, List, [], ◌∷◌, ◌++◌, length, Bool, true, false, ◌&&◌, inl, inr, refl, ap, sym, ◌∙◌, arith}
+use Rattle.std.proofs.lemmas.List.{drop_more, get_or_append_left, get_or_past, get_or_push}
 use Rattle.std.proofs.lemmas.Bool.{cases_lt}
 use Rattle.std.specs.Prelude.{slice_get, Some, nat_lt, Ok, Err, if◌then◌else◌}
 use Rattle.std.specs.List.{list_all}
@@ -87,6 +87,11 @@ pub application_by : (nodes : List Node) (flags : List Bool) (n : ℕ) (give : A
     → application_reading (is_plain_term nodes) give pred args place ≡ (if b then Ok (give (record { pred = pred; args = arguments place.lets args })) else Err place.term)
 application_by nodes flags n give pred args place b are fits below known =
     ap (λ (c : Bool). if c then Ok (give (record { pred = pred; args = arguments place.lets args })) else Err place.term) (flags_of nodes flags n args are fits below ∙ known)
+
+-- what is below a number is so further on
+pub below_on : (n i : ℕ) (ids : List TermId) (d : TermId) → i < length ids → list_all (is_below n) (drop i ids) ≡ true → list_all (is_below n) (drop (i + 1) ids) ≡ true
+below_on n i ids d less below =
+    (both_true (nat_lt (get_or ids i d).0 n) (list_all (is_below n) (drop (i + 1) ids)) (sym (ap (list_all (is_below n)) (drop_more ids i d less)) ∙ below)).1
 
 -- what is below a number is so in front too
 pub taken_below : (n k : ℕ) (ids : List TermId) → list_all (is_below n) ids ≡ true → list_all (is_below n) (take k ids) ≡ true

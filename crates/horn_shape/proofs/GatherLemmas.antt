@@ -1,7 +1,7 @@
 -- What is gathered behind what was gathered before.
-use Rattle.std.proofs.Common.{◌≡◌, ℕ, ◌+◌, ◌-◌, ◌≤◌, length, take, get_or, arith, Bool, ◌&&◌, ◌||◌, List, [], ◌∷◌, ◌++◌, refl, ap, sym, ◌∙◌, append_assoc}
+use Rattle.std.proofs.Common.{◌≡◌, ℕ, ◌+◌, ◌-◌, ◌≤◌, ◌<◌, length, take, drop, get_or, arith, Bool, ◌&&◌, ◌||◌, List, [], ◌∷◌, ◌++◌, refl, ap, sym, ◌∙◌, append_assoc}
 use Rattle.std.specs.Prelude.{Option, Some, None, Result, Ok, Err, slice_get, if◌then◌else◌}
-use Rattle.std.proofs.lemmas.List.{take_all, take_more}
+use Rattle.std.proofs.lemmas.List.{append-nil, drop_all, drop_more, take_all, take_more}
 use Rattle.term_tree.specs.declared.node.Node.{Node}
 use Rattle.horn_shape.specs.Clause.{content_of}
 use Rattle.term_tree.specs.declared.sort.Sort.{Sort}
@@ -71,6 +71,17 @@ misfit_both offsets c (Ok x) b offset h = absurd (absurd_ok h.1)
   where
     absurd_ok : Ok (gained c x) ≡ Err h.0 → ⊥
     absurd_ok e = absurd (cc)
+
+gained_nothing : (c : HornClause) → gained c nothing ≡ c
+gained_nothing c = same_clause c.assertion _ _ _ _ _ _ _ _ (append-nil c.vars) (append-nil c.atoms) (append-nil c.guards) refl
+
+-- parts one after the other
+pub each_here : (read : ℕ → Place → Reading) (lets ids : List TermId) (i : ℕ) (d : TermId) → i < length ids
+    → each read lets (drop i ids) ≡ both (at read lets (get_or ids i d)) (each read lets (drop (i + 1) ids))
+each_here read lets ids i d less = ap (each read lets) (drop_more ids i d less)
+
+pub each_end : (c : HornClause) (read : ℕ → Place → Reading) (lets ids : List TermId) (i : ℕ) → length ids ≤ i → onto c (each read lets (drop i ids)) ≡ Ok c
+each_end c read lets ids i over = ap (λ xs. onto c (each read lets xs)) (drop_all i ids over) ∙ ap (λ z. Ok z) (gained_nothing c)
 
 pub onto_quantified : (c : HornClause) (sorts : List Sort) (r : Reading) → onto c (quantified_reading sorts r) ≡ onto (with_vars c sorts) r
 onto_quantified c sorts (Err e) = refl

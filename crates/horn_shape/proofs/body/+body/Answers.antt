@@ -1,16 +1,17 @@
-use Rattle.std.proofs.Common.{◌≡◌, ◌≤◌, ◌^◌, ◌++◌, [], ◌∷◌, refl, ap, sym, ◌∙◌, subst, arith, rules}
-use Rattle.std.specs.Prelude.{true, false, nat_lt, Ok, OnOk}
+use Rattle.std.proofs.Common.{◌≡◌, ◌≤◌, ◌+◌, ◌^◌, drop, get_or, ◌++◌, [], ◌∷◌, refl, ap, sym, ◌∙◌, subst, arith, rules}
+use Rattle.std.specs.Prelude.{true, false, nat_lt, Ok, Err, OnOk}
 use Rattle.std.specs.List.{list_all}
 use Rattle.term_tree.specs.Arena.{is_below, has_parts_below}
+use Rattle.term_tree.specs.declared.node.TermId.{TermId}
 use Rattle.term_tree.specs.declared.node.Node.{Node}
 use Rattle.term_tree.specs.declared.node.Node.TheVariants.{Let}
 use Rattle.term_tree.proofs.Public.{both_true}
 use Rattle.horn_shape.specs.Plain.{is_plain_term}
-use Rattle.horn_shape.specs.Shape.{Reading, atom_of, body_form, body_reading, bound_over}
+use Rattle.horn_shape.specs.Shape.{Reading, at, atom_of, body_form, body_reading, bound_over, each}
 use Rattle.horn_shape.specs.Flags.{flag_of}
 use Rattle.horn_shape.specs.machinery.Gathering.{IsMisfit, onto, place_of}
-use Rattle.horn_shape.proofs.FlagLemmas.{application_by, bound_flags}
-use Rattle.horn_shape.proofs.GatherLemmas.{same_stop}
+use Rattle.horn_shape.proofs.FlagLemmas.{application_by, below_on, bound_flags}
+use Rattle.horn_shape.proofs.GatherLemmas.{each_end, each_here, misfit_both, onto_both, same_stop}
 use Rattle.horn_shape.proofs.ShapeLemmas.{body_plain, body_mixed}
 use Rattle.horn_shape.proofs.body.+body.Goals as goal
 
@@ -99,3 +100,32 @@ read_body_form-returns-in_ok-inner-in-None-clause-misfit t c = λ offset is.
     ∙ ap (λ ids. bound_over (flag_of c.args.plain.now) ids inner) (sym c.as_slice-in-Let.ensures) ∙ c.in-None.ensures.none inner
     ∙ ap (λ lets. body_reading nodes c.in-Let.body.0 (place_of c.in-Let.body lets)) (sym c.in_ok-inner-in-None.ensures ∙ sym c.as_slice-in-None.ensures.value) in
     subst (λ (r : Reading). IsMisfit c.args.terms.now.offsets (onto c.args.out.now r) offset) (sym eq) (c.read_body.ensures.misfit offset is)
+
+pub read_bodies-loop-id-preserved : goal.read_bodies-loop-id-preserved
+read_bodies-loop-id-preserved t c =
+    let reading = body_reading c.args.terms.now.nodes in
+    let lets = c.args.lets.now in
+    let ids = c.args.ids.now in
+    let i = c.loop-id.id-index in
+    let id : TermId = get_or ids i (record { 0 = 0 }) in
+    record {
+      read = c.loop-id.invariant.read ∙ ap (onto c.loop-id.out) (each_here reading lets ids i (record { 0 = 0 }) c.loop-id-test.true)
+          ∙ onto_both c.loop-id.out c.read_body.new.out (at reading lets id) (each reading lets (drop (i + 1) ids)) c.in-Ok.ensures.read;
+      below = below_on c.args.above.0 i ids (record { 0 = 0 }) c.loop-id-test.true c.loop-id.invariant.below;
+    }
+
+pub read_bodies-returns-in-Err-clause-misfit : goal.read_bodies-returns-in-Err-clause-misfit
+read_bodies-returns-in-Err-clause-misfit t c = λ offset is.
+    let reading = body_reading c.args.terms.now.nodes in
+    let lets = c.args.lets.now in
+    let ids = c.args.ids.now in
+    let i = c.loop-id.id-index in
+    let id : TermId = get_or ids i (record { 0 = 0 }) in
+    let eq = c.loop-id.invariant.read ∙ ap (onto c.loop-id.out) (each_here reading lets ids i (record { 0 = 0 }) c.loop-id-test.true) in
+    subst (λ f. IsMisfit c.args.terms.now.offsets f offset) (sym eq)
+    (misfit_both c.args.terms.now.offsets c.loop-id.out (at reading lets id) (each reading lets (drop (i + 1) ids)) offset
+    (c.in-Err.ensures.misfit offset (ap (λ e. Err e) (same_stop _ _ _ _ refl refl is))))
+
+pub read_bodies-returns-clause-read : goal.read_bodies-returns-clause-read
+read_bodies-returns-clause-read t c =
+    c.loop-id.invariant.read ∙ each_end c.loop-id.out (body_reading c.args.terms.now.nodes) c.args.lets.now c.args.ids.now c.loop-id.id-index c.loop-id-test.false

@@ -3,7 +3,8 @@ use Rattle.std.specs.Prelude.{true, false, nat_lt, Ok, Err, OnOk}
 use Rattle.std.specs.List.{list_all}
 use Rattle.term_tree.specs.Arena.{is_below, has_parts_below}
 use Rattle.term_tree.specs.declared.node.Node.{Node}
-use Rattle.term_tree.specs.declared.node.Node.TheVariants.{Let}
+use Rattle.term_tree.specs.declared.node.OpKind.{OpKind}
+use Rattle.term_tree.specs.declared.node.Node.TheVariants.{Let, Op}
 use Rattle.term_tree.proofs.Public.{both_true}
 use Rattle.horn_shape.specs.Shape.{Reading, at, head_of, body_reading, bound_over, clause_form, clause_reading, each}
 use Rattle.horn_shape.specs.Flags.{flag_of}
@@ -153,3 +154,93 @@ read_implication-returns-in-Ok-clause-misfit t c = λ offset is.
     let eq = ap (onto c.args.out.now) (implication_last (body_reading nodes) (clause_reading nodes) place args (record { 0 = 0 }) c.in-len1-up.len_at_least)
     ∙ onto_both c.args.out.now c.read_bodies.new.out (each (body_reading nodes) c.args.lets.now (take (length args - 1) args)) (at (clause_reading nodes) c.args.lets.now last) c.in-Ok.ensures.read in
     subst (λ f. IsMisfit c.args.terms.now.offsets f offset) (sym eq) (c.read_clause.ensures.misfit offset is)
+
+pub read_operation-returns-in-And-clause-misfit : goal.read_operation-returns-in-And-clause-misfit
+read_operation-returns-in-And-clause-misfit t c = λ offset is.
+    let nodes = c.args.terms.now.nodes in
+    let eq = ap (λ (op : OpKind). onto c.args.out.now (clause_form nodes (clause_reading nodes) (Op op c.args.args.now) (place_of c.args.id c.args.lets.now))) c.in-And.is in
+    (c.args.id, eq, c.misfit.ensures offset (same_stop _ _ _ _ refl refl is))
+
+pub read_operation-returns-in-Xor-clause-misfit : goal.read_operation-returns-in-Xor-clause-misfit
+read_operation-returns-in-Xor-clause-misfit t c = λ offset is.
+    let nodes = c.args.terms.now.nodes in
+    let eq = ap (λ (op : OpKind). onto c.args.out.now (clause_form nodes (clause_reading nodes) (Op op c.args.args.now) (place_of c.args.id c.args.lets.now))) c.in-Xor.is in
+    (c.args.id, eq, c.misfit-in-Xor.ensures offset (same_stop _ _ _ _ refl refl is))
+
+pub read_operation-returns-in-Eq-clause-misfit : goal.read_operation-returns-in-Eq-clause-misfit
+read_operation-returns-in-Eq-clause-misfit t c = λ offset is.
+    let nodes = c.args.terms.now.nodes in
+    let eq = ap (λ (op : OpKind). onto c.args.out.now (clause_form nodes (clause_reading nodes) (Op op c.args.args.now) (place_of c.args.id c.args.lets.now))) c.in-Eq.is in
+    (c.args.id, eq, c.misfit-in-Eq.ensures offset (same_stop _ _ _ _ refl refl is))
+
+pub read_operation-returns-in-Distinct-clause-misfit : goal.read_operation-returns-in-Distinct-clause-misfit
+read_operation-returns-in-Distinct-clause-misfit t c = λ offset is.
+    let nodes = c.args.terms.now.nodes in
+    let eq = ap (λ (op : OpKind). onto c.args.out.now (clause_form nodes (clause_reading nodes) (Op op c.args.args.now) (place_of c.args.id c.args.lets.now))) c.in-Distinct.is in
+    (c.args.id, eq, c.misfit-in-Distinct.ensures offset (same_stop _ _ _ _ refl refl is))
+
+pub read_operation-returns-in-Ite-clause-misfit : goal.read_operation-returns-in-Ite-clause-misfit
+read_operation-returns-in-Ite-clause-misfit t c = λ offset is.
+    let nodes = c.args.terms.now.nodes in
+    let eq = ap (λ (op : OpKind). onto c.args.out.now (clause_form nodes (clause_reading nodes) (Op op c.args.args.now) (place_of c.args.id c.args.lets.now))) c.in-Ite.is in
+    (c.args.id, eq, c.misfit-in-Ite.ensures offset (same_stop _ _ _ _ refl refl is))
+
+pub read_operation-returns-in-Add-clause-misfit : goal.read_operation-returns-in-Add-clause-misfit
+read_operation-returns-in-Add-clause-misfit t c = λ offset is.
+    let nodes = c.args.terms.now.nodes in
+    let eq = ap (λ (op : OpKind). onto c.args.out.now (clause_form nodes (clause_reading nodes) (Op op c.args.args.now) (place_of c.args.id c.args.lets.now))) c.in-Add.is in
+    (c.args.id, eq, c.misfit-in-Add.ensures offset (same_stop _ _ _ _ refl refl is))
+
+pub read_operation-returns-in-Mul-clause-misfit : goal.read_operation-returns-in-Mul-clause-misfit
+read_operation-returns-in-Mul-clause-misfit t c = λ offset is.
+    let nodes = c.args.terms.now.nodes in
+    let eq = ap (λ (op : OpKind). onto c.args.out.now (clause_form nodes (clause_reading nodes) (Op op c.args.args.now) (place_of c.args.id c.args.lets.now))) c.in-Mul.is in
+    (c.args.id, eq, c.misfit-in-Mul.ensures offset (same_stop _ _ _ _ refl refl is))
+
+pub read_operation-returns-in-Sub-clause-misfit : goal.read_operation-returns-in-Sub-clause-misfit
+read_operation-returns-in-Sub-clause-misfit t c = λ offset is.
+    let nodes = c.args.terms.now.nodes in
+    let eq = ap (λ (op : OpKind). onto c.args.out.now (clause_form nodes (clause_reading nodes) (Op op c.args.args.now) (place_of c.args.id c.args.lets.now))) c.in-Sub.is in
+    (c.args.id, eq, c.misfit-in-Sub.ensures offset (same_stop _ _ _ _ refl refl is))
+
+pub read_operation-returns-in-Abs-clause-misfit : goal.read_operation-returns-in-Abs-clause-misfit
+read_operation-returns-in-Abs-clause-misfit t c = λ offset is.
+    let nodes = c.args.terms.now.nodes in
+    let eq = ap (λ (op : OpKind). onto c.args.out.now (clause_form nodes (clause_reading nodes) (Op op c.args.args.now) (place_of c.args.id c.args.lets.now))) c.in-Abs.is in
+    (c.args.id, eq, c.misfit-in-Abs.ensures offset (same_stop _ _ _ _ refl refl is))
+
+pub read_operation-returns-in-Div-clause-misfit : goal.read_operation-returns-in-Div-clause-misfit
+read_operation-returns-in-Div-clause-misfit t c = λ offset is.
+    let nodes = c.args.terms.now.nodes in
+    let eq = ap (λ (op : OpKind). onto c.args.out.now (clause_form nodes (clause_reading nodes) (Op op c.args.args.now) (place_of c.args.id c.args.lets.now))) c.in-Div.is in
+    (c.args.id, eq, c.misfit-in-Div.ensures offset (same_stop _ _ _ _ refl refl is))
+
+pub read_operation-returns-in-Mod-clause-misfit : goal.read_operation-returns-in-Mod-clause-misfit
+read_operation-returns-in-Mod-clause-misfit t c = λ offset is.
+    let nodes = c.args.terms.now.nodes in
+    let eq = ap (λ (op : OpKind). onto c.args.out.now (clause_form nodes (clause_reading nodes) (Op op c.args.args.now) (place_of c.args.id c.args.lets.now))) c.in-Mod.is in
+    (c.args.id, eq, c.misfit-in-Mod.ensures offset (same_stop _ _ _ _ refl refl is))
+
+pub read_operation-returns-in-Le-clause-misfit : goal.read_operation-returns-in-Le-clause-misfit
+read_operation-returns-in-Le-clause-misfit t c = λ offset is.
+    let nodes = c.args.terms.now.nodes in
+    let eq = ap (λ (op : OpKind). onto c.args.out.now (clause_form nodes (clause_reading nodes) (Op op c.args.args.now) (place_of c.args.id c.args.lets.now))) c.in-Le.is in
+    (c.args.id, eq, c.misfit-in-Le.ensures offset (same_stop _ _ _ _ refl refl is))
+
+pub read_operation-returns-in-Lt-clause-misfit : goal.read_operation-returns-in-Lt-clause-misfit
+read_operation-returns-in-Lt-clause-misfit t c = λ offset is.
+    let nodes = c.args.terms.now.nodes in
+    let eq = ap (λ (op : OpKind). onto c.args.out.now (clause_form nodes (clause_reading nodes) (Op op c.args.args.now) (place_of c.args.id c.args.lets.now))) c.in-Lt.is in
+    (c.args.id, eq, c.misfit-in-Lt.ensures offset (same_stop _ _ _ _ refl refl is))
+
+pub read_operation-returns-in-Ge-clause-misfit : goal.read_operation-returns-in-Ge-clause-misfit
+read_operation-returns-in-Ge-clause-misfit t c = λ offset is.
+    let nodes = c.args.terms.now.nodes in
+    let eq = ap (λ (op : OpKind). onto c.args.out.now (clause_form nodes (clause_reading nodes) (Op op c.args.args.now) (place_of c.args.id c.args.lets.now))) c.in-Ge.is in
+    (c.args.id, eq, c.misfit-in-Ge.ensures offset (same_stop _ _ _ _ refl refl is))
+
+pub read_operation-returns-in-Gt-clause-misfit : goal.read_operation-returns-in-Gt-clause-misfit
+read_operation-returns-in-Gt-clause-misfit t c = λ offset is.
+    let nodes = c.args.terms.now.nodes in
+    let eq = ap (λ (op : OpKind). onto c.args.out.now (clause_form nodes (clause_reading nodes) (Op op c.args.args.now) (place_of c.args.id c.args.lets.now))) c.in-Gt.is in
+    (c.args.id, eq, c.misfit-in-Gt.ensures offset (same_stop _ _ _ _ refl refl is))
