@@ -6,7 +6,7 @@ ghost use Rattle.term_bounds.specs.machinery.Word.{kept};
 use std::marker::Model;
 
 /// A bound that was found, or none. It takes 8 bytes, since a script has millions of terms.
-#[derive(Debug, Drop)]
+#[derive(Drop)]
 pub(crate) struct Kept {
     word: u64,
 }

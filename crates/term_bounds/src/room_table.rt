@@ -14,7 +14,7 @@ use term_tree::{TermId, Terms};
 /// for all that is in it: the sum of their magnitudes is no greater, whatever variables are named. Of a
 /// term with a bound nothing has to be looked at to see that all numbers in it have room. It is found
 /// once, from the bounds of each term's parts.
-#[derive(Debug, Drop)]
+#[derive(Drop)]
 pub struct RoomTable {
     bounds: Vec<Kept>,
 }
