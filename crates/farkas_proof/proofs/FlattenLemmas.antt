@@ -1,7 +1,8 @@
 -- What a conjunction gives is what its parts give, one after another.
-use Rattle.std.proofs.Common.{◌≡◌, List, [], ◌∷◌, ◌++◌, map, refl, ap, sym, ◌∙◌}
+use Rattle.std.proofs.Common.{◌≡◌, ◌<◌, ◌+◌, ℕ, List, [], ◌∷◌, ◌++◌, map, take, length, get_or, refl, ap, sym, ◌∙◌}
 use mathlib.Core.Former.{Count}
 use Rattle.std.specs.List.{flat_map}
+use Rattle.std.proofs.lemmas.List.{flat_map_more, take_more}
 use Rattle.farkas_proof.specs.Flatten.{literals, literals_step, disjunctions, disjunctions_of_row}
 use Rattle.lin_atoms.specs.declared.lit.Lit.{Lit}
 use Rattle.lin_atoms.specs.declared.form.Form.{Form, And', Or', Row_of-Form, end_of-Form, more_of-Form, items-the_row-Form, items_hidden-the_row-Form-0}
@@ -30,3 +31,10 @@ disjunctions-And parts = let row = row_of (And parts) in of_row row.0 row.1 ∙ 
 
 pub disjunctions-Or : (parts : List Form) → disjunctions (Or parts) ≡ parts ∷ []
 disjunctions-Or parts = let row = row_of (Or parts) in ap (λ ys. ys ∷ []) (items_hidden-the_row-Form-0 parts)
+
+-- one part more is put behind
+pub part-more : {X Y : Type 0} (f : X → List Y) (parts : List X) (i : ℕ) (part : X) (old now new : List Y) → i < length parts → part ≡ get_or parts i part → now ≡ old ++ flat_map f (take i parts) → new ≡ now ++ f part
+    → new ≡ old ++ flat_map f (take (i + 1) parts)
+part-more f parts i part old now new less is before put =
+    put ∙ ap (λ ys. ys ++ f part) before ∙ flat_map_more f old (take i parts) part
+    ∙ ap (λ xs. old ++ flat_map f xs) (ap (λ x. take i parts ++ x ∷ []) is ∙ sym (take_more parts i part less))

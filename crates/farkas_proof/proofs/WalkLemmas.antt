@@ -1,5 +1,5 @@
 -- What is found in what waits in a walk.
-use Rattle.std.proofs.Common.{◌≡◌, ◌<◌, ◌≤◌, ◌+◌, ◌-◌, min, append_assoc, Err, Some, ℕ, zero, suc, List, [], ◌∷◌, ◌++◌, map, take, drop, length, get_or, refl, ap, sym, ◌∙◌, arith, true, Bool, Bor}
+use Rattle.std.proofs.Common.{◌≡◌, ◌<◌, ◌≤◌, ◌+◌, ◌-◌, min, append_assoc, Err, Some, ℕ, zero, suc, List, [], ◌∷◌, ◌++◌, map, take, drop, length, get_or, refl, ap, sym, ◌∙◌, arith, true, Bool, Bor, Vec, Global, append-nil}
 use Rattle.std.proofs.Math.Seq.{take-append_seam, take-length}
 use Rattle.std.proofs.lemmas.List.{drop_min, drop_more, length-drop, take-append-le, take_min}
 use Rattle.std.specs.Prelude.{slice_get}
@@ -11,14 +11,14 @@ use Rattle.lin_atoms.specs.declared.lit.Lit.TheVariants.{Le}
 use Rattle.lin_atoms.specs.declared.form.Form.{Form}
 use Rattle.farkas_proof.specs.Combination.{one_minus}
 use Rattle.farkas_proof.specs.Flatten.{disjunctions, literals}
-use Rattle.farkas_proof.specs.Refutation.{Finding, Sound, Illegal, Wide, Judge, checked, each_part, followed_by, judged_at}
+use Rattle.farkas_proof.specs.Refutation.{Finding, Sound, Illegal, Wide, Judge, checked, each_part, followed_by, form_end, judged, judged_at}
 use Rattle.farkas_proof.specs.machinery.Tells.{Tells}
 use Rattle.farkas_proof.specs.declared.stop.CheckStop.{CheckStop}
 use Rattle.farkas_proof.specs.declared.stop.CheckStop.TheVariants.{Memory as OutOfMemory, NoProof, SumWide}
 use Rattle.farkas_proof.specs.machinery.Walk.{Leads, left_over, left_to, nothing_left, opened, replaced, size, sizes, weights, weight_of, work_step}
 use Rattle.farkas_proof.specs.declared.tree.Refutation.{Refutation}
 use Rattle.farkas_proof.specs.declared.walk.Work.{Work}
-use Rattle.farkas_proof.specs.declared.walk.Work.TheVariants.{Part, Forget}
+use Rattle.farkas_proof.specs.declared.walk.Work.TheVariants.{Tree, Part, Forget}
 
 pub opened-push : (cases : List (Bor (List Form))) (parts : Bor (List Form)) → opened (cases ++ parts ∷ []) ≡ opened cases ++ parts.now ∷ []
 opened-push [] parts = refl
@@ -170,3 +170,25 @@ replaced-is cs ms ns fs which before behind part m b n f d =
     let all : take (length cs - behind) (drop behind cs) ≡ drop behind cs = ap (λ (k : ℕ). take k (drop behind cs)) (sym (length-drop behind cs)) ∙ take-length (drop behind cs) in
     ap opened (f ∙ ap (λ (xs : List (Bor (List Form))). ns ++ xs) all) ∙ opened-append ns (drop behind cs) ∙ ap (λ (xs : List (List Form)). xs ++ opened (drop behind cs)) n ∙ append_assoc (opened ms) (disjunctions part) (opened (drop behind cs))
     ∙ ap (λ (xs : List (List Form)). xs ++ (disjunctions part ++ opened (drop behind cs))) front ∙ ap (λ (xs : List (List Form)). take which (opened cs) ++ (disjunctions part ++ xs)) back
+
+-- a walk that begins finds what is found in its tree
+pub begins : (end : ℕ) (form : Form) (tree : Bor Refutation) (derived : Vec Lit Global) (ws us : List Work) (flat first none lits : List Lit) (cs cases : List (Bor (List Form)))
+    → end ≡ form_end form → derived.items ≡ [] → ws ≡ [] → us ≡ ws ++ Tree tree derived ∷ [] → first ≡ [] → flat ≡ first ++ literals form → none ≡ [] → lits ≡ none ++ flat → cs ≡ [] → opened cases ≡ opened cs ++ disjunctions form
+    → left_to end us lits (opened cases) 0 ≡ judged lit_fits form tree.now
+begins end form tree derived ws us flat first none lits cs cases e d w u o f n l p q =
+    left_to-push end ws us (Tree tree derived) lits (opened cases) 0 u
+    ∙ ap (λ (vs : List Work). work_step end (Tree tree derived) (left_to end vs) lits (opened cases) 0) w
+    ∙ followed-sound (judged_at lit_fits end tree.now (lits ++ derived.items) (opened cases) 0)
+    ∙ same_judged tree.now end (form_end form) (lits ++ derived.items) (literals form) (opened cases) (disjunctions form) 0 0 e
+    (ap (λ (ls : List Lit). lits ++ ls) d ∙ append-nil lits ∙ l ∙ ap (λ (ls : List Lit). ls ++ flat) n ∙ f ∙ ap (λ (ls : List Lit). ls ++ literals form) o)
+    (q ∙ ap (λ (xs : List (Bor (List Form))). opened xs ++ disjunctions form) p) refl
+
+-- a tree on one more literal, which the literals derive
+pub round-leads : (end : ℕ) (tree : Refutation) (lits ls : List Lit) (cases : List (List Form)) (at : ℕ) (rest : ℕ → Finding) (legal : List Lit → Bool) (derived : List Lit → Lit) (lit : Lit)
+    → ls ≡ lits → legal ls ≡ true → lit_fits (derived ls) ≡ true → lit ≡ derived ls
+    → followed_by (checked (legal lits) (lit_fits (derived lits)) at (judged_at lit_fits end tree (lits ++ derived lits ∷ []) cases (at + 1))) rest ≡ followed_by (judged_at lit_fits end tree (lits ++ lit ∷ []) cases (at + 1)) rest
+round-leads end tree lits ls cases at rest legal derived lit same h f is =
+    let below : Finding = judged_at lit_fits end tree (lits ++ derived lits ∷ []) cases (at + 1) in
+    ap (λ b. followed_by (checked b (lit_fits (derived lits)) at below) rest) (ap legal (sym same) ∙ h)
+    ∙ ap (λ b. followed_by (checked true b at below) rest) (ap (λ (l : List Lit). lit_fits (derived l)) (sym same) ∙ f)
+    ∙ ap (λ (x : Lit). followed_by (judged_at lit_fits end tree (lits ++ x ∷ []) cases (at + 1)) rest) (ap derived (sym same) ∙ sym is)
