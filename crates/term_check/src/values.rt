@@ -1,7 +1,7 @@
 //! The values of constants.
 
-ghost use Rattle.std.specs.Prelude.{ℕ, ℤ, pos, ◌-ℤ◌, ◌*ℤ◌, fold, ◌≡◌, ◌+◌, ◌*◌, ◌^◌, ◌≤◌, ◌<◌, length, map, nat_abs};
-ghost use Rattle.term_tree.specs.Operators.{sum_of, difference_of, first_of_all};
+ghost use Rattle.std.specs.Prelude.{ℕ, ℤ, pos, ◌-ℤ◌, ◌*ℤ◌, neg_ℤ, fold, ◌≡◌, ◌+◌, ◌*◌, ◌^◌, ◌≤◌, ◌<◌, length, map, nat_abs};
+ghost use Rattle.term_tree.specs.Operators.{sum_of, difference_of, first_of_all, on_two};
 ghost use Rattle.term_check.specs.Rules.{varying, multiplied, if_short, product_if_short, worth, quotient, remainder, value_at};
 
 use crate::part::Part;
@@ -92,12 +92,18 @@ fn without(value: i64, parts: &[Part]) -> i128
     rest
 }
 
+fn opposite(part: &Part) -> i128
+    ensures { result ≡ neg_ℤ (worth part.now) }
+{
+    -i128::from(worth(part))
+}
+
 fn difference(parts: &[Part]) -> i128
     ensures { result ≡ difference_of (map worth parts.now) }
 {
     match parts {
         [] => 0,
-        [only] => -i128::from(worth(only)),
+        [only] => opposite(only),
         [first, rest @ ..] => without(worth(first), rest),
     }
 }
@@ -131,6 +137,24 @@ fn remainder(value: i64, divisor: i64) -> i128
     }
 }
 
+fn quotient_of(parts: &[Part]) -> i128
+    ensures { result ≡ on_two quotient (map worth parts.now) }
+{
+    match parts {
+        [value, divisor, ..] => quotient(worth(value), worth(divisor)),
+        _ => 0,
+    }
+}
+
+fn remainder_of(parts: &[Part]) -> i128
+    ensures { result ≡ on_two remainder (map worth parts.now) }
+{
+    match parts {
+        [value, divisor, ..] => remainder(worth(value), worth(divisor)),
+        _ => 0,
+    }
+}
+
 fn value_at(op: OpKind, parts: &[Part]) -> i128
     ensures { result ≡ value_at op (map worth parts.now) }
 {
@@ -138,14 +162,8 @@ fn value_at(op: OpKind, parts: &[Part]) -> i128
         OpKind::Add => sum(parts),
         OpKind::Sub => difference(parts),
         OpKind::Abs => magnitude(parts),
-        OpKind::Div => match parts {
-            [value, divisor, ..] => quotient(worth(value), worth(divisor)),
-            _ => 0,
-        },
-        OpKind::Mod => match parts {
-            [value, divisor, ..] => remainder(worth(value), worth(divisor)),
-            _ => 0,
-        },
+        OpKind::Div => quotient_of(parts),
+        OpKind::Mod => remainder_of(parts),
         _ => 0,
     }
 }
