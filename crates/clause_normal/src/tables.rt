@@ -10,7 +10,7 @@ use term_tree::{Pred, Terms};
 
 /// What is told of every term once: its sort, its value if it is a constant, and whether a bound shows
 /// that the numbers in it have room. It serves every assertion of a script.
-#[derive(Debug, Drop)]
+#[derive(Drop)]
 pub struct Tables {
     pub sorts: SortTable,
     pub constants: ConstantTable,
