@@ -1,6 +1,6 @@
 //! A formula is decided without its links first, and by itself where that is given up.
 
-ghost use Rattle.std.specs.Prelude.{◌≡◌, ◌<◌, ◌≤◌, ◌∷◌, [], ℕ, true, IfOk, IfSome};
+ghost use Rattle.std.specs.Prelude.{◌≡◌, ◌<◌, ◌≤◌, ◌∷◌, ◌&&◌, [], ℕ, true, false, IfOk, IfSome};
 ghost use Rattle.base.specs.Limits.{most_variables};
 ghost use Rattle.lin_atoms.specs.Truth.{is_below};
 ghost use Rattle.lin_atoms.specs.declared.form.Form.{Form as AForm};
@@ -59,6 +59,7 @@ fn settled(decision: Decision) -> Option<Decision>
 fn is_ready(form: &Form, vars: u32) -> bool
     ensures below { result ≡ true → is_below vars form.now ≡ true }
     ensures short { result ≡ true → has_short_multiples form.now ≡ true }
+    ensures otherwise { result ≡ false → (is_below vars form.now && has_short_multiples form.now) ≡ false }
 {
     if !form.is_below(vars as usize) {
         return false;
