@@ -28,7 +28,7 @@ from measure import chc_program
 PHASES = {
     "reading": ["sort_check::script::check_text"],
     "clauses": ["clause_normal::reading::read_clauses"],
-    "hints": ["lemma_candidates::hints::hints_of", "lemma_candidates::hints::Hints::renew"],
+    "hints": ["lemma_hints::hints::hints_of", "lemma_hints::hints::Hints::renew"],
     "turns": ["obligation_turn::turning::turn_in"],
     "lemmas": ["book_loop::learning::improved"],
     "lifts": ["book_loop::lifting::lift_of"],

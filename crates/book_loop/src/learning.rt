@@ -10,10 +10,9 @@ use crate::cubes::{with_core, with_turned};
 use crate::means::Means;
 use crate::older::excluding;
 use base::Memory;
-use lemma_candidates::{
-    Hints, propose, propose_alike, propose_hulls, tidy, try_bounds, try_paces, widen,
-};
+use lemma_candidates::{propose, propose_alike, propose_hulls, tidy, try_bounds, try_paces, widen};
 use lemma_general::{Tries, generalise, raise};
+use lemma_hints::Hints;
 use step_rules::{LemmaPart, Lent, Step};
 
 /// From this level of the book on all guesses are tried: few systems that end below it need more than

@@ -19,7 +19,7 @@ use crate::taking::{WORKER, has_ended, lend, take};
 use base::Memory;
 use chc_core::Book;
 use clause_form::System;
-use lemma_candidates::{Hints, hints_of};
+use lemma_hints::{Hints, hints_of};
 use obligation_turn::{Workspace, turn_in};
 use std::alloc::Global;
 use step_rules::Step;

@@ -4,12 +4,12 @@ ghost use Rattle.std.specs.Prelude.{◌<◌, OnOk};
 ghost use Rattle.obligation_turn.specs.Turns.{GoesOn};
 ghost use Rattle.lemma_general.specs.Tries.{IsTrying};
 
-use crate::hints::Hints;
 use crate::proposing::try_each;
 use base::Memory;
 use bound_hints::Bounds;
 use cube_forms::Cube;
 use lemma_general::Tries;
+use lemma_hints::Hints;
 use step_rules::{LemmaPart, Lent};
 
 /// Whether bounds are tried now: those that don't refute each query at every third unit alone, as they

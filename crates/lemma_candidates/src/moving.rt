@@ -5,9 +5,9 @@ ghost use Rattle.lin_atoms.specs.declared.lit.Lit.TheVariants.{Le};
 ghost use Rattle.lemma_candidates.specs.Candidates.{IsLooser};
 ghost use Rattle.lemma_general.specs.Tries.{IsWiderCube};
 
-use crate::bounds::cube_of;
 use base::{Copied, Memory};
 use cube_forms::Cube;
+use cube_guesses::cube_of;
 use lin_atoms::{Lin, Lit};
 use std::alloc::Global;
 

@@ -7,11 +7,11 @@ ghost use Rattle.lemma_general.specs.Tries.{IsTrying};
 ghost use Rattle.lemma_candidates.specs.Candidates.{IsInPlaceOf};
 ghost use Rattle.lemma_candidates.specs.machinery.Tried.{IsTriedOn};
 
-use crate::hints::Hints;
-use crate::sums::pair_sums;
 use base::Memory;
 use cube_forms::Cube;
+use cube_guesses::pair_sums;
 use lemma_general::{Tries, generalise};
+use lemma_hints::Hints;
 use lin_atoms::Lit;
 use step_rules::{LemmaPart, Lent};
 
@@ -49,28 +49,12 @@ fn shut_out(
     hints.cubes(lent.alloc, part.pred, obligation.point.as_slice(), whole)
 }
 
-/// Whether the literal is a bound.
-fn is_bound(lit: &Lit) -> bool {
-    match lit {
-        Lit::Le(_) => true,
-        _ => false,
-    }
-}
-
-/// Whether the literal says something of residues.
-fn is_of_residues(lit: &Lit) -> bool {
-    match lit {
-        Lit::Div(_, _) => true,
-        Lit::NDiv(_, _) => true,
-        _ => false,
-    }
-}
-
 /// Whether all literals are bounds.
 fn are_bounds(lits: &[Lit]) -> bool {
     for lit in lits {
-        if !is_bound(lit) {
-            return false;
+        match lit {
+            Lit::Le(_) => {}
+            _ => return false,
         }
     }
     true
@@ -79,28 +63,39 @@ fn are_bounds(lits: &[Lit]) -> bool {
 /// Whether all literals say something of residues.
 fn are_of_residues(lits: &[Lit]) -> bool {
     for lit in lits {
-        if !is_of_residues(lit) {
-            return false;
+        match lit {
+            Lit::Div(_, _) => {}
+            Lit::NDiv(_, _) => {}
+            _ => return false,
         }
     }
     true
 }
 
-/// The same of the kind that the lemma's cube has: of literals about residues alone none, and by residues
-/// only where the cube has more than bounds.
-fn shut_out_alike(lent: &Lent, part: &LemmaPart, hints: &Hints) -> Result<Vec<Cube>, Memory> {
-    let lits = part.lemma.cube().lits();
-    if lits.len() > 0 && are_of_residues(lits) {
-        return Ok(Vec::new(lent.alloc));
-    }
-    shut_out(lent, part, hints, !are_bounds(lits))
+/// Tries the cubes that are shut out by what was guessed; whether one was taken.
+fn try_shut_out(
+    lent: &Lent,
+    tries: &mut Tries,
+    hints: &Hints,
+    whole: bool,
+    nodes: u32,
+) -> Result<bool, Memory>
+    requires goes_on { GoesOn lent.now }
+    requires trying { IsTrying lent.now tries.old }
+    requires some { 0 < nodes }
+    ensures { OnOk result (IsTriedOn lent.now tries.old tries.new) }
+{
+    let cubes = shut_out(lent, tries.part(), hints, whole)?;
+    let taken = try_each(lent, tries, cubes.as_slice(), nodes)?;
+    Ok(taken)
 }
 
-/// The lemma with the first of the cubes that is taken, else as it is.
-fn with_one_of(
+/// The lemma with the first of these cubes that is taken, else as it is.
+fn with_shut_out(
     lent: &Lent,
     part: LemmaPart,
-    cubes: &[Cube],
+    hints: &Hints,
+    whole: bool,
     nodes: u32,
 ) -> Result<LemmaPart, Memory>
     requires goes_on { GoesOn lent.now }
@@ -109,7 +104,7 @@ fn with_one_of(
     ensures { IfOk result (IsInPlaceOf lent.now part) }
 {
     let mut tries = Tries::new(lent.alloc, part);
-    try_each(lent, &mut tries, cubes, nodes)?;
+    try_shut_out(lent, &mut tries, hints, whole, nodes)?;
     Ok(tries.into_part())
 }
 
@@ -126,8 +121,7 @@ pub fn propose_hulls(
     requires some { 0 < nodes }
     ensures { IfOk result (IsInPlaceOf lent.now part) }
 {
-    let cubes = shut_out(lent, &part, hints, true)?;
-    with_one_of(lent, part, cubes.as_slice(), nodes)
+    with_shut_out(lent, part, hints, true, nodes)
 }
 
 /// The same with fewer cubes, for a lemma as its turn gave it: a cube of literals about residues stays, and
@@ -143,8 +137,12 @@ pub fn propose_alike(
     requires some { 0 < nodes }
     ensures { IfOk result (IsInPlaceOf lent.now part) }
 {
-    let cubes = shut_out_alike(lent, &part, hints)?;
-    with_one_of(lent, part, cubes.as_slice(), nodes)
+    let lits = part.lemma.cube().lits();
+    if lits.len() > 0 && are_of_residues(lits) {
+        return Ok(part);
+    }
+    let whole = !are_bounds(lits);
+    with_shut_out(lent, part, hints, whole, nodes)
 }
 
 /// A lemma of another cube in the lemma's place, made more general, if the frame below implies one of

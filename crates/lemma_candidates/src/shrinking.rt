@@ -5,9 +5,9 @@ ghost use Rattle.obligation_turn.specs.Turns.{GoesOn};
 ghost use Rattle.lemma_general.specs.Tries.{IsTrying};
 ghost use Rattle.lemma_candidates.specs.machinery.Tried.{IsTriedOn};
 
-use crate::bounds::cube_of;
 use base::{Copied, Memory};
 use cube_forms::Cube;
+use cube_guesses::cube_of;
 use lemma_general::Tries;
 use std::alloc::Global;
 use step_rules::Lent;

@@ -1,64 +1,30 @@
 //! The literals of a cube in their simplest form.
 
-ghost use Rattle.std.specs.Prelude.{◌<◌, IfOk};
+ghost use Rattle.std.specs.Prelude.{◌<◌, IfOk, OnOk};
 ghost use Rattle.obligation_turn.specs.Turns.{GoesOn};
 ghost use Rattle.lemma_general.specs.Generals.{IsLearnt};
+ghost use Rattle.lemma_general.specs.Tries.{IsTrying};
 ghost use Rattle.lemma_candidates.specs.Candidates.{IsInPlaceOf};
+ghost use Rattle.lemma_candidates.specs.machinery.Tried.{IsTriedOn};
 
-use crate::bounds::cube_of;
 use crate::shrinking::shrink;
-use crate::tightening::{residue, tightened};
-use base::{Memory, Same};
+use base::Memory;
+use cube_guesses::{cube_of, simplest};
 use lemma_general::Tries;
-use lin_atoms::Lit;
-use std::alloc::Global;
 use step_rules::{LemmaPart, Lent};
 
-/// Whether the literal is one of these.
-fn has(lits: &[Lit], lit: &Lit) -> bool {
-    for one in lits {
-        if one.equals(lit) {
-            return true;
-        }
+/// Tries the cube with its literals in their simplest form, and then to leave out runs of them.
+fn try_tidy(lent: &Lent, tries: &mut Tries, nodes: u32) -> Result<(), Memory>
+    requires goes_on { GoesOn lent.now }
+    requires trying { IsTrying lent.now tries.old }
+    requires some { 0 < nodes }
+    ensures { OnOk result (IsTriedOn lent.now tries.old tries.new) }
+{
+    let lits = simplest(lent.alloc, tries.part().lemma.cube().lits())?;
+    if let Some(cube) = cube_of(lent.alloc, lits)? {
+        tries.try_cube(lent, &cube, nodes)?;
     }
-    false
-}
-
-/// Adds the literal, unless it is there.
-fn push_new(lits: &mut Vec<Lit>, lit: Lit) -> Result<(), Memory> {
-    if !has(lits.as_slice(), &lit) {
-        lits.push(lit)?;
-    }
-    Ok(())
-}
-
-/// Adds the literal in its simplest form, an equation as two bounds.
-fn push_tidy(alloc: Global, lits: &mut Vec<Lit>, lit: &Lit) -> Result<(), Memory> {
-    match lit {
-        Lit::Le(lin) => push_new(lits, Lit::Le(tightened(alloc, lin)?)),
-        Lit::Eq(lin) => {
-            let below = lin.negated(alloc)?;
-            push_new(lits, Lit::Le(tightened(alloc, &below)?))?;
-            push_new(lits, Lit::Le(tightened(alloc, lin)?))
-        }
-        Lit::Div(divisor, lin) => push_new(
-            lits,
-            Lit::Div(*divisor, residue(alloc, *divisor, lin)?),
-        ),
-        Lit::NDiv(divisor, lin) => push_new(
-            lits,
-            Lit::NDiv(*divisor, residue(alloc, *divisor, lin)?),
-        ),
-    }
-}
-
-/// The literals in their simplest form, each once, the last first.
-fn tidied(alloc: Global, lits: &[Lit]) -> Result<Vec<Lit>, Memory> {
-    let mut made = Vec::new(alloc);
-    for lit in lits.iter().rev() {
-        push_tidy(alloc, &mut made, lit)?;
-    }
-    Ok(made)
+    shrink(lent, tries, nodes)
 }
 
 /// The lemma with the literals of its cube in their simplest form, each once, equations as two bounds,
@@ -70,11 +36,7 @@ pub fn tidy(lent: &Lent, part: LemmaPart, nodes: u32) -> Result<LemmaPart, Memor
     requires some { 0 < nodes }
     ensures { IfOk result (IsInPlaceOf lent.now part) }
 {
-    let lits = tidied(lent.alloc, part.lemma.cube().lits())?;
     let mut tries = Tries::new(lent.alloc, part);
-    if let Some(cube) = cube_of(lent.alloc, lits)? {
-        tries.try_cube(lent, &cube, nodes)?;
-    }
-    shrink(lent, &mut tries, nodes)?;
+    try_tidy(lent, &mut tries, nodes)?;
     Ok(tries.into_part())
 }

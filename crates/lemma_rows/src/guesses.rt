@@ -2,7 +2,7 @@
 
 use crate::books::book_of;
 use crate::shown::shown_cubes;
-use lemma_candidates::{Hints, hints_of};
+use lemma_hints::{Hints, hints_of};
 use std::alloc::Global;
 use std::process::Abort;
 

@@ -9,7 +9,7 @@ ghost use Rattle.book_loop.specs.machinery.Steps.{IsTaken};
 use crate::lifting::next_lift;
 use base::Memory;
 use book_loop::{Means, Pass, improved, pass_of};
-use lemma_candidates::{Hints, hints_of};
+use lemma_hints::{Hints, hints_of};
 use obligation_turn::{Workspace, turn_in};
 use std::alloc::Global;
 use step_rules::{Lent, Step};

@@ -1,7 +1,9 @@
 //! What all tuples of a predicate that were met have in common: linear equations, and residues of
 //! simple forms.
 
-use crate::tightening::primitive;
+ghost use Rattle.std.specs.Prelude.{◌<◌, length, IfSome};
+
+use crate::reducing::primitive;
 use crate::values::{combined, value_at};
 use base::{Copied, Memory};
 use lin_atoms::{Divisor, Lin, Lit, gcd};
@@ -22,7 +24,8 @@ const MOST_WITH_TRIPLES: usize = 5;
 /// The widest coefficient of an equation.
 const WIDEST: i64 = 1 << 40;
 
-/// A form, and a number that divides its value at each tuple: 0 as long as each value is 0.
+/// A form, and a number that divides its value at each tuple: 0 as long as each value is 0, and 1 where
+/// nothing is known.
 #[derive(Drop)]
 struct Residue {
     lin: Lin,
@@ -37,12 +40,18 @@ pub(crate) struct Hull {
     residues: Vec<Residue>,
 }
 
+/// What is known of the tuples of a predicate.
+#[derive(Drop)]
+pub(crate) enum Known {
+    /// No tuple was met.
+    Nothing,
+    /// What those that were met have in common.
+    Common(Hull),
+}
+
 /// The form of these variables, each with a sign, that is 0 at the tuple.
 fn form_at(alloc: Global, tuple: &[i64], terms: &[(u32, i64)]) -> Result<Option<Lin>, Memory> {
-    let mut kept = Vec::new(alloc);
-    for term in terms {
-        kept.push(*term)?;
-    }
+    let kept = Vec::from_slice(alloc, terms)?;
     let lin = match Lin::new(kept, 0) {
         Ok(lin) => lin,
         Err(_) => return Ok(None),
@@ -110,23 +119,27 @@ fn push_residues(
     Ok(())
 }
 
-fn residues_at(alloc: Global, tuple: &[i64]) -> Result<Vec<Residue>, Memory> {
-    let mut residues = Vec::new(alloc);
+/// Adds the residues of places alone, and of pairs and triples, where there are few places.
+fn push_all_residues(
+    alloc: Global,
+    residues: &mut Vec<Residue>,
+    tuple: &[i64],
+) -> Result<(), Memory> {
     if tuple.len() > MOST_WITH_RESIDUES {
-        return Ok(residues);
+        return Ok(());
     }
     let end = match u32::try_from(tuple.len()) {
         Ok(count) => count.min(MOST_IN_PAIRS),
         Err(_) => MOST_IN_PAIRS,
     };
     for i in 0..end {
-        push_residues(alloc, &mut residues, tuple, i, end)?;
+        push_residues(alloc, residues, tuple, i, end)?;
     }
-    Ok(residues)
+    Ok(())
 }
 
-fn equations_at(alloc: Global, tuple: &[i64]) -> Result<Vec<Lin>, Memory> {
-    let mut equations = Vec::new(alloc);
+/// Adds the equations of places.
+fn push_places(alloc: Global, equations: &mut Vec<Lin>, tuple: &[i64]) -> Result<(), Memory> {
     let end = match u32::try_from(tuple.len()) {
         Ok(count) => count,
         Err(_) => 0,
@@ -136,21 +149,20 @@ fn equations_at(alloc: Global, tuple: &[i64]) -> Result<Vec<Lin>, Memory> {
             equations.push(lin)?;
         }
     }
-    Ok(equations)
+    Ok(())
 }
 
 /// The hull of one tuple, where it has few places.
 pub(crate) fn hull_of(alloc: Global, tuple: &[i64]) -> Result<Hull, Memory> {
-    if tuple.len() > MOST_PLACES {
-        return Ok(Hull {
-            equations: Vec::new(alloc),
-            residues: Vec::new(alloc),
-        });
+    let mut hull = Hull {
+        equations: Vec::new(alloc),
+        residues: Vec::new(alloc),
+    };
+    if tuple.len() <= MOST_PLACES {
+        push_places(alloc, &mut hull.equations, tuple)?;
+        push_all_residues(alloc, &mut hull.residues, tuple)?;
     }
-    Ok(Hull {
-        equations: equations_at(alloc, tuple)?,
-        residues: residues_at(alloc, tuple)?,
-    })
+    Ok(hull)
 }
 
 fn is_within_widest(lin: &Lin) -> bool {
@@ -163,7 +175,9 @@ fn is_within_widest(lin: &Lin) -> bool {
 }
 
 /// The first equation that is broken at the tuple, and its value there.
-fn first_broken(equations: &[Lin], tuple: &[i64]) -> Option<(usize, i64)> {
+fn first_broken(equations: &[Lin], tuple: &[i64]) -> Option<(usize, i64)>
+    ensures { IfSome result (λ found. found.0 < length equations.now) }
+{
     for (at, lin) in equations.iter().enumerate() {
         match value_at(lin, tuple) {
             Some(0) => {}
@@ -205,24 +219,21 @@ fn mended(
     }
 }
 
-/// The equations that hold at the tuple, too.
-fn with_tuple(alloc: Global, equations: &[Lin], tuple: &[i64]) -> Result<Vec<Lin>, Memory> {
+/// The equations but the one at a place, which is broken at the tuple, each so that it holds there.
+fn mended_by(
+    alloc: Global,
+    equations: &[Lin],
+    broken: usize,
+    value: i64,
+    tuple: &[i64],
+) -> Result<Vec<Lin>, Memory>
+    requires { broken < length equations.now }
+{
     let mut made = Vec::new(alloc);
-    let broken = first_broken(equations, tuple);
     for (at, lin) in equations.iter().enumerate() {
-        match broken {
-            None => made.push(lin.copy(alloc)?)?,
-            Some((first, value)) => {
-                if at != first {
-                    match equations.get(first) {
-                        Some(of) => {
-                            if let Some(lin) = mended(alloc, lin, of, value, tuple)? {
-                                made.push(lin)?;
-                            }
-                        }
-                        None => {}
-                    }
-                }
+        if at != broken {
+            if let Some(lin) = mended(alloc, lin, &equations[broken], value, tuple)? {
+                made.push(lin)?;
             }
         }
     }
@@ -246,55 +257,28 @@ fn narrowed(residue: &Residue, tuple: &[i64]) -> i64 {
     }
 }
 
-/// A list without the item at a place.
-fn equations_without(alloc: Global, equations: &[Lin], at: usize) -> Result<Vec<Lin>, Memory> {
-    let mut made = Vec::new(alloc);
-    for (i, lin) in equations.iter().enumerate() {
-        if i != at {
-            made.push(lin.copy(alloc)?)?;
+/// Lowers each modulus to what divides the value at one more tuple, too.
+fn narrow_all(residues: &mut Vec<Residue>, tuple: &[i64]) {
+    for residue in residues.iter_mut() {
+        if residue.modulus != 1 {
+            residue.modulus = narrowed(residue, tuple);
         }
     }
-    Ok(made)
 }
 
-/// The residues at one more tuple, without those that are 1 then.
-fn residues_with(
-    alloc: Global,
-    residues: &[Residue],
-    tuple: &[i64],
-) -> Result<Vec<Residue>, Memory> {
-    let mut made = Vec::new(alloc);
-    for residue in residues {
-        let modulus = narrowed(residue, tuple);
-        if modulus != 1 {
-            let lin = residue.lin.copy(alloc)?;
-            made.push(Residue { lin, modulus })?;
-        }
-    }
-    Ok(made)
-}
-
-/// The residues but the one at a place among those that say something.
-fn residues_without(
-    alloc: Global,
-    residues: &[Residue],
-    at: usize,
-) -> Result<Vec<Residue>, Memory> {
-    let mut made = Vec::new(alloc);
+/// Of the residues that say something the one at a place says nothing any more, nor do those that are 0.
+fn lower_at(residues: &mut Vec<Residue>, at: usize) {
     let mut count: usize = 0;
-    for residue in residues {
+    for residue in residues.iter_mut() {
         if residue.modulus > 1 {
-            if count != at {
-                let lin = residue.lin.copy(alloc)?;
-                made.push(Residue {
-                    lin,
-                    modulus: residue.modulus,
-                })?;
+            if count == at {
+                residue.modulus = 1;
             }
             count = count.saturating_add(1);
+        } else {
+            residue.modulus = 1;
         }
     }
-    Ok(made)
 }
 
 /// The equations as literals.
@@ -324,23 +308,24 @@ fn push_divisibilities(
 impl Hull {
     /// Takes one more tuple in.
     pub(crate) fn add(&mut self, alloc: Global, tuple: &[i64]) -> Result<(), Memory> {
-        let equations = with_tuple(alloc, self.equations.as_slice(), tuple)?;
-        let residues = residues_with(alloc, self.residues.as_slice(), tuple)?;
-        self.equations = equations;
-        self.residues = residues;
+        let equations = self.equations.as_slice();
+        if let Some((broken, value)) = first_broken(equations, tuple) {
+            self.equations = mended_by(alloc, equations, broken, value, tuple)?;
+        }
+        narrow_all(&mut self.residues, tuple);
         Ok(())
     }
 
     /// Lets the equation at a place go.
-    pub(crate) fn drop_equation(&mut self, alloc: Global, at: usize) -> Result<(), Memory> {
-        self.equations = equations_without(alloc, self.equations.as_slice(), at)?;
-        Ok(())
+    pub(crate) fn drop_equation(&mut self, at: usize) {
+        if at < self.equations.len() {
+            let _old = self.equations.remove(at);
+        }
     }
 
-    /// Lets the divisibility at a place go.
-    pub(crate) fn drop_divisibility(&mut self, alloc: Global, at: usize) -> Result<(), Memory> {
-        self.residues = residues_without(alloc, self.residues.as_slice(), at)?;
-        Ok(())
+    /// Lets the divisibility at a place go, and all of forms that are 0.
+    pub(crate) fn drop_divisibility(&mut self, at: usize) {
+        lower_at(&mut self.residues, at);
     }
 
     /// Lets all divisibilities go.
@@ -348,27 +333,28 @@ impl Hull {
         self.residues = Vec::new(alloc);
     }
 
-    /// Has the residues of another one in place of its own.
-    pub(crate) fn take_residues(&mut self, other: Hull) {
-        self.residues = other.residues;
+    /// Has the residues of another one in place of its own, and gives it these.
+    pub(crate) fn swap_residues(&mut self, other: &mut Hull) {
+        std::mem::swap(&mut self.residues, &mut other.residues);
     }
 
-    /// The forms of equations of two and more places.
-    pub(crate) fn long_forms(&self, alloc: Global) -> Result<Vec<Lin>, Memory> {
-        let mut forms = Vec::new(alloc);
+    /// Adds the forms of equations of two and more places.
+    pub(crate) fn push_long_forms(
+        &self,
+        alloc: Global,
+        forms: &mut Vec<Lin>,
+    ) -> Result<(), Memory> {
         for lin in self.equations.as_slice() {
             if lin.terms().len() > 1 {
                 forms.push(lin.copy(alloc)?)?;
             }
         }
-        Ok(forms)
+        Ok(())
     }
 
-    /// The equations.
-    pub(crate) fn equations(&self, alloc: Global) -> Result<Vec<Lit>, Memory> {
-        let mut lits = Vec::new(alloc);
-        push_equations(alloc, &mut lits, self.equations.as_slice())?;
-        Ok(lits)
+    /// The forms that are 0 at each tuple.
+    pub(crate) fn equations(&self) -> &[Lin] {
+        self.equations.as_slice()
     }
 
     /// The divisibilities.

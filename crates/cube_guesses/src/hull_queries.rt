@@ -2,11 +2,11 @@
 
 ghost use Rattle.std.specs.Prelude.{◌<◌};
 
-use crate::bounds::cube_of;
-use crate::hinting::Known;
+use crate::cubes::cube_of;
+use crate::hulls::Known;
 use base::{Copied, Items, Memory};
 use clause_form::{Atom, Clause};
-use lia_cases::{Decision, decide};
+use lia_cases::{Decision, decide_owned};
 use lia_search::has_short_multiples;
 use lin_atoms::{Form, Lit, WideStop, denied};
 use std::alloc::Global;
@@ -42,18 +42,24 @@ pub(crate) enum Verdict {
     Lost(usize),
 }
 
+/// What is kept of a decision.
+fn answer_of(alloc: Global, decision: &mut Decision) -> Answer {
+    match decision {
+        Decision::Model(point) => Answer::Point(std::mem::replace(point, Vec::new(alloc))),
+        Decision::Refuted(_) => Answer::Refuted,
+        Decision::GaveUp(_) => Answer::GivenUp,
+    }
+}
+
 /// Asks whether a point of `vars` variables makes the formula true.
-fn ask(alloc: Global, form: &Form, vars: u32, nodes: u32) -> Result<Answer, Memory>
+fn ask(alloc: Global, form: Form, vars: u32, nodes: u32) -> Result<Answer, Memory>
     requires { 0 < nodes }
 {
-    if vars > MOST_VARIABLES || !form.is_below(vars as usize) || !has_short_multiples(form) {
+    if vars > MOST_VARIABLES || !form.is_below(vars as usize) || !has_short_multiples(&form) {
         return Ok(Answer::GivenUp);
     }
-    match decide(alloc, form, &[], vars, nodes)? {
-        Decision::Model(point) => Ok(Answer::Point(point)),
-        Decision::Refuted(_) => Ok(Answer::Refuted),
-        Decision::GaveUp(_) => Ok(Answer::GivenUp),
-    }
+    let mut decision = decide_owned(alloc, form, Items::new(alloc), vars, nodes)?;
+    Ok(answer_of(alloc, &mut decision))
 }
 
 /// Asks about a clause, and counts the query.
@@ -70,11 +76,11 @@ fn ask_clause(
         return Ok(Answer::GivenUp);
     }
     *left -= 1;
-    let whole = Form::And(parts);
-    let answer = match u32::try_from(clause.sorts.len()) {
-        Ok(vars) => ask(alloc, &whole, vars, nodes)?,
-        Err(_) => Answer::GivenUp,
+    let vars = match u32::try_from(clause.sorts.len()) {
+        Ok(vars) => vars,
+        Err(_) => u32::MAX,
     };
+    let answer = ask(alloc, Form::And(parts), vars, nodes)?;
     if let Answer::GivenUp = answer {
         *left = left.saturating_sub(GIVEN_UP);
     }
@@ -253,7 +259,7 @@ pub(crate) fn visit_equations(
     match known.get(head.pred as usize) {
         Some(Known::Nothing) => visit_first(alloc, known, clause, head, whole, left),
         Some(Known::Common(hull)) => {
-            let lits = lits_at(alloc, hull.equations(alloc)?, head.args.as_slice())?;
+            let lits = lits_at(alloc, hull.literals(alloc, false)?, head.args.as_slice())?;
             if lits.as_slice().len() == 0 {
                 return Ok(Verdict::Kept);
             }

@@ -1,14 +1,40 @@
 //! Sums of two bounds of a cube: counters that move together keep such a sum.
 
-use crate::bounds::{bounds, cube_of};
-use crate::tightening::tightened;
-use base::{Memory, Same};
+use crate::cubes::cube_of_one;
+use crate::reducing::tightened;
+use base::{Copied, Memory, Same};
 use cube_forms::Cube;
 use lin_atoms::{Lin, Lit, WideStop};
 use std::alloc::Global;
 
 /// How many sums are made.
 const MOST_SUMS: usize = 64;
+
+/// Adds the forms of which the literal says that they are at most 0: of an equation two.
+fn push_bounds(alloc: Global, forms: &mut Vec<Lin>, lit: &Lit) -> Result<(), Memory> {
+    match lit {
+        Lit::Le(lin) => {
+            forms.push(lin.copy(alloc)?)?;
+            Ok(())
+        }
+        Lit::Eq(lin) => {
+            forms.push(lin.copy(alloc)?)?;
+            forms.push(lin.negated(alloc)?)?;
+            Ok(())
+        }
+        Lit::Div(_, _) => Ok(()),
+        Lit::NDiv(_, _) => Ok(()),
+    }
+}
+
+/// The forms that are at most 0 at each tuple in a cube of these literals, as far as one literal says so.
+fn bounds(alloc: Global, lits: &[Lit]) -> Result<Vec<Lin>, Memory> {
+    let mut forms = Vec::new(alloc);
+    for lit in lits {
+        push_bounds(alloc, &mut forms, lit)?;
+    }
+    Ok(forms)
+}
 
 /// The sum of two forms, where it has room.
 fn sum_of(alloc: Global, x: &Lin, y: &Lin) -> Result<Option<Lin>, Memory> {
@@ -29,9 +55,7 @@ fn is_simple(x: &Lin, y: &Lin, sum: &Lin) -> bool {
 
 /// The cube of one bound, where its numbers have room.
 fn bound_cube(alloc: Global, lin: &Lin) -> Result<Option<Cube>, Memory> {
-    let mut lits = Vec::new(alloc);
-    lits.push(Lit::Le(tightened(alloc, lin)?))?;
-    cube_of(alloc, lits)
+    cube_of_one(alloc, Lit::Le(tightened(alloc, lin)?))
 }
 
 /// The sum of two bounds as a cube, where it is simple.
@@ -73,7 +97,7 @@ fn push_sums(alloc: Global, cubes: &mut Vec<Cube>, x: &Lin, others: &[Lin]) -> R
 }
 
 /// The simple sums of two bounds of the cube, each a cube of its own: the first 64.
-pub(crate) fn pair_sums(alloc: Global, cube: &Cube) -> Result<Vec<Cube>, Memory> {
+pub fn pair_sums(alloc: Global, cube: &Cube) -> Result<Vec<Cube>, Memory> {
     let forms = bounds(alloc, cube.lits())?;
     let mut cubes = Vec::new(alloc);
     for (i, x) in forms.iter().enumerate() {

@@ -2,14 +2,11 @@
 //! clauses forward met. In a system whose counterexamples are long such a bound does at each level for all
 //! that lies further off.
 
-use crate::bounds::cube_of;
-use crate::hinting::{Known, take, unknown};
-use crate::hulls::Hull;
-use crate::values::value_at;
-use base::{Copied, Memory};
+use base::Memory;
 use bound_hints::{Met, Walk};
 use clause_form::System;
 use cube_forms::Cube;
+use cube_guesses::{Hulls, cube_of, value_at};
 use lin_atoms::{Lin, Lit};
 use std::alloc::Global;
 
@@ -33,10 +30,7 @@ pub(crate) struct Pace {
 
 /// The tuple with the number of its step behind it.
 fn with_depth(alloc: Global, one: &Met) -> Result<Vec<i64>, Memory> {
-    let mut values = Vec::new(alloc);
-    for value in one.tuple.as_slice() {
-        values.push(*value)?;
-    }
+    let mut values = Vec::from_slice(alloc, one.tuple.as_slice())?;
     values.push(one.depth)?;
     Ok(values)
 }
@@ -128,19 +122,16 @@ fn push_equation(
     push_pace(paces, pred, terms, step, base)
 }
 
-/// Adds those of the equations that the predicate's tuples have in common with the number of their step.
+/// Adds those of forms that are 0 so.
 fn push_equations(
     alloc: Global,
     paces: &mut Vec<Pace>,
     pred: u32,
     places: u32,
-    hull: &Hull,
+    lins: &[Lin],
 ) -> Result<(), Memory> {
-    let lits = hull.equations(alloc)?;
-    for lit in lits.as_slice() {
-        if let Lit::Eq(lin) = lit {
-            push_equation(alloc, paces, pred, places, lin)?;
-        }
+    for lin in lins {
+        push_equation(alloc, paces, pred, places, lin)?;
     }
     Ok(())
 }
@@ -155,38 +146,27 @@ fn count_of(met: &[Met], pred: u32) -> usize {
     count
 }
 
-/// Adds those of a predicate.
-fn push_all(
-    alloc: Global,
-    paces: &mut Vec<Pace>,
-    met: &[Met],
-    known: Option<&Known>,
-    pred: u32,
-    places: u32,
-) -> Result<(), Memory> {
-    if count_of(met, pred) < LEAST_MET {
-        return Ok(());
+/// What the tuples that were met have in common with the numbers of their steps.
+fn hulls_with_depth(alloc: Global, sys: &System, met: &[Met]) -> Result<Hulls, Memory> {
+    let mut hulls = Hulls::unknown(alloc, sys)?;
+    for one in met {
+        let tuple = with_depth(alloc, one)?;
+        hulls.take(alloc, one.pred, tuple.as_slice())?;
     }
-    if let Some(Known::Common(hull)) = known {
-        push_equations(alloc, paces, pred, places, hull)?;
-    }
-    Ok(())
+    Ok(hulls)
 }
 
 /// The paces of all predicates, as far as running clauses forward met.
 pub(crate) fn paces_of(alloc: Global, sys: &System, walk: &Walk) -> Result<Vec<Pace>, Memory> {
     let met = walk.met.as_slice();
-    let mut known = unknown(alloc, sys)?;
-    for one in met {
-        let tuple = with_depth(alloc, one)?;
-        take(alloc, &mut known, one.pred, tuple.as_slice())?;
-    }
+    let hulls = hulls_with_depth(alloc, sys, met)?;
     let mut paces = Vec::new(alloc);
     for (pred, sorts) in sys.preds().iter().enumerate() {
         match (u32::try_from(pred), u32::try_from(sorts.len())) {
-            (Ok(number), Ok(places)) => {
-                let own = known.as_slice().get(pred);
-                push_all(alloc, &mut paces, met, own, number, places)?;
+            (Ok(pred), Ok(places)) => {
+                if count_of(met, pred) >= LEAST_MET {
+                    push_equations(alloc, &mut paces, pred, places, hulls.equations(pred))?;
+                }
             }
             _ => {}
         }
@@ -252,8 +232,7 @@ fn cube_at(alloc: Global, pace: &Pace, steps: i64) -> Result<Option<Cube>, Memor
     let lin = pace.lin.negated(alloc)?;
     match lin.plus(least) {
         Some(lin) => {
-            let mut lits = Vec::new(alloc);
-            lits.push(Lit::Le(lin))?;
+            let lits = Vec::from_array(alloc, [Lit::Le(lin)])?;
             cube_of(alloc, lits)
         }
         None => Ok(None),

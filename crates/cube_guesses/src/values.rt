@@ -13,7 +13,7 @@ fn variable_at(point: &[i64], variable: u32) -> i64 {
 }
 
 /// The value of the form at the point, where it and each sum on the way have room.
-pub(crate) fn value_at(lin: &Lin, point: &[i64]) -> Option<i64> {
+pub fn value_at(lin: &Lin, point: &[i64]) -> Option<i64> {
     let mut total = lin.constant();
     for (variable, coefficient) in lin.terms() {
         let value = i128::from(variable_at(point, *variable));

@@ -1,4 +1,4 @@
-//! Bounds without a common factor.
+//! Forms with smaller numbers that say the same.
 
 ghost use Rattle.std.specs.Prelude.{◌<ℤ◌, pos};
 

@@ -1,0 +1,19 @@
+//! Cubes that are guessed: by what all tuples of a predicate have in common, as sums of two bounds of a
+//! cube, and with literals in their simplest form. Nothing is promised of them.
+#![tactic(auto)]
+
+mod cubes;
+mod hull_queries;
+mod hulls;
+mod reducing;
+mod settling;
+mod shutting;
+mod simplest;
+mod sums;
+mod values;
+
+pub use cubes::cube_of;
+pub use settling::{Hulls, hulls_of};
+pub use simplest::simplest;
+pub use sums::pair_sums;
+pub use values::value_at;

@@ -1,0 +1,300 @@
+//! Hulls of all predicates: what each clause keeps, found by asking it for tuples that break it
+//! (Karr, "Affine relationships among variables of a program", for the equations).
+
+use crate::hull_queries::{Verdict, visit_divisibilities, visit_equations};
+use crate::hulls::{Known, MOST_WITH_RESIDUES, hull_of};
+use crate::shutting::broken_at;
+use base::Memory;
+use clause_form::{Atom, Clause, System};
+use cube_forms::Cube;
+use lin_atoms::Lin;
+use std::alloc::Global;
+
+/// How many queries are asked.
+const MOST_QUERIES: u32 = 3_000;
+
+/// Whether a tuple of each atom's predicate was met.
+fn are_reached(known: &[Known], atoms: &[Atom]) -> bool {
+    for atom in atoms {
+        match known.get(atom.pred as usize) {
+            Some(Known::Common(_)) => {}
+            _ => return false,
+        }
+    }
+    true
+}
+
+/// Takes a tuple of the predicate in.
+fn take(alloc: Global, known: &mut Vec<Known>, pred: u32, tuple: &[i64]) -> Result<(), Memory> {
+    if let Some(place) = known.as_mut_slice().get_mut(pred as usize) {
+        match place {
+            Known::Nothing => *place = Known::Common(hull_of(alloc, tuple)?),
+            Known::Common(hull) => hull.add(alloc, tuple)?,
+        }
+    }
+    Ok(())
+}
+
+/// What clauses are asked about.
+#[derive(Clone, Copy)]
+enum Stage {
+    /// Equations, by the equations of the body's tuples.
+    Equations,
+    /// Equations, by all that is known of the body's tuples.
+    Both,
+    /// Divisibilities, by all that is known.
+    Divisibilities,
+}
+
+/// Lets a literal of the predicate's hull go: a divisibility or an equation.
+fn lose(known: &mut Vec<Known>, pred: u32, at: usize, stage: Stage) {
+    if let Some(Known::Common(hull)) = known.as_mut_slice().get_mut(pred as usize) {
+        match stage {
+            Stage::Divisibilities => hull.drop_divisibility(at),
+            _ => hull.drop_equation(at),
+        }
+    }
+}
+
+/// Asks a clause once; whether anything changed.
+fn step(
+    alloc: Global,
+    known: &mut Vec<Known>,
+    clause: &Clause,
+    head: &Atom,
+    stage: Stage,
+    left: &mut u32,
+) -> Result<bool, Memory> {
+    let found = match stage {
+        Stage::Equations => { visit_equations(alloc, known.as_slice(), clause, head, false, left)? }
+        Stage::Both => visit_equations(alloc, known.as_slice(), clause, head, true, left)?,
+        Stage::Divisibilities => {
+            visit_divisibilities(alloc, known.as_slice(), clause, head, left)?
+        }
+    };
+    match found {
+        Verdict::Kept => Ok(false),
+        Verdict::Met(tuple) => {
+            take(alloc, known, head.pred, tuple.as_slice())?;
+            Ok(true)
+        }
+        Verdict::Lost(at) => {
+            lose(known, head.pred, at, stage);
+            Ok(true)
+        }
+    }
+}
+
+/// Asks a clause until what is known of its head stands; whether that changed.
+fn settle(
+    alloc: Global,
+    known: &mut Vec<Known>,
+    clause: &Clause,
+    head: &Atom,
+    stage: Stage,
+    left: &mut u32,
+) -> Result<bool, Memory> {
+    if !are_reached(known.as_slice(), clause.atoms.as_slice()) {
+        return Ok(false);
+    }
+    for at in 0..MOST_QUERIES {
+        if *left == 0 || !step(alloc, known, clause, head, stage, left)? {
+            return Ok(at > 0);
+        }
+    }
+    Ok(true)
+}
+
+/// Asks each clause with a head; whether anything changed.
+fn round(
+    alloc: Global,
+    known: &mut Vec<Known>,
+    sys: &System,
+    stage: Stage,
+    left: &mut u32,
+) -> Result<bool, Memory> {
+    let mut changed = false;
+    for clause in sys.clauses() {
+        if let Some(head) = &clause.head {
+            if settle(alloc, known, clause, head, stage, left)? {
+                changed = true;
+            }
+        }
+    }
+    Ok(changed)
+}
+
+/// Asks round after round until nothing changes; whether it came to that.
+fn rounds(
+    alloc: Global,
+    known: &mut Vec<Known>,
+    sys: &System,
+    stage: Stage,
+) -> Result<bool, Memory> {
+    let mut left = MOST_QUERIES;
+    for _ in 0..MOST_QUERIES {
+        if left == 0 {
+            return Ok(false);
+        }
+        if !round(alloc, known, sys, stage, &mut left)? {
+            return Ok(left > 0);
+        }
+    }
+    Ok(false)
+}
+
+/// Nothing is known of any predicate.
+fn unknown(alloc: Global, sys: &System) -> Result<Vec<Known>, Memory> {
+    let mut known = Vec::new(alloc);
+    for _ in sys.preds() {
+        known.push(Known::Nothing)?;
+    }
+    Ok(known)
+}
+
+/// Lets all that is known go.
+fn lose_all(known: &mut Vec<Known>) {
+    for one in known.iter_mut() {
+        *one = Known::Nothing;
+    }
+}
+
+/// Lets all divisibilities go.
+fn lose_divisibilities(alloc: Global, known: &mut Vec<Known>) {
+    for one in known.iter_mut() {
+        match one {
+            Known::Nothing => {}
+            Known::Common(hull) => hull.drop_divisibilities(alloc),
+        }
+    }
+}
+
+/// Whether a predicate has few enough places for residues.
+fn may_have_residues(sys: &System) -> bool {
+    for sorts in sys.preds() {
+        if sorts.len() > 0 && sorts.len() <= MOST_WITH_RESIDUES {
+            return true;
+        }
+    }
+    false
+}
+
+/// Finds equations and residues beside each other; whether it came to an end.
+fn settle_both(alloc: Global, known: &mut Vec<Known>, sys: &System) -> Result<bool, Memory> {
+    if !rounds(alloc, known, sys, Stage::Both)? {
+        return Ok(false);
+    }
+    rounds(alloc, known, sys, Stage::Divisibilities)
+}
+
+/// Puts the residues of one hull in the place of those of another.
+fn put_residues(known: &mut Known, other: &mut Known) {
+    if let Known::Common(hull) = known {
+        if let Known::Common(other) = other {
+            hull.swap_residues(other);
+        }
+    }
+}
+
+/// The same for each predicate.
+fn put_each(known: &mut Vec<Known>, others: &mut Vec<Known>) {
+    for (at, other) in others.iter_mut().enumerate() {
+        if let Some(one) = known.as_mut_slice().get_mut(at) {
+            put_residues(one, other);
+        }
+    }
+}
+
+/// Has residues that are met among tuples that have them, where that comes to an end; whether it does.
+fn put_beside(alloc: Global, known: &mut Vec<Known>, sys: &System) -> Result<bool, Memory> {
+    if !may_have_residues(sys) {
+        return Ok(false);
+    }
+    let mut others = unknown(alloc, sys)?;
+    let is_settled = settle_both(alloc, &mut others, sys)?;
+    if is_settled {
+        put_each(known, &mut others);
+    }
+    Ok(is_settled)
+}
+
+/// Finds equations, and divisibilities beside or behind them.
+fn settle_all(alloc: Global, known: &mut Vec<Known>, sys: &System) -> Result<(), Memory> {
+    if !rounds(alloc, known, sys, Stage::Equations)? {
+        lose_all(known);
+        return Ok(());
+    }
+    if put_beside(alloc, known, sys)? {
+        return Ok(());
+    }
+    if !rounds(alloc, known, sys, Stage::Divisibilities)? {
+        lose_divisibilities(alloc, known);
+    }
+    Ok(())
+}
+
+/// What the tuples of each predicate of a system have in common: equations, and residues of simple forms.
+#[derive(Drop)]
+pub struct Hulls {
+    known: Vec<Known>,
+}
+
+/// What the tuples of each predicate have in common, as far as it was found: equations, and divisibilities
+/// beside them; neither where a few thousand queries didn't settle it. Where divisibilities can't be
+/// found beside the equations, they are looked for behind them, among the tuples that were met.
+pub fn hulls_of(alloc: Global, sys: &System) -> Result<Hulls, Memory> {
+    let mut known = unknown(alloc, sys)?;
+    settle_all(alloc, &mut known, sys)?;
+    Ok(Hulls { known })
+}
+
+impl Hulls {
+    /// Those of predicates of which no tuple was met.
+    pub fn unknown(alloc: Global, sys: &System) -> Result<Hulls, Memory> {
+        Ok(Hulls {
+            known: unknown(alloc, sys)?,
+        })
+    }
+
+    /// Takes a tuple of the predicate in.
+    pub fn take(&mut self, alloc: Global, pred: u32, tuple: &[i64]) -> Result<(), Memory> {
+        take(alloc, &mut self.known, pred, tuple)
+    }
+
+    /// Adds to each predicate's list the forms of equations that its tuples have in common, and that pairs of
+    /// places don't have.
+    pub fn push_long_forms(&self, alloc: Global, forms: &mut Vec<Vec<Lin>>) -> Result<(), Memory> {
+        for (at, own) in forms.iter_mut().enumerate() {
+            if let Some(Known::Common(hull)) = self.known.as_slice().get(at) {
+                hull.push_long_forms(alloc, own)?;
+            }
+        }
+        Ok(())
+    }
+
+    /// The forms that are 0 at each tuple of the predicate.
+    pub fn equations(&self, pred: u32) -> &[Lin] {
+        match self.known.as_slice().get(pred as usize) {
+            Some(Known::Common(hull)) => hull.equations(),
+            _ => &[],
+        }
+    }
+
+    /// Cubes that hold the point, and in which no tuple of the predicate lies as far as is known: by the
+    /// equations, and by the residues where these are asked for, too.
+    pub fn cubes(
+        &self,
+        alloc: Global,
+        pred: u32,
+        point: &[i64],
+        whole: bool,
+    ) -> Result<Vec<Cube>, Memory> {
+        match self.known.as_slice().get(pred as usize) {
+            Some(Known::Common(hull)) => {
+                let lits = hull.literals(alloc, whole)?;
+                broken_at(alloc, lits.as_slice(), point)
+            }
+            _ => Ok(Vec::new(alloc)),
+        }
+    }
+}
