@@ -13,8 +13,9 @@ use crate::parts::guessed;
 use crate::said::{Said, all_said};
 use crate::written::{Move, tree_of};
 use base::Memory;
-use farkas_proof::{CheckStop, Refutation, check};
+use farkas_proof::{CheckStop, check};
 use lin_atoms::Lit;
+use refutation_trees::Refutation;
 use std::alloc::Global;
 
 /// The tree of the moves, where it is a proof by what the node knows: its own literals and what is

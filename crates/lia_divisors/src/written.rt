@@ -2,13 +2,13 @@
 
 ghost use Rattle.std.specs.Prelude.{◌≡◌, IfOk, IfSome, OnOk, true};
 ghost use Rattle.std.specs.List.{list_all};
-ghost use Rattle.farkas_proof.specs.declared.tree.Refutation.TheViews.{Split};
+ghost use Rattle.refutation_trees.specs.declared.tree.Refutation.TheViews.{Split};
 ghost use Rattle.lia_divisors.specs.machinery.Plain.{is_plain};
 
 use crate::chain::Chain;
 use base::{Boxed, Memory};
-use farkas_proof::Refutation;
 use lin_atoms::Lin;
+use refutation_trees::Refutation;
 use std::alloc::Global;
 
 /// A node of a guessed tree, with what is below it behind it, in order.

@@ -7,9 +7,9 @@ use Rattle.lin_atoms.specs.declared.form.Form.{Form}
 use Rattle.lin_atoms.specs.declared.form.Form.TheOpen.{Form-F}
 use Rattle.lin_atoms.specs.declared.form.Form.TheFolds.{fold-Form}
 use Rattle.farkas_proof.specs.Kept.{form_of}
-use Rattle.farkas_proof.specs.KeptEvidence.{given_evidence, given_form}
-use Rattle.farkas_proof.specs.declared.evidence.Evidence.{Evidence}
-use Rattle.farkas_proof.specs.declared.evidence.Evidence.TheVariants.{Row, Coordinate, Rows, Nodes}
+use Rattle.refutation_trees.specs.KeptEvidence.{given_evidence, given_form}
+use Rattle.refutation_trees.specs.declared.evidence.Evidence.{Evidence}
+use Rattle.refutation_trees.specs.declared.evidence.Evidence.TheVariants.{Row, Coordinate, Rows, Nodes}
 use Rattle.node_rows.specs.Known.{has_short_constant}
 use Rattle.lia_search.specs.declared.decision.Decision.{Decision}
 use Rattle.lia_search.specs.declared.decision.Decision.TheVariants.{Model, Refuted, GaveUp}

@@ -3,7 +3,7 @@
 ghost use Rattle.std.specs.Prelude.{◌≡◌, ◌≤◌, length, IfOk, true};
 ghost use Rattle.lin_atoms.specs.Truth.{is_below};
 ghost use Rattle.farkas_proof.specs.Kept.{form_of};
-ghost use Rattle.farkas_proof.specs.Refutation.{is_sound, judged};
+ghost use Rattle.refutation_trees.specs.Refutation.{is_sound, judged};
 ghost use Rattle.lin_atoms.specs.Denial.{lit_fits};
 ghost use Rattle.lia_search.specs.Decides.{Decides};
 ghost use Rattle.lia_search.specs.machinery.Searched.{Ends, cut, value_of};
@@ -12,8 +12,9 @@ use crate::decision::Decision;
 use crate::ends::form_end;
 use crate::running::End;
 use base::Memory;
-use farkas_proof::{CheckStop, GaveUp, Refutation, Refuted, check_owned};
+use farkas_proof::{CheckStop, Refuted, check_owned};
 use lin_atoms::Form;
+use refutation_trees::{GaveUp, Refutation};
 use std::alloc::Global;
 
 /// The value of a variable of the form, and 0 for one that it doesn't have.

@@ -5,7 +5,7 @@ ghost use Rattle.base.specs.Limits.{most_variables};
 ghost use Rattle.lin_atoms.specs.Linear.{of_constant};
 ghost use Rattle.lin_atoms.specs.Truth.{is_below};
 ghost use Rattle.lin_atoms.specs.declared.lit.Lit.TheVariants.{Le};
-ghost use Rattle.farkas_proof.specs.Refutation.{form_end};
+ghost use Rattle.refutation_trees.specs.Refutation.{form_end};
 ghost use Rattle.lia_search.specs.Decides.{Decides, has_short_multiples};
 ghost use Rattle.lia_search.specs.machinery.Opened.{first_open, left_from};
 ghost use Rattle.lia_search.specs.machinery.Searched.{IsSearch};

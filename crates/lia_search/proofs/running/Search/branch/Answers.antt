@@ -5,7 +5,7 @@ use Rattle.std.specs.Option.{IfSome}
 use Rattle.std.proofs.lemmas.Int.{ints, to_z-of_z}
 use Rattle.lin_atoms.specs.Linear.{Linear}
 use Rattle.lin_atoms.specs.declared.lit.Lit.{Lit}
-use Rattle.farkas_proof.specs.declared.tree.Refutation.{Refutation}
+use Rattle.refutation_trees.specs.declared.tree.Refutation.{Refutation}
 use Rattle.node_rows.specs.Known.{are_known, has_short_constant}
 use Rattle.lia_close.specs.Placed.{IsSoundAt, Place}
 use Rattle.lia_close.specs.Said.{AreReasons}
