@@ -24,13 +24,13 @@ const MANY_PLACES: usize = 9;
 
 /// How much is looked for.
 #[derive(Clone, Copy)]
-pub(crate) struct Size {
+pub struct Size {
     /// How many conditions a predicate has.
-    pub(crate) conditions: usize,
+    pub conditions: usize,
     /// How many bounds.
-    pub(crate) bounds: usize,
+    pub bounds: usize,
     /// Whether predicates with many places have conditions, too, and parts have a third place.
-    pub(crate) is_whole: bool,
+    pub is_whole: bool,
 }
 
 /// The literals on one predicate.
@@ -41,13 +41,13 @@ pub(crate) struct About {
 
 /// All bounds of a system, and what they are made of.
 #[derive(Drop)]
-pub(crate) struct Table {
-    pub(crate) arms: Vec<Arm>,
-    pub(crate) bounds: Vec<Bound>,
+pub struct Table {
+    pub arms: Vec<Arm>,
+    pub bounds: Vec<Bound>,
     /// What guards say of each predicate.
     pub(crate) about: Vec<About>,
     /// Whether a tuple of each predicate was met.
-    pub(crate) reached: Vec<bool>,
+    pub reached: Vec<bool>,
 }
 
 /// Adds the bound of each part, without a condition.
@@ -264,7 +264,7 @@ fn push_preds(
 
 /// The bounds that are looked for in a system, none of which was asked for yet; none where it has too many
 /// ways through its clauses. For each predicate forms are handed in that may be worth a bound.
-pub(crate) fn table_of(
+pub fn table_of(
     alloc: Global,
     indexed: &IndexedSystem,
     shared: &[Vec<Lin>],

@@ -1,7 +1,9 @@
 //! What arms refuted bounds with.
 
 use crate::bound::{Bound, Memo, Use, stands};
+use crate::table::Table;
 use base::Memory;
+use std::alloc::Global;
 
 /// Whether the bounds are as they were.
 fn are_unchanged(bounds: &[Bound], uses: &[Use]) -> bool {
@@ -29,7 +31,7 @@ fn memo_of(bound: &Bound, arm: usize) -> Option<&Memo> {
 }
 
 /// Whether the arm refuted the bound as it is, with bounds that haven't changed.
-pub(crate) fn is_kept(bounds: &[Bound], bound: &Bound, arm: usize) -> bool {
+pub fn is_kept(bounds: &[Bound], bound: &Bound, arm: usize) -> bool {
     match memo_of(bound, arm) {
         Some(memo) => {
             memo.version == bound.version && are_unchanged(bounds, memo.uses.as_slice())
@@ -47,7 +49,7 @@ fn uses_of(bound: &Bound, arm: usize) -> &[Use] {
 }
 
 /// Adds the bounds that the arm refuted the bound with last, as they are now.
-pub(crate) fn push_first(
+pub fn push_first(
     made: &mut Vec<Use>,
     bounds: &[Bound],
     bound: &Bound,
@@ -87,9 +89,17 @@ fn forget(memos: &mut Vec<Memo>, arm: usize) {
 }
 
 /// Remembers what the arm refuted the bound with.
-pub(crate) fn remember(bound: &mut Bound, arm: usize, uses: Vec<Use>) -> Result<(), Memory> {
+pub fn remember(bound: &mut Bound, arm: usize, uses: Vec<Use>) -> Result<(), Memory> {
     forget(&mut bound.memos, arm);
     let version = bound.version;
     bound.memos.push(Memo { arm, version, uses })?;
     Ok(())
+}
+
+/// What is remembered of a bound, taken out.
+pub fn forgotten(alloc: Global, table: &mut Table, at: usize) -> Vec<Memo> {
+    match table.bounds.as_mut_slice().get_mut(at) {
+        Some(bound) => std::mem::replace(&mut bound.memos, Vec::new(alloc)),
+        None => Vec::new(alloc),
+    }
 }

@@ -1,16 +1,45 @@
-//! Bounds that a clause keeps without a query: what they speak of is the same in the head and in a body atom.
+//! What a bound's lemma denies at the atoms of a clause. A bound is kept without a query where that is the same
+//! at the head and at a body atom.
 
 use crate::bound::{Bound, Use};
-use crate::fixing::goal_of;
 use base::{Items, Memory, Same};
 use clause_form::Clause;
 use cube_forms::Lemma;
-use lin_atoms::Lit;
+use lin_atoms::{Lit, WideStop};
 use std::alloc::Global;
+
+/// What a lemma denies, at arguments.
+pub fn denied_at(alloc: Global, lemma: &Lemma, args: &[u32]) -> Result<Option<Items<Lit>>, Memory> {
+    match lemma.cube().at(alloc, args) {
+        Ok(lits) => Ok(Some(lits)),
+        Err(WideStop::Wide) => Ok(None),
+        Err(WideStop::Memory) => Err(Memory),
+    }
+}
+
+/// What the bound's lemma denies at the head of the clause, if both have one.
+pub fn denied_by(
+    alloc: Global,
+    bounds: &[Bound],
+    at: usize,
+    clause: &Clause,
+) -> Result<Option<Items<Lit>>, Memory> {
+    let head = match &clause.head {
+        Some(head) => head,
+        None => return Ok(None),
+    };
+    match bounds.get(at) {
+        Some(bound) => match &bound.lemma {
+            Some(lemma) => denied_at(alloc, lemma, head.args.as_slice()),
+            None => Ok(None),
+        },
+        None => Ok(None),
+    }
+}
 
 /// Whether the lemma denies these literals at the arguments.
 fn denies(alloc: Global, lemma: &Lemma, args: &[u32], goal: &Items<Lit>) -> Result<bool, Memory> {
-    match goal_of(alloc, lemma, args)? {
+    match denied_at(alloc, lemma, args)? {
         Some(own) => Ok(own.equals(goal)),
         None => Ok(false),
     }
@@ -34,7 +63,7 @@ fn atom_of(
 }
 
 /// The bound itself, used on a body atom, where the clause moves none of its places.
-pub(crate) fn unmoved(
+pub fn unmoved(
     alloc: Global,
     clause: &Clause,
     at: usize,

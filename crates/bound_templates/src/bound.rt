@@ -8,7 +8,7 @@ use std::alloc::Global;
 
 /// How far a bound has risen.
 #[derive(Clone, Copy)]
-pub(crate) enum Limit {
+pub enum Limit {
     /// No tuple meets the condition, as far as is known.
     Nothing,
     At(i64),
@@ -18,39 +18,39 @@ pub(crate) enum Limit {
 
 /// A bound that a query was refuted with.
 #[derive(Clone, Copy)]
-pub(crate) struct Use {
-    pub(crate) bound: usize,
+pub struct Use {
+    pub bound: usize,
     /// The body atom on which it was used.
-    pub(crate) atom: usize,
+    pub atom: usize,
     /// The bound's version then.
-    pub(crate) version: u32,
+    pub version: u32,
 }
 
 /// What an arm refuted a bound's cube with.
 #[derive(Drop)]
-pub(crate) struct Memo {
-    pub(crate) arm: usize,
-    pub(crate) version: u32,
-    pub(crate) uses: Vec<Use>,
+pub struct Memo {
+    pub arm: usize,
+    pub version: u32,
+    pub uses: Vec<Use>,
 }
 
 /// Each tuple that meets the condition has a value of the part up to the limit. A part without terms
 /// says that no tuple meets the condition.
 #[derive(Drop)]
-pub(crate) struct Bound {
-    pub(crate) pred: u32,
-    pub(crate) condition: Vec<Lit>,
-    pub(crate) part: Lin,
+pub struct Bound {
+    pub pred: u32,
+    pub condition: Vec<Lit>,
+    pub part: Lin,
     /// The bound of the same part without a condition.
-    pub(crate) plain: Option<usize>,
-    pub(crate) limit: Limit,
+    pub plain: Option<usize>,
+    pub limit: Limit,
     /// The denial of what the bound excludes, if it excludes something.
-    pub(crate) lemma: Option<Lemma>,
+    pub lemma: Option<Lemma>,
     /// How often it has changed.
-    pub(crate) version: u32,
+    pub version: u32,
     /// How often queries about it had a model.
-    pub(crate) rises: u32,
-    pub(crate) memos: Vec<Memo>,
+    pub rises: u32,
+    pub memos: Vec<Memo>,
 }
 
 /// The lemma that denies these literals, where numbers have room.
@@ -173,7 +173,7 @@ impl Bound {
     }
 
     /// Puts the limit up.
-    pub(crate) fn put(&mut self, alloc: Global, limit: Limit) -> Result<(), Memory> {
+    pub fn put(&mut self, alloc: Global, limit: Limit) -> Result<(), Memory> {
         let lemma = lemma_of(alloc, self.condition.as_slice(), &self.part, limit)?;
         self.lemma = lemma;
         self.limit = limit;
@@ -191,7 +191,7 @@ impl Bound {
 }
 
 /// Where the bounds of a predicate begin: they stand in the order of their predicates.
-pub(crate) fn first_of(bounds: &[Bound], pred: u32) -> usize {
+pub fn first_of(bounds: &[Bound], pred: u32) -> usize {
     let mut low: usize = 0;
     let mut high = bounds.len();
     for _ in 0..usize::BITS {
@@ -229,6 +229,6 @@ fn is_needless(bounds: &[Bound], bound: &Bound) -> bool {
 }
 
 /// Whether the bound excludes something that no other one does.
-pub(crate) fn stands(bounds: &[Bound], bound: &Bound) -> bool {
+pub fn stands(bounds: &[Bound], bound: &Bound) -> bool {
     bound.lemma.is_some() && !is_needless(bounds, bound)
 }

@@ -23,10 +23,10 @@ pub(crate) struct Way {
 
 /// One way through a clause.
 #[derive(Drop)]
-pub(crate) struct Arm {
+pub struct Arm {
     /// The clause's place.
-    pub(crate) clause: usize,
-    pub(crate) lits: Vec<Lit>,
+    pub clause: usize,
+    pub lits: Vec<Lit>,
 }
 
 /// Adds the way of these literals.
@@ -224,7 +224,7 @@ fn are_few(sys: &IndexedSystem) -> bool {
 }
 
 /// The ways through all clauses, if there aren't too many.
-pub(crate) fn arms_of(alloc: Global, sys: &IndexedSystem) -> Result<Option<Vec<Arm>>, Memory> {
+pub fn arms_of(alloc: Global, sys: &IndexedSystem) -> Result<Option<Vec<Arm>>, Memory> {
     if !are_few(sys) {
         return Ok(None);
     }

@@ -1,6 +1,6 @@
 use Rattle.std.proofs.Common.{◌≡◌, ◌≤◌, ◌∙◌, ap, sym, arith, take, length}
 use Rattle.std.proofs.lemmas.List.{length-take-le, take_all}
-use Rattle.bound_hints.proofs.met.Walk.first.Goals as goal
+use Rattle.bound_templates.proofs.met.Walk.first.Goals as goal
 
 pub returns-then-all-le-MOST_MET : goal.returns-then-all-le-MOST_MET
 returns-then-all-le-MOST_MET c =

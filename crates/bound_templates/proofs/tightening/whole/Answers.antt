@@ -2,8 +2,8 @@ use Rattle.std.proofs.Common.{◌≡◌, sym, subst, arith}
 use Rattle.std.specs.Prelude.{pos, IfOk}
 use Rattle.std.proofs.lemmas.Int.{ints}
 use Rattle.lin_atoms.specs.Linear.{Linear}
-use Rattle.bound_hints.proofs.TightLemmas.{whole-one}
-use Rattle.bound_hints.proofs.tightening.whole.Goals as goal
+use Rattle.bound_templates.proofs.TightLemmas.{whole-one}
+use Rattle.bound_templates.proofs.tightening.whole.Goals as goal
 
 pub returns-then-divisor-eq1 : goal.returns-then-divisor-eq1
 returns-then-divisor-eq1 c =

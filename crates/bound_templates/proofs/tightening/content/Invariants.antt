@@ -1,7 +1,7 @@
 use Rattle.std.proofs.Common.{ℕ, drop, map}
 use Rattle.std.specs.Int.{◌∣◌}
 use Rattle.int_rows.proofs.ContentLemmas.{Divides, Same}
-use Rattle.bound_hints.proofs.tightening.content.Given as goal
+use Rattle.bound_templates.proofs.tightening.content.Given as goal
 
 -- the common divisors of the number and of what is left are those of the coefficients
 abbrev pub invariant-loop-coefficient : goal.invariant-loop-coefficient

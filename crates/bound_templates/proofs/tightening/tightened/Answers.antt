@@ -4,7 +4,7 @@ use Rattle.std.specs.Int.{w64}
 use Rattle.std.proofs.lemmas.Int.{to_z-of_z}
 use Rattle.lin_atoms.specs.Linear.{Linear}
 use Rattle.int_rows.specs.Ready.{rounded}
-use Rattle.bound_hints.proofs.tightening.tightened.Goals as goal
+use Rattle.bound_templates.proofs.tightening.tightened.Goals as goal
 
 pub returns-clause-made : goal.returns-clause-made
 returns-clause-made c = λ some.

@@ -5,7 +5,7 @@ use Rattle.std.proofs.lemmas.Int.{ints, to_z-of_z}
 use Rattle.int_rows.specs.Rows.{content}
 use Rattle.int_rows.specs.Ready.{lin_content}
 use Rattle.int_rows.proofs.ContentLemmas.{coefficients-content}
-use Rattle.bound_hints.proofs.tightening.divisor_of.Goals as goal
+use Rattle.bound_templates.proofs.tightening.divisor_of.Goals as goal
 
 pub signed-requires : goal.signed-requires
 signed-requires c =

@@ -5,7 +5,7 @@ use Rattle.std.proofs.lemmas.Int.{to_z-of_z}
 use Rattle.std.proofs.lemmas.List.{get_or-map, length-map}
 use Rattle.std.proofs.lemmas.Nat.Gcd.{dvd-zero}
 use Rattle.int_rows.proofs.ContentLemmas.{common-end, common-more, common-one}
-use Rattle.bound_hints.proofs.tightening.content.Goals as goal
+use Rattle.bound_templates.proofs.tightening.content.Goals as goal
 
 pub loop-coefficient-init : goal.loop-coefficient-init
 loop-coefficient-init c d = (λ both. both.1, λ all. (dvd-zero d, all))

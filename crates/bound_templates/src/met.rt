@@ -1,7 +1,7 @@
 //! Tuples that were met.
 
 ghost use Rattle.std.specs.Prelude.{◌≡◌, take};
-ghost use Rattle.bound_hints.specs.Walks.{most_met};
+ghost use Rattle.bound_templates.specs.Walks.{most_met};
 
 use base::Memory;
 use clause_form::Atom;
@@ -9,7 +9,7 @@ use cube_forms::Tuple;
 use std::alloc::Global;
 
 /// How many tuples are met.
-pub(crate) const MOST_MET: usize = 160;
+pub const MOST_MET: usize = 160;
 
 /// A tuple of a predicate.
 #[derive(Drop)]
@@ -19,7 +19,7 @@ pub struct Met {
     /// By how many steps it was met, at most; 1 where a clause without body atoms gave it.
     pub depth: i64,
     /// Whether clauses were asked for what follows from it.
-    pub(crate) is_followed: bool,
+    pub is_followed: bool,
 }
 
 /// What was met by running clauses forward.
@@ -103,7 +103,7 @@ fn take(
 }
 
 /// Takes the head's tuple at the point in, which follows from one that was met.
-pub(crate) fn meet(
+pub fn meet(
     alloc: Global,
     met: &mut Vec<Met>,
     head: &Atom,
