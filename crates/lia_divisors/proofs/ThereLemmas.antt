@@ -20,8 +20,8 @@ use Rattle.farkas_proof.proofs.FlattenLemmas.{literals-And}
 use Rattle.lia_close.specs.Said.{AreAt, AreReasons, said_by}
 use Rattle.farkas_proof.specs.declared.tree.Refutation.{Refutation}
 use Rattle.farkas_proof.specs.declared.tree.Refutation.TheViews.{Round}
-use Rattle.lia_divisors.specs.declared.chain.Rounding.{Rounding}
-use Rattle.lia_divisors.specs.declared.said.Said.{Said}
+use Rattle.lia_parts.specs.declared.chain.Rounding.{Rounding}
+use Rattle.lia_parts.specs.declared.said.Said.{Said}
 use Rattle.lia_divisors.specs.machinery.Chain.{chained}
 use Rattle.lia_divisors.specs.machinery.There.{AreThere, StandsFor, is_blank}
 

@@ -11,15 +11,9 @@ ghost use Rattle.lia_close.specs.Said.{AreAt, AreReasons, said_by};
 ghost use Rattle.lia_divisors.specs.machinery.There.{AreThere};
 
 use base::{Copied, Memory};
+use lia_parts::Said;
 use lin_atoms::{Divisor, Lin, Lit};
 use std::alloc::Global;
-
-/// A literal that is known, and its number.
-#[derive(Drop)]
-pub(crate) struct Said {
-    pub(crate) number: u32,
-    pub(crate) lit: Lit,
-}
 
 /// One more literal, which is known by that number.
 fn put(said: &mut Vec<Said>, number: u32, lit: Lit) -> Result<(), Memory>
