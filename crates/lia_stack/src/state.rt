@@ -68,7 +68,12 @@ pub enum Turn {
 
 impl<'a> Search<'a> {
     /// The node is closed by a literal that is false by itself.
-    pub fn close_by_literal(&mut self, alloc: Global, waiting: &Open, at: usize) -> Result<(), Memory>
+    pub fn close_by_literal(
+        &mut self,
+        alloc: Global,
+        waiting: &Open,
+        at: usize,
+    ) -> Result<(), Memory>
         requires is { Waits self.old waiting.now }
         requires is_false { option_map_or is_no_falsehood (slice_get waiting.now.lits at) true ≡ false }
         ensures { OnOk result (Closes self.old self.new) }
@@ -200,7 +205,12 @@ impl<'a> Search<'a> {
 
     /// The literals of the node are true at a point. The first literal that is left out and false there
     /// joins, if there is one.
-    pub fn meet(&mut self, alloc: Global, waiting: Open<'a>, point: Vec<i64>) -> Result<Turn, Memory>
+    pub fn meet(
+        &mut self,
+        alloc: Global,
+        waiting: Open<'a>,
+        point: Vec<i64>,
+    ) -> Result<Turn, Memory>
         requires is { Waits self.old waiting }
         requires solution { HasSolution self.old.end waiting.lits }
         requires each { length point.items ≡ end_of_quotients self.old.end waiting.lits }
