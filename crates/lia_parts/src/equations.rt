@@ -109,13 +109,19 @@ fn entries(
     more: Option<(usize, i64)>,
 ) -> Result<Vec<i64>, Memory> {
     let mut entries = zeros(alloc, count)?;
-    for (column, times) in columns.iter().zip(multipliers) {
-        set(entries.as_mut_slice(), *column, *times);
+    for (at, times) in multipliers.iter().enumerate() {
+        set_entry(entries.as_mut_slice(), columns.get(at), *times);
     }
     if let Some((column, times)) = more {
         set(entries.as_mut_slice(), column, times);
     }
     Ok(entries)
+}
+
+fn set_entry(entries: &mut [i64], column: Option<&usize>, times: i64) {
+    if let Some(column) = column {
+        set(entries, *column, times);
+    }
 }
 
 /// The column of a residue's form, where `count` columns stand before those of forms.

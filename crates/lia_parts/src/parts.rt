@@ -5,7 +5,6 @@ ghost use Rattle.std.specs.Prelude.{◌≡◌, ◌<◌, ◌^◌, true};
 ghost use Rattle.std.specs.List.{list_all};
 ghost use Rattle.lin_atoms.specs.Linear.{is_long};
 ghost use Rattle.int_rows.specs.Ready.{bound_fits};
-ghost use Rattle.int_rows.specs.Table.{width};
 ghost use Rattle.node_rows.specs.Known.{are_known, has_short_constant};
 
 use crate::chain::Chain;
@@ -20,6 +19,7 @@ use crate::splits::{Part, Place, above, below, form_of, narrowest};
 use crate::values::{are_whole, first_fraction};
 use base::Memory;
 use int_rows::{RowStop, Tableau};
+use lia_points::has_column;
 use lin_atoms::{Lin, Lit, Ratio};
 use node_rows::node_tableau;
 use simplex_core::{Feasible, feasible};
@@ -59,16 +59,6 @@ fn fitting(bound: Option<Bound>) -> Option<i128>
             }
         }
         None => None,
-    }
-}
-
-/// Whether the tableau has a column of this number.
-fn has_column(tableau: &Tableau, column: usize) -> bool
-    ensures { result ≡ true → column < width tableau.now }
-{
-    match tableau.columns().checked_add(tableau.rows()) {
-        Some(width) => column < width,
-        None => false,
     }
 }
 
