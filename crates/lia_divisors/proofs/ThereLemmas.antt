@@ -18,8 +18,8 @@ use Rattle.refutation_trees.specs.Combination.{may_be_multiplied}
 use Rattle.refutation_trees.specs.Flatten.{literals, literals_step}
 use Rattle.refutation_trees.proofs.FlattenLemmas.{literals-And}
 use Rattle.lia_close.specs.Said.{AreAt, AreReasons, said_by}
-use Rattle.farkas_proof.specs.declared.tree.Refutation.{Refutation}
-use Rattle.farkas_proof.specs.declared.tree.Refutation.TheViews.{Round}
+use Rattle.refutation_trees.specs.declared.tree.Refutation.{Refutation}
+use Rattle.refutation_trees.specs.declared.tree.Refutation.TheViews.{Round}
 use Rattle.lia_parts.specs.declared.chain.Rounding.{Rounding}
 use Rattle.lia_parts.specs.declared.said.Said.{Said}
 use Rattle.lia_divisors.specs.machinery.Chain.{chained}

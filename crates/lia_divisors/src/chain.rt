@@ -6,8 +6,8 @@ ghost use Rattle.refutation_trees.specs.declared.tree.Refutation.TheViews.{Round
 ghost use Rattle.lia_divisors.specs.machinery.Chain.{chained};
 
 use base::{Boxed, Items, Memory};
-use farkas_proof::Refutation;
 use lia_parts::{Chain, Rounding};
+use refutation_trees::Refutation;
 use std::alloc::Global;
 
 /// The tree.

@@ -7,10 +7,9 @@ ghost use Rattle.lia_divisors.specs.machinery.Plain.{is_plain};
 
 use crate::chain::chain_tree;
 use base::{Boxed, Memory};
-use farkas_proof::Refutation;
 use lia_parts::{Chain, Move};
 use lin_atoms::Lin;
-use refutation_trees::Refutation;
+use refutation_trees::{Refutation, Refutation};
 use std::alloc::Global;
 
 /// The two sides of a split.

@@ -10,10 +10,10 @@ ghost use Rattle.lia_stack.specs.machinery.Searched.{Ends};
 
 use crate::decision::Decision;
 use base::Memory;
-use farkas_proof::{CheckStop, GaveUp, Refutation, Refuted, check_owned};
+use farkas_proof::{CheckStop, Refuted, check_owned};
 use lia_stack::{End, cut};
 use lin_atoms::Form;
-use refutation_trees::{GaveUp, Refutation};
+use refutation_trees::{GaveUp, GaveUp, Refutation, Refutation};
 use std::alloc::Global;
 
 /// The form with its refutation, which is checked once more where it is kept.
