@@ -70,15 +70,25 @@ fn join(
     if lin.terms().len() < 2 || has_form(forms.as_slice(), lin) {
         return Ok(true);
     }
-    let Some(own) = primitive(alloc, lin)? else {
-        return Ok(false);
-    };
+    match primitive(alloc, lin)? {
+        Some(own) => push(alloc, tableau, forms, &own),
+        None => Ok(false),
+    }
+}
+
+/// The form joins the tableau and its forms. Whether there is room.
+fn push(
+    alloc: Global,
+    tableau: &mut Tableau,
+    forms: &mut Vec<Vec<(u32, i128)>>,
+    own: &Lin,
+) -> Result<bool, Memory> {
     if !own.is_below(tableau.columns()) {
         return Ok(false);
     }
-    match tableau.push(alloc, &own) {
+    match tableau.push(alloc, own) {
         Ok(()) => {
-            forms.push(wide_terms(alloc, &own)?)?;
+            forms.push(wide_terms(alloc, own)?)?;
             Ok(true)
         }
         Err(PushStop::Memory) => Err(Memory),

@@ -139,6 +139,29 @@ fn met(
     }
 }
 
+/// A part that is closed leaves none, and one that is split leaves two. Whether it is one of these.
+fn put_told(
+    alloc: Global,
+    stack: &mut Vec<Part>,
+    moves: &mut Vec<Move>,
+    part: &Part,
+    told: Told,
+) -> Result<bool, Memory> {
+    match told {
+        Told::Closed(chain) => {
+            moves.push(Move::Closed(chain))?;
+            Ok(true)
+        }
+        Told::Split(lin, place) => {
+            moves.push(Move::Split(lin))?;
+            stack.push(above(alloc, part, place)?)?;
+            stack.push(below(alloc, part, place)?)?;
+            Ok(true)
+        }
+        Told::Nothing => Ok(false),
+    }
+}
+
 /// The parts are met one after the other, at most `most` of them.
 fn all_met(
     alloc: Global,
@@ -153,14 +176,9 @@ fn all_met(
         let Some(part) = stack.pop() else {
             return Ok(Some(moves));
         };
-        match met(alloc, tableau, forms, &part)? {
-            Told::Closed(chain) => moves.push(Move::Closed(chain))?,
-            Told::Split(lin, place) => {
-                moves.push(Move::Split(lin))?;
-                stack.push(above(alloc, &part, place)?)?;
-                stack.push(below(alloc, &part, place)?)?;
-            }
-            Told::Nothing => return Ok(None),
+        let told = met(alloc, tableau, forms, &part)?;
+        if !put_told(alloc, &mut stack, &mut moves, &part, told)? {
+            return Ok(None);
         }
     }
     if stack.is_empty() {

@@ -109,7 +109,8 @@ fn turn<'a>(alloc: Global, search: &mut Search<'a>, waiting: Open<'a>) -> Result
             Ok(Turn::WentOn)
         }
         Examined::Conflict(multipliers) => {
-            search.close_by_bounds(alloc, waiting, multipliers.as_slice())?;
+            let mut waiting = waiting;
+            search.close_by_bounds(alloc, &mut waiting, multipliers.as_slice())?;
             Ok(Turn::WentOn)
         }
         Examined::Model(point) => search.meet(alloc, waiting, point),

@@ -98,16 +98,15 @@ impl<'a> Search<'a> {
     pub fn close_by_bounds(
         &mut self,
         alloc: Global,
-        waiting: Open<'a>,
+        waiting: &mut Open,
         multipliers: &[i64],
     ) -> Result<(), Memory>
-        requires is { Waits self.old waiting }
-        requires conflict { IsConflict (node_table self.old.end waiting.lits) multipliers.now }
-        requires few { end_of_quotients self.old.end waiting.lits ≤ self.old.end + most_rows }
+        requires is { Waits self.old waiting.old }
+        requires conflict { IsConflict (node_table self.old.end waiting.old.lits) multipliers.now }
+        requires few { end_of_quotients self.old.end waiting.old.lits ≤ self.old.end + most_rows }
         ensures { OnOk result (Closes self.old self.new) }
     {
-        let mut waiting = waiting;
-        self.name(&mut waiting)?;
+        self.name(waiting)?;
         let tree = close(
             alloc,
             waiting.lits.as_slice(),
@@ -143,18 +142,17 @@ impl<'a> Search<'a> {
     }
 
     /// The node is split by the parts of an open disjunction.
-    fn split(&mut self, alloc: Global, waiting: Open<'a>, which: usize) -> Result<(), Memory>
-        requires is { Waits self.old waiting }
-        requires solution { HasSolution self.old.end waiting.lits }
-        requires there { which < length waiting.cases }
-        requires few { end_of_quotients self.old.end waiting.lits ≤ self.old.end + most_rows }
+    fn split(&mut self, alloc: Global, waiting: &mut Open<'a>, which: usize) -> Result<(), Memory>
+        requires is { Waits self.old waiting.old }
+        requires solution { HasSolution self.old.end waiting.old.lits }
+        requires there { which < length waiting.old.cases }
+        requires few { end_of_quotients self.old.end waiting.old.lits ≤ self.old.end + most_rows }
         requires room { self.old.count < self.old.nodes }
         ensures { OnOk result (Splits self.old self.new) }
     {
-        let mut waiting = waiting;
-        self.name(&mut waiting)?;
+        self.name(waiting)?;
         let number = numbered(which)?;
-        let count = push_parts(alloc, &mut self.stack, &waiting, which)?;
+        let count = push_parts(alloc, &mut self.stack, waiting, which)?;
         self.steps.push(Step::Cases {
             which: number,
             count,
@@ -196,7 +194,8 @@ impl<'a> Search<'a> {
         match first_disjunction(waiting.cases.as_slice(), point.as_slice()) {
             Some(first) => {
                 let which = fewest_parts(waiting.cases.as_slice(), point.as_slice(), first);
-                self.split(alloc, waiting, which)?;
+                let mut waiting = waiting;
+                self.split(alloc, &mut waiting, which)?;
                 Ok(Turn::Split)
             }
             None => Ok(Turn::Over(End::Model(point))),

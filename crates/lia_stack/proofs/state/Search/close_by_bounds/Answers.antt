@@ -20,7 +20,7 @@ pub close-requires-clause-few : goal.close-requires-clause-few
 close-requires-clause-few c =
     let n = c.in_ok-name.ensures in
     let s = c.name.new.self in
-    let few = named-keeps (λ q lits. end_of_quotients q lits ≤ q + most_rows) c.args.self.now s c.args.waiting c.name.new.waiting n c.requires.few in
+    let few = named-keeps (λ q lits. end_of_quotients q lits ≤ q + most_rows) c.args.self.now s c.args.waiting.now c.name.new.waiting n c.requires.few in
     subst (λ (lits : List Lit). end_of_quotients s.end lits < 2 ^ 32) (sym c.as_slice.ensures) (top-few s c.name.new.waiting (top _ _ n.is) few)
 
 pub close-requires-clause-each : goal.close-requires-clause-each
@@ -30,10 +30,10 @@ pub close-requires-clause-conflict : goal.close-requires-clause-conflict
 close-requires-clause-conflict c =
     let s = c.name.new.self in
     subst (λ (lits : List Lit). IsConflict (node_table s.end lits) c.args.multipliers.now) (sym c.as_slice.ensures)
-    (named-keeps (λ q lits. IsConflict (node_table q lits) c.args.multipliers.now) c.args.self.now s c.args.waiting c.name.new.waiting c.in_ok-name.ensures c.requires.conflict)
+    (named-keeps (λ q lits. IsConflict (node_table q lits) c.args.multipliers.now) c.args.self.now s c.args.waiting.now c.name.new.waiting c.in_ok-name.ensures c.requires.conflict)
 
 pub returns : goal.returns
 returns c =
     let n = c.in_ok-name.ensures in
-    closes-named c.args.self.now c.name.new.self _ c.args.waiting c.name.new.waiting n
+    closes-named c.args.self.now c.name.new.self _ c.args.waiting.now c.name.new.waiting n
     (closed-bounds c.name.new.self _ c.name.new.waiting c.as_slice.result.now c.as_slice-2.result.now c.in_ok-tree.tree (top _ _ n.is) n.full c.as_slice.ensures c.as_slice-2.ensures c.in_ok-tree.ensures refl c.in_ok-push.ensures.items)

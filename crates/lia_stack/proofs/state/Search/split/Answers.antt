@@ -11,6 +11,6 @@ pub returns : goal.returns
 returns c =
     let n = c.in_ok-name.ensures in
     let less = subst (λ (cs : List (List Form)). c.args.which < length cs) (sym n.cases) c.requires.there in
-    parted-named c.args.self.now c.name.new.self _ c.args.waiting c.name.new.waiting c.args.which n c.requires.solution less refl
+    parted-named c.args.self.now c.name.new.self _ c.args.waiting.now c.name.new.waiting c.args.which n c.requires.solution less refl
     (c.in_ok-push.ensures.items ∙ ap (λ (k : ℕ). c.name.new.self.steps.items ++ Cases k c.in_ok-count.count ∷ []) c.in_ok-number.ensures ∙ ap (λ (k : ℕ). c.name.new.self.steps.items ++ Cases c.args.which k ∷ []) c.in_ok-count.ensures.count)
     c.in_ok-count.ensures.stack
