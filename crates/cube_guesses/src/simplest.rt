@@ -1,7 +1,8 @@
 //! Literals in their simplest form.
 
-use crate::reducing::{residue, tightened};
+use crate::reducing::residue;
 use base::{Memory, Same};
+use bound_templates::tightened;
 use lin_atoms::Lit;
 use std::alloc::Global;
 

@@ -1,8 +1,8 @@
 //! Sums of two bounds of a cube: counters that move together keep such a sum.
 
 use crate::cubes::cube_of_one;
-use crate::reducing::tightened;
 use base::{Copied, Memory, Same};
+use bound_templates::tightened;
 use cube_forms::Cube;
 use lin_atoms::{Lin, Lit, WideStop};
 use std::alloc::Global;

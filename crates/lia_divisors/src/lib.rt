@@ -4,18 +4,8 @@
 
 mod chain;
 mod closing;
-mod columns;
-mod conflicts;
-mod cuts;
-mod equations;
 mod filled;
-mod joining;
-mod parts;
-mod rows;
 mod said;
-mod sides;
-mod splits;
-mod values;
 mod written;
 
 pub use closing::close_by_parts;

@@ -1,25 +1,19 @@
 //! The literals that give the bounds of a node's literals, with their numbers.
 
-ghost use Rattle.std.specs.Prelude.{◌≡◌, ◌+◌, ◌-ℤ◌, ◌∷◌, [], ◌++◌, List, length, slice_get, IfOk, IfSome, OnOk, Some, false, neg_ℤ, pos, if◌then◌else◌};
+ghost use Rattle.std.specs.Prelude.{◌≡◌, ◌-ℤ◌, ◌∷◌, [], ◌++◌, List, length, slice_get, IfOk, IfSome, OnOk, Some, false, neg_ℤ, pos};
 ghost use Rattle.lin_atoms.specs.Algebra.{plus};
 ghost use Rattle.lin_atoms.specs.declared.lit.Lit.{Lit};
 ghost use Rattle.lin_atoms.specs.declared.lit.Lit.TheVariants.{Le, Div, NDiv};
-ghost use Rattle.int_rows.specs.Node.{quotients};
 ghost use Rattle.int_rows.specs.Ready.{has_no_variable, less_multiple};
-ghost use Rattle.farkas_proof.specs.Combination.{one_minus};
+ghost use Rattle.refutation_trees.specs.Combination.{one_minus};
 ghost use Rattle.lia_close.specs.Said.{AreAt, AreReasons, said_by};
 ghost use Rattle.lia_divisors.specs.machinery.There.{AreThere};
 
 use base::{Copied, Memory};
+use lia_parts::Said;
+use lia_points::{added, quotients};
 use lin_atoms::{Divisor, Lin, Lit};
 use std::alloc::Global;
-
-/// A literal that is known, and its number.
-#[derive(Drop)]
-pub(crate) struct Said {
-    pub(crate) number: u32,
-    pub(crate) lit: Lit,
-}
 
 /// One more literal, which is known by that number.
 fn put(said: &mut Vec<Said>, number: u32, lit: Lit) -> Result<(), Memory>
@@ -118,16 +112,6 @@ fn put_below(
     }
 }
 
-/// The next number.
-fn next(number: u32, more: u32) -> Result<u32, Memory>
-    ensures { IfOk result (λ n. n ≡ number + more) }
-{
-    match number.checked_add(more) {
-        Some(next) => Ok(next),
-        None => Err(Memory),
-    }
-}
-
 /// The remainder isn't 0.
 fn put_rest(
     alloc: Global,
@@ -142,7 +126,7 @@ fn put_rest(
     match less_multiple(alloc, n, q, lin)? {
         Some(less) => {
             put_above(alloc, said, &less, reason)?;
-            put_below(alloc, said, &less, n, next(reason, 1)?)?;
+            put_below(alloc, said, &less, n, added(reason, 1)?)?;
             Ok(())
         }
         None => Ok(()),
@@ -190,25 +174,6 @@ fn has_no_variable(lit: &Lit) -> bool
     }
 }
 
-/// None without a variable.
-fn quotients_of(no_variable: bool) -> u32
-    ensures { result ≡ (if no_variable then 0 else 1) }
-{
-    if no_variable { 0 } else { 1 }
-}
-
-/// How many quotients the literal brings.
-fn quotients(lit: &Lit) -> u32
-    ensures { result ≡ quotients lit.now }
-{
-    match lit {
-        Lit::Le(_) => 0,
-        Lit::Eq(_) => 0,
-        Lit::Div(_, lin) => quotients_of(lin.terms().is_empty()),
-        Lit::NDiv(_, lin) => quotients_of(lin.terms().is_empty()),
-    }
-}
-
 /// What gives the bounds of a literal. One without a variable has none.
 fn put_literal(
     alloc: Global,
@@ -241,7 +206,7 @@ pub(crate) fn all_said(
     let mut quotient = end;
     for (at, lit) in lits.iter().enumerate() {
         put_literal(alloc, &mut said, lit, reasons[at], quotient)?;
-        quotient = next(quotient, quotients(lit))?;
+        quotient = added(quotient, quotients(lit))?;
     }
     Ok(said)
 }

@@ -2,23 +2,15 @@
 
 ghost use Rattle.std.specs.Prelude.{◌≡◌, IfOk, IfSome, OnOk, true};
 ghost use Rattle.std.specs.List.{list_all};
-ghost use Rattle.farkas_proof.specs.declared.tree.Refutation.TheViews.{Split};
+ghost use Rattle.refutation_trees.specs.declared.tree.Refutation.TheViews.{Split};
 ghost use Rattle.lia_divisors.specs.machinery.Plain.{is_plain};
 
-use crate::chain::Chain;
+use crate::chain::chain_tree;
 use base::{Boxed, Memory};
-use farkas_proof::Refutation;
+use lia_parts::{Chain, Move};
 use lin_atoms::Lin;
+use refutation_trees::{Refutation, Refutation};
 use std::alloc::Global;
-
-/// A node of a guessed tree, with what is below it behind it, in order.
-#[derive(Drop)]
-pub(crate) enum Move {
-    /// A form is at most 0, or at least 1: two nodes are below.
-    Split(Lin),
-    /// Nothing is below that isn't in the chain.
-    Closed(Chain),
-}
 
 /// The two sides of a split.
 fn split(alloc: Global, lin: Lin, low: Refutation, high: Refutation) -> Result<Refutation, Memory>
@@ -93,7 +85,7 @@ fn put_chain(alloc: Global, trees: &mut Vec<Refutation>, chain: Chain) -> Result
     requires { list_all is_plain trees.old.items ≡ true }
     ensures { OnOk result (list_all is_plain trees.new.items ≡ true) }
 {
-    let made = chain.tree(alloc)?;
+    let made = chain_tree(alloc, chain)?;
     put_tree(trees, made)?;
     Ok(())
 }

@@ -14,10 +14,7 @@ pub(crate) struct Column {
 impl Column {
     /// How often the equation has it.
     pub(crate) fn entry(&self, row: usize) -> i128 {
-        match self.entries.get(row) {
-            Some(entry) => *entry,
-            None => 0,
-        }
+        number_at(self.entries.as_slice(), row)
     }
 
     /// Another column is taken away `times` times. It then stands for `times` times this one more.
@@ -29,13 +26,21 @@ impl Column {
     }
 }
 
+/// The number at that place, and 0 where there is none.
+pub(crate) fn number_at(numbers: &[i128], at: usize) -> i128 {
+    match numbers.get(at) {
+        Some(number) => *number,
+        None => 0,
+    }
+}
+
 /// A number plus `times` times another one.
 pub(crate) fn more(own: i128, times: i128, part: i128) -> Option<i128> {
     own.checked_add(times.checked_mul(part)?)
 }
 
-/// The difference of a number and a multiple.
-fn less(from: i128, times: i128, other: Option<&i128>) -> Option<i128> {
+/// The difference of a number and a multiple of another one, where there is one.
+pub(crate) fn less(from: i128, times: i128, other: Option<&i128>) -> Option<i128> {
     match other {
         Some(other) => from.checked_sub(times.checked_mul(*other)?),
         None => None,

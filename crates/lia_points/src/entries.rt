@@ -13,6 +13,14 @@ pub fn zeros(alloc: Global, count: usize) -> Result<Vec<i64>, Memory>
     Ok(made)
 }
 
+/// The number at the place, and 0 where there is no such place.
+pub(crate) fn entry(entries: &[i64], at: usize) -> i64 {
+    match entries.get(at) {
+        Some(entry) => *entry,
+        None => 0,
+    }
+}
+
 /// The number at the place becomes the value, where there is such a place.
 pub fn set(entries: &mut [i64], at: usize, value: i64)
     ensures { entries.new ≡ slice_set entries.old at value }

@@ -17,7 +17,7 @@ struct Range {
 }
 
 /// Whether the tableau has a column of this number.
-fn has_column(tableau: &Tableau, column: usize) -> bool
+pub fn has_column(tableau: &Tableau, column: usize) -> bool
     ensures { result ≡ true → column < width tableau.now }
 {
     match tableau.columns().checked_add(tableau.rows()) {

@@ -4,7 +4,7 @@ ghost use Rattle.std.specs.Prelude.{◌≡◌, ◌<◌, ◌^◌, true};
 ghost use Rattle.std.specs.List.{list_all};
 ghost use Rattle.node_rows.specs.Known.{are_known, has_short_constant};
 
-use crate::column::{Column, more};
+use crate::column::{Column, more, number_at};
 use crate::equation::Equation;
 use crate::forms::equations;
 use crate::limits::{Limit, limits};
@@ -62,8 +62,9 @@ fn put_part(made: &mut [i128], unknown: u32, times: i128, part: i128) -> Option<
 
 /// The unknowns get their parts of a column that has that value.
 fn put_column(made: &mut [i128], unknowns: &[u32], column: &Column, value: i128) -> Option<()> {
-    for (unknown, part) in unknowns.iter().zip(column.parts.as_slice()) {
-        if *part != 0 && put_part(made, *unknown, value, *part).is_none() {
+    for (at, unknown) in unknowns.iter().enumerate() {
+        let part = number_at(column.parts.as_slice(), at);
+        if part != 0 && put_part(made, *unknown, value, part).is_none() {
             return None;
         }
     }
@@ -72,8 +73,9 @@ fn put_column(made: &mut [i128], unknowns: &[u32], column: &Column, value: i128)
 
 /// The unknowns get their parts of the columns that have a value.
 fn put_done(made: &mut [i128], unknowns: &[u32], solving: &Solving) -> Option<()> {
-    for (column, value) in solving.done.iter().zip(solving.values.as_slice()) {
-        if put_column(made, unknowns, column, *value).is_none() {
+    for (at, column) in solving.done.iter().enumerate() {
+        let value = number_at(solving.values.as_slice(), at);
+        if put_column(made, unknowns, column, value).is_none() {
             return None;
         }
     }

@@ -19,8 +19,8 @@ fn quotients_of(no_variable: bool) -> u32
     if no_variable { 0 } else { 1 }
 }
 
-/// How many quotients the literal brings.
-fn quotients(lit: &Lit) -> u32
+/// How many quotients the literal brings: one, where it is about multiples and has a variable.
+pub fn quotients(lit: &Lit) -> u32
     ensures { result ≡ quotients lit.now }
 {
     match lit {
@@ -31,12 +31,12 @@ fn quotients(lit: &Lit) -> u32
     }
 }
 
-/// The next number.
-fn next(number: u32, more: u32) -> Result<u32, Memory>
+/// The sum of two numbers. One without room counts as want of memory.
+pub fn added(number: u32, more: u32) -> Result<u32, Memory>
     ensures { IfOk result (λ n. n ≡ number + more) }
 {
     match number.checked_add(more) {
-        Some(next) => Ok(next),
+        Some(sum) => Ok(sum),
         None => Err(Memory),
     }
 }
@@ -48,7 +48,7 @@ fn end_of(lits: &[Lit], end: u32) -> Result<u32, Memory>
 {
     let mut quotient = end;
     for lit in lits {
-        quotient = next(quotient, quotients(lit))?;
+        quotient = added(quotient, quotients(lit))?;
     }
     Ok(quotient)
 }

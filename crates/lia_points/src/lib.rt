@@ -19,6 +19,7 @@ mod unknowns;
 
 pub use entries::{set, zeros};
 pub use equation::Equation;
-pub use judging::point_near;
+pub use forms::has_column;
+pub use judging::{added, point_near, quotients};
 pub use multipliers::Unsolvable;
 pub use residues::{Residue, Told, equations_tell};

@@ -3,7 +3,7 @@
 //! no move makes that less (P. Morris, The Breakout Method for Escaping from Local Minima, 1993).
 
 use crate::column::Column;
-use crate::entries::{set, zeros};
+use crate::entries::{entry, set, zeros};
 use crate::limits::Limit;
 use base::Memory;
 use std::alloc::Global;
@@ -159,8 +159,9 @@ fn times_for(lack: i64, each: i64) -> Option<i64> {
 /// What the limits lack after a move that is made so often.
 fn cost(limits: &[Limit], own: &Move, times: i64) -> u64 {
     let mut cost: u64 = 0;
-    for (limit, effect) in limits.iter().zip(own.effects.as_slice()) {
-        cost = cost.saturating_add(limit.cost(limit.raised(*effect, times)));
+    for (at, limit) in limits.iter().enumerate() {
+        let effect = entry(own.effects.as_slice(), at);
+        cost = cost.saturating_add(limit.cost(limit.raised(effect, times)));
     }
     cost
 }
@@ -221,14 +222,14 @@ fn best(limits: &[Limit], moves: &[Move], wanted: usize) -> Option<Choice> {
 
 /// A number rises.
 fn raise(values: &mut [i64], parts: &[i64], times: i64) {
-    for (own, part) in values.iter_mut().zip(parts) {
-        *own = own.saturating_add(part.saturating_mul(times));
+    for (at, own) in values.iter_mut().enumerate() {
+        *own = own.saturating_add(entry(parts, at).saturating_mul(times));
     }
 }
 
 fn raise_limits(limits: &mut [Limit], effects: &[i64], times: i64) {
-    for (limit, effect) in limits.iter_mut().zip(effects) {
-        limit.value = limit.raised(*effect, times);
+    for (at, limit) in limits.iter_mut().enumerate() {
+        limit.value = limit.raised(entry(effects, at), times);
     }
 }
 

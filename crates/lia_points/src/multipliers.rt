@@ -1,6 +1,6 @@
 //! Multiples of equations whose sum no integers solve.
 
-use crate::column::Column;
+use crate::column::{Column, less};
 use crate::entries::{set, zeros};
 use crate::solving::Solving;
 use base::Memory;
@@ -20,13 +20,8 @@ pub struct Unsolvable {
 #[derive(Drop)]
 pub(crate) struct Fractions {
     /// The numerators, the last of the list first.
-    pub(crate) nums: Vec<i128>,
+    nums: Vec<i128>,
     den: i128,
-}
-
-/// A number less the product of a fraction and an entry.
-fn less(from: i128, num: i128, entry: i128) -> Option<i128> {
-    from.checked_sub(num.checked_mul(entry)?)
 }
 
 fn entry_at(column: &Column, pivots: &[usize], at: usize) -> i128 {
@@ -73,7 +68,7 @@ impl Fractions {
         let mut at = pivots.len();
         for num in self.nums.iter() {
             at = at.saturating_sub(1);
-            match less(rest, *num, entry_at(column, pivots, at)) {
+            match less(rest, entry_at(column, pivots, at), Some(num)) {
                 Some(value) => rest = value,
                 None => return None,
             }
@@ -173,24 +168,27 @@ pub(crate) fn fractions_of(
     }
 }
 
-/// The multiplier of a fraction: its numerator over the divisor, modulo it.
-pub(crate) fn multiplier(num: i128, common: i128, divisor: i128) -> Option<i64> {
+/// The multiplier of a fraction: its numerator over the divisor, modulo it, with the other sign where it is to
+/// be turned.
+fn multiplier(num: i128, common: i128, divisor: i128, is_turned: bool) -> Option<i64> {
+    let num = if is_turned { num.checked_neg()? } else { num };
     let own = num.checked_div(common)?.checked_rem_euclid(divisor)?;
     i64::try_from(own).ok()
 }
 
-/// Each equation that was met gets its multiplier.
-fn put_all(
+/// Each equation that was met gets its multiplier, with the other sign where they are to be turned.
+pub(crate) fn put_all(
     made: &mut [i64],
     fractions: &Fractions,
     pivots: &[usize],
     common: i128,
     divisor: i128,
+    is_turned: bool,
 ) -> Option<()> {
     let mut at = pivots.len();
     for num in fractions.nums.iter() {
         at = at.saturating_sub(1);
-        match (pivots.get(at), multiplier(*num, common, divisor)) {
+        match (pivots.get(at), multiplier(*num, common, divisor, is_turned)) {
             (Some(row), Some(own)) => set(made, *row, own),
             _ => return None,
         }
@@ -229,6 +227,7 @@ fn of_fractions(
         pivots,
         common,
         divisor,
+        false,
     ) {
         Some(()) => Ok(Some(Unsolvable {
             multipliers,

@@ -1,9 +1,9 @@
 //! What forms leave by a number, where equations of integers hold.
 
 use crate::column::Column;
-use crate::entries::{set, zeros};
+use crate::entries::zeros;
 use crate::equation::Equation;
-use crate::multipliers::{Fractions, Unsolvable, fractions_of, multiplier, of_solving};
+use crate::multipliers::{Fractions, Unsolvable, fractions_of, of_solving, put_all};
 use crate::solving::{Met, Solving, solved};
 use crate::unknowns::unknowns;
 use base::Memory;
@@ -45,29 +45,6 @@ fn common(free: &[Column], row: usize) -> u128 {
 fn divisor_of(times: i128, common: i128) -> Option<(i64, i64)> {
     let divisor = times.checked_mul(common)?;
     Some((i64::try_from(times).ok()?, i64::try_from(divisor).ok()?))
-}
-
-/// Each equation that was met gets its multiplier, with the other sign.
-fn put_all(
-    made: &mut [i64],
-    nums: &[i128],
-    pivots: &[usize],
-    common: i128,
-    divisor: i64,
-) -> Option<()> {
-    let mut at = pivots.len();
-    for num in nums {
-        at = at.saturating_sub(1);
-        match (pivots.get(at), turned(*num, common, divisor)) {
-            (Some(row), Some(own)) => set(made, *row, own),
-            _ => return None,
-        }
-    }
-    Some(())
-}
-
-fn turned(num: i128, common: i128, divisor: i64) -> Option<i64> {
-    multiplier(num.checked_neg()?, common, i128::from(divisor))
 }
 
 /// What a form leaves by a number above how far its bounds are apart.
@@ -113,8 +90,14 @@ fn of_fractions(
         return Ok(None);
     };
     let mut multipliers = zeros(alloc, count)?;
-    let nums = fractions.nums.as_slice();
-    match put_all(multipliers.as_mut_slice(), nums, pivots, shared, divisor) {
+    match put_all(
+        multipliers.as_mut_slice(),
+        fractions,
+        pivots,
+        shared,
+        i128::from(divisor),
+        true,
+    ) {
         Some(()) => Ok(Some(Residue {
             form,
             times,

@@ -1,6 +1,6 @@
 //! Columns that are free are made shorter: each is less by the multiple of another one that leaves least of it.
 
-use crate::column::Column;
+use crate::column::{Column, more, number_at};
 use base::Memory;
 use std::alloc::Global;
 
@@ -13,19 +13,16 @@ const MOST_COLUMNS: usize = 30;
 /// The sum of products, where it has room.
 fn product(one: &[i128], other: &[i128]) -> Option<i128> {
     let mut sum: i128 = 0;
-    for (a, b) in one.iter().zip(other) {
-        if *a != 0 && *b != 0 {
-            match more(sum, *a, *b) {
+    for (at, a) in one.iter().enumerate() {
+        let b = number_at(other, at);
+        if *a != 0 && b != 0 {
+            match more(sum, *a, b) {
                 Some(value) => sum = value,
                 None => return None,
             }
         }
     }
     Some(sum)
-}
-
-fn more(sum: i128, a: i128, b: i128) -> Option<i128> {
-    sum.checked_add(a.checked_mul(b)?)
 }
 
 /// How often the other column is to be taken away: the quotient of both, rounded to the nearest integer.

@@ -1,6 +1,6 @@
 //! Equations are solved one after the other, by combinations of their unknowns.
 
-use crate::column::Column;
+use crate::column::{Column, less};
 use crate::equation::Equation;
 use crate::unknowns::columns;
 use base::Memory;
@@ -101,8 +101,8 @@ impl Solving {
     fn rest(&self, row: usize, value: i128) -> Option<i128> {
         let mut rest = value;
         for (at, column) in self.done.iter().enumerate() {
-            match with_column(rest, column.entry(row), self.values.get(at)) {
-                Some(less) => rest = less,
+            match less(rest, column.entry(row), self.values.get(at)) {
+                Some(value) => rest = value,
                 None => return None,
             }
         }
@@ -152,14 +152,6 @@ impl Solving {
             }
         }
         Ok(Met::Solved)
-    }
-}
-
-/// The number less the product.
-fn with_column(rest: i128, entry: i128, value: Option<&i128>) -> Option<i128> {
-    match value {
-        Some(value) => rest.checked_sub(entry.checked_mul(*value)?),
-        None => None,
     }
 }
 

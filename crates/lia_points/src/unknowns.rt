@@ -1,6 +1,6 @@
 //! The unknowns of equations.
 
-use crate::column::Column;
+use crate::column::{Column, number_at};
 use crate::equation::Equation;
 use base::Memory;
 use std::alloc::Global;
@@ -103,20 +103,12 @@ fn column(
         Some(near) => Ok(Column {
             entries,
             parts: unit(alloc, count, at)?,
-            near: value_at(near, unknown),
+            near: number_at(near, unknown as usize),
         }),
         None => Ok(Column {
             entries,
             parts: Vec::new(alloc),
             near: 0,
         }),
-    }
-}
-
-/// The number at that place.
-fn value_at(values: &[i128], at: u32) -> i128 {
-    match values.get(at as usize) {
-        Some(value) => *value,
-        None => 0,
     }
 }

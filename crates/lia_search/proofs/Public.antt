@@ -1,2 +1,2 @@
 -- The lemmas that proofs of other crates cite.
-pub use Rattle.lia_search.proofs.FlatLemmas.{short-And, short-Or}
+pub use Rattle.lia_stack.proofs.Public.{short-And, short-Or}

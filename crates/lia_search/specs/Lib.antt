@@ -1,2 +1,1 @@
 pub mod Decides
-pub mod machinery

@@ -1,8 +1,8 @@
 -- A chain of roundings above a tree.
 use Rattle.std.specs.Prelude.{List, [], ◌∷◌}
-use Rattle.farkas_proof.specs.declared.tree.Refutation.{Refutation}
-use Rattle.farkas_proof.specs.declared.tree.Refutation.TheViews as tree
-use Rattle.lia_divisors.specs.declared.chain.Rounding.{Rounding}
+use Rattle.refutation_trees.specs.declared.tree.Refutation.{Refutation}
+use Rattle.refutation_trees.specs.declared.tree.Refutation.TheViews as tree
+use Rattle.lia_parts.specs.declared.chain.Rounding.{Rounding}
 
 abbrev pub chained : List Rounding → Refutation → Refutation
 chained [] t = t

@@ -1,7 +1,7 @@
 use Rattle.std.proofs.Common.{arith, subst, ℕ}
 use Rattle.lin_atoms.specs.declared.form.Form.{Form}
-use Rattle.lia_search.specs.machinery.Searched.{Ends}
-use Rattle.lia_search.proofs.EndLemmas.{form-ends}
+use Rattle.lia_stack.specs.machinery.Searched.{Ends}
+use Rattle.lia_stack.proofs.Public.{form-ends}
 use Rattle.lia_search.proofs.searching.search.Goals as goal
 
 pub begun-requires-clause-few : goal.begun-requires-clause-few

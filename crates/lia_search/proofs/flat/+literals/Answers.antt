@@ -1,6 +1,0 @@
-use Rattle.std.proofs.Common.{sym}
-use Rattle.farkas_proof.proofs.FlattenLemmas.{literals-And}
-use Rattle.lia_search.proofs.flat.+literals.Goals as goal
-
-pub push_literals-returns-in-And : goal.push_literals-returns-in-And
-push_literals-returns-in-And t c = rw (c.in-And.is, literals-And, sym c.as_slice.ensures) c.push_all_literals.ensures

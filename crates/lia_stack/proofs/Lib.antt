@@ -1,0 +1,13 @@
+pub mod CoverLemmas
+pub mod EndLemmas
+pub mod FirstLemmas
+pub mod FlatLemmas
+pub mod MoreLemmas
+pub mod NameLemmas
+pub mod NamingLemmas
+pub mod NodeLemmas
+pub mod PartLemmas
+pub mod Public
+pub mod SearchLemmas
+pub mod StateLemmas
+pub mod TurnLemmas
