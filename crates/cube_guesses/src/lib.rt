@@ -8,12 +8,12 @@ mod hulls;
 mod reducing;
 mod settling;
 mod shutting;
-mod simplest;
+mod simplifying;
 mod sums;
 mod values;
 
 pub use cubes::cube_of;
 pub use settling::{Hulls, hulls_of};
-pub use simplest::simplest;
+pub use simplifying::simplest;
 pub use sums::pair_sums;
 pub use values::value_at;
