@@ -5,13 +5,10 @@ ghost use Rattle.std.specs.List.{list_all};
 ghost use Rattle.refutation_trees.specs.Split.{is_no_falsehood};
 ghost use Rattle.node_rows.specs.Known.{are_known, has_short_constant};
 
-use crate::names::{Ordered, in_order};
-use crate::nodes::Node;
-use crate::numbering::PER_LITERAL;
-use crate::used::DERIVED;
 use base::Memory;
 use lia_close::{close, close_falsehood};
 use lia_divisors::close_by_parts;
+use lia_frames::{DERIVED, Node, PER_LITERAL, Tree, in_order, name_in_order};
 use lia_node::{Examined, examine};
 use lia_points::point_near;
 use lin_atoms::Lit;
@@ -23,7 +20,7 @@ use std::alloc::Global;
 #[derive(Drop)]
 pub(crate) enum Told {
     /// A tree that closes it. Literals of the node have their numbers in it, derived ones those from `DERIVED` on.
-    Closed(Refutation),
+    Closed(Tree),
     /// A point at which its literals are true.
     Point(Vec<i64>),
     /// At a vertex a variable or quotient lies between the number and the next one.
@@ -58,13 +55,9 @@ fn at_fraction(
     match found {
         Some(tree) => {
             let known = u32::try_from(known).unwrap_or(DERIVED);
-            let ordered = Ordered {
-                lits,
-                reasons,
-                known,
-                end,
-            };
-            Ok(Told::Closed(ordered.named(alloc, &tree)?))
+            let mut tree = Tree::of(alloc, tree)?;
+            name_in_order(&mut tree, known, end, lits, reasons);
+            Ok(Told::Closed(tree))
         }
         None => Ok(Told::Fraction(variable, floor)),
     }
@@ -76,7 +69,7 @@ fn by_falsehood(alloc: Global, lit: &Lit, number: u32) -> Result<Told, Memory>
     requires short { has_short_constant lit.now ≡ true }
 {
     let tree = close_falsehood(alloc, lit, number, DERIVED as usize)?;
-    Ok(Told::Closed(tree))
+    Ok(Told::Closed(Tree::of(alloc, tree)?))
 }
 
 /// What is told where all is as it is asked.
@@ -97,7 +90,7 @@ fn examined(
         Examined::Conflict(multipliers) => {
             let multipliers = multipliers.as_slice();
             let tree = close(alloc, lits, reasons, DERIVED as usize, end, multipliers)?;
-            Ok(Told::Closed(tree))
+            Ok(Told::Closed(Tree::of(alloc, tree)?))
         }
         Examined::Model(point) => Ok(Told::Point(point)),
         Examined::Fraction { variable, floor } => {

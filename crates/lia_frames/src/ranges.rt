@@ -18,7 +18,7 @@ struct Range {
 
 /// For each variable its range. Those from the end of the list on may be anything.
 #[derive(Drop)]
-pub(crate) struct Ranges {
+pub struct Ranges {
     each: Vec<Range>,
 }
 
@@ -109,7 +109,7 @@ impl Ranges {
     }
 
     /// The ranges of the variables below `end` where the literals are true.
-    pub(crate) fn new(alloc: Global, lits: &[Lit], end: u32) -> Result<Ranges, Memory> {
+    pub fn new(alloc: Global, lits: &[Lit], end: u32) -> Result<Ranges, Memory> {
         let mut each = Vec::with_capacity(alloc, end as usize)?;
         'each: for _ in 0..end {
             each.push(Range {
@@ -195,7 +195,7 @@ impl Ranges {
     }
 
     /// How many parts of the disjunction are left.
-    pub(crate) fn left(&self, case: &Case, seen: &Seen) -> usize {
+    pub fn left(&self, case: &Case, seen: &Seen) -> usize {
         let (parts, number) = case;
         let mut first = number.saturating_add(1);
         let mut count: usize = 0;

@@ -4,6 +4,7 @@
 use crate::frames::{BRANCHES, Closed};
 use crate::nodes::{Node, known_of_quotient, number_of};
 use crate::numbering::{Case, size};
+use crate::tree::Tree;
 use base::Memory;
 use lin_atoms::Lit;
 use refutation_trees::Refutation;
@@ -16,57 +17,28 @@ const MOST_KEPT: usize = 256;
 const MOST_USED: usize = 16;
 
 /// So many nodes it has at most.
-const MOST_NODES: u32 = 120;
+const MOST_NODES: usize = 120;
 
 /// Forms that take more numbers keep no trees.
 const MOST_NUMBERS: u32 = 1 << 12;
 
-/// Trees of what was closed, and what they use.
+/// Trees of what was closed, and what they use; and what is seen at the node that was looked at last.
 #[derive(Drop)]
-pub(crate) struct Past {
+pub struct Past {
     numbers: u32,
     kept: Vec<Closed>,
     /// Where the next one is kept.
     next: usize,
+    seen: Seen,
 }
 
 /// What is there at a node, and the parts that a tree closes.
 #[derive(Drop)]
-pub(crate) struct Seen {
+pub struct Seen {
     /// Whether what has the number is there.
     there: Vec<bool>,
     /// The first numbers of the parts.
     shut: Vec<u32>,
-}
-
-/// How many nodes the tree has.
-#[cycle(counting)]
-fn nodes(tree: &Refutation) -> u32 {
-    let below = match tree {
-        Refutation::Leaf { multipliers: _ } => 0,
-        Refutation::Round {
-            multipliers: _,
-            divisor: _,
-            sub,
-        } => nodes(sub.get()),
-        Refutation::Split {
-            lin: _,
-            below,
-            above,
-        } => nodes(below.get()).saturating_add(nodes(above.get())),
-        Refutation::Cases { which: _, subs } => nodes_of(subs.as_slice()),
-        Refutation::Quotient { lit: _, sub } => nodes(sub.get()),
-    };
-    below.saturating_add(1)
-}
-
-#[cycle(counting)]
-fn nodes_of(trees: &[Refutation]) -> u32 {
-    let mut sum: u32 = 0;
-    for tree in trees {
-        sum = sum.saturating_add(nodes(tree));
-    }
-    sum
 }
 
 /// Whether a number is one of a branch.
@@ -79,13 +51,12 @@ fn has_branch(used: &[u32]) -> bool {
     false
 }
 
-fn copied(alloc: Global, closed: &Closed) -> Result<Closed, Memory> {
-    let mut used = Vec::with_capacity(alloc, closed.used.len())?;
-    used.extend_from_slice(closed.used.as_slice())?;
-    Ok(Closed {
-        tree: closed.tree.copy(alloc)?,
-        used,
-    })
+/// The other one becomes a copy.
+fn put_copy(alloc: Global, closed: &Closed, to: &mut Closed) -> Result<(), Memory> {
+    to.used.clear();
+    to.used.extend_from_slice(closed.used.as_slice())?;
+    to.tree = Tree::new(alloc);
+    to.tree.append(&closed.tree)
 }
 
 /// The part of an open disjunction that has the number: the numbers from the first one to before the second.
@@ -104,18 +75,6 @@ fn part_with(cases: &[Case], number: u32) -> Option<(u32, u32)> {
 }
 
 impl Seen {
-    /// Nothing is known.
-    fn nothing(alloc: Global, numbers: u32) -> Result<Seen, Memory> {
-        let mut there = Vec::with_capacity(alloc, numbers as usize)?;
-        'there: for _ in 0..numbers {
-            there.push(false)?;
-        }
-        Ok(Seen {
-            there,
-            shut: Vec::new(alloc),
-        })
-    }
-
     fn mark(&mut self, number: u32) {
         if let Some(there) = self.there.get_mut(number as usize) {
             *there = true;
@@ -131,8 +90,12 @@ impl Seen {
         }
     }
 
-    /// What is there at the node.
-    fn mark_node(&mut self, node: &Node) {
+    /// What is there at the node, and nothing else.
+    fn see(&mut self, node: &Node) {
+        self.shut.clear();
+        for there in self.there.iter_mut() {
+            *there = false;
+        }
         for (lit, reason) in node.lits.as_slice().iter().zip(node.reasons.iter()) {
             self.mark_literal(lit, number_of(lit, *reason));
         }
@@ -193,56 +156,76 @@ enum Lacking {
     More,
 }
 
+/// So many that aren't there.
+fn nothing(alloc: Global, numbers: u32) -> Result<Vec<bool>, Memory> {
+    let mut there = Vec::with_capacity(alloc, numbers as usize)?;
+    'there: for _ in 0..numbers {
+        there.push(false)?;
+    }
+    Ok(there)
+}
+
 impl Past {
-    pub(crate) fn new(alloc: Global, numbers: u32) -> Past {
-        Past {
-            numbers: if numbers > MOST_NUMBERS { 0 } else { numbers },
+    /// Nothing was closed yet. The form takes so many numbers.
+    pub fn new(alloc: Global, numbers: u32) -> Result<Past, Memory> {
+        let numbers = if numbers > MOST_NUMBERS { 0 } else { numbers };
+        Ok(Past {
+            numbers,
             kept: Vec::new(alloc),
             next: 0,
-        }
+            seen: Seen {
+                there: nothing(alloc, numbers)?,
+                shut: Vec::new(alloc),
+            },
+        })
+    }
+
+    /// What was seen at the node that was looked at last.
+    pub fn seen(&self) -> &Seen {
+        &self.seen
     }
 
     /// Keeps the tree, where it is small, in place of the one that was kept longest, where there are many.
-    pub(crate) fn keep(&mut self, alloc: Global, closed: &Closed) -> Result<(), Memory> {
+    pub fn keep(&mut self, alloc: Global, closed: &Closed) -> Result<(), Memory> {
         let used = closed.used.as_slice();
         if self.numbers == 0 || used.len() > MOST_USED || has_branch(used) {
             return Ok(());
         }
-        if nodes(&closed.tree) > MOST_NODES {
+        if closed.tree.steps.len() > MOST_NODES {
             return Ok(());
         }
-        let copy = copied(alloc, closed)?;
         if self.kept.len() < MOST_KEPT {
-            self.kept.push(copy)?;
-            return Ok(());
+            self.kept.push(Closed::new(alloc))?;
         }
-        let at = self.next;
-        if let Some(old) = self.kept.get_mut(at) {
-            *old = copy;
+        if let Some(old) = self.kept.get_mut(self.next) {
+            put_copy(alloc, closed, old)?;
         }
-        self.next = if at.saturating_add(1) < MOST_KEPT {
-            at.saturating_add(1)
-        } else {
-            0
-        };
+        let next = self.next.saturating_add(1);
+        self.next = if next < MOST_KEPT { next } else { 0 };
         Ok(())
     }
 
-    /// What is seen at a node, and a tree that closes it, where one was kept.
-    pub(crate) fn look(
-        &self,
+    /// Looks at the node. Whether a tree that was kept closes it: then `closed` becomes a copy of that.
+    pub fn look(
+        &mut self,
         alloc: Global,
         node: &Node,
-    ) -> Result<(Seen, Option<Closed>), Memory> {
-        let mut seen = Seen::nothing(alloc, self.numbers)?;
-        seen.mark_node(node);
-        for closed in self.kept.as_slice() {
-            match seen.lacking(closed.used.as_slice(), node.cases.as_slice()) {
-                Lacking::Nothing => return Ok((seen, Some(copied(alloc, closed)?))),
-                Lacking::Part(first, _) => seen.shut.push(first)?,
+        closed: &mut Closed,
+    ) -> Result<bool, Memory> {
+        self.seen.see(node);
+        for kept in self.kept.as_slice() {
+            match self
+                .seen
+                .lacking(kept.used.as_slice(), node.cases.as_slice())
+            {
+                Lacking::Nothing => {
+                    put_copy(alloc, kept, closed)?;
+                    return Ok(true);
+                }
+                Lacking::Part(first, _) => self.seen.shut.push(first)?,
                 Lacking::More => {}
             }
         }
-        Ok((seen, None))
+        Ok(false)
     }
 }

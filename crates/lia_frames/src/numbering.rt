@@ -6,17 +6,17 @@ use lin_atoms::{Form, Lit};
 use std::alloc::Global;
 
 /// A literal, and its number. Those of the quotient that it may have are known by the next two numbers.
-pub(crate) type Numbered<'a> = (&'a Lit, u32);
+pub type Numbered<'a> = (&'a Lit, u32);
 
 /// A disjunction, and its number. Those of its parts come behind it.
-pub(crate) type Case<'a> = (&'a Items<Form>, u32);
+pub type Case<'a> = (&'a Items<Form>, u32);
 
 /// How many numbers a literal takes: its own one, and those of what is known of its quotient.
-pub(crate) const PER_LITERAL: u32 = 3;
+pub const PER_LITERAL: u32 = 3;
 
 /// How many numbers the form takes.
 #[cycle(size)]
-pub(crate) fn size(form: &Form) -> u32 {
+pub fn size(form: &Form) -> u32 {
     match form {
         Form::True => 0,
         Form::False => PER_LITERAL,
@@ -26,8 +26,9 @@ pub(crate) fn size(form: &Form) -> u32 {
     }
 }
 
+/// How many numbers the forms take.
 #[cycle(size)]
-fn sizes(parts: &[Form]) -> u32 {
+pub(crate) fn sizes(parts: &[Form]) -> u32 {
     let mut sum: u32 = 0;
     for part in parts {
         sum = sum.saturating_add(size(part));
@@ -37,7 +38,7 @@ fn sizes(parts: &[Form]) -> u32 {
 
 /// What a form gives where it is flattened: its literals and its open disjunctions, with their numbers.
 #[derive(Drop)]
-pub(crate) struct Flat<'a> {
+pub struct Flat<'a> {
     pub(crate) lits: Vec<Numbered<'a>>,
     pub(crate) cases: Vec<Case<'a>>,
 }
@@ -84,7 +85,7 @@ fn flatten_all<'a>(
 }
 
 /// What a form gives where it is flattened, with numbers from `first` on.
-pub(crate) fn flat_of<'a>(
+pub fn flat_of<'a>(
     alloc: Global,
     form: &'a Form,
     falsehood: &'a Lit,
@@ -98,18 +99,17 @@ pub(crate) fn flat_of<'a>(
     Ok(flat)
 }
 
-/// Open disjunctions with others in place of the one at `at`.
-pub(crate) fn replaced<'a>(
-    alloc: Global,
+/// Puts open disjunctions behind the others, with more in place of the one at `at`.
+pub(crate) fn put_replaced<'a>(
+    made: &mut Vec<Case<'a>>,
     open: &[Case<'a>],
     at: usize,
     cases: &[Case<'a>],
-) -> Result<Vec<Case<'a>>, Memory> {
+) -> Result<(), Memory> {
     let before = at.min(open.len());
     let behind = at.saturating_add(1).min(open.len());
-    let mut made = Vec::new(alloc);
     made.extend_from_slice(&open[..before])?;
     made.extend_from_slice(cases)?;
     made.extend_from_slice(&open[behind..])?;
-    Ok(made)
+    Ok(())
 }
