@@ -43,3 +43,15 @@ returns-clause-index c =
     let is : c.in_ok-row-2.row ≡ record { by_number = old.by_number ++ length fs ∷ []; by_tuple = insert old.by_tuple at (length fs); keys = insert old.keys at (key_of tuple) } =
     c.in_ok-row-2.ensures ∙ longer ∙ row_is c.row_of-old.result.now old at c.count-id.result (length fs) c.key_of.result (key_of tuple) c.row_of-old.ensures c.count-id.ensures (c.key_of.ensures ∙ ap key_of c.as_slice-tuple.ensures) in
     rw (c.put.ensures, c.in_ok-add.ensures.ok) (index_of rows fs c.args.fact c.args.pred at c.in_ok-row-2.row index c.requires.pred c.in_ok-grow.ensures.there c.requires.there c.requires.fresh (λ none. (let both : Some c.args.pred ≡ None = sym c.requires.pred ∙ none in absurd (cc))) rank is)
+
+pub put-requires : goal.put-requires
+put-requires c = c.in_ok-grow.ensures.there
+
+pub add-requires-clause-there : goal.add-requires-clause-there
+add-requires-clause-there c = c.requires.there
+
+pub with-requires-clause-keys : goal.with-requires-clause-keys
+with-requires-clause-keys c = ?
+
+pub with-requires-clause-tuples : goal.with-requires-clause-tuples
+with-requires-clause-tuples c = ?

@@ -14,3 +14,12 @@ loop-low-preserved c =
     let inv = c.loop-low.invariant in let test = c.loop-low-test.true in let within = inv.1 in
     let middle = c.loop-low.low + (c.loop-low.high - c.loop-low.low) / 2 in
     (omega arith, omega arith, inv.2, rank_high (tuple_of c.args.notes.now) c.args.row.now c.args.tuple.now middle c.requires.order (omega arith) (c.is_below.ensures.behind c.if-is_below.false))
+
+pub is_below-requires-clause-own : goal.is_below-requires-clause-own
+is_below-requires-clause-own c = ?
+
+pub bounds-keys-middle : goal.bounds-keys-middle
+bounds-keys-middle c = ?
+
+pub is_below-requires-clause-there : goal.is_below-requires-clause-there
+is_below-requires-clause-there c = ?

@@ -1,0 +1,4 @@
+use Rattle.derivations.proofs.row.with.Goals as goal
+
+pub returns : goal.returns
+returns c = ?
