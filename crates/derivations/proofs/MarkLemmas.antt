@@ -1,9 +1,9 @@
 -- What is marked after a step, and what is collected.
-use Rattle.std.proofs.Common.{◌≡◌, ℕ, ◌+◌, ◌<◌, ◌≤◌, Bool, true, false, List, [], ◌∷◌, ◌++◌, length, get_or, set, take, replicate, refl, ap, sym, subst, ◌∙◌, arith, inl, inr}
+use Rattle.std.proofs.Common.{◌≡◌, ℕ, ◌+◌, ◌<◌, ◌≤◌, Bool, true, false, List, [], ◌∷◌, ◌++◌, length, get_or, set, take, drop, replicate, refl, ap, sym, subst, ◌∙◌, arith, inl, inr}
 use Rattle.std.specs.Prelude.{◌⊎◌, ◌↔◌}
 use Rattle.std.specs.List.{All, Contains}
 use Rattle.std.proofs.lemmas.Bool.{cases_eq, cases_lt}
-use Rattle.std.proofs.lemmas.List.{get_or_past, get_or-replicate, get_or-set_same, get_or-set_other, length-replicate, length-set, take_more}
+use Rattle.std.proofs.lemmas.List.{append-nil, drop_all, get_or_past, get_or-replicate, get_or-set_same, get_or-set_other, length-replicate, length-set, take_all, take_more}
 use mathlib.Core.Bool.{true≢false}
 use Rattle.std.proofs.lemmas.List.Elements.{All-contains, Contains-append_left, Contains-get_or, Contains-push, Contains-push_cases}
 use Rattle.std.proofs.lemmas.List.Quantifiers.{all_pairs_push}
@@ -157,3 +157,8 @@ one_marked n m = (λ marked. front (cases_eq m n) marked, λ e. subst (λ k. IsM
   front : (m ≡ n) ⊎ (m ≡ n → ⊥) → IsMarked (set none n true) m → m ≡ n
   front (inl e) marked = e
   front (inr other) marked = absurd (true≢false (sym marked ∙ get_or-set_other none n m true false other ∙ not_there (cases_lt m (n + 1))))
+
+-- what is written through a slice of all marks is all of them
+pub written : (new old : List Bool) (n : ℕ) → length new ≡ n → length old ≡ n → take n (new ++ drop (length new) old) ≡ new
+written new old n long-new long-old =
+    ap (λ rest. take n (new ++ rest)) (drop_all (length new) old (omega (arith, long-new, long-old))) ∙ ap (λ xs. take n xs) (append-nil new) ∙ take_all n new (omega (arith, long-new))

@@ -9,4 +9,4 @@ returns-clause-bound c =
     subst (λ fs. c.get.result.now.height ≤ length fs) c.self.view_is (noted_within c.self.inside.table c.args.id c.get.result.now c.self.invariant within c.get.ensures)
 
 pub get-requires : goal.get-requires
-get-requires c = ?
+get-requires c = subst (λ n. c.args.id < n) (length-map c.self.inside.table (λ n. n.fact)) (subst (λ fs. c.args.id < length fs) (sym c.self.view_is) c.requires)
