@@ -189,7 +189,8 @@ fn raised(parts: &Parts, step: &RaisePart) -> Result<Made, Memory>
 {
     let _step = step;
     let level = parts.level + 1;
-    let tree = closed(parts, Cause::Raise { level: level + 1 })?;
+    let cause = Cause::Raise { level: level + 1 };
+    let tree = closed(parts, cause)?;
     Ok(Made {
         level,
         spent: parts.spent + 1,

@@ -9,8 +9,8 @@ overflow_add-level c =
     let room = level-room c.args.parts.now c.parts.inside.level c.requires.kept (ap (λ (x : Contents). x.level) c.parts.view_is) in
     omega (arith, room)
 
-pub overflow_add-level-2 : goal.overflow_add-level-2
-overflow_add-level-2 c =
+pub overflow_add-cause : goal.overflow_add-cause
+overflow_add-cause c =
     let room = level-room c.args.parts.now c.parts.inside.level c.requires.kept (ap (λ (x : Contents). x.level) c.parts.view_is) in
     omega (arith, room)
 

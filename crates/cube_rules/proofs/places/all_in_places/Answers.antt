@@ -17,7 +17,7 @@ returns-in-None-clause-apart c =
 pub loop-lit-preserved : goal.loop-lit-preserved
 loop-lit-preserved c =
     let made = rw c.in-Some.is at c.in_ok-lit.ensures.made in
-    placed-more c.args.args.now c.args.cube.now c.loop-lit.lit-index c.lit-item.result c.in-Some.lit c.loop-lit.lits.items _ c.loop-lit-test.true c.lit-item.is made c.loop-lit.invariant c.in_ok-push.ensures.items
+    placed-more c.args.args.now c.args.cube.now c.loop-lit.lit-index c.lit-item.result c.in-Some.lit c.loop-lit.lits.items _ c.loop-lit-test.true c.lit-item.is made c.loop-lit.invariant c.in_ok-push-in-Some.ensures.items
 
 pub returns-clause-made : goal.returns-clause-made
 returns-clause-made c = c.loop-lit.invariant ∙ ap (map (lit_in_places c.args.args.now)) (take_all c.loop-lit.lit-index c.args.cube.now c.loop-lit-test.false)
