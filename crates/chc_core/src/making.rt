@@ -3,12 +3,10 @@
 ghost use Rattle.std.specs.Prelude.{◌≡◌, ◌+◌, [], length, Some, None, IfOk};
 ghost use Rattle.clause_form.specs.declared.atom.Atom.{Atom as PlainAtom};
 ghost use Rattle.book_rules.specs.Effects.{child_of};
-ghost use Rattle.derivations.specs.Facts.{IsBare};
-ghost use Rattle.obligation_tree.specs.Closing.{after};
 ghost use Rattle.book_rules.specs.Instances.{head_at};
 ghost use Rattle.book_rules.specs.OpenRules.{atom_of, parent_of};
 ghost use Rattle.book_rules.specs.State.{Obligation as PlainObligation};
-ghost use Rattle.chc_tokens.specs.Kept.{seen_clause, seen_point};
+ghost use Rattle.chc_tokens.specs.Kept.{seen_point};
 ghost use Rattle.step_rules.specs.Taken.{open_of};
 ghost use Rattle.chc_core.specs.Views.{state_of};
 ghost use Rattle.step_rules.specs.Views.{ground_conclusion, fresh_of};
@@ -21,7 +19,7 @@ use base::{Copied, Items, Memory};
 use clause_form::Clause;
 use cube_forms::Tuple;
 use derivations::Fact;
-use obligation_tree::{Cause, Obligation, Tree};
+use obligation_tree::{Cause, Obligation};
 use step_rules::{FactPart, LemmaPart, LiftPart, OpenPart, RaisePart, StallPart, Step};
 
 /// The number that the next entry gets.
@@ -29,15 +27,6 @@ pub(crate) fn next_number(parts: &Parts) -> u64
     ensures { result ≡ length parts.now.journal + 1 }
 {
     u64::from(parts.journal.count()) + 1
-}
-
-/// The obligations after a cause, which closes by the next entry.
-fn closed(parts: &Parts, cause: Cause) -> Result<Tree, Memory>
-    ensures { IfOk result (λ tree. tree ≡ record parts.now.tree { nodes = after cause.entry (length parts.now.journal + 1) parts.now.tree.nodes }) }
-{
-    let mut tree = parts.tree.share()?;
-    tree.close_by(cause, next_number(parts))?;
-    Ok(tree)
 }
 
 /// The obligation that an Open asks.
@@ -83,15 +72,15 @@ fn learnt(parts: &Parts, step: &LemmaPart) -> Result<Made, Memory>
     requires { CanTake parts.now (LemmaStep step.now) }
     ensures { IfOk result (λ m. IsMadeBy parts.now (LemmaStep step.now) m) }
 {
-    let lemma = step.lemma.copy(parts.alloc)?;
     let mut frames = parts.frames.share()?;
-    frames.add(step.pred, lemma, step.level)?;
+    frames.add(step.pred, step.lemma.copy(parts.alloc)?, step.level)?;
+    let mut tree = parts.tree.share()?;
     let cause = Cause::Lemma {
         pred: step.pred,
         level: step.level,
         lemma: &step.lemma,
     };
-    let tree = closed(parts, cause)?;
+    tree.close_by(cause, next_number(parts))?;
     Ok(Made {
         level: parts.level,
         spent: parts.spent + 1,
@@ -119,38 +108,27 @@ fn concluded(
     }
 }
 
-/// The fact that a Fact records.
-fn fact_of(parts: &Parts, step: &FactPart, clause: &Clause) -> Result<Fact, Memory>
-    ensures made { IfOk result (λ f. f ≡ record { clause = seen_clause step.now.seen; point = seen_point step.now.seen; premises = step.now.premises; pred = f.pred; tuple = f.tuple }) }
-    ensures head { IfOk result (λ f. ground_conclusion f.pred f.tuple ≡ head_at (seen_point step.now.seen) clause.now) }
-    ensures bare { IfOk result (λ f. IsBare f) }
-{
-    let point = Items::from_slice(parts.alloc, step.seen.point())?;
-    let premises = step.premises.copy(parts.alloc)?;
-    let (pred, tuple) = concluded(parts, step, clause)?;
-    Ok(Fact {
-        clause: step.seen.clause(),
-        point,
-        premises,
-        pred,
-        tuple,
-    })
-}
-
 /// Fact: the conclusion is recorded, and closes what holds it.
 fn recorded(parts: &Parts, step: &FactPart) -> Result<Made, Memory>
     requires { CanTake parts.now (FactStep step.now) }
     ensures { IfOk result (λ m. IsMadeBy parts.now (FactStep step.now) m) }
 {
     let clause = parts.system.get().clause(step.seen.clause() as usize);
-    let fact = fact_of(parts, step, clause)?;
+    let (pred, tuple) = concluded(parts, step, clause)?;
+    let mut tree = parts.tree.share()?;
     let cause = Cause::Fact {
-        pred: fact.pred,
-        tuple: fact.tuple.as_slice(),
+        pred,
+        tuple: tuple.as_slice(),
     };
-    let tree = closed(parts, cause)?;
+    tree.close_by(cause, next_number(parts))?;
     let mut facts = parts.facts.share()?;
-    facts.add(fact)?;
+    facts.add(Fact {
+        clause: step.seen.clause(),
+        point: Items::from_slice(parts.alloc, step.seen.point())?,
+        premises: step.premises.copy(parts.alloc)?,
+        pred,
+        tuple,
+    })?;
     Ok(Made {
         level: parts.level,
         spent: parts.spent + 1,
@@ -167,12 +145,13 @@ fn lifted(parts: &Parts, step: &LiftPart) -> Result<Made, Memory>
 {
     let mut frames = parts.frames.share()?;
     frames.lift(step.lemma)?;
+    let mut tree = parts.tree.share()?;
     let cause = Cause::Lemma {
         pred: parts.frames.pred_of(step.lemma),
         level: step.from + 1,
         lemma: parts.frames.lemma(step.lemma),
     };
-    let tree = closed(parts, cause)?;
+    tree.close_by(cause, next_number(parts))?;
     Ok(Made {
         level: parts.level,
         spent: parts.spent + 1,
@@ -188,9 +167,9 @@ fn raised(parts: &Parts, step: &RaisePart) -> Result<Made, Memory>
     ensures { IfOk result (λ m. IsMadeBy parts.now (RaiseStep step.now) m) }
 {
     let _step = step;
+    let mut tree = parts.tree.share()?;
     let level = parts.level + 1;
-    let cause = Cause::Raise { level: level + 1 };
-    let tree = closed(parts, cause)?;
+    tree.close_by(Cause::Raise { level: level + 1 }, next_number(parts))?;
     Ok(Made {
         level,
         spent: parts.spent + 1,

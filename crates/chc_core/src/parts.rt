@@ -63,11 +63,11 @@ impl Parts {
         ensures legal { is_system system ≡ true }
     {
         let preds = system.preds().len() as u32;
-        let system = Held::new(alloc, IndexedSystem::new(alloc, system)?)?;
         let frames = Frames::new(alloc, preds)?;
         let facts = Facts::new(alloc)?;
         let tree = Tree::new(alloc)?;
         let journal = Table::new(alloc)?;
+        let system = Held::new(alloc, IndexedSystem::new(alloc, system)?)?;
         Ok(Parts {
             alloc,
             system,

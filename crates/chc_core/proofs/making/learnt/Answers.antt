@@ -1,6 +1,8 @@
-use Rattle.std.proofs.Common.{◌≡◌, List, [], ◌∷◌, ◌++◌, ◌+◌, ◌<◌, ◌-◌, ◌^◌, length, refl, ap, ap₂, sym, ◌∙◌, subst, arith}
+use Rattle.std.proofs.Common.{◌≡◌, ℕ, List, [], ◌∷◌, ◌++◌, ◌+◌, ◌<◌, ◌-◌, ◌^◌, length, refl, ap, ap₂, sym, ◌∙◌, subst, arith}
 use Rattle.lin_atoms.specs.declared.lit.Lit.{Lit}
 use Rattle.lemma_frames.specs.Frames.{Lemmas}
+use Rattle.obligation_tree.specs.Closing.{after_lemma}
+use Rattle.obligation_tree.specs.Nodes.{TreeState as Tree}
 use Rattle.chc_core.specs.Contents.{Contents}
 use Rattle.chc_core.proofs.MadeLemmas.{lemmas-room, made-lemma, spent-room}
 use Rattle.chc_core.proofs.MakingLemmas.{can_learn}
@@ -26,9 +28,11 @@ returns c =
     let b = c.args.parts.now in
     let l = c.args.step.now in
     let frames : c.in_ok-frames.frames ≡ b.frames = c.in_ok-frames.ensures ∙ ap (λ (x : Contents). x.frames) c.parts.view_is in
-    let lemma : c.in_ok-lemma.lemma ≡ l.lemma = c.in_ok-lemma.ensures in
+    let number : c.next_number.result ≡ length b.journal + 1 = c.next_number.ensures in
+    let tree : c.in_ok-tree.tree ≡ b.tree = c.in_ok-tree.ensures ∙ ap (λ (x : Contents). x.tree) c.parts.view_is in
+    let lemma : c.in_ok-copy.field-0 ≡ l.lemma = c.in_ok-copy.ensures in
     made-lemma b l _ c.requires (record {
       frames_are = c.in_ok-add.ensures.ok ∙ ap₂ (λ (f : Lemmas) (x : List Lit). record f { lemmas = f.lemmas ++ (record { pred = l.pred; level = l.level; lemma = x }) ∷ [] }) frames lemma;
       facts_are = refl;
-      tree_is = c.in_ok-tree.ensures;
+      tree_is = c.in_ok-close_by.ensures.ok ∙ ap₂ (λ (n : ℕ) (t : Tree). record t { nodes = after_lemma l.pred l.level l.lemma n t.nodes }) number tree;
     }) (ap (λ (x : Contents). x.level) c.parts.view_is) (ap (λ (x : Contents). x.spent + 1) c.parts.view_is)

@@ -2,6 +2,7 @@ use Rattle.std.proofs.Common.{◌≡◌, ℕ, List, ◌+◌, ◌<◌, ◌-◌, �
 use Rattle.lin_atoms.specs.declared.lit.Lit.{Lit}
 use Rattle.lemma_frames.specs.Frames.{Lemmas, lemma_of, level_of, lifted, pred_of}
 use Rattle.obligation_tree.specs.Closing.{after_lemma}
+use Rattle.obligation_tree.specs.Nodes.{TreeState as Tree}
 use Rattle.chc_core.specs.Contents.{Contents}
 use Rattle.chc_core.proofs.MadeLemmas.{from-room, lift-room, made-lift, spent-room}
 use Rattle.chc_core.proofs.MakingLemmas.{can_lift}
@@ -37,11 +38,14 @@ returns c =
     let l = c.args.step.now in
     let from = l.from + 1 in
     let frames : c.in_ok-frames.frames ≡ b.frames = c.in_ok-frames.ensures ∙ ap (λ (x : Contents). x.frames) c.parts.view_is in
+    let number : c.next_number.result ≡ length b.journal + 1 = c.next_number.ensures in
+    let tree : c.in_ok-tree.tree ≡ b.tree = c.in_ok-tree.ensures ∙ ap (λ (x : Contents). x.tree) c.parts.view_is in
     let pred : c.pred_of.result ≡ pred_of b.frames.lemmas l.lemma = c.pred_of.ensures.pred ∙ ap (λ (x : Contents). pred_of x.frames.lemmas l.lemma) c.parts.view_is in
     let lemma : c.lemma.result.now ≡ lemma_of b.frames.lemmas l.lemma = c.lemma.ensures ∙ ap (λ (x : Contents). lemma_of x.frames.lemmas l.lemma) c.parts.view_is in
     made-lift b l _ c.requires (record {
       frames_are = c.in_ok-lift.ensures.ok ∙ ap (λ (f : Lemmas). record f { lemmas = lifted f.lemmas l.lemma }) frames;
       facts_are = refl;
-      tree_is = c.in_ok-tree.ensures
+      tree_is = c.in_ok-close_by.ensures.ok
+          ∙ ap₂ (λ (n : ℕ) (t : Tree). record t { nodes = after_lemma c.pred_of.result from c.lemma.result.now n t.nodes }) number tree
           ∙ ap₂ (λ (p : ℕ) (x : List Lit). record b.tree { nodes = after_lemma p from x (length b.journal + 1) b.tree.nodes }) pred lemma;
     }) (ap (λ (x : Contents). x.level) c.parts.view_is) (ap (λ (x : Contents). x.spent + 1) c.parts.view_is)

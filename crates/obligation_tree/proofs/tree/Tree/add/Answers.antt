@@ -21,11 +21,6 @@ push-requires c = subst (λ (s : TreeState). length s.nodes < 2 ^ 32 - 1) (sym c
 pub invariant_of-self : goal.invariant_of-self
 invariant_of-self c = subst (λ (ns : List Node). IsKept ns c.self.inside.index) (sym c.in_err-push.ensures.err) c.self.invariant
 
-pub returns-in_err-push-clause-err : goal.returns-in_err-push-clause-err
-returns-in_err-push-clause-err c =
-    let state : List Node → TreeState = λ ns. record { nodes = ns; claims = c.self.inside.claims } in
-    ap state c.in_err-push.ensures.err ∙ c.self.view_is
-
 pub returns-clause-number : goal.returns-clause-number
 returns-clause-number c = c.count-number.ensures ∙ ap (λ (s : TreeState). length s.nodes) c.self.view_is
 
