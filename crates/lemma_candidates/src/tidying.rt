@@ -24,7 +24,8 @@ fn try_tidy(lent: &Lent, tries: &mut Tries, nodes: u32) -> Result<(), Memory>
     if let Some(cube) = cube_of(lent.alloc, lits)? {
         tries.try_cube(lent, &cube, nodes)?;
     }
-    shrink(lent, tries, nodes)
+    shrink(lent, tries, nodes)?;
+    Ok(())
 }
 
 /// The lemma with the literals of its cube in their simplest form, each once, equations as two bounds,
