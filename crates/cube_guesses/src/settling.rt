@@ -43,10 +43,12 @@ enum Stage {
 
 /// Lets a literal of the predicate's hull go: a divisibility or an equation.
 fn lose(known: &mut Vec<Known>, pred: u32, at: usize, stage: Stage) {
-    if let Some(Known::Common(hull)) = known.as_mut_slice().get_mut(pred as usize) {
-        match stage {
-            Stage::Divisibilities => hull.drop_divisibility(at),
-            _ => hull.drop_equation(at),
+    if let Some(place) = known.as_mut_slice().get_mut(pred as usize) {
+        if let Known::Common(hull) = place {
+            match stage {
+                Stage::Divisibilities => hull.drop_divisibility(at),
+                _ => hull.drop_equation(at),
+            }
         }
     }
 }
