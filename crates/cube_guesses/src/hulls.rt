@@ -1,8 +1,6 @@
 //! What all tuples of a predicate that were met have in common: linear equations, and residues of
 //! simple forms.
 
-ghost use Rattle.std.specs.Prelude.{◌<◌, length, IfSome};
-
 use crate::reducing::primitive;
 use crate::values::{combined, value_at};
 use base::{Copied, Memory};
@@ -175,9 +173,7 @@ fn is_within_widest(lin: &Lin) -> bool {
 }
 
 /// The first equation that is broken at the tuple, and its value there.
-fn first_broken(equations: &[Lin], tuple: &[i64]) -> Option<(usize, i64)>
-    ensures { IfSome result (λ found. found.0 < length equations.now) }
-{
+fn first_broken(equations: &[Lin], tuple: &[i64]) -> Option<(usize, i64)> {
     for (at, lin) in equations.iter().enumerate() {
         match value_at(lin, tuple) {
             Some(0) => {}
@@ -226,14 +222,14 @@ fn mended_by(
     broken: usize,
     value: i64,
     tuple: &[i64],
-) -> Result<Vec<Lin>, Memory>
-    requires { broken < length equations.now }
-{
+) -> Result<Vec<Lin>, Memory> {
     let mut made = Vec::new(alloc);
     for (at, lin) in equations.iter().enumerate() {
         if at != broken {
-            if let Some(lin) = mended(alloc, lin, &equations[broken], value, tuple)? {
-                made.push(lin)?;
+            if let Some(of) = equations.get(broken) {
+                if let Some(lin) = mended(alloc, lin, of, value, tuple)? {
+                    made.push(lin)?;
+                }
             }
         }
     }
@@ -308,9 +304,8 @@ fn push_divisibilities(
 impl Hull {
     /// Takes one more tuple in.
     pub(crate) fn add(&mut self, alloc: Global, tuple: &[i64]) -> Result<(), Memory> {
-        let equations = self.equations.as_slice();
-        if let Some((broken, value)) = first_broken(equations, tuple) {
-            self.equations = mended_by(alloc, equations, broken, value, tuple)?;
+        if let Some((broken, value)) = first_broken(self.equations.as_slice(), tuple) {
+            self.equations = mended_by(alloc, self.equations.as_slice(), broken, value, tuple)?;
         }
         narrow_all(&mut self.residues, tuple);
         Ok(())

@@ -13,6 +13,12 @@ use std::alloc::Global;
 /// How many queries are asked.
 const MOST_QUERIES: u32 = 3_000;
 
+/// What the tuples of each predicate of a system have in common: equations, and residues of simple forms.
+#[derive(Drop)]
+pub struct Hulls {
+    known: Vec<Known>,
+}
+
 /// Whether a tuple of each atom's predicate was met.
 fn are_reached(known: &[Known], atoms: &[Atom]) -> bool {
     for atom in atoms {
@@ -22,17 +28,6 @@ fn are_reached(known: &[Known], atoms: &[Atom]) -> bool {
         }
     }
     true
-}
-
-/// Takes a tuple of the predicate in.
-fn take(alloc: Global, known: &mut Vec<Known>, pred: u32, tuple: &[i64]) -> Result<(), Memory> {
-    if let Some(place) = known.as_mut_slice().get_mut(pred as usize) {
-        match place {
-            Known::Nothing => *place = Known::Common(hull_of(alloc, tuple)?),
-            Known::Common(hull) => hull.add(alloc, tuple)?,
-        }
-    }
-    Ok(())
 }
 
 /// What clauses are asked about.
@@ -48,10 +43,12 @@ enum Stage {
 
 /// Lets a literal of the predicate's hull go: a divisibility or an equation.
 fn lose(known: &mut Vec<Known>, pred: u32, at: usize, stage: Stage) {
-    if let Some(Known::Common(hull)) = known.as_mut_slice().get_mut(pred as usize) {
-        match stage {
-            Stage::Divisibilities => hull.drop_divisibility(at),
-            _ => hull.drop_equation(at),
+    if let Some(place) = known.as_mut_slice().get_mut(pred as usize) {
+        if let Known::Common(hull) = place {
+            match stage {
+                Stage::Divisibilities => hull.drop_divisibility(at),
+                _ => hull.drop_equation(at),
+            }
         }
     }
 }
@@ -59,27 +56,29 @@ fn lose(known: &mut Vec<Known>, pred: u32, at: usize, stage: Stage) {
 /// Asks a clause once; whether anything changed.
 fn step(
     alloc: Global,
-    known: &mut Vec<Known>,
+    hulls: &mut Hulls,
     clause: &Clause,
     head: &Atom,
     stage: Stage,
     left: &mut u32,
 ) -> Result<bool, Memory> {
     let found = match stage {
-        Stage::Equations => { visit_equations(alloc, known.as_slice(), clause, head, false, left)? }
-        Stage::Both => visit_equations(alloc, known.as_slice(), clause, head, true, left)?,
+        Stage::Equations => {
+            visit_equations(alloc, hulls.known.as_slice(), clause, head, false, left)?
+        }
+        Stage::Both => visit_equations(alloc, hulls.known.as_slice(), clause, head, true, left)?,
         Stage::Divisibilities => {
-            visit_divisibilities(alloc, known.as_slice(), clause, head, left)?
+            visit_divisibilities(alloc, hulls.known.as_slice(), clause, head, left)?
         }
     };
     match found {
         Verdict::Kept => Ok(false),
         Verdict::Met(tuple) => {
-            take(alloc, known, head.pred, tuple.as_slice())?;
+            hulls.take(alloc, head.pred, tuple.as_slice())?;
             Ok(true)
         }
         Verdict::Lost(at) => {
-            lose(known, head.pred, at, stage);
+            lose(&mut hulls.known, head.pred, at, stage);
             Ok(true)
         }
     }
@@ -88,17 +87,17 @@ fn step(
 /// Asks a clause until what is known of its head stands; whether that changed.
 fn settle(
     alloc: Global,
-    known: &mut Vec<Known>,
+    hulls: &mut Hulls,
     clause: &Clause,
     head: &Atom,
     stage: Stage,
     left: &mut u32,
 ) -> Result<bool, Memory> {
-    if !are_reached(known.as_slice(), clause.atoms.as_slice()) {
+    if !are_reached(hulls.known.as_slice(), clause.atoms.as_slice()) {
         return Ok(false);
     }
     for at in 0..MOST_QUERIES {
-        if *left == 0 || !step(alloc, known, clause, head, stage, left)? {
+        if *left == 0 || !step(alloc, hulls, clause, head, stage, left)? {
             return Ok(at > 0);
         }
     }
@@ -108,7 +107,7 @@ fn settle(
 /// Asks each clause with a head; whether anything changed.
 fn round(
     alloc: Global,
-    known: &mut Vec<Known>,
+    hulls: &mut Hulls,
     sys: &System,
     stage: Stage,
     left: &mut u32,
@@ -116,7 +115,7 @@ fn round(
     let mut changed = false;
     for clause in sys.clauses() {
         if let Some(head) = &clause.head {
-            if settle(alloc, known, clause, head, stage, left)? {
+            if settle(alloc, hulls, clause, head, stage, left)? {
                 changed = true;
             }
         }
@@ -125,31 +124,17 @@ fn round(
 }
 
 /// Asks round after round until nothing changes; whether it came to that.
-fn rounds(
-    alloc: Global,
-    known: &mut Vec<Known>,
-    sys: &System,
-    stage: Stage,
-) -> Result<bool, Memory> {
+fn rounds(alloc: Global, hulls: &mut Hulls, sys: &System, stage: Stage) -> Result<bool, Memory> {
     let mut left = MOST_QUERIES;
     for _ in 0..MOST_QUERIES {
         if left == 0 {
             return Ok(false);
         }
-        if !round(alloc, known, sys, stage, &mut left)? {
+        if !round(alloc, hulls, sys, stage, &mut left)? {
             return Ok(left > 0);
         }
     }
     Ok(false)
-}
-
-/// Nothing is known of any predicate.
-fn unknown(alloc: Global, sys: &System) -> Result<Vec<Known>, Memory> {
-    let mut known = Vec::new(alloc);
-    for _ in sys.preds() {
-        known.push(Known::Nothing)?;
-    }
-    Ok(known)
 }
 
 /// Lets all that is known go.
@@ -180,11 +165,11 @@ fn may_have_residues(sys: &System) -> bool {
 }
 
 /// Finds equations and residues beside each other; whether it came to an end.
-fn settle_both(alloc: Global, known: &mut Vec<Known>, sys: &System) -> Result<bool, Memory> {
-    if !rounds(alloc, known, sys, Stage::Both)? {
+fn settle_both(alloc: Global, hulls: &mut Hulls, sys: &System) -> Result<bool, Memory> {
+    if !rounds(alloc, hulls, sys, Stage::Both)? {
         return Ok(false);
     }
-    rounds(alloc, known, sys, Stage::Divisibilities)
+    rounds(alloc, hulls, sys, Stage::Divisibilities)
 }
 
 /// Puts the residues of one hull in the place of those of another.
@@ -206,59 +191,61 @@ fn put_each(known: &mut Vec<Known>, others: &mut Vec<Known>) {
 }
 
 /// Has residues that are met among tuples that have them, where that comes to an end; whether it does.
-fn put_beside(alloc: Global, known: &mut Vec<Known>, sys: &System) -> Result<bool, Memory> {
+fn put_beside(alloc: Global, hulls: &mut Hulls, sys: &System) -> Result<bool, Memory> {
     if !may_have_residues(sys) {
         return Ok(false);
     }
-    let mut others = unknown(alloc, sys)?;
+    let mut others = Hulls::unknown(alloc, sys)?;
     let is_settled = settle_both(alloc, &mut others, sys)?;
     if is_settled {
-        put_each(known, &mut others);
+        put_each(&mut hulls.known, &mut others.known);
     }
     Ok(is_settled)
 }
 
 /// Finds equations, and divisibilities beside or behind them.
-fn settle_all(alloc: Global, known: &mut Vec<Known>, sys: &System) -> Result<(), Memory> {
-    if !rounds(alloc, known, sys, Stage::Equations)? {
-        lose_all(known);
+fn settle_all(alloc: Global, hulls: &mut Hulls, sys: &System) -> Result<(), Memory> {
+    if !rounds(alloc, hulls, sys, Stage::Equations)? {
+        lose_all(&mut hulls.known);
         return Ok(());
     }
-    if put_beside(alloc, known, sys)? {
+    if put_beside(alloc, hulls, sys)? {
         return Ok(());
     }
-    if !rounds(alloc, known, sys, Stage::Divisibilities)? {
-        lose_divisibilities(alloc, known);
+    if !rounds(alloc, hulls, sys, Stage::Divisibilities)? {
+        lose_divisibilities(alloc, &mut hulls.known);
     }
     Ok(())
-}
-
-/// What the tuples of each predicate of a system have in common: equations, and residues of simple forms.
-#[derive(Drop)]
-pub struct Hulls {
-    known: Vec<Known>,
 }
 
 /// What the tuples of each predicate have in common, as far as it was found: equations, and divisibilities
 /// beside them; neither where a few thousand queries didn't settle it. Where divisibilities can't be
 /// found beside the equations, they are looked for behind them, among the tuples that were met.
 pub fn hulls_of(alloc: Global, sys: &System) -> Result<Hulls, Memory> {
-    let mut known = unknown(alloc, sys)?;
-    settle_all(alloc, &mut known, sys)?;
-    Ok(Hulls { known })
+    let mut hulls = Hulls::unknown(alloc, sys)?;
+    settle_all(alloc, &mut hulls, sys)?;
+    Ok(hulls)
 }
 
 impl Hulls {
     /// Those of predicates of which no tuple was met.
     pub fn unknown(alloc: Global, sys: &System) -> Result<Hulls, Memory> {
-        Ok(Hulls {
-            known: unknown(alloc, sys)?,
-        })
+        let mut known = Vec::new(alloc);
+        for _ in sys.preds() {
+            known.push(Known::Nothing)?;
+        }
+        Ok(Hulls { known })
     }
 
     /// Takes a tuple of the predicate in.
     pub fn take(&mut self, alloc: Global, pred: u32, tuple: &[i64]) -> Result<(), Memory> {
-        take(alloc, &mut self.known, pred, tuple)
+        if let Some(place) = self.known.as_mut_slice().get_mut(pred as usize) {
+            match place {
+                Known::Nothing => *place = Known::Common(hull_of(alloc, tuple)?),
+                Known::Common(hull) => hull.add(alloc, tuple)?,
+            }
+        }
+        Ok(())
     }
 
     /// Adds to each predicate's list the forms of equations that its tuples have in common, and that pairs of

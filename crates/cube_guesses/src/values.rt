@@ -4,19 +4,15 @@ use base::{Copied, Memory};
 use lin_atoms::{Lin, WideStop};
 use std::alloc::Global;
 
-/// What a variable stands for at a point: 0 past the end.
-fn variable_at(point: &[i64], variable: u32) -> i64 {
-    match point.get(variable as usize) {
-        Some(value) => *value,
-        None => 0,
-    }
-}
-
-/// The value of the form at the point, where it and each sum on the way have room.
+/// The value of the form at the point, where it and each sum on the way have room. A variable past the
+/// point's end is 0.
 pub fn value_at(lin: &Lin, point: &[i64]) -> Option<i64> {
     let mut total = lin.constant();
     for (variable, coefficient) in lin.terms() {
-        let value = i128::from(variable_at(point, *variable));
+        let value = match point.get(*variable as usize) {
+            Some(value) => i128::from(*value),
+            None => 0,
+        };
         let product = i128::from(*coefficient).checked_mul(value)?;
         total = total.checked_add(product)?;
     }

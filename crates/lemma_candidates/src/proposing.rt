@@ -49,12 +49,28 @@ fn shut_out(
     hints.cubes(lent.alloc, part.pred, obligation.point.as_slice(), whole)
 }
 
+/// Whether the literal is a bound.
+fn is_bound(lit: &Lit) -> bool {
+    match lit {
+        Lit::Le(_) => true,
+        _ => false,
+    }
+}
+
+/// Whether the literal says something of residues.
+fn is_of_residues(lit: &Lit) -> bool {
+    match lit {
+        Lit::Div(_, _) => true,
+        Lit::NDiv(_, _) => true,
+        _ => false,
+    }
+}
+
 /// Whether all literals are bounds.
 fn are_bounds(lits: &[Lit]) -> bool {
     for lit in lits {
-        match lit {
-            Lit::Le(_) => {}
-            _ => return false,
+        if !is_bound(lit) {
+            return false;
         }
     }
     true
@@ -63,39 +79,28 @@ fn are_bounds(lits: &[Lit]) -> bool {
 /// Whether all literals say something of residues.
 fn are_of_residues(lits: &[Lit]) -> bool {
     for lit in lits {
-        match lit {
-            Lit::Div(_, _) => {}
-            Lit::NDiv(_, _) => {}
-            _ => return false,
+        if !is_of_residues(lit) {
+            return false;
         }
     }
     true
 }
 
-/// Tries the cubes that are shut out by what was guessed; whether one was taken.
-fn try_shut_out(
-    lent: &Lent,
-    tries: &mut Tries,
-    hints: &Hints,
-    whole: bool,
-    nodes: u32,
-) -> Result<bool, Memory>
-    requires goes_on { GoesOn lent.now }
-    requires trying { IsTrying lent.now tries.old }
-    requires some { 0 < nodes }
-    ensures { OnOk result (IsTriedOn lent.now tries.old tries.new) }
-{
-    let cubes = shut_out(lent, tries.part(), hints, whole)?;
-    let taken = try_each(lent, tries, cubes.as_slice(), nodes)?;
-    Ok(taken)
+/// The same of the kind that the lemma's cube has: of literals about residues alone none, and by residues
+/// only where the cube has more than bounds.
+fn shut_out_alike(lent: &Lent, part: &LemmaPart, hints: &Hints) -> Result<Vec<Cube>, Memory> {
+    let lits = part.lemma.cube().lits();
+    if lits.len() > 0 && are_of_residues(lits) {
+        return Ok(Vec::new(lent.alloc));
+    }
+    shut_out(lent, part, hints, !are_bounds(lits))
 }
 
-/// The lemma with the first of these cubes that is taken, else as it is.
-fn with_shut_out(
+/// The lemma with the first of the cubes that is taken, else as it is.
+fn with_one_of(
     lent: &Lent,
     part: LemmaPart,
-    hints: &Hints,
-    whole: bool,
+    cubes: &[Cube],
     nodes: u32,
 ) -> Result<LemmaPart, Memory>
     requires goes_on { GoesOn lent.now }
@@ -104,7 +109,7 @@ fn with_shut_out(
     ensures { IfOk result (IsInPlaceOf lent.now part) }
 {
     let mut tries = Tries::new(lent.alloc, part);
-    try_shut_out(lent, &mut tries, hints, whole, nodes)?;
+    try_each(lent, &mut tries, cubes, nodes)?;
     Ok(tries.into_part())
 }
 
@@ -121,7 +126,8 @@ pub fn propose_hulls(
     requires some { 0 < nodes }
     ensures { IfOk result (IsInPlaceOf lent.now part) }
 {
-    with_shut_out(lent, part, hints, true, nodes)
+    let cubes = shut_out(lent, &part, hints, true)?;
+    with_one_of(lent, part, cubes.as_slice(), nodes)
 }
 
 /// The same with fewer cubes, for a lemma as its turn gave it: a cube of literals about residues stays, and
@@ -137,12 +143,8 @@ pub fn propose_alike(
     requires some { 0 < nodes }
     ensures { IfOk result (IsInPlaceOf lent.now part) }
 {
-    let lits = part.lemma.cube().lits();
-    if lits.len() > 0 && are_of_residues(lits) {
-        return Ok(part);
-    }
-    let whole = !are_bounds(lits);
-    with_shut_out(lent, part, hints, whole, nodes)
+    let cubes = shut_out_alike(lent, &part, hints)?;
+    with_one_of(lent, part, cubes.as_slice(), nodes)
 }
 
 /// A lemma of another cube in the lemma's place, made more general, if the frame below implies one of

@@ -1,31 +1,15 @@
 //! The literals of a cube in their simplest form.
 
-ghost use Rattle.std.specs.Prelude.{◌<◌, IfOk, OnOk};
+ghost use Rattle.std.specs.Prelude.{◌<◌, IfOk};
 ghost use Rattle.obligation_turn.specs.Turns.{GoesOn};
 ghost use Rattle.lemma_general.specs.Generals.{IsLearnt};
-ghost use Rattle.lemma_general.specs.Tries.{IsTrying};
 ghost use Rattle.lemma_candidates.specs.Candidates.{IsInPlaceOf};
-ghost use Rattle.lemma_candidates.specs.machinery.Tried.{IsTriedOn};
 
 use crate::shrinking::shrink;
 use base::Memory;
 use cube_guesses::{cube_of, simplest};
 use lemma_general::Tries;
 use step_rules::{LemmaPart, Lent};
-
-/// Tries the cube with its literals in their simplest form, and then to leave out runs of them.
-fn try_tidy(lent: &Lent, tries: &mut Tries, nodes: u32) -> Result<(), Memory>
-    requires goes_on { GoesOn lent.now }
-    requires trying { IsTrying lent.now tries.old }
-    requires some { 0 < nodes }
-    ensures { OnOk result (IsTriedOn lent.now tries.old tries.new) }
-{
-    let lits = simplest(lent.alloc, tries.part().lemma.cube().lits())?;
-    if let Some(cube) = cube_of(lent.alloc, lits)? {
-        tries.try_cube(lent, &cube, nodes)?;
-    }
-    shrink(lent, tries, nodes)
-}
 
 /// The lemma with the literals of its cube in their simplest form, each once, equations as two bounds,
 /// and the last first: so equal lemmas have equal cubes, and what came late is what is left out first.
@@ -36,7 +20,11 @@ pub fn tidy(lent: &Lent, part: LemmaPart, nodes: u32) -> Result<LemmaPart, Memor
     requires some { 0 < nodes }
     ensures { IfOk result (IsInPlaceOf lent.now part) }
 {
+    let lits = simplest(lent.alloc, part.lemma.cube().lits())?;
     let mut tries = Tries::new(lent.alloc, part);
-    try_tidy(lent, &mut tries, nodes)?;
+    if let Some(cube) = cube_of(lent.alloc, lits)? {
+        tries.try_cube(lent, &cube, nodes)?;
+    }
+    shrink(lent, &mut tries, nodes)?;
     Ok(tries.into_part())
 }

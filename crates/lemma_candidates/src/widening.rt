@@ -22,13 +22,25 @@ const MOST_MOVES: u32 = 40;
 /// The widest move that is followed by a wider one.
 const WIDEST: u64 = 1 << 40;
 
-/// The move after one that was taken or not, and whether the next ones may still double: they do until one
-/// is refused, and are halved from then on.
-fn next(by: u64, grows: bool, taken: bool) -> (u64, bool) {
-    if grows && taken && by <= WIDEST {
-        (by * 2, true)
+/// How far a bound is moved next. Moves double until one is refused, and are halved from then on.
+#[derive(Clone, Copy)]
+struct Move {
+    by: u64,
+    grows: bool,
+}
+
+/// The move after one that was taken or not.
+fn next(last: Move, taken: bool) -> Move {
+    if last.grows && taken && last.by <= WIDEST {
+        Move {
+            by: last.by * 2,
+            grows: true,
+        }
     } else {
-        (by / 2, false)
+        Move {
+            by: last.by / 2,
+            grows: false,
+        }
     }
 }
 
@@ -55,16 +67,13 @@ fn widen_at(lent: &Lent, tries: &mut Tries, at: usize, nodes: u32) -> Result<(),
     requires some { 0 < nodes }
     ensures { OnOk result (IsWidenedOn lent.now tries.old tries.new) }
 {
-    let mut by: u64 = 1;
-    let mut grows = true;
+    let mut step = Move { by: 1, grows: true };
     for _ in 0..MOST_MOVES {
-        if by == 0 {
+        if step.by == 0 {
             return Ok(());
         }
-        let taken = try_move(lent, tries, at, by, nodes)?;
-        let (then, still) = next(by, grows, taken);
-        by = then;
-        grows = still;
+        let taken = try_move(lent, tries, at, step.by, nodes)?;
+        step = next(step, taken);
     }
     Ok(())
 }

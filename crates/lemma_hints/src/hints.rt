@@ -69,16 +69,15 @@ fn shared_forms(
 
 impl Hints {
     /// Runs clauses forward, the first time.
-    fn walk(&mut self, alloc: Global, sys: &IndexedSystem) -> Result<(), Memory> {
-        if self.walk.is_some() {
-            return Ok(());
+    fn walk(&mut self, alloc: Global, sys: &IndexedSystem) -> Result<Walk, Memory> {
+        if let Some(met) = self.walk.take() {
+            return Ok(met);
         }
         let met = walked(alloc, sys)?;
         if met.is_broken {
             self.paces = paces_of(alloc, sys.plain(), &met)?;
         }
-        self.walk = Some(met);
-        Ok(())
+        Ok(met)
     }
 
     /// Looks for bounds that hold together, where the level of the book and the units that were spent say
@@ -91,17 +90,16 @@ impl Hints {
         units: u32,
     ) -> Result<(), Memory> {
         let are_due = self.bounds.are_due(level, units);
-        if !are_due && level == 0 {
+        if !are_due && (level == 0 || self.walk.is_some()) {
             return Ok(());
         }
-        self.walk(alloc, sys)?;
-        if let Some(met) = &self.walk {
-            if are_due {
-                let shared = shared_forms(alloc, sys.plain(), &self.hulls, met)?;
-                self.bounds
-                    .renew(alloc, sys, shared.as_slice(), met, level, units)?;
-            }
+        let met = self.walk(alloc, sys)?;
+        if are_due {
+            let shared = shared_forms(alloc, sys.plain(), &self.hulls, &met)?;
+            self.bounds
+                .renew(alloc, sys, shared.as_slice(), &met, level, units)?;
         }
+        self.walk = Some(met);
         Ok(())
     }
 
