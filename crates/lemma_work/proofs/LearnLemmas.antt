@@ -1,5 +1,5 @@
 -- A lemma that is worked on, and the obligation for which it is learnt.
-use Rattle.std.proofs.Common.{◌≡◌, ℕ, zero, suc, ◌+◌, ◌<◌, List, [], ◌∷◌, length, None, Some, refl, sym, subst, arith}
+use Rattle.std.proofs.Common.{◌≡◌, ℕ, zero, suc, ◌<◌, List, [], ◌∷◌, length, None, Some, refl, sym, subst, arith}
 use Rattle.std.specs.Prelude.{Option, slice_get}
 use Rattle.std.proofs.lemmas.List.{length-map}
 use Rattle.book_rules.specs.LemmaRules.{rule_10, rule_11, rule_12, rule_13}
