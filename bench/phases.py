@@ -30,8 +30,8 @@ PHASES = {
     "clauses": ["clause_normal::reading::read_clauses"],
     "hints": ["lemma_hints::hints::hints_of", "lemma_hints::hints::Hints::renew"],
     "turns": ["obligation_turn::turning::turn_in"],
-    "lemmas": ["book_loop::learning::improved"],
-    "lifts": ["book_loop::lifting::lift_of"],
+    "lemmas": ["lemma_work::learning::improved"],
+    "lifts": ["search_parts::lifts::lift_of"],
     "commits": ["chc_core::book::Book::commit"],
 }
 QUERY = "lia_cases::formula::decide_owned"

@@ -1,4 +1,3 @@
 pub mod FurtherLemmas
 pub mod JobLemmas
 pub mod StepLemmas
-pub mod SystemLemmas

@@ -2,81 +2,23 @@
 
 ghost use Rattle.std.specs.Prelude.{◌≡◌, ◌<◌, None, length, IfOk, IfSome, OnOk};
 ghost use Rattle.std.specs.Bool.{OnTrue};
-ghost use Rattle.lemma_frames.specs.Frames.{level_of};
 ghost use Rattle.book_rules.specs.Legal.{end};
 ghost use Rattle.chc_core.specs.Views.{standing_of, state_of};
-ghost use Rattle.obligation_turn.specs.Turns.{GoesOn, IsThin};
+ghost use Rattle.obligation_turn.specs.Turns.{IsThin};
 ghost use Rattle.obligation_turn.specs.Workspaces.{IsWorkspaceFor};
-ghost use Rattle.book_loop.specs.Runs.{CanRun};
-ghost use Rattle.book_loop.specs.machinery.Steps.{IsFurther, IsTaken};
+ghost use Rattle.search_parts.specs.Runs.{CanRun};
+ghost use Rattle.search_parts.specs.machinery.Steps.{IsTaken};
+ghost use Rattle.book_loop.specs.machinery.Steps.{IsFurther};
 
-use crate::learning::few;
 use crate::taking::{has_ended, lend, take};
 use base::Memory;
 use chc_core::Book;
-use lemma_general::lift_in;
 use obligation_turn::Workspace;
-use step_rules::{Lent, Step};
-
-/// Which lemmas are lifted: those from a number on, of at least a level.
-#[derive(Clone, Copy)]
-pub struct Pass {
-    pub next: u32,
-    pub least: u32,
-}
-
-/// The lemmas that are lifted after the step in a book of this level: after a Raise those of the level
-/// that was the highest, after a Lift the later ones.
-pub fn pass_of(level: u32, step: &Step) -> Option<Pass> {
-    match step {
-        Step::RaiseStep(_) => Some(Pass {
-            next: 0,
-            least: level,
-        }),
-        Step::LiftStep(part) => Some(Pass {
-            next: part.lemma,
-            least: 1,
-        }),
-        _ => None,
-    }
-}
-
-/// Whether the lemma of that number is of at least a level, and below that of the book.
-fn is_below(lent: &Lent, id: u32, least: u32) -> bool
-    requires { id < length lent.now.frames.lemmas }
-    ensures { OnTrue result (level_of lent.now.frames.lemmas id < lent.now.level) }
-{
-    let level = lent.frames.level_of(id);
-    least <= level && level < lent.level
-}
+use search_parts::{Pass, lift_of};
+use step_rules::Step;
 
 /// The Lift of the lemma by one level, if it is of at least a level, below that of the book, and the
 /// frame of its own implies it.
-pub fn lift_of(
-    lent: &Lent,
-    id: u32,
-    least: u32,
-    nodes: u32,
-    work: &mut Workspace,
-) -> Result<Option<Step>, Memory>
-    requires goes_on { GoesOn lent.now }
-    requires some { 0 < nodes }
-    requires there { id < length lent.now.frames.lemmas }
-    requires work { IsWorkspaceFor lent.now.system work.old }
-    ensures taken { IfOk result (λ found. IfSome found (IsTaken lent.now nodes)) }
-    ensures work { IsWorkspaceFor lent.now.system work.new }
-{
-    if !is_below(lent, id, least) {
-        return Ok(None);
-    }
-    let most = few(nodes);
-    match lift_in(lent, id, most, work)? {
-        Some(part) => Ok(Some(Step::LiftStep(part))),
-        None => Ok(None),
-    }
-}
-
-/// The same of a book that goes on.
 fn lift_from(
     book: &Book,
     id: u32,

@@ -1,27 +1,26 @@
 //! Turn after turn.
 
-ghost use Rattle.std.specs.Prelude.{◌≡◌, ◌≤◌, ◌<◌, ◌+◌, [], None, length, IfOk, OnOk, IsSome};
+ghost use Rattle.std.specs.Prelude.{◌≡◌, ◌≤◌, ◌<◌, ◌+◌, None, length, IfOk, OnOk, IsSome};
 ghost use Rattle.book_rules.specs.Legal.{end};
 ghost use Rattle.book_rules.specs.Walks.{AllOf};
-ghost use Rattle.chc_core.specs.Openings.{most_units};
 ghost use Rattle.chc_core.specs.Views.{standing_of, state_of};
 ghost use Rattle.obligation_turn.specs.Turns.{IsThin};
 ghost use Rattle.obligation_turn.specs.Workspaces.{IsWorkspaceFor};
-ghost use Rattle.book_loop.specs.Runs.{CanRun, IsOwn};
-ghost use Rattle.book_loop.specs.machinery.Steps.{IsFurther, IsTaken};
+ghost use Rattle.search_parts.specs.Runs.{CanRun};
+ghost use Rattle.search_parts.specs.machinery.Steps.{IsTaken};
+ghost use Rattle.book_loop.specs.Runs.{IsOwn};
+ghost use Rattle.book_loop.specs.machinery.Steps.{IsFurther};
 
 use crate::carrying::lift_older;
 use crate::choosing::next_job;
-use crate::learning::improved;
-use crate::lifting::{lift_after, pass_of};
-use crate::means::means_of;
+use crate::lifting::lift_after;
 use crate::taking::{WORKER, has_ended, lend, take};
 use base::Memory;
 use chc_core::Book;
-use clause_form::System;
 use lemma_hints::{Hints, hints_of};
+use lemma_work::improved;
 use obligation_turn::{Workspace, turn_in};
-use std::alloc::Global;
+use search_parts::{means_of, pass_of};
 use step_rules::Step;
 
 /// The step of the next turn. A lemma is first made more general and raised.
@@ -107,17 +106,4 @@ pub fn search(book: &mut Book, nodes: u32) -> Result<(), Memory>
         advance(book, &mut hints, nodes, &mut work)?;
     }
     Ok(())
-}
-
-/// The book that these clauses open, with `units` units to spend, as a search begins with it.
-pub fn begin(alloc: Global, system: System, units: u32) -> Result<Book, Memory>
-    requires can_run { CanRun system }
-    requires units { units ≤ most_units }
-    ensures system { IfOk result (λ book. book.system ≡ system) }
-    ensures given { IfOk result (λ book. book.given ≡ units) }
-    ensures new { IfOk result (λ book. book.journal ≡ []) }
-    ensures thin { IfOk result (λ book. IsThin (standing_of book)) }
-{
-    let book = Book::new(alloc, system, units)?;
-    Ok(book)
 }

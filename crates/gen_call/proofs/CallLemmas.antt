@@ -5,7 +5,7 @@ use Rattle.std.specs.declared.option.Option.{Option}
 use Rattle.outside_io.specs.Bytes.{Appends}
 use Rattle.answer_text.specs.Lines.{memory_text}
 use Rattle.chc_core.specs.Contents.{Contents}
-use Rattle.solve_call.specs.Headline.{wanting_text}
+use Rattle.book_answers.specs.Wanting.{wanting_text}
 use Rattle.gen_call.specs.Summaries.{IsMeantToSum, WritesPartOfSummary}
 use Rattle.gen_call.specs.Summaries.IsMeantToSum.{memory}
 

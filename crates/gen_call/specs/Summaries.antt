@@ -18,7 +18,7 @@ use Rattle.derivation_lines.specs.Lines.{fact_lines}
 use Rattle.book_loop.specs.Runs.{IsOwn}
 use Rattle.book_answers.specs.Answers.{HasNoLowFalse, HasText, IsBookOf}
 use Rattle.solve_words.specs.Words.{default_nodes, default_units}
-use Rattle.solve_call.specs.Headline.{wanting_text}
+use Rattle.book_answers.specs.Wanting.{wanting_text}
 
 -- the generated script, of which nothing is refused
 abbrev pub generated : ℕ → ℕ → Checked

@@ -16,8 +16,9 @@ use crate::script::checked_of;
 use crate::summary::printed;
 use base::Memory;
 use book_answers::{Opened, level_holds, open};
-use book_loop::{search, systems_of_scripts_can_be_run};
+use book_loop::search;
 use chc_core::Book;
+use search_parts::systems_of_scripts_can_be_run;
 use std::alloc::Global;
 use term_tree::Checked;
 

@@ -4,15 +4,15 @@ ghost use Rattle.outside_io.specs.Counts.{counted};
 ghost use Rattle.outside_io.specs.declared.turn.Turn.TheVariants.{Fault};
 ghost use Rattle.answer_text.specs.Lines.{memory_text};
 ghost use Rattle.solve_words.specs.Words.{default_nodes, default_units};
-ghost use Rattle.solve_call.specs.Headline.{wanting_text};
+ghost use Rattle.book_answers.specs.Wanting.{wanting_text};
 ghost use Rattle.gen_call.specs.Summaries.{IsGeneratedBook, IsGeneratedSummary, Summarises, WritesPartOfSummary, generated};
 ghost use Rattle.gen_call.specs.Answers.{IsMadeOf};
 
 use crate::answer::{Generated, answer_for};
 use answer_text::memory_line;
+use book_answers::unfinished_lines;
 use chc_core::Book;
 use outside_io::{Sink, write_all};
-use solve_call::unfinished_lines;
 use std::alloc::Global;
 
 /// The units of a call of `solve` that gives none.

@@ -14,7 +14,7 @@ use Rattle.step_rules.specs.declared.step.Step.{Step}
 use Rattle.chc_core.specs.Contents.{Contents}
 use Rattle.chc_core.specs.Views.{standing_of, state_of}
 use Rattle.obligation_turn.specs.Turns.{IsThin, StepIsThin}
-use Rattle.book_loop.specs.Runs.{CanRun}
+use Rattle.search_parts.specs.Runs.{CanRun}
 
 -- thin cubes of lemmas, and of obligations
 abbrev pub AreThin : List Framed → Type 0

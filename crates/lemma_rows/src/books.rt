@@ -2,12 +2,12 @@
 
 ghost use Rattle.std.specs.Prelude.{◌<◌, ◌^◌, length, IfOk, IfSome};
 ghost use Rattle.horn_shape.specs.Clause.{IsLegalScript};
-ghost use Rattle.book_loop.specs.Runs.{CanRun};
+ghost use Rattle.search_parts.specs.Runs.{CanRun};
 
 use base::Memory;
-use book_loop::{begin, systems_of_scripts_can_be_run};
 use chc_core::Book;
 use clause_normal::{ClauseStop, read_clauses};
+use search_parts::{begin, systems_of_scripts_can_be_run};
 use sort_check::{assertions_are_legal, check_text, scripts_are_within_limits};
 use std::alloc::Global;
 use term_tree::Checked;

@@ -5,7 +5,7 @@ ghost use Rattle.std.specs.Prelude.{◌≡◌, ◌<◌, None, IfOk, IfSome, IsTr
 ghost use Rattle.std.specs.Bool.{OnTrue};
 ghost use Rattle.book_rules.specs.Legal.{end};
 ghost use Rattle.chc_core.specs.Views.{standing_of, state_of};
-ghost use Rattle.book_loop.specs.Runs.{CanRun};
+ghost use Rattle.search_parts.specs.Runs.{CanRun};
 ghost use Rattle.lemma_general.specs.Generals.{IsLearnt};
 ghost use Rattle.lemma_rows.specs.Led.{AreThin, HaveThin, IsFree, IsGiven, IsOn};
 

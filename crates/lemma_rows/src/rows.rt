@@ -1,6 +1,6 @@
 //! Scripts with the lemmas that are learnt of them.
 
-ghost use Rattle.book_loop.specs.Runs.{CanRun};
+ghost use Rattle.search_parts.specs.Runs.{CanRun};
 
 use crate::books::book_of;
 use crate::led::{goes_on, lead_on, stays};

@@ -3,12 +3,13 @@
 ghost use Rattle.std.specs.Prelude.{◌≡◌, []};
 ghost use Rattle.chc_core.specs.Views.{standing_of};
 ghost use Rattle.obligation_turn.specs.Turns.{IsThin};
-ghost use Rattle.book_loop.specs.Runs.{CanRun};
+ghost use Rattle.search_parts.specs.Runs.{CanRun};
 
 use crate::runs::{check_counts, height_of_false, solved};
 use crate::systems::system_of;
-use book_loop::{begin, means_of, search};
+use book_loop::search;
 use chc_core::{Book, End, Step};
+use search_parts::{begin, means_of};
 use std::alloc::Global;
 use std::process::Abort;
 use worker_pool::FreeGate;

@@ -1,5 +1,5 @@
 -- What a call of `solve` promises.
-use Rattle.std.specs.Prelude.{◌≡◌, ℕ, ◌<◌, List, ◌++◌, length, sum, take, IfSome, codes, ◌≢◌, Some, None}
+use Rattle.std.specs.Prelude.{◌≡◌, ℕ, ◌<◌, List, length, sum, take, IfSome, ◌≢◌, Some, None}
 use Rattle.std.specs.declared.option.Option.{Option}
 use Rattle.base.specs.Limits.{most_bytes}
 use Rattle.outside_io.specs.Bytes.{Appends}
@@ -16,8 +16,8 @@ use Rattle.chc_core.specs.Contents.{Contents}
 use Rattle.chc_core.specs.Views.{state_of}
 use Rattle.shared_book.specs.Runs.{IsEntry}
 use Rattle.book_answers.specs.Answers.{HasNoLowFalse, HasText, IsBookOf}
-use Rattle.answer_text.specs.declared.answer.UnknownCause.TheVariants.{NoMemory}
-use Rattle.answer_text.specs.Lines.{error_text, level_text, memory_text}
+use Rattle.book_answers.specs.Wanting.{wanting_text}
+use Rattle.answer_text.specs.Lines.{error_text}
 use Rattle.solve_words.specs.declared.limits.Limits.{Limits}
 use Rattle.solve_call.specs.Clauses.{IsInputRefused}
 
@@ -46,11 +46,6 @@ pub record IsAnswered (limits : Limits) (bytes : List ℕ) (b : Contents) (text 
   pub ended_by : BookEnd
   pub ended : end (state_of b) ≡ Some ended_by
   pub answer : HasText book.script b ended_by text
-
--- where memory is wanted: the closed level, if there is a book
-abbrev pub wanting_text : Option Contents → List ℕ
-wanting_text None = memory_text
-wanting_text (Some b) = codes "unknown\n" ++ level_text b.level NoMemory
 
 -- The refusal is that of the bytes left in the source: of those that were read, where the source's count of ends rose, and
 -- that they are too many, where it didn't.

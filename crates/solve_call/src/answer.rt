@@ -14,10 +14,10 @@ ghost use Rattle.solve_call.specs.machinery.Answers.{IsAnswerTo, IsSearched, IsT
 use crate::lines::refusal_line;
 use base::Memory;
 use book_answers::{level_holds, text_at};
-use book_loop::systems_of_scripts_can_be_run;
 use chc_core::Book;
 use clause_form::System;
 use clause_normal::{ClauseStop, read_clauses};
+use search_parts::systems_of_scripts_can_be_run;
 use solve_words::Limits;
 use sort_check::{assertions_are_legal, check_text, scripts_are_within_limits};
 use std::alloc::Global;

@@ -5,13 +5,14 @@ ghost use Rattle.outside_io.specs.declared.turn.Turn.TheVariants.{Fault};
 ghost use Rattle.outside_io.specs.Turns.{EndsOnce};
 ghost use Rattle.term_tree.specs.declared.refusal.Refusal.{Refusal};
 ghost use Rattle.sort_check.specs.Scripts.{IsRefused, ReadsInput};
+ghost use Rattle.book_answers.specs.Wanting.{wanting_text};
 ghost use Rattle.solve_words.specs.Properties.{IsInRange};
 ghost use Rattle.solve_call.specs.Clauses.{HasNoSystem, IsUnrefused};
-ghost use Rattle.solve_call.specs.Headline.{Answers, AreCounts, IsBookFor, Refuses, WritesPart, wanting_text};
+ghost use Rattle.solve_call.specs.Headline.{Answers, AreCounts, IsBookFor, Refuses, WritesPart};
 
-use crate::lines::unfinished_lines;
 use crate::plan::{Plan, plan_for};
 use answer_text::memory_line;
+use book_answers::unfinished_lines;
 use chc_core::Book;
 use outside_io::{Sink, Source, write_all};
 use solve_words::Limits;

@@ -7,4 +7,3 @@ mod lines;
 mod plan;
 
 pub use call::{Solved, solve_call};
-pub use lines::unfinished_lines;

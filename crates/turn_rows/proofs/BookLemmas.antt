@@ -10,7 +10,7 @@ use Rattle.chc_core.specs.Contents.{Contents}
 use Rattle.chc_core.specs.Views.{standing_of, state_of}
 use Rattle.clause_queries.specs.Answers.{MayAskAll}
 use Rattle.obligation_turn.specs.Turns.{IsThin}
-use Rattle.book_loop.specs.Runs.{CanRun}
+use Rattle.search_parts.specs.Runs.{CanRun}
 
 asks : (b : Contents) → CanRun b.system → IsNumbered b.system → AreOver b.system (state_of b) → IsThin (standing_of b) → MayAskAll b.system b.frames.lemmas None Query
 asks b can numbered over thin = record { numbered = numbered.0; few = can.few; over = over.lemmas; thin = thin.lemmas; fits = refl }

@@ -6,12 +6,12 @@ ghost use Rattle.horn_shape.specs.Clause.{IsLegalScript};
 ghost use Rattle.chc_core.specs.Openings.{most_units};
 ghost use Rattle.chc_core.specs.Views.{standing_of};
 ghost use Rattle.obligation_turn.specs.Turns.{IsThin};
-ghost use Rattle.book_loop.specs.Runs.{CanRun};
+ghost use Rattle.search_parts.specs.Runs.{CanRun};
 
 use base::Memory;
-use book_loop::{begin, systems_of_scripts_can_be_run};
 use chc_core::Book;
 use clause_normal::read_clauses;
+use search_parts::{begin, systems_of_scripts_can_be_run};
 use sort_check::{assertions_are_legal, check_text, scripts_are_within_limits};
 use std::alloc::Global;
 use std::mem;

@@ -2,7 +2,7 @@
 
 ghost use Rattle.chc_core.specs.Views.{standing_of};
 ghost use Rattle.obligation_turn.specs.Turns.{IsThin};
-ghost use Rattle.book_loop.specs.Runs.{CanRun};
+ghost use Rattle.search_parts.specs.Runs.{CanRun};
 
 use crate::books::opened;
 use base::Same;

@@ -1,3 +1,1 @@
 pub mod OfferLemmas
-pub mod SeenLemmas
-pub mod SendLemmas

@@ -4,11 +4,8 @@
 #![tactic(auto)]
 
 mod gate;
-mod lifting;
 mod limits;
-mod offering;
 mod pool;
-mod siblings;
 mod turning;
 mod working;
 

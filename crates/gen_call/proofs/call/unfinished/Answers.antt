@@ -2,7 +2,7 @@ use Rattle.std.proofs.Common.{refl, sym, arith, ◌∙◌, ap}
 use Rattle.std.specs.Prelude.{None, Some, ℕ, ◌++◌, codes}
 use Rattle.answer_text.specs.Lines.{level_text}
 use Rattle.answer_text.specs.declared.answer.UnknownCause.TheVariants.{NoMemory}
-use Rattle.solve_call.specs.Headline.{wanting_text}
+use Rattle.book_answers.specs.Wanting.{wanting_text}
 use Rattle.gen_call.specs.Summaries.IsMeantToSum.{memory}
 use Rattle.gen_call.proofs.CallLemmas.{appended, not_other, only_five, part_of, want_book, want_memory, want_part}
 use Rattle.gen_call.proofs.call.unfinished.Goals as goal

@@ -1,4 +1,4 @@
-use Rattle.book_loop.specs.Runs.{CanRun}
+use Rattle.search_parts.specs.Runs.{CanRun}
 use Rattle.lemma_rows.proofs.led.lead_on.Given as goal
 
 abbrev pub invariant-loop : goal.invariant-loop

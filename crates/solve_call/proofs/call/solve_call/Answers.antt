@@ -2,7 +2,7 @@ use Rattle.std.proofs.Common.{◌++◌, ℕ, ap, arith, refl, ◌∙◌}
 use Rattle.std.specs.Prelude.{Some, None, codes}
 use Rattle.answer_text.specs.Lines.{error_text, level_text}
 use Rattle.answer_text.specs.declared.answer.UnknownCause.TheVariants.{NoMemory}
-use Rattle.solve_call.specs.Headline.{wanting_text}
+use Rattle.book_answers.specs.Wanting.{wanting_text}
 use Rattle.solve_call.specs.Headline.IsMeant.{answer, error, memory}
 use Rattle.solve_call.proofs.PlanLemmas.{answered_only, answered_system, appended, refused_read, refused_long, written_part}
 use Rattle.solve_call.proofs.call.solve_call.Goals.{in-Ok, in-Err, in-Ok-write_all, in-Err-write_all, in-Ok-write_all-4, in-Err-write_all-4}

@@ -1,6 +1,0 @@
-use Rattle.std.proofs.Common.{◌<◌, arith}
-use Rattle.obligation_turn.proofs.FoundLemmas.{lower-lent, there-lent}
-use Rattle.book_loop.proofs.lifting.is_below.Goals as goal
-
-pub level_of-level-requires : goal.level_of-level-requires
-level_of-level-requires c = there-lent _ c.args.lent.now c.args.id c.lent.view_is c.requires

@@ -1,5 +1,0 @@
-use Rattle.book_loop.proofs.FurtherLemmas.{thin-opening}
-use Rattle.book_loop.proofs.running.begin.Goals as goal
-
-pub returns-clause-thin : goal.returns-clause-thin
-returns-clause-thin c = thin-opening c.in_ok-book.book c.args.units c.in_ok-book.ensures.state

@@ -1,0 +1,3 @@
+pub mod StepLemmas
+pub mod SystemLemmas
+pub mod ThinLemmas

@@ -1,0 +1,6 @@
+use Rattle.std.proofs.Common.{sym, subst}
+use Rattle.lemma_general.specs.Generals.{IsLearnt}
+use Rattle.search_parts.proofs.cubes.with_cube.Goals as goal
+
+pub try_cube-requires-clause-trying : goal.try_cube-requires-clause-trying
+try_cube-requires-clause-trying c = c.new-tries.ensures.trying c.args.lent.now c.requires.learnt

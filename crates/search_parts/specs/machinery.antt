@@ -1,0 +1,2 @@
+-- What the code keeps for itself: no rule cites it.
+pub mod Steps

@@ -1,0 +1,3 @@
+pub mod OfferLemmas
+pub mod SeenLemmas
+pub mod SendLemmas
