@@ -64,11 +64,22 @@ fn all_hold(lits: &[Lit], point: &[i64]) -> bool
     true
 }
 
-/// Whether each value is below 2^63 in magnitude.
+/// Whether the value is below 2^63 in magnitude.
+fn is_short(value: i64) -> bool
+    ensures { result ≡ is_short value }
+{
+    value.unsigned_abs() < 1 << 63
+}
+
 fn are_short(point: &[i64]) -> bool
     ensures { result ≡ list_all is_short point.now }
 {
-    point.iter().all(|value| value.unsigned_abs() < 1 << 63)
+    for value in point {
+        if !is_short(*value) {
+            return false;
+        }
+    }
+    true
 }
 
 /// Whether the point has `long` values, each below 2^63 in magnitude, and the literals are true there.

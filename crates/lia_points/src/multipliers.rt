@@ -119,15 +119,15 @@ impl Fractions {
     /// The fractions of all equations, from the last one to the first.
     fn put_all(&mut self, solving: &Solving, row: Option<usize>) -> Result<Option<()>, Memory> {
         let pivots = solving.pivots.as_slice();
-        for back in 0..pivots.len() {
-            let at = pivots.len().saturating_sub(back).saturating_sub(1);
-            let Some(column) = solving.done.get(at) else {
-                return Ok(None);
-            };
-            let share = share(column, row, back == 0);
+        let mut at = pivots.len();
+        let mut is_last = true;
+        for column in solving.done.iter().rev() {
+            at = at.saturating_sub(1);
+            let share = share(column, row, is_last);
             if self.put_next(column, pivots, at, share)?.is_none() {
                 return Ok(None);
             }
+            is_last = false;
         }
         Ok(Some(()))
     }

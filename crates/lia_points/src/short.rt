@@ -65,10 +65,7 @@ fn less_all(own: &mut Column, others: &mut [Column]) -> Option<bool> {
 fn pass(alloc: Global, free: &mut Vec<Column>) -> Result<bool, Memory> {
     let mut done = Vec::with_capacity(alloc, free.len())?;
     let mut is_changed = false;
-    'columns: for _ in 0..free.len() {
-        let Some(mut own) = free.pop() else {
-            return Ok(is_changed);
-        };
+    'columns: while let Some(mut own) = free.pop() {
         let before = less_all(&mut own, free.as_mut_slice());
         let after = less_all(&mut own, done.as_mut_slice());
         is_changed = is_changed || before == Some(true) || after == Some(true);
