@@ -2,8 +2,8 @@
 
 use base::{Copied, Memory};
 use chc_tokens::Shown;
-use farkas_proof::Refutation;
 use lin_atoms::Lit;
+use refutation_trees::Refutation;
 use std::alloc::Global;
 use step_rules::{LemmaPart, Lent};
 

@@ -8,14 +8,13 @@ use Rattle.lin_atoms.specs.declared.form.Form.TheVariants.{Lit as Literal}
 use Rattle.lin_atoms.specs.declared.form.Form.TheViews.{And, Or}
 use Rattle.int_rows.specs.Basis.{bound}
 use Rattle.int_rows.specs.Node.{greatest_lower, least_upper}
-use Rattle.farkas_proof.specs.Flatten.{disjunctions}
-use Rattle.farkas_proof.specs.GivenUp.{IsEvidence}
-use Rattle.farkas_proof.specs.Refutation.{form_end}
-use Rattle.farkas_proof.specs.Split.{HasSolution, by_cases, inner, start, with_part}
-use Rattle.farkas_proof.specs.declared.evidence.Evidence.TheVariants.{Nodes}
-use Rattle.farkas_proof.proofs.FlattenLemmas.{disjunctions-And, disjunctions-Or}
-use Rattle.farkas_proof.proofs.ForestLemmas.{all-leaves}
-use Rattle.farkas_proof.proofs.PairLemmas.{both-disjunctions}
+use Rattle.refutation_trees.specs.Flatten.{disjunctions}
+use Rattle.refutation_trees.specs.GivenUp.{IsEvidence}
+use Rattle.refutation_trees.specs.Refutation.{form_end}
+use Rattle.refutation_trees.specs.Split.{HasSolution, by_cases, inner, start, with_part}
+use Rattle.refutation_trees.specs.declared.evidence.Evidence.TheVariants.{Nodes}
+use Rattle.refutation_trees.proofs.FlattenLemmas.{both-disjunctions, disjunctions-And, disjunctions-Or}
+use Rattle.refutation_trees.proofs.ForestLemmas.{all-leaves}
 
 abbrev zeros : ℕ → List ℤ
 zeros zero = []

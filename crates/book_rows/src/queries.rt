@@ -15,8 +15,9 @@ use chc_tokens::{
 };
 use clause_form::System;
 use cube_forms::Lemma;
-use farkas_proof::{GaveUp, Refuted, check};
+use farkas_proof::{Refuted, check};
 use lin_atoms::{Form, Lit};
+use refutation_trees::GaveUp;
 use std::alloc::Global;
 use std::mem;
 use std::process::Abort;

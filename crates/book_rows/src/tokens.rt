@@ -15,8 +15,9 @@ use chc_tokens::{
 };
 use clause_form::System;
 use cube_forms::Lemma;
-use farkas_proof::{Evidence, GaveUp, Refutation, check};
+use farkas_proof::check;
 use lin_atoms::{Form, Lit};
+use refutation_trees::{Evidence, GaveUp, Refutation};
 use std::alloc::Global;
 use std::mem;
 use std::process::Abort;

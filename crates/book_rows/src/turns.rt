@@ -23,9 +23,9 @@ use chc_core::{
 use chc_tokens::{NoLift, Shown, Used};
 use clause_form::System;
 use cube_forms::Cube;
-use farkas_proof::GaveUp;
 use lin_atoms::Lit;
 use model_project::{Projected, project};
+use refutation_trees::GaveUp;
 use std::alloc::Global;
 use std::mem;
 use std::process::Abort;

@@ -10,9 +10,9 @@ use Rattle.lin_atoms.specs.Truth.{lit_truth}
 use Rattle.lin_atoms.specs.declared.lit.Lit.{Lit}
 use Rattle.lin_atoms.specs.declared.lit.Lit.TheVariants.{Le, Eq}
 use Rattle.lin_atoms.specs.declared.form.Form.TheVariants.{Lit as Literal}
-use Rattle.farkas_proof.specs.GivenUp.{IsGivenUp}
-use Rattle.farkas_proof.specs.declared.evidence.Evidence.{Evidence}
-use Rattle.farkas_proof.specs.declared.evidence.Evidence.TheVariants.{Nodes}
+use Rattle.refutation_trees.specs.GivenUp.{IsGivenUp}
+use Rattle.refutation_trees.specs.declared.evidence.Evidence.{Evidence}
+use Rattle.refutation_trees.specs.declared.evidence.Evidence.TheVariants.{Nodes}
 use Rattle.clause_form.specs.declared.clause.Clause.{Clause}
 use Rattle.cube_forms.proofs.Public.{truth-Literal}
 use Rattle.model_project.specs.Projection.{IsProjection, are_true, is_kept}

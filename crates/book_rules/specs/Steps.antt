@@ -11,8 +11,8 @@ use Rattle.clause_form.specs.declared.clause.Clause.{Clause}
 use Rattle.cube_forms.specs.Cubes.{cube_holds, tuple_at}
 use Rattle.model_project.specs.Kept.{Kept}
 use Rattle.model_project.specs.Projection.{IsProjection, projection}
-use Rattle.farkas_proof.specs.GivenUp.{IsGivenUp}
-use Rattle.farkas_proof.specs.declared.evidence.Evidence.{Evidence}
+use Rattle.refutation_trees.specs.GivenUp.{IsGivenUp}
+use Rattle.refutation_trees.specs.declared.evidence.Evidence.{Evidence}
 use Rattle.book_rules.specs.Walks.{AllOf, has}
 use Rattle.book_rules.specs.Instances.{IsInstance}
 use Rattle.book_rules.specs.Frames.{Lemma}

@@ -2,9 +2,9 @@
 //! run doesn't come to, each rule broken once with what breaks it, and the ends.
 
 ghost use Rattle.std.specs.Prelude.{◌≡◌, ℕ, ℤ, pos, negsuc, [], ◌∷◌, Some, None, map, true, false};
-ghost use Rattle.farkas_proof.specs.declared.evidence.Evidence.{Evidence as Why};
-ghost use Rattle.farkas_proof.specs.declared.evidence.Evidence.TheVariants.{Nodes};
-ghost use Rattle.farkas_proof.specs.GivenUp.{IsGivenUp};
+ghost use Rattle.refutation_trees.specs.declared.evidence.Evidence.{Evidence as Why};
+ghost use Rattle.refutation_trees.specs.declared.evidence.Evidence.TheVariants.{Nodes};
+ghost use Rattle.refutation_trees.specs.GivenUp.{IsGivenUp};
 ghost use Rattle.book_rules.specs.declared.by.By.TheVariants.{Lemma as ByLemma, Fact as ByFact, Obligation as ByObligation, Level as ByLevel, Clause as ByClause, Entry as ByEntry, Step as ByStep};
 ghost use Rattle.book_rules.specs.declared.end.End.TheVariants.{Sat, Stalled};
 ghost use Rattle.book_rules.specs.Rules.{broken};

@@ -1,91 +1,16 @@
 //! Which bounds refute the queries, and what they rest on.
 
-use crate::arms::Arm;
 use crate::asking::{Answer, core_of, visit};
-use crate::bound::{Bound, Memo, Use};
-use crate::fixing::{are_reached, goal_of};
-use crate::table::Table;
-use base::{Items, Memory};
+use base::Memory;
+use bound_templates::{
+    Arm, Memo, Needs, Table, are_reached, denied_by, forgotten, is_marked, mark, mark_memos,
+    mark_uses, ranks_of,
+};
 use clause_form::{Clause, System};
-use lin_atoms::Lit;
 use std::alloc::Global;
-
-/// The rank of what rests on itself.
-const MOST_RANK: u32 = 20;
 
 /// How often needed bounds are gone through.
 const MOST_PASSES: u32 = 100;
-
-/// What is needed.
-#[derive(Drop)]
-pub(crate) struct Needs {
-    /// Whether the bounds refute each query.
-    pub(crate) is_safe: bool,
-    /// Whether each bound is needed for that.
-    pub(crate) needed: Vec<bool>,
-    /// How many bounds each one rests on, one on another.
-    pub(crate) ranks: Vec<u32>,
-}
-
-fn mark(needed: &mut Vec<bool>, at: usize) -> bool {
-    match needed.as_mut_slice().get_mut(at) {
-        Some(place) => {
-            let is_new = !*place;
-            *place = true;
-            is_new
-        }
-        None => false,
-    }
-}
-
-/// Marks the bounds in use; whether one is new.
-fn mark_uses(needed: &mut Vec<bool>, uses: &[Use]) -> bool {
-    let mut changed = false;
-    for one in uses {
-        if mark(needed, one.bound) {
-            changed = true;
-        }
-    }
-    changed
-}
-
-/// Marks what the bound rests on; whether something is new.
-fn mark_memos(needed: &mut Vec<bool>, memos: &[Memo]) -> bool {
-    let mut changed = false;
-    for memo in memos {
-        if mark_uses(needed, memo.uses.as_slice()) {
-            changed = true;
-        }
-    }
-    changed
-}
-
-fn is_marked(needed: &[bool], at: usize) -> bool {
-    match needed.get(at) {
-        Some(true) => true,
-        _ => false,
-    }
-}
-
-/// What the bound's lemma denies at the head of the clause, if both have one.
-fn goal_at(
-    alloc: Global,
-    bounds: &[Bound],
-    at: usize,
-    clause: &Clause,
-) -> Result<Option<Items<Lit>>, Memory> {
-    let head = match &clause.head {
-        Some(head) => head,
-        None => return Ok(None),
-    };
-    match bounds.get(at) {
-        Some(bound) => match &bound.lemma {
-            Some(lemma) => goal_of(alloc, lemma, head.args.as_slice()),
-            None => Ok(None),
-        },
-        None => Ok(None),
-    }
-}
 
 /// Leaves out of what an arm refuted the bound with what isn't needed for that; whether the bound still has
 /// a lemma.
@@ -106,7 +31,7 @@ fn shorten_memo(
         Some(clause) => clause,
         None => return Ok(false),
     };
-    match goal_at(alloc, bounds, at, clause)? {
+    match denied_by(alloc, bounds, at, clause)? {
         Some(goal) => {
             let uses = &mut memo.uses;
             core_of(alloc, clause, arm, bounds, goal.as_slice(), uses, left)?;
@@ -135,14 +60,6 @@ fn shortened(
     Ok(made)
 }
 
-/// What is remembered of a bound, taken out.
-fn taken(alloc: Global, table: &mut Table, at: usize) -> Vec<Memo> {
-    match table.bounds.as_mut_slice().get_mut(at) {
-        Some(bound) => std::mem::replace(&mut bound.memos, Vec::new(alloc)),
-        None => Vec::new(alloc),
-    }
-}
-
 /// Leaves out of what is remembered of a bound what isn't needed, and marks the rest.
 fn shorten(
     alloc: Global,
@@ -152,7 +69,7 @@ fn shorten(
     at: usize,
     left: &mut u32,
 ) -> Result<(), Memory> {
-    let memos = taken(alloc, table, at);
+    let memos = forgotten(alloc, table, at);
     let memos = shortened(alloc, table, sys, at, memos, left)?;
     mark_memos(needed, memos.as_slice());
     if let Some(bound) = table.bounds.as_mut_slice().get_mut(at) {
@@ -205,7 +122,7 @@ fn mark_below(
     needed: &mut Vec<bool>,
     left: &mut u32,
 ) -> Result<(), Memory> {
-    let mut done = none(alloc, table.bounds.len())?;
+    let mut done = vec![in alloc; false; table.bounds.len()]?;
     mark_from(alloc, table, sys, needed, &mut done, left)
 }
 
@@ -253,54 +170,6 @@ fn ask_queries(
     Ok(is_safe)
 }
 
-fn rank_at(ranks: &[u32], at: usize) -> u32 {
-    match ranks.get(at) {
-        Some(rank) => *rank,
-        None => 0,
-    }
-}
-
-/// One more than the greatest rank of the other bounds in use.
-fn rank_above(ranks: &[u32], own: usize, uses: &[Use]) -> u32 {
-    let mut rank = 0;
-    for one in uses {
-        if one.bound != own {
-            rank = rank_at(ranks, one.bound).saturating_add(1).max(rank);
-        }
-    }
-    rank.min(MOST_RANK)
-}
-
-fn rank_of(ranks: &[u32], own: usize, memos: &[Memo]) -> u32 {
-    let mut rank = 0;
-    for memo in memos {
-        rank = rank_above(ranks, own, memo.uses.as_slice()).max(rank);
-    }
-    rank
-}
-
-/// The ranks, of those before.
-fn next_ranks(alloc: Global, ranks: &[u32], bounds: &[Bound]) -> Result<Vec<u32>, Memory> {
-    let mut made = Vec::new(alloc);
-    for (at, bound) in bounds.iter().enumerate() {
-        made.push(rank_of(ranks, at, bound.memos.as_slice()))?;
-    }
-    Ok(made)
-}
-
-fn ranks_of(alloc: Global, bounds: &[Bound]) -> Result<Vec<u32>, Memory> {
-    let mut ranks = Vec::new(alloc);
-    for _ in 0..MOST_RANK {
-        ranks = next_ranks(alloc, ranks.as_slice(), bounds)?;
-    }
-    Ok(ranks)
-}
-
-fn none(alloc: Global, count: usize) -> Result<Vec<bool>, Memory> {
-    let made = vec![in alloc; false; count]?;
-    Ok(made)
-}
-
 /// Marks the bounds that are needed to refute the queries; whether the bounds refute each.
 fn mark_needed(
     alloc: Global,
@@ -323,7 +192,7 @@ pub(crate) fn needs_of(
     sys: &System,
     left: &mut u32,
 ) -> Result<Needs, Memory> {
-    let mut needed = none(alloc, table.bounds.len())?;
+    let mut needed = vec![in alloc; false; table.bounds.len()]?;
     let is_safe = mark_needed(alloc, table, sys, &mut needed, left)?;
     let ranks = ranks_of(alloc, table.bounds.as_slice())?;
     Ok(Needs {

@@ -1,14 +1,11 @@
 //! When bounds are looked for, and what was found.
 
-ghost use Rattle.std.specs.Prelude.{◌≡◌, [], true, false, IfOk};
+ghost use Rattle.std.specs.Prelude.{◌≡◌, true, false};
 
-use crate::bound::Bound;
-use crate::candidates::{Needed, cubes_at, needed_of};
-use crate::fixing::{fix, raise};
-use crate::met::{Met, Walk};
-use crate::needing::{Needs, needs_of};
-use crate::table::{Size, Table, table_of};
+use crate::fixing::fix;
+use crate::needing::needs_of;
 use base::Memory;
+use bound_templates::{Bound, Met, Needs, Size, Table, Walk, cubes_at, raise_by, table_of};
 use clause_form::System;
 use clause_index::IndexedSystem;
 use cube_forms::Cube;
@@ -92,14 +89,6 @@ fn work_of(round: u32, units: u32) -> u32 {
         .saturating_mul(WORK_OF_A_UNIT)
         .max(least)
         .min(MOST_WORK)
-}
-
-/// Raises the bounds by the tuples that were met.
-fn raise_by(alloc: Global, table: &mut Table, met: &[Met]) -> Result<(), Memory> {
-    for one in met {
-        raise(alloc, table, one.pred, one.tuple.as_slice(), None)?;
-    }
-    Ok(())
 }
 
 /// What a round over the table finds, whose bounds first rise by what was met. It takes the bounds out.
@@ -230,17 +219,6 @@ impl Bounds {
             }
         }
         Ok(())
-    }
-
-    /// The cubes that needed bounds exclude, those that rest on nothing first; none where the bounds
-    /// don't refute each query.
-    pub fn needed(&self, alloc: Global) -> Result<Vec<Needed>, Memory>
-        ensures { self.now ≡ false → IfOk result (λ made. made.items ≡ []) }
-    {
-        match &self.found {
-            Some(found) => needed_of(alloc, found.bounds.as_slice(), &found.needs),
-            None => Ok(Vec::new(alloc)),
-        }
     }
 
     /// Cubes to try as lemmas of the predicate for the point: those of bounds that the point breaks,

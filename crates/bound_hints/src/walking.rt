@@ -1,10 +1,9 @@
 //! Tuples that are met by running clauses forward, before bounds are asked for: each is a tuple of its
 //! predicate, so bounds rise by it as far as they have to, and most needn't be asked for to rise.
 
-use crate::arms::{Arm, arms_of};
 use crate::following::follow;
-use crate::met::{MOST_MET, Met, Walk};
 use base::Memory;
+use bound_templates::{Arm, MOST_MET, Met, Walk, arms_of};
 use clause_form::System;
 use clause_index::IndexedSystem;
 use std::alloc::Global;

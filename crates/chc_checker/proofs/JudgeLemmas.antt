@@ -16,7 +16,7 @@ use Rattle.lin_atoms.specs.Truth.{truth}
 use Rattle.lin_atoms.specs.declared.form.Form.{Form}
 use Rattle.lin_atoms.specs.declared.form.Form.TheViews.{And}
 use Rattle.lin_atoms.proofs.Public.{truth-And}
-use Rattle.farkas_proof.specs.Refutation.{HasNoPoint}
+use Rattle.refutation_trees.specs.Refutation.{HasNoPoint}
 use Rattle.clause_normal.specs.Normal.{first_without_room, normal_clause}
 use Rattle.clause_laws.specs.Defined.{breaking_form, breaking_variables}
 use Rattle.clause_laws.specs.Point.{IsBreakingPointOver}

@@ -10,8 +10,8 @@ use Rattle.horn_shape.specs.declared.clause.HornClause.{HornClause}
 use Rattle.horn_shape.specs.Breaking.{Breaks}
 use Rattle.horn_shape.specs.Clause.{IsClauseOf}
 use Rattle.lin_atoms.specs.declared.form.Form.TheViews.{And}
-use Rattle.farkas_proof.specs.KeptEvidence.{given_evidence, given_form}
-use Rattle.farkas_proof.specs.declared.gave_up.GaveUp.{GaveUp}
+use Rattle.refutation_trees.specs.KeptEvidence.{given_evidence, given_form}
+use Rattle.refutation_trees.specs.declared.gave_up.GaveUp.{GaveUp}
 use Rattle.clause_form.specs.System.{most_variables}
 use Rattle.clause_normal.specs.Normal.{first_without_room, normal_clause}
 use Rattle.clause_laws.specs.Defined.{breaking_form, breaking_variables, breaking_wide}

@@ -1,5 +1,5 @@
 use base::Items;
-use farkas_proof::GaveUp;
+use refutation_trees::GaveUp;
 use term_tree::TermId;
 
 /// Where an answer is wrong. Assertions and steps are numbered from 1, as they are printed.

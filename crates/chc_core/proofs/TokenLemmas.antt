@@ -14,7 +14,7 @@ use Rattle.clause_form.specs.declared.atom.Atom.{Atom}
 use Rattle.clause_form.specs.declared.clause.Clause.{Clause}
 use Rattle.cube_forms.specs.Cubes.{cube_holds, lemma_at, tuple_at}
 use Rattle.farkas_proof.specs.Kept.{form_of}
-use Rattle.farkas_proof.specs.KeptEvidence.{given_form}
+use Rattle.refutation_trees.specs.KeptEvidence.{given_form}
 use Rattle.chc_tokens.specs.Instances.{accepts, token_args, token_atom_at, has_values, token_head_at, is_broken, is_instance_of, may_be_instance}
 use Rattle.chc_tokens.specs.Kept.{kept_lemma, kept_why, seen_clause, seen_point, shown_clause, shown_goal, shown_proof, shown_used}
 use Rattle.chc_tokens.specs.Queries.{base as token_base, goal_has_room, has_goal, has_places, has_used, may_use, query as token_query, query_in, used_form, used_have_room}

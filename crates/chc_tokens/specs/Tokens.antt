@@ -8,7 +8,7 @@ use Rattle.base.specs.Widths.{is_short}
 use Rattle.lin_atoms.specs.Truth.{truth}
 use Rattle.lin_atoms.specs.declared.lit.Lit.{Lit}
 use Rattle.farkas_proof.specs.Kept.{form_of}
-use Rattle.farkas_proof.specs.KeptEvidence.{given_form}
+use Rattle.refutation_trees.specs.KeptEvidence.{given_form}
 use Rattle.clause_form.specs.System.{Clauses}
 use Rattle.clause_form.specs.declared.clause.Clause.{Clause}
 use Rattle.chc_tokens.specs.declared.goal.Goal.{Goal}

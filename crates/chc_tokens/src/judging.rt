@@ -4,7 +4,7 @@ ghost use Rattle.chc_tokens.specs.Kept.{kept_lemma, kept_why};
 ghost use Rattle.chc_tokens.specs.Queries.{query_at};
 ghost use Rattle.chc_tokens.specs.Tokens.{IsKept, IsNoLift, IsNotBroken, IsOther, MayKeep, breaks};
 ghost use Rattle.chc_tokens.specs.declared.goal.Goal.TheVariants.{Holds};
-ghost use Rattle.farkas_proof.specs.KeptEvidence.{given_form};
+ghost use Rattle.refutation_trees.specs.KeptEvidence.{given_form};
 
 use crate::asking::query_of_lemma;
 use crate::keeping::NoLift;
@@ -15,8 +15,8 @@ use crate::why::Why;
 use base::{Memory, Same};
 use clause_form::{Atom, System};
 use cube_forms::{Lemma, Tuple};
-use farkas_proof::GaveUp;
 use lin_atoms::Form;
+use refutation_trees::GaveUp;
 use std::alloc::Global;
 
 /// Whether the head's tuple at the point breaks the lemma.

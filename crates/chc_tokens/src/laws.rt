@@ -5,7 +5,7 @@ ghost use Rattle.std.specs.List.{list_all};
 ghost use Rattle.lin_atoms.specs.Truth.{truth};
 ghost use Rattle.lin_atoms.specs.declared.form.Form.{Form};
 ghost use Rattle.lin_atoms.specs.declared.form.Form.TheViews.{And};
-ghost use Rattle.farkas_proof.specs.Refutation.{HasNoPoint};
+ghost use Rattle.refutation_trees.specs.Refutation.{HasNoPoint};
 ghost use Rattle.clause_form.specs.System.{Clauses};
 ghost use Rattle.clause_form.specs.declared.clause.Clause.{Clause};
 ghost use Rattle.chc_tokens.specs.Instances.{token_head_at};

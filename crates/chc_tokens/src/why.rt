@@ -1,7 +1,7 @@
 use crate::seeing::Seen;
 use crate::used::Used;
 use base::{Copied, Items, Memory};
-use farkas_proof::GaveUp;
+use refutation_trees::GaveUp;
 use std::alloc::Global;
 
 /// What keeps a lemma from being lifted.

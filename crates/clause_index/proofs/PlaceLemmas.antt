@@ -13,8 +13,8 @@ use Rattle.lin_atoms.specs.declared.form.Form.TheVariants.{False, Lit as Literal
 use Rattle.lin_atoms.specs.declared.form.Form.TheViews.{And, Or, roll-Form}
 use Rattle.lin_atoms.specs.declared.form.Form.TheFolds.{fold-roll-Form}
 use Rattle.lin_atoms.specs.declared.form.Form.TheOpen.{Form-F}
-use Rattle.farkas_proof.specs.Flatten.{disjunctions, literals, literals_step}
-use Rattle.farkas_proof.proofs.FlattenLemmas.{disjunctions-And, disjunctions-Or, literals-And}
+use Rattle.refutation_trees.specs.Flatten.{disjunctions, literals, literals_step}
+use Rattle.refutation_trees.proofs.FlattenLemmas.{disjunctions-And, disjunctions-Or, literals-And}
 use Rattle.clause_form.specs.declared.clause.Clause.{Clause}
 use Rattle.clause_index.specs.Index.{Flat, flat, flat_of}
 use Rattle.clause_index.specs.machinery.Places.{Adds, AddsAt, AddsParts, AddsSome, ArePlaces, HavePlaces, HaveSoFar, at, conjuncts, disjuncts, lit_at, lit_step, own_lit, parts_at}

@@ -5,7 +5,7 @@ use Rattle.lin_atoms.specs.declared.lit.Lit.{Lit}
 use Rattle.lin_atoms.specs.declared.form.Form.{Form}
 use Rattle.clause_form.specs.System.{Clauses}
 use Rattle.clause_form.specs.declared.clause.Clause.{Clause}
-use Rattle.farkas_proof.specs.Flatten.{disjunctions, literals}
+use Rattle.refutation_trees.specs.Flatten.{disjunctions, literals}
 use Rattle.book_rules.specs.Proofs.{is_head}
 
 -- a guard flattened: its conjunction's literals, and its disjunctions, which stay open

@@ -1,7 +1,7 @@
 //! The places of a guard's literals and disjunctions.
 
 ghost use Rattle.std.specs.Prelude.{◌≡◌, ◌∷◌, ◌++◌, ℕ, List, [], slice_index_or, IfOk, OnOk};
-ghost use Rattle.farkas_proof.specs.Flatten.{disjunctions, literals};
+ghost use Rattle.refutation_trees.specs.Flatten.{disjunctions, literals};
 ghost use Rattle.clause_index.specs.machinery.Places.{Adds, AddsAt, AddsParts, ArePlaces, HavePlaces, at, conjuncts};
 
 use base::{Items, Memory};

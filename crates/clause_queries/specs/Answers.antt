@@ -1,7 +1,7 @@
 -- What is asked of all clauses with a head, and what is answered.
 use Rattle.std.specs.Prelude.{◌≡◌, ◌==◌, ◌<◌, ◌^◌, ◌⊎◌, ℕ, List, Bool, true, false, Option, Some, None, length, slice_get}
 use Rattle.std.specs.List.{list_all, list_any}
-use Rattle.farkas_proof.specs.KeptEvidence.{given_evidence, given_form}
+use Rattle.refutation_trees.specs.KeptEvidence.{given_evidence, given_form}
 use Rattle.clause_form.specs.System.{Clauses}
 use Rattle.clause_form.specs.declared.clause.Clause.{Clause}
 use Rattle.term_tree.specs.declared.sort.Sort.{Sort}

@@ -17,9 +17,10 @@ use chc_tokens::{
     Goal, Seen, Shown, TokenStop, Used, base_of, checked_query_of, forms_of, seen, shown_by,
 };
 use clause_form::{Clause, System};
-use farkas_proof::{CheckStop, Refutation, Refuted, check_owned};
+use farkas_proof::{CheckStop, Refuted, check_owned};
 use lia_cases::{Decision, decide_owned};
 use lin_atoms::Form;
+use refutation_trees::Refutation;
 use std::alloc::Global;
 
 /// What was found of a query.

@@ -8,8 +8,8 @@ ghost use Rattle.clause_queries.specs.machinery.Carrying.{has_tree, trees_for};
 use base::{Boxed, Copied, Items, Memory, Same};
 use chc_tokens::{Goal, Shown};
 use clause_index::IndexedSystem;
-use farkas_proof::Refutation;
 use lin_atoms::{Lin, Lit};
+use refutation_trees::Refutation;
 use std::alloc::Global;
 
 /// How deep a tree is at most that is carried over.

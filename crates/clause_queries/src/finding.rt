@@ -17,8 +17,8 @@ use crate::using::frame_used;
 use base::{Copied, Items, Memory};
 use chc_tokens::{Goal, Seen, Shown};
 use clause_index::IndexedSystem;
-use farkas_proof::Refutation;
 use lemma_frames::Frames;
+use refutation_trees::Refutation;
 use std::alloc::Global;
 
 /// What was found of the queries.

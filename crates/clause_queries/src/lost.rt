@@ -1,6 +1,6 @@
 use base::Items;
 use chc_tokens::Used;
-use farkas_proof::GaveUp;
+use refutation_trees::GaveUp;
 
 /// A query whose search was given up.
 #[derive(Drop)]

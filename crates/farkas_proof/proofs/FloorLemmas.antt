@@ -9,9 +9,9 @@ use Rattle.int_rows.specs.Rows.{content, entry}
 use Rattle.int_rows.specs.declared.bounds.Bounded.{Bounded}
 use Rattle.int_rows.proofs.Public.{one-primitive}
 use Rattle.lin_atoms.specs.Dot.{dot}
-use Rattle.farkas_proof.specs.GivenUp.{IsEvidence, tableau}
+use Rattle.refutation_trees.specs.GivenUp.{IsEvidence, tableau}
 use Rattle.farkas_proof.specs.Instances.{both, is_multiple_of_second, is_two}
-use Rattle.farkas_proof.specs.declared.evidence.Evidence.TheVariants.{Coordinate}
+use Rattle.refutation_trees.specs.declared.evidence.Evidence.TheVariants.{Coordinate}
 use Rattle.farkas_proof.proofs.PairLemmas.{bounded-Eq, both-end, both-node}
 use Rattle.farkas_proof.proofs.PinnedLemmas.{Case, only-column, pinned, pinned-basic, pinned-meets, point-of}
 

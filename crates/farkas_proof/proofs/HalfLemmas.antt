@@ -8,9 +8,9 @@ use Rattle.int_rows.specs.Ready.{bounded}
 use Rattle.int_rows.specs.Rows.{content}
 use Rattle.int_rows.specs.declared.bounds.Bounded.{Bounded}
 use Rattle.int_rows.proofs.Public.{follows-own, one-primitive}
-use Rattle.farkas_proof.specs.GivenUp.{IsEvidence}
+use Rattle.refutation_trees.specs.GivenUp.{IsEvidence}
 use Rattle.farkas_proof.specs.Instances.{both, first_is_one, is_double, is_even, is_one}
-use Rattle.farkas_proof.specs.declared.evidence.Evidence.TheVariants.{Nodes}
+use Rattle.refutation_trees.specs.declared.evidence.Evidence.TheVariants.{Nodes}
 use Rattle.farkas_proof.proofs.PairLemmas.{bounded-Eq, both-end}
 use Rattle.farkas_proof.proofs.PinnedLemmas.{Case, only-column, split-once}
 

@@ -5,7 +5,7 @@ use Rattle.std.proofs.lemmas.Bool.{leb-true, leb-false}
 use Rattle.std.proofs.lemmas.List.{length-append, length-take, length-take-le, take-append-le, take-take, take_all, take_more}
 use Rattle.lin_atoms.specs.Denial.{linear_of}
 use Rattle.lin_atoms.specs.declared.lit.Lit.{Lit}
-use Rattle.farkas_proof.specs.Combination.{lits_end, terms_end}
+use Rattle.refutation_trees.specs.Combination.{lits_end, terms_end}
 use Rattle.farkas_proof.specs.machinery.Ends.{ends_from}
 
 abbrev end_of : Lit → ℕ

@@ -1,14 +1,10 @@
-pub mod FlattenLemmas
-pub mod FormLemmas
 pub mod QuotientLemmas
 pub mod SoundLemmas
 pub mod TreeLemmas
 pub mod SumLemmas
-pub mod EndLemmas
 pub mod RoomLemmas
 pub mod NarrowLemmas
 pub mod WalkLemmas
-pub mod CopyLemmas
 pub mod NodeLemmas
 pub mod PairLemmas
 pub mod WideRowLemmas
@@ -17,7 +13,6 @@ pub mod HalfLemmas
 pub mod FloorLemmas
 pub mod OneRowLemmas
 pub mod LoneLemmas
-pub mod ForestLemmas
 pub mod PointLemmas
 pub mod NothingLemmas
 pub mod KnownLemmas

@@ -14,11 +14,11 @@ use Rattle.int_rows.specs.Ready.{ready, ready_fits}
 use Rattle.int_rows.specs.declared.bounds.Bounded.{Bounded}
 use Rattle.int_rows.specs.declared.bounds.Ready.{Ready}
 use Rattle.int_rows.specs.declared.bounds.Ready.TheVariants.{Truth, Bounds}
-use Rattle.farkas_proof.specs.Flatten.{disjunctions, literals}
-use Rattle.farkas_proof.specs.GivenUp.{IsEvidence, IsGivenUp}
-use Rattle.farkas_proof.specs.Refutation.{form_end}
-use Rattle.farkas_proof.specs.Split.{Node, IsNode, IsSplit, at_least, at_most, by_branch, by_cases, first, joined, taken_in, under, with_bound}
-use Rattle.farkas_proof.specs.declared.evidence.Evidence.TheVariants.{Row}
+use Rattle.refutation_trees.specs.Flatten.{disjunctions, literals}
+use Rattle.refutation_trees.specs.GivenUp.{IsEvidence, IsGivenUp}
+use Rattle.refutation_trees.specs.Refutation.{form_end}
+use Rattle.refutation_trees.specs.Split.{Node, IsNode, IsSplit, at_least, at_most, by_branch, by_cases, first, joined, taken_in, under, with_bound}
+use Rattle.refutation_trees.specs.declared.evidence.Evidence.TheVariants.{Row}
 use Rattle.farkas_proof.proofs.NodeLemmas.{bounds-append, ends-append}
 use Rattle.farkas_proof.proofs.OneRowLemmas.{few-rows}
 

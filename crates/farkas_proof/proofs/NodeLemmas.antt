@@ -6,11 +6,11 @@ use Rattle.lin_atoms.specs.declared.form.Form.{Form}
 use Rattle.int_rows.specs.Node.{all_bounds, bounds_of, end_of_quotients, equations, in_rows, quotients}
 use Rattle.int_rows.specs.Ready.{ready}
 use Rattle.int_rows.proofs.Public.{length-equations}
-use Rattle.farkas_proof.specs.Flatten.{disjunctions, literals}
-use Rattle.farkas_proof.specs.GivenUp.{AreOfNode, IsEvidence}
-use Rattle.farkas_proof.specs.Refutation.{form_end}
-use Rattle.farkas_proof.specs.Split.{Node, IsNode, HaveTrees, first, taken_in, takes_in, start}
-use Rattle.farkas_proof.specs.declared.evidence.Evidence.TheVariants.{Rows}
+use Rattle.refutation_trees.specs.Flatten.{disjunctions, literals}
+use Rattle.refutation_trees.specs.GivenUp.{AreOfNode, IsEvidence}
+use Rattle.refutation_trees.specs.Refutation.{form_end}
+use Rattle.refutation_trees.specs.Split.{Node, IsNode, HaveTrees, first, taken_in, takes_in, start}
+use Rattle.refutation_trees.specs.declared.evidence.Evidence.TheVariants.{Rows}
 
 pub ends-append : (q : ℕ) (above below : List Lit) → end_of_quotients q (above ++ below) ≡ end_of_quotients (end_of_quotients q above) below
 ends-append q [] below = refl

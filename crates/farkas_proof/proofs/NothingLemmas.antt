@@ -15,13 +15,13 @@ use Rattle.int_rows.specs.Basis.{Point, IsBasicPoint, IsWideCoordinate, IsWideFl
 use Rattle.int_rows.specs.Node.{greatest_lower, least_upper, system}
 use Rattle.int_rows.specs.Rows.{entry}
 use Rattle.int_rows.proofs.Public.{positive-factor, zero-factor}
-use Rattle.farkas_proof.specs.Flatten.{disjunctions, literals}
-use Rattle.farkas_proof.specs.GivenUp.{IsEvidence, IsGivenUp, tableau}
-use Rattle.farkas_proof.specs.Refutation.{form_end}
-use Rattle.farkas_proof.specs.Split.{Node, HasVertexBetween, HaveTrees, IsNode, IsSplit, by_branch, by_cases, first, inner, leaf, none, start, taken_in, takes_in, under}
-use Rattle.farkas_proof.specs.declared.evidence.Evidence.{Evidence}
-use Rattle.farkas_proof.specs.declared.evidence.Evidence.TheVariants.{Coordinate, Nodes, Row, Rows}
-use Rattle.farkas_proof.proofs.ForestLemmas.{same-head, same-rest}
+use Rattle.refutation_trees.specs.Flatten.{disjunctions, literals}
+use Rattle.refutation_trees.specs.GivenUp.{IsEvidence, IsGivenUp, tableau}
+use Rattle.refutation_trees.specs.Refutation.{form_end}
+use Rattle.refutation_trees.specs.Split.{Node, HasVertexBetween, HaveTrees, IsNode, IsSplit, by_branch, by_cases, first, inner, leaf, none, start, taken_in, takes_in, under}
+use Rattle.refutation_trees.specs.declared.evidence.Evidence.{Evidence}
+use Rattle.refutation_trees.specs.declared.evidence.Evidence.TheVariants.{Coordinate, Nodes, Row, Rows}
+use Rattle.refutation_trees.proofs.ForestLemmas.{same-head, same-rest}
 use Rattle.farkas_proof.proofs.OneRowLemmas.{no-row}
 
 -- a list without elements

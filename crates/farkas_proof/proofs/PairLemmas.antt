@@ -13,14 +13,14 @@ use Rattle.lin_atoms.specs.declared.form.Form.TheOpen.{Form-F}
 use Rattle.lin_atoms.specs.declared.form.Form.TheVariants.{Lit as Literal}
 use Rattle.lin_atoms.specs.declared.form.Form.TheViews.{roll-Form}
 use Rattle.int_rows.specs.Ready.{bounded, lin_content, rounded, without_constant}
-use Rattle.farkas_proof.specs.Combination.{terms_end}
-use Rattle.farkas_proof.specs.Flatten.{disjunctions, literals, literals_step}
-use Rattle.farkas_proof.specs.GivenUp.{AreOfNode, IsEvidence, IsGivenUp}
+use Rattle.refutation_trees.specs.Combination.{terms_end}
+use Rattle.refutation_trees.specs.Flatten.{disjunctions, literals, literals_step}
+use Rattle.refutation_trees.specs.GivenUp.{AreOfNode, IsEvidence, IsGivenUp}
 use Rattle.farkas_proof.specs.Instances.{both}
-use Rattle.farkas_proof.specs.Refutation.{end_step, form_end}
-use Rattle.farkas_proof.specs.declared.evidence.Evidence.{Evidence}
-use Rattle.farkas_proof.proofs.EndLemmas.{form_end-And}
-use Rattle.farkas_proof.proofs.FlattenLemmas.{disjunctions-And, literals-And}
+use Rattle.refutation_trees.specs.Refutation.{end_step, form_end}
+use Rattle.refutation_trees.specs.declared.evidence.Evidence.{Evidence}
+use Rattle.refutation_trees.proofs.EndLemmas.{form_end-And}
+use Rattle.refutation_trees.proofs.FlattenLemmas.{literals-And}
 use Rattle.farkas_proof.proofs.NodeLemmas.{all-join, node_of}
 
 literals-Lit : (l : Lit) → literals (Literal l) ≡ l ∷ []
@@ -34,9 +34,6 @@ end-Lit l = fold-roll-Form ℕ end_step (Form-F.Lit l)
 pub both-literals : (l m : Lit) → literals (both l m) ≡ l ∷ m ∷ []
 both-literals l m =
     literals-And (Literal l ∷ Literal m ∷ []) ∙ ap (λ (xs : List Lit). xs ++ (literals (Literal m) ++ [])) (literals-Lit l) ∙ ap (λ (xs : List Lit). l ∷ (xs ++ [])) (literals-Lit m)
-
-pub both-disjunctions : (l m : Lit) → disjunctions (both l m) ≡ []
-both-disjunctions l m = disjunctions-And (Literal l ∷ Literal m ∷ [])
 
 pub both-end : (l m : Lit) → form_end (both l m) ≡ max (terms_end (linear_of l).terms) (max (terms_end (linear_of m).terms) 0)
 both-end l m =

@@ -7,14 +7,15 @@ use Rattle.lin_atoms.specs.declared.lit.Lit.{Lit}
 use Rattle.int_rows.specs.Basis.{System, Point, IsBasis, IsBasicRow, IsBasicPoint, MayStand, MeetsBounds, are_rising, bound, outside}
 use Rattle.int_rows.specs.Node.{system}
 use Rattle.int_rows.specs.Rows.{Solves, SolvesAll, entry}
-use Rattle.farkas_proof.specs.Flatten.{disjunctions, literals}
-use Rattle.farkas_proof.specs.GivenUp.{IsEvidence}
+use Rattle.refutation_trees.specs.Flatten.{disjunctions, literals}
+use Rattle.refutation_trees.specs.GivenUp.{IsEvidence}
 use Rattle.farkas_proof.specs.Instances.{both}
-use Rattle.farkas_proof.specs.Refutation.{form_end}
-use Rattle.farkas_proof.specs.Split.{HasSolution, HasVertexBetween, HaveTrees, at_least, at_most, by_branch, inner, is_no_falsehood, leaf, none, start, with_bound}
-use Rattle.farkas_proof.specs.declared.evidence.Evidence.TheVariants.{Nodes}
+use Rattle.refutation_trees.specs.Refutation.{form_end}
+use Rattle.refutation_trees.specs.Split.{HasSolution, HasVertexBetween, HaveTrees, at_least, at_most, by_branch, inner, is_no_falsehood, leaf, none, start, with_bound}
+use Rattle.refutation_trees.specs.declared.evidence.Evidence.TheVariants.{Nodes}
+use Rattle.refutation_trees.proofs.FlattenLemmas.{both-disjunctions}
 use Rattle.farkas_proof.proofs.NodeLemmas.{each-in-trees, node_of}
-use Rattle.farkas_proof.proofs.PairLemmas.{both-disjunctions, both-literals}
+use Rattle.farkas_proof.proofs.PairLemmas.{both-literals}
 
 -- two variables and a slack, where e = 0
 abbrev pub pinned : List ℤ → List (Option ℤ) → System

@@ -8,9 +8,9 @@ use Rattle.lin_atoms.specs.Truth.{lit_truth, truth}
 use Rattle.lin_atoms.specs.declared.lit.Lit.{Lit}
 use Rattle.lin_atoms.specs.declared.form.Form.{Form}
 use Rattle.lin_atoms.proofs.Public.{both_true}
-use Rattle.farkas_proof.specs.Flatten.{disjunctions, literals}
-use Rattle.farkas_proof.specs.Split.{Node, IsInner, IsSplit, at_least, at_most, by_branch, by_cases, is_point_of, joined, start, with_bound, with_part}
-use Rattle.farkas_proof.proofs.FormLemmas.{disjunctions_true, literals_true}
+use Rattle.refutation_trees.specs.Flatten.{disjunctions, literals}
+use Rattle.refutation_trees.specs.Split.{Node, IsInner, IsSplit, at_least, at_most, by_branch, by_cases, is_point_of, joined, start, with_bound, with_part}
+use Rattle.refutation_trees.proofs.FormLemmas.{disjunctions_true, literals_true}
 use Rattle.farkas_proof.proofs.SoundLemmas.{true-le}
 use Rattle.farkas_proof.proofs.TreeLemmas.{all_dropped, all_joined, all_replaced, all_taken, or_true}
 

@@ -16,10 +16,11 @@ use Rattle.lin_atoms.specs.declared.lit.Lit.{Lit}
 use Rattle.lin_atoms.specs.declared.lit.Lit.TheVariants.{Le, Eq, Div, NDiv}
 use Rattle.lin_atoms.specs.declared.form.Form.{Form}
 use Rattle.lin_atoms.proofs.Public.{both_true, form-agree, lit-agree, multiple_where, quotient-rest, rest-below, rest-natural, sum_at-++, value_at-agree}
-use Rattle.farkas_proof.specs.Combination.{is_division, lits_end, one_minus, quotient, terms_end}
+use Rattle.refutation_trees.specs.Combination.{is_division, lits_end, one_minus, quotient, terms_end}
 use Rattle.int_rows.specs.Ready.{less_multiple}
-use Rattle.farkas_proof.proofs.FormLemmas.{lit_below, terms_below}
-use Rattle.farkas_proof.proofs.SoundLemmas.{true-le, value_at-one_minus, value_at-plus}
+use Rattle.refutation_trees.proofs.FormLemmas.{lit_below, terms_below}
+use Rattle.refutation_trees.proofs.ValueLemmas.{value_at-one_minus, value_at-plus}
+use Rattle.farkas_proof.proofs.SoundLemmas.{true-le}
 
 -- the point up to a variable, and its value
 pub with_value : ℕ → ℤ → List ℤ → List ℤ

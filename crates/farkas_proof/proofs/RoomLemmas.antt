@@ -5,14 +5,14 @@ use Rattle.std.specs.List.{list_all}
 use Rattle.lin_atoms.specs.declared.lit.Lit.{Lit}
 use Rattle.lin_atoms.specs.declared.lit.Lit.TheVariants.{Le}
 use Rattle.lin_atoms.specs.declared.form.Form.{Form}
-use Rattle.farkas_proof.specs.Combination.{are_multipliers, combined, is_divided_by, one_minus}
+use Rattle.refutation_trees.specs.Combination.{are_multipliers, combined, is_divided_by, one_minus}
 use Rattle.int_rows.specs.Ready.{rounded}
-use Rattle.farkas_proof.specs.Flatten.{disjunctions, literals}
-use Rattle.farkas_proof.specs.Refutation.{Finding, Illegal, Judge, Sound, Wide, checked, each_part, followed_by, form_end, has_parts, has_quotient, is_refutation, is_sound, judge_step, judged, judged_at, new_variable, quotient_at}
-use Rattle.farkas_proof.specs.declared.tree.Refutation.{Refutation, map-Refutation}
-use Rattle.farkas_proof.specs.declared.tree.Refutation.TheOpen.{Refutation-F}
-use Rattle.farkas_proof.specs.declared.tree.Refutation.TheViews.{roll-Refutation}
-use Rattle.farkas_proof.specs.declared.tree.Refutation.TheFolds.{fold-roll-Refutation, ind-Refutation}
+use Rattle.refutation_trees.specs.Flatten.{disjunctions, literals}
+use Rattle.refutation_trees.specs.Refutation.{Finding, Illegal, Judge, Sound, Wide, checked, each_part, followed_by, form_end, has_parts, has_quotient, is_refutation, is_sound, judge_step, judged, judged_at, new_variable, quotient_at}
+use Rattle.refutation_trees.specs.declared.tree.Refutation.{Refutation, map-Refutation}
+use Rattle.refutation_trees.specs.declared.tree.Refutation.TheOpen.{Refutation-F}
+use Rattle.refutation_trees.specs.declared.tree.Refutation.TheViews.{roll-Refutation}
+use Rattle.refutation_trees.specs.declared.tree.Refutation.TheFolds.{fold-roll-Refutation, ind-Refutation}
 
 all_any : (lits : List Lit) → list_all (λ (l : Lit). true) lits ≡ true
 all_any [] = refl

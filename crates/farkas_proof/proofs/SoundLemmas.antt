@@ -1,6 +1,6 @@
 -- What is derived from true literals is true.
 use Rattle.std.proofs.Common.{◌≡◌, ◌*◌, ℕ, suc, zero, List, [], ◌∷◌, ap, sym, ◌∙◌, subst, arith, true, false, ◌==◌, length, map, nat_abs}
-use Rattle.std.specs.Prelude.{ℤ, pos, negsuc, neg_ℤ, ◌+ℤ◌, ◌-ℤ◌, ◌*ℤ◌, ◌≤ℤ◌, ◌<ℤ◌, int_le, int_lt, slice_get}
+use Rattle.std.specs.Prelude.{ℤ, pos, negsuc, neg_ℤ, ◌+ℤ◌, ◌*ℤ◌, ◌≤ℤ◌, ◌<ℤ◌, int_le, int_lt, slice_get}
 use Rattle.std.specs.Int.{int_div_euclid, int_rem_euclid}
 use Rattle.std.specs.List.{list_all}
 use Rattle.std.specs.Option.{option_map_or}
@@ -9,14 +9,15 @@ use Rattle.std.proofs.lemmas.Int.{ints}
 use Rattle.std.proofs.lemmas.Bool.{eqb-true}
 use Rattle.base.proofs.Public.{*ℤ_assoc, +ℤ-*ℤ}
 use Rattle.lin_atoms.specs.Multiples.{is_multiple}
-use Rattle.lin_atoms.specs.Algebra.{negated, plus, scaled}
+use Rattle.lin_atoms.specs.Algebra.{scaled}
 use Rattle.lin_atoms.specs.Denial.{linear_of}
 use Rattle.lin_atoms.specs.Linear.{Linear, sum_at, value_at, variable_at}
 use Rattle.lin_atoms.specs.Truth.{lit_truth}
 use Rattle.lin_atoms.specs.declared.lit.Lit.{Lit}
 use Rattle.lin_atoms.specs.declared.lit.Lit.TheVariants.{Le, Eq, Div, NDiv}
-use Rattle.lin_atoms.proofs.Public.{both_true, multiple_where, positive, quotient-greatest, quotient-rest, value_at-added, value_at-negated, value_at-scaled}
-use Rattle.farkas_proof.specs.Combination.{are_multipliers, combined, is_above_zero, is_divided_by, is_multiplier, linear_at, may_be_multiplied, one_minus}
+use Rattle.lin_atoms.proofs.Public.{both_true, multiple_where, positive, quotient-greatest, quotient-rest, value_at-added, value_at-scaled}
+use Rattle.refutation_trees.specs.Combination.{are_multipliers, combined, is_above_zero, is_divided_by, is_multiplier, linear_at, may_be_multiplied, one_minus}
+use Rattle.refutation_trees.proofs.ValueLemmas.{value_at-one_minus}
 use Rattle.int_rows.specs.Ready.{rounded}
 
 pub le-true : (a b : ℤ) → int_le a b ≡ true → a ≤ℤ b
@@ -96,15 +97,6 @@ rounded_low point d lin h t low =
     let small : (s *ℤ d) ≤ℤ neg_ℤ lin.constant = omega (arith, ints, whole, low) in
     let bound = quotient-greatest (neg_ℤ lin.constant) d s above small in
     omega (arith, ints, bound)
-
-pub value_at-plus : (point : List ℤ) (lin : Linear) (k : ℤ) → value_at point (plus lin k) ≡ value_at point lin +ℤ k
-value_at-plus point lin k = omega (arith, ints)
-
-pub value_at-one_minus : (point : List ℤ) (lin : Linear) → value_at point (one_minus lin) ≡ pos 1 -ℤ value_at point lin
-value_at-one_minus point lin =
-    let sum = value_at-plus point (negated lin) (pos 1) in
-    let negative = value_at-negated point lin in
-    omega (arith, ints, sum, negative)
 
 -- 1 - l is at most 0 where l isn't
 pub above_true : (point : List ℤ) (lin : Linear) → lit_truth point (Le lin) ≡ false → lit_truth point (Le (one_minus lin)) ≡ true

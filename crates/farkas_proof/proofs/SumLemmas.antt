@@ -15,7 +15,7 @@ use Rattle.farkas_proof.proofs.SoundLemmas.{divided}
 use Rattle.lin_atoms.specs.Algebra.{added, term_on, with_term, collected, scaled, scaled_terms}
 use Rattle.lin_atoms.specs.Linear.{Linear, are_ordered, is_short}
 use Rattle.lin_atoms.specs.declared.lit.Lit.{Lit}
-use Rattle.farkas_proof.specs.Combination.{are_multipliers, combined, is_multiplier, linear_at}
+use Rattle.refutation_trees.specs.Combination.{are_multipliers, combined, is_multiplier, linear_at}
 use Rattle.int_rows.specs.Ready.{rounded}
 use Rattle.lin_atoms.proofs.Public.{both_true, collected-ordered, collected-same, length_at, ordered, ordered-cons, quotient_is, scaled-drop, scaled-ordered, term_on-whole, with_term-behind, with_term-same}
 use Rattle.farkas_proof.specs.machinery.Sum.{are_counted, seen, standing}

@@ -12,15 +12,15 @@ use Rattle.lin_atoms.specs.declared.lit.Lit.{Lit}
 use Rattle.lin_atoms.specs.declared.lit.Lit.TheVariants.{Le}
 use Rattle.lin_atoms.specs.declared.form.Form.{Form}
 use Rattle.lin_atoms.proofs.Public.{both_true}
-use Rattle.farkas_proof.specs.Combination.{are_multipliers, combined, is_above_zero, is_divided_by, is_division, lits_end, one_minus, quotient, terms_end}
+use Rattle.refutation_trees.specs.Combination.{are_multipliers, combined, is_above_zero, is_divided_by, is_division, lits_end, one_minus, quotient, terms_end}
 use Rattle.int_rows.specs.Ready.{rounded}
-use Rattle.farkas_proof.specs.Flatten.{disjunctions, literals}
-use Rattle.farkas_proof.specs.Refutation.{Finding, Sound, Illegal, Wide, HasNoPoint, Judge, checked, each_part, followed_by, form_end, has_parts, has_quotient, is_sound, judge_step, judged, judged_at, new_variable, quotient_at}
-use Rattle.farkas_proof.specs.declared.tree.Refutation.{Refutation, map-Refutation}
-use Rattle.farkas_proof.specs.declared.tree.Refutation.TheOpen.{Refutation-F}
-use Rattle.farkas_proof.specs.declared.tree.Refutation.TheViews.{roll-Refutation}
-use Rattle.farkas_proof.specs.declared.tree.Refutation.TheFolds.{fold-roll-Refutation, ind-Refutation}
-use Rattle.farkas_proof.proofs.FormLemmas.{disjunctions_below, disjunctions_true, form_below, literals_true}
+use Rattle.refutation_trees.specs.Flatten.{disjunctions, literals}
+use Rattle.refutation_trees.specs.Refutation.{Finding, Sound, Illegal, Wide, HasNoPoint, Judge, checked, each_part, followed_by, form_end, has_parts, has_quotient, is_sound, judge_step, judged, judged_at, new_variable, quotient_at}
+use Rattle.refutation_trees.specs.declared.tree.Refutation.{Refutation, map-Refutation}
+use Rattle.refutation_trees.specs.declared.tree.Refutation.TheOpen.{Refutation-F}
+use Rattle.refutation_trees.specs.declared.tree.Refutation.TheViews.{roll-Refutation}
+use Rattle.refutation_trees.specs.declared.tree.Refutation.TheFolds.{fold-roll-Refutation, ind-Refutation}
+use Rattle.refutation_trees.proofs.FormLemmas.{disjunctions_below, disjunctions_true, form_below, literals_true}
 use Rattle.farkas_proof.proofs.QuotientLemmas.{cases_stay, lits_stay, quotient_known, quotient_of, with_value}
 use Rattle.farkas_proof.proofs.SoundLemmas.{above_true, combined_low, le-true, leaf_low, rounded_low, true-le}
 

@@ -9,14 +9,15 @@ use Rattle.lin_atoms.specs.Linear.{Linear}
 use Rattle.lin_atoms.specs.declared.lit.Lit.{Lit}
 use Rattle.lin_atoms.specs.declared.lit.Lit.TheVariants.{Le}
 use Rattle.lin_atoms.specs.declared.form.Form.{Form}
-use Rattle.farkas_proof.specs.Combination.{one_minus}
-use Rattle.farkas_proof.specs.Flatten.{disjunctions, literals}
-use Rattle.farkas_proof.specs.Refutation.{Finding, Sound, Illegal, Wide, Judge, checked, each_part, followed_by, form_end, judged, judged_at}
+use Rattle.refutation_trees.specs.Combination.{one_minus}
+use Rattle.refutation_trees.specs.Flatten.{disjunctions, literals}
+use Rattle.refutation_trees.specs.Refutation.{Finding, Sound, Illegal, Wide, Judge, checked, each_part, followed_by, form_end, judged, judged_at}
 use Rattle.farkas_proof.specs.machinery.Tells.{Tells}
 use Rattle.farkas_proof.specs.declared.stop.CheckStop.{CheckStop}
 use Rattle.farkas_proof.specs.declared.stop.CheckStop.TheVariants.{Memory as OutOfMemory, NoProof, SumWide}
-use Rattle.farkas_proof.specs.machinery.Walk.{Leads, left_over, left_to, nothing_left, opened, replaced, size, sizes, weights, weight_of, work_step}
-use Rattle.farkas_proof.specs.declared.tree.Refutation.{Refutation}
+use Rattle.refutation_trees.specs.machinery.Sizes.{size, sizes}
+use Rattle.farkas_proof.specs.machinery.Walk.{Leads, left_over, left_to, nothing_left, opened, replaced, weights, weight_of, work_step}
+use Rattle.refutation_trees.specs.declared.tree.Refutation.{Refutation}
 use Rattle.farkas_proof.specs.declared.walk.Work.{Work}
 use Rattle.farkas_proof.specs.declared.walk.Work.TheVariants.{Tree, Part, Forget}
 

@@ -10,10 +10,10 @@ use Rattle.int_rows.specs.Ready.{bounded}
 use Rattle.int_rows.specs.Rows.{content, entry}
 use Rattle.int_rows.specs.declared.bounds.Bounded.{Bounded}
 use Rattle.int_rows.proofs.Public.{one-primitive}
-use Rattle.farkas_proof.specs.GivenUp.{IsEvidence, tableau}
+use Rattle.refutation_trees.specs.GivenUp.{IsEvidence, tableau}
 use Rattle.farkas_proof.specs.Instances.{both, large, large_on_first, large_on_second}
-use Rattle.farkas_proof.specs.Refutation.{form_end}
-use Rattle.farkas_proof.specs.declared.evidence.Evidence.TheVariants.{Row}
+use Rattle.refutation_trees.specs.Refutation.{form_end}
+use Rattle.refutation_trees.specs.declared.evidence.Evidence.TheVariants.{Row}
 use Rattle.farkas_proof.proofs.PairLemmas.{both-end, both-node, bounded-Eq}
 
 large-end : form_end (both large_on_first large_on_second) ≡ 2

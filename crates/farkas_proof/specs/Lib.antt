@@ -1,10 +1,4 @@
-pub mod Combination
 pub mod Derived
-pub mod Flatten
-pub mod GivenUp
 pub mod Instances
 pub mod Kept
-pub mod KeptEvidence
-pub mod Refutation
-pub mod Split
 pub mod machinery

@@ -1,5 +1,4 @@
 -- What the code keeps for itself: no rule cites it.
-pub mod Copying
 pub mod Ends
 pub mod Narrow
 pub mod Sum

@@ -1,13 +1,13 @@
 ghost use Rattle.std.specs.Prelude.{◌≡◌, ℕ, true, IfOk, OnOk, IsErrOf};
 ghost use Rattle.lin_atoms.specs.Denial.{lit_fits};
 ghost use Rattle.farkas_proof.specs.Kept.{form_of, proof_of};
-ghost use Rattle.farkas_proof.specs.Refutation.{Illegal, Wide, is_refutation, is_sound, judged};
+ghost use Rattle.refutation_trees.specs.Refutation.{Illegal, Wide, is_refutation, is_sound, judged};
 
 use crate::refuted::Refuted;
 use crate::stop::CheckStop;
-use crate::tree::Refutation;
 use crate::walk::judge;
 use lin_atoms::Form;
+use refutation_trees::Refutation;
 use std::alloc::Global;
 
 /// Checks a tree from anyone as a proof that no integer point satisfies the form. `Refuted` comes

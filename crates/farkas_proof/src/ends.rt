@@ -2,8 +2,8 @@
 
 ghost use Rattle.std.specs.Prelude.{◌≡◌, ◌≤◌, ◌^◌, map};
 ghost use Rattle.lin_atoms.specs.Denial.{linear_of};
-ghost use Rattle.farkas_proof.specs.Combination.{terms_end};
-ghost use Rattle.farkas_proof.specs.Refutation.{form_end, greatest_of};
+ghost use Rattle.refutation_trees.specs.Combination.{terms_end};
+ghost use Rattle.refutation_trees.specs.Refutation.{form_end, greatest_of};
 
 use lin_atoms::{Form, Lin, Lit};
 

@@ -1,6 +1,6 @@
 ghost use Rattle.std.specs.Prelude.{◌≡◌, ◌++◌, ◌∷◌, [], OnOk, pos};
 ghost use Rattle.std.specs.List.{flat_map};
-ghost use Rattle.farkas_proof.specs.Flatten.{disjunctions, literals};
+ghost use Rattle.refutation_trees.specs.Flatten.{disjunctions, literals};
 ghost use Rattle.farkas_proof.specs.machinery.Walk.{opened};
 ghost use Rattle.lin_atoms.specs.Linear.{of_constant};
 ghost use Rattle.lin_atoms.specs.declared.lit.Lit.TheVariants.{Le};

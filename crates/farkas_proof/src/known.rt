@@ -2,7 +2,7 @@
 
 ghost use Rattle.std.specs.Prelude.{◌≡◌, ◌++◌, ◌∷◌, [], List, IfOk, OnOk, length, take};
 ghost use Rattle.lin_atoms.specs.declared.lit.Lit.{Lit};
-ghost use Rattle.farkas_proof.specs.Combination.{lits_end};
+ghost use Rattle.refutation_trees.specs.Combination.{lits_end};
 ghost use Rattle.farkas_proof.specs.machinery.Ends.{ends_from};
 
 use crate::ends::lit_end;

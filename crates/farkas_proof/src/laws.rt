@@ -3,19 +3,19 @@
 ghost use Rattle.std.specs.Prelude.{◌≡◌, true, false, ℕ, List, [], ◌∷◌, ◌++◌, ◌+◌, ◌*◌, ◌-◌, ◌<◌, ◌≤◌, length, ℤ, pos, Some, slice_get};
 ghost use Rattle.lin_atoms.specs.Truth.{truth};
 ghost use Rattle.lin_atoms.specs.declared.form.Form.{Form};
-ghost use Rattle.farkas_proof.specs.Refutation.{HasNoPoint, is_refutation, form_end};
-ghost use Rattle.farkas_proof.specs.declared.tree.Refutation.{Refutation};
+ghost use Rattle.refutation_trees.specs.Refutation.{HasNoPoint, is_refutation, form_end};
+ghost use Rattle.refutation_trees.specs.declared.tree.Refutation.{Refutation};
 ghost use Rattle.std.specs.List.{Contains, list_all};
 ghost use Rattle.base.specs.Limits.{most_rows};
 ghost use Rattle.lin_atoms.specs.declared.lit.Lit.{Lit};
 ghost use Rattle.int_rows.specs.Node.{all_bounds, end_of_quotients, in_rows};
 ghost use Rattle.int_rows.specs.Ready.{ready, ready_fits};
-ghost use Rattle.farkas_proof.specs.Flatten.{disjunctions, literals};
-ghost use Rattle.farkas_proof.specs.GivenUp.{AreOfNode, IsEvidence, IsGivenUp};
+ghost use Rattle.refutation_trees.specs.Flatten.{disjunctions, literals};
+ghost use Rattle.refutation_trees.specs.GivenUp.{AreOfNode, IsEvidence, IsGivenUp};
 ghost use Rattle.farkas_proof.specs.Instances.{both, first_is_one, is_double, is_even, is_multiple_of_second, is_one, is_two, large, large_on_first, large_on_second};
-ghost use Rattle.farkas_proof.specs.Split.{HaveTrees, IsInner, IsNode, Node, is_point_of, joined, start};
-ghost use Rattle.farkas_proof.specs.declared.evidence.Evidence.{Evidence};
-ghost use Rattle.farkas_proof.specs.declared.evidence.Evidence.TheVariants.{Coordinate, Nodes, Row, Rows};
+ghost use Rattle.refutation_trees.specs.Split.{HaveTrees, IsInner, IsNode, Node, is_point_of, joined, start};
+ghost use Rattle.refutation_trees.specs.declared.evidence.Evidence.{Evidence};
+ghost use Rattle.refutation_trees.specs.declared.evidence.Evidence.TheVariants.{Coordinate, Nodes, Row, Rows};
 
 /// A form with a refutation has no integer point.
 pub fn refuted_forms_have_no_point()

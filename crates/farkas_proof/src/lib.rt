@@ -1,14 +1,11 @@
-//! Refutations of forms over the integers, and the checker whose yes is a theorem: a form that it
-//! lets through has no integer point.
+//! The checker of refutations over the integers, whose yes is a theorem: a form that it lets through
+//! has no integer point.
 #![tactic(auto)]
 
 mod checker;
-mod copying;
 mod division;
 mod ends;
-mod evidence;
 mod flatten;
-mod gave_up;
 mod known;
 mod laws;
 mod narrow;
@@ -19,12 +16,9 @@ mod rounding;
 mod rules;
 mod stop;
 mod sum;
-mod tree;
 mod walk;
 
 pub use checker::{check, check_owned};
-pub use evidence::Evidence;
-pub use gave_up::GaveUp;
 pub use laws::{
     a_half_is_split, a_large_multiple_has_a_wide_floor, a_quotient_is_split, all_literals_may_join,
     large_equations_have_a_wide_row, many_rows_are_given_up, nothing_is_not_given_up,
@@ -34,4 +28,3 @@ pub use laws::{
 pub use refuted::Refuted;
 pub use rules::{derived, is_leaf};
 pub use stop::CheckStop;
-pub use tree::Refutation;

@@ -3,10 +3,10 @@
 ghost use Rattle.std.specs.Prelude.{◌≡◌, ◌+◌, ◌&&◌, ◌<ℤ◌, IfOk, IfSome, IsSome, IsTrue, int_le, pos, true};
 ghost use Rattle.lin_atoms.specs.Linear.{are_ordered, fits};
 ghost use Rattle.lin_atoms.specs.declared.lit.Lit.TheVariants.{Le};
-ghost use Rattle.farkas_proof.specs.Combination.{are_multipliers, combined, is_above_zero, is_divided_by, one_minus};
+ghost use Rattle.refutation_trees.specs.Combination.{are_multipliers, combined, is_above_zero, is_divided_by, one_minus};
 ghost use Rattle.farkas_proof.specs.Derived.{Derives};
 ghost use Rattle.int_rows.specs.Ready.{rounded};
-ghost use Rattle.farkas_proof.specs.Refutation.{Sound, checked};
+ghost use Rattle.refutation_trees.specs.Refutation.{Sound, checked};
 ghost use Rattle.farkas_proof.specs.machinery.Sum.{seen, standing};
 ghost use Rattle.farkas_proof.specs.machinery.Tells.{Tells};
 

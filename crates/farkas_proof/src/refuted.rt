@@ -1,10 +1,10 @@
 ghost use Rattle.std.specs.Prelude.{◌≡◌, true};
 ghost use Rattle.lin_atoms.specs.Denial.{lit_fits};
-ghost use Rattle.farkas_proof.specs.Refutation.{HasNoPoint, is_refutation, is_sound, judged};
+ghost use Rattle.refutation_trees.specs.Refutation.{HasNoPoint, is_refutation, is_sound, judged};
 
-use crate::tree::Refutation;
 use base::Memory;
 use lin_atoms::Form;
+use refutation_trees::Refutation;
 use std::alloc::Global;
 
 /// A form that no integer point satisfies, with its proof: each node is legal, and each literal that

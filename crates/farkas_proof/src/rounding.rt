@@ -1,7 +1,7 @@
 ghost use Rattle.std.specs.Prelude.{◌≡◌, ◌<ℤ◌, ◌<◌, ◌^◌, map, nat_abs, neg_ℤ, true, false, IfOk, IfSome, IsNone, IsSome, pos};
 ghost use Rattle.std.specs.Int.{int_div_euclid};
 ghost use Rattle.lin_atoms.specs.Linear.{are_ordered, are_short, fits, is_long, is_short};
-ghost use Rattle.farkas_proof.specs.Combination.{is_divided_by};
+ghost use Rattle.refutation_trees.specs.Combination.{is_divided_by};
 ghost use Rattle.int_rows.specs.Ready.{rounded};
 ghost use Rattle.farkas_proof.specs.machinery.Sum.{seen, standing};
 

@@ -3,7 +3,7 @@
 
 ghost use Rattle.std.specs.Prelude.{◌≡◌, ◌&&◌, IfOk, int_le, pos};
 ghost use Rattle.lin_atoms.specs.declared.lit.Lit.TheVariants.{Le};
-ghost use Rattle.farkas_proof.specs.Combination.{are_multipliers, combined, is_above_zero, is_divided_by};
+ghost use Rattle.refutation_trees.specs.Combination.{are_multipliers, combined, is_above_zero, is_divided_by};
 ghost use Rattle.farkas_proof.specs.Derived.{Derives};
 ghost use Rattle.int_rows.specs.Ready.{rounded};
 

@@ -4,7 +4,7 @@ ghost use Rattle.lin_atoms.specs.machinery.Accumulator.{Total};
 ghost use Rattle.lin_atoms.specs.Algebra.{added, collected, scaled, scaled_terms, term_on, with_term};
 ghost use Rattle.lin_atoms.specs.Denial.{linear_of};
 ghost use Rattle.lin_atoms.specs.Linear.{are_ordered, of_constant};
-ghost use Rattle.farkas_proof.specs.Combination.{are_multipliers, combined, is_above_zero, is_divided_by, is_multiplier, linear_at, may_be_multiplied};
+ghost use Rattle.refutation_trees.specs.Combination.{are_multipliers, combined, is_above_zero, is_divided_by, is_multiplier, linear_at, may_be_multiplied};
 ghost use Rattle.farkas_proof.specs.machinery.Sum.{IsSum, are_counted, seen, standing};
 
 use crate::division::is_multiple;

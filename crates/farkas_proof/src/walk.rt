@@ -3,14 +3,15 @@
 ghost use Rattle.std.specs.Prelude.{◌≡◌, ℕ, ◌+◌, ◌<◌, ◌≤◌, ◌++◌, ◌∷◌, [], ◌&&◌, List, IfOk, OnOk, IfSome, IsSome, IsNone, int_le, length, map, pos, slice_index_or, true, false};
 ghost use Rattle.lin_atoms.specs.Denial.{lit_fits};
 ghost use Rattle.lin_atoms.specs.declared.lit.Lit.TheVariants.{Le};
-ghost use Rattle.farkas_proof.specs.Combination.{are_multipliers, combined, is_above_zero, is_divided_by, one_minus};
+ghost use Rattle.refutation_trees.specs.Combination.{are_multipliers, combined, is_above_zero, is_divided_by, one_minus};
 ghost use Rattle.int_rows.specs.Ready.{rounded};
-ghost use Rattle.farkas_proof.specs.Refutation.{Sound, checked, each_part, followed_by, has_parts, has_quotient, judged, judged_at, new_variable, quotient_at};
+ghost use Rattle.refutation_trees.specs.Refutation.{Sound, checked, each_part, followed_by, has_parts, has_quotient, judged, judged_at, new_variable, quotient_at};
 ghost use Rattle.farkas_proof.specs.machinery.Tells.{Tells};
 ghost use Rattle.lin_atoms.specs.declared.form.Form.{Form};
 ghost use Rattle.lin_atoms.specs.declared.lit.Lit.{Lit};
-ghost use Rattle.farkas_proof.specs.Flatten.{literals};
-ghost use Rattle.farkas_proof.specs.machinery.Walk.{GoesOn, Leads, after, begun, found, found_in, found_next, left_to, opened, replaced, size, size_of, sizes, weight, weight_of, weights};
+ghost use Rattle.refutation_trees.specs.Flatten.{literals};
+ghost use Rattle.refutation_trees.specs.machinery.Sizes.{size, sizes};
+ghost use Rattle.farkas_proof.specs.machinery.Walk.{GoesOn, Leads, after, begun, found, found_in, found_next, left_to, opened, replaced, size_of, weight, weight_of, weights};
 ghost use Rattle.std.specs.List.{list_all};
 
 use crate::ends::form_end;
@@ -21,9 +22,9 @@ use crate::nodes::{above, leaf, next, round};
 use crate::quotient::named;
 use crate::stop::CheckStop;
 use crate::sum::Sum;
-use crate::tree::Refutation;
 use base::{Copied, Items, Memory};
 use lin_atoms::{Form, Lin, Lit};
+use refutation_trees::Refutation;
 use std::alloc::Global;
 use std::mem;
 

@@ -2,8 +2,9 @@
 #![tactic(auto)]
 
 use base::{Boxed, Items, Memory};
-use farkas_proof::{Refutation, check};
+use farkas_proof::check;
 use lin_atoms::{Form, Lin, Lit};
+use refutation_trees::Refutation;
 use std::alloc::Global;
 
 /// How many literals the form has.

@@ -14,8 +14,8 @@ use Rattle.int_rows.specs.declared.bounds.Bounded.{Bounded}
 use Rattle.int_rows.specs.declared.bounds.Ready.{Ready}
 use Rattle.int_rows.specs.declared.bounds.Ready.TheVariants.{Bounds}
 use Rattle.std.proofs.lemmas.Int.{ints}
-use Rattle.farkas_proof.specs.declared.tree.Refutation.{Refutation}
-use Rattle.farkas_proof.specs.declared.tree.Refutation.TheVariants.{Leaf}
+use Rattle.refutation_trees.specs.declared.tree.Refutation.{Refutation}
+use Rattle.refutation_trees.specs.declared.tree.Refutation.TheVariants.{Leaf}
 use Rattle.simplex_core.specs.Meaning.{IsConflict, summed_bounds}
 use Rattle.node_rows.specs.Known.{are_known, is_legal}
 use Rattle.node_rows.specs.Nodes.{node_table}

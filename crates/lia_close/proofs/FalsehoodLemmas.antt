@@ -11,12 +11,12 @@ use Rattle.lin_atoms.specs.Truth.{lit_truth}
 use Rattle.lin_atoms.specs.declared.lit.Lit.{Lit}
 use Rattle.lin_atoms.specs.declared.lit.Lit.TheVariants.{Le, Eq, Div, NDiv}
 use Rattle.lin_atoms.proofs.Public.{both_true}
-use Rattle.farkas_proof.specs.Combination.{combined, is_above_zero, linear_at, may_be_multiplied}
-use Rattle.farkas_proof.specs.Refutation.{new_variable}
-use Rattle.farkas_proof.specs.Split.{is_no_falsehood}
-use Rattle.farkas_proof.specs.declared.tree.Refutation.{Refutation}
-use Rattle.farkas_proof.specs.declared.tree.Refutation.TheViews.{Quotient}
-use Rattle.farkas_proof.specs.declared.tree.Refutation.TheVariants.{Leaf}
+use Rattle.refutation_trees.specs.Combination.{combined, is_above_zero, linear_at, may_be_multiplied}
+use Rattle.refutation_trees.specs.Refutation.{new_variable}
+use Rattle.refutation_trees.specs.Split.{is_no_falsehood}
+use Rattle.refutation_trees.specs.declared.tree.Refutation.{Refutation}
+use Rattle.refutation_trees.specs.declared.tree.Refutation.TheViews.{Quotient}
+use Rattle.refutation_trees.specs.declared.tree.Refutation.TheVariants.{Leaf}
 use Rattle.node_rows.specs.Known.{has_short_constant, is_legal}
 use Rattle.lia_close.specs.Placed.{IsSoundAt, Place}
 use Rattle.lia_close.specs.machinery.Falsehood.{sign_of, summed_pair}

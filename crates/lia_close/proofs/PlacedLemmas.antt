@@ -12,13 +12,13 @@ use Rattle.lin_atoms.specs.declared.lit.Lit.{Lit}
 use Rattle.lin_atoms.specs.declared.lit.Lit.TheVariants.{Le}
 use Rattle.lin_atoms.specs.declared.form.Form.{Form}
 use Rattle.int_rows.specs.Ready.{rounded}
-use Rattle.farkas_proof.specs.Combination.{are_multipliers, combined, is_above_zero, is_divided_by, one_minus}
-use Rattle.farkas_proof.specs.Refutation.{Finding, Judge, Sound, Illegal, Wide, checked, each_part, followed_by, has_parts, has_quotient, is_sound, judge_step, judged_at, new_variable, quotient_at}
-use Rattle.farkas_proof.specs.declared.tree.Refutation.{Refutation, map-Refutation}
-use Rattle.farkas_proof.specs.declared.tree.Refutation.TheOpen.{Refutation-F}
-use Rattle.farkas_proof.specs.declared.tree.Refutation.TheViews.{Round, Split, Cases, Quotient, roll-Refutation}
-use Rattle.farkas_proof.specs.declared.tree.Refutation.TheVariants.{Leaf, rolls-Cases, rolls-Quotient, rolls-Round, rolls-Split}
-use Rattle.farkas_proof.specs.declared.tree.Refutation.TheFolds.{fold-roll-Refutation}
+use Rattle.refutation_trees.specs.Combination.{are_multipliers, combined, is_above_zero, is_divided_by, one_minus}
+use Rattle.refutation_trees.specs.Refutation.{Finding, Judge, Sound, Illegal, Wide, checked, each_part, followed_by, has_parts, has_quotient, is_sound, judge_step, judged_at, new_variable, quotient_at}
+use Rattle.refutation_trees.specs.declared.tree.Refutation.{Refutation, map-Refutation}
+use Rattle.refutation_trees.specs.declared.tree.Refutation.TheOpen.{Refutation-F}
+use Rattle.refutation_trees.specs.declared.tree.Refutation.TheViews.{Round, Split, Cases, Quotient, roll-Refutation}
+use Rattle.refutation_trees.specs.declared.tree.Refutation.TheVariants.{Leaf, rolls-Cases, rolls-Quotient, rolls-Round, rolls-Split}
+use Rattle.refutation_trees.specs.declared.tree.Refutation.TheFolds.{fold-roll-Refutation}
 use Rattle.lia_close.specs.Placed.{AreSoundAt, IsSoundAt, Place, in_part, with_known}
 
 -- what is found in each kind of node

@@ -18,10 +18,10 @@ use Rattle.lin_atoms.specs.declared.lit.Lit.TheVariants.{Le, Eq, Div, NDiv}
 use Rattle.lin_atoms.proofs.Public.{multiple_where, quotient-rest, quotient_is, rest-below, rest-natural, value_at-added, value_at-scaled}
 use Rattle.int_rows.specs.Ready.{rounded}
 use Rattle.int_rows.proofs.ReadyLemmas.{true-le}
-use Rattle.farkas_proof.specs.Combination.{combined, is_divided_by, is_division, is_multiplier, linear_at, may_be_multiplied, quotient}
-use Rattle.farkas_proof.specs.Refutation.{has_quotient, new_variable, quotient_at}
-use Rattle.farkas_proof.specs.declared.tree.Refutation.TheViews.{Quotient}
-use Rattle.farkas_proof.specs.declared.tree.Refutation.TheVariants.{Leaf}
+use Rattle.refutation_trees.specs.Combination.{combined, is_divided_by, is_division, is_multiplier, linear_at, may_be_multiplied, quotient}
+use Rattle.refutation_trees.specs.Refutation.{has_quotient, new_variable, quotient_at}
+use Rattle.refutation_trees.specs.declared.tree.Refutation.TheViews.{Quotient}
+use Rattle.refutation_trees.specs.declared.tree.Refutation.TheVariants.{Leaf}
 use Rattle.lia_close.specs.Placed.{IsSoundAt, Place, with_known}
 use Rattle.lia_close.specs.declared.leaf.Rounding.{Rounding}
 use Rattle.lia_close.specs.machinery.Closing.{derived, derived_by, may_round, under}

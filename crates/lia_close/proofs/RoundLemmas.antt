@@ -18,7 +18,7 @@ use Rattle.lin_atoms.proofs.Public.{both_true}
 use Rattle.int_rows.specs.Ready.{bounded, lin_content, rounded}
 use Rattle.int_rows.proofs.ContentLemmas.{Divides, coefficients-divided}
 use Rattle.int_rows.proofs.ReadyLemmas.{true-le}
-use Rattle.farkas_proof.specs.Combination.{combined, is_divided_by, is_multiplier, linear_at, may_be_multiplied}
+use Rattle.refutation_trees.specs.Combination.{combined, is_divided_by, is_multiplier, linear_at, may_be_multiplied}
 use Rattle.lia_close.specs.declared.leaf.Rounding.{Rounding}
 use Rattle.lia_close.specs.declared.side.Side.TheVariants.{Lower, Upper}
 use Rattle.lia_close.specs.machinery.Closing.{derived_by, may_round}

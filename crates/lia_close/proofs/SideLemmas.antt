@@ -12,8 +12,8 @@ use Rattle.lin_atoms.specs.declared.lit.Lit.TheVariants.{Le, Eq, Div, NDiv}
 use Rattle.lin_atoms.proofs.Public.{collected-same, exact_quotient, ordered, quotient_is, scaled-ordered, term_on-whole, value_at-negated}
 use Rattle.int_rows.specs.Ready.{bounded, less_multiple, lin_content, rounded, without_constant}
 use Rattle.int_rows.proofs.ContentLemmas.{Divides, coefficients-divided}
-use Rattle.farkas_proof.specs.Combination.{combined, linear_at, one_minus}
-use Rattle.farkas_proof.proofs.SoundLemmas.{value_at-one_minus}
+use Rattle.refutation_trees.specs.Combination.{combined, linear_at, one_minus}
+use Rattle.refutation_trees.proofs.ValueLemmas.{value_at-one_minus}
 use Rattle.lia_close.specs.Said.{said_by}
 use Rattle.lia_close.specs.declared.side.Side.{Side}
 use Rattle.lia_close.specs.declared.side.Side.TheVariants.{Lower, Upper}

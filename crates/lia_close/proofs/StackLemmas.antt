@@ -1,7 +1,7 @@
 -- What is taken off an end, item by item.
 use Rattle.std.proofs.Common.{◌≡◌, ℕ, zero, suc, ◌+◌, List, [], ◌∷◌, ◌++◌, take, drop, refl, ap, ◌∙◌, arith}
-use Rattle.farkas_proof.specs.declared.tree.Refutation.{Refutation}
-use Rattle.farkas_proof.specs.declared.tree.Refutation.TheViews.{Round}
+use Rattle.refutation_trees.specs.declared.tree.Refutation.{Refutation}
+use Rattle.refutation_trees.specs.declared.tree.Refutation.TheViews.{Round}
 use Rattle.lia_close.specs.declared.leaf.Rounding.{Rounding}
 use Rattle.lia_close.specs.machinery.Closing.{under}
 

@@ -9,7 +9,7 @@ use Rattle.lin_atoms.specs.Algebra.{scaled}
 use Rattle.lin_atoms.specs.Linear.{are_ordered, sum_at, value_at, variable_at}
 use Rattle.lin_atoms.specs.declared.lit.Lit.{Lit}
 use Rattle.lin_atoms.proofs.Public.{collected-ordered, ordered}
-use Rattle.farkas_proof.specs.Combination.{combined, is_above_zero, linear_at}
+use Rattle.refutation_trees.specs.Combination.{combined, is_above_zero, linear_at}
 
 -- 1 at the variable, and 0 at those before and behind it
 unit : ℕ → List ℤ

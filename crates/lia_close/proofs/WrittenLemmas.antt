@@ -7,9 +7,9 @@ use Rattle.lin_atoms.specs.Denial.{lit_fits}
 use Rattle.lin_atoms.specs.Linear.{Linear}
 use Rattle.lin_atoms.specs.declared.lit.Lit.TheVariants.{Le}
 use Rattle.lin_atoms.specs.declared.form.Form.{Form}
-use Rattle.farkas_proof.specs.Combination.{one_minus}
-use Rattle.farkas_proof.specs.Refutation.{has_quotient, new_variable, quotient_at}
-use Rattle.farkas_proof.specs.declared.tree.Refutation.{Refutation}
+use Rattle.refutation_trees.specs.Combination.{one_minus}
+use Rattle.refutation_trees.specs.Refutation.{has_quotient, new_variable, quotient_at}
+use Rattle.refutation_trees.specs.declared.tree.Refutation.{Refutation}
 use Rattle.lia_close.specs.Placed.{AreSoundAt, IsSoundAt, Place, in_part, with_known}
 use Rattle.lia_close.specs.Written.{assembled, with_step}
 use Rattle.lia_close.specs.declared.written.Step.{Step}

@@ -4,7 +4,7 @@ use Rattle.lin_atoms.specs.declared.lit.Lit.{Lit}
 use Rattle.lin_atoms.specs.declared.lit.Lit.TheVariants.{Le, Eq, Div, NDiv}
 use Rattle.int_rows.specs.Node.{quotients}
 use Rattle.int_rows.specs.Ready.{has_no_variable}
-use Rattle.farkas_proof.specs.Combination.{quotient}
+use Rattle.refutation_trees.specs.Combination.{quotient}
 
 -- what gives the bounds of a literal with a variable: the literal itself, or what is known of its quotient q
 abbrev pub said_by : ℕ → Lit → List Lit

@@ -1,7 +1,7 @@
 -- A tree as it is written while it is searched: its nodes in preorder, with the trees of what is closed.
 use Rattle.std.specs.Prelude.{List, [], ◌∷◌, take, drop}
-use Rattle.farkas_proof.specs.declared.tree.Refutation.{Refutation}
-use Rattle.farkas_proof.specs.declared.tree.Refutation.TheViews as tree
+use Rattle.refutation_trees.specs.declared.tree.Refutation.{Refutation}
+use Rattle.refutation_trees.specs.declared.tree.Refutation.TheViews as tree
 use Rattle.lia_close.specs.declared.written.Step.{Step}
 use Rattle.lia_close.specs.declared.written.Step.TheVariants.{Split, Cases, Named, Closed}
 

@@ -14,9 +14,9 @@ use crate::leaf::Leaf;
 use crate::side::Taken;
 use crate::taking::{all_ready, all_taken, are_short, variables};
 use base::Memory;
-use farkas_proof::Refutation;
 use lin_atoms::Lit;
 use node_rows::are_legal;
+use refutation_trees::Refutation;
 use std::alloc::Global;
 
 /// The leaf of what was taken, with the roundings above it.

@@ -1,10 +1,10 @@
 //! A literal without a variable that is false closes its node by itself.
 
 ghost use Rattle.std.specs.Prelude.{◌≡◌, ◌∷◌, [], ◌≤◌, ◌<◌, ◌^◌, ℕ, length, IfOk, Some, slice_get, false, true};
-ghost use Rattle.farkas_proof.specs.Refutation.{new_variable};
-ghost use Rattle.farkas_proof.specs.Split.{is_no_falsehood};
-ghost use Rattle.farkas_proof.specs.declared.tree.Refutation.TheViews.{Round, Quotient};
-ghost use Rattle.farkas_proof.specs.declared.tree.Refutation.TheVariants.{Leaf};
+ghost use Rattle.refutation_trees.specs.Refutation.{new_variable};
+ghost use Rattle.refutation_trees.specs.Split.{is_no_falsehood};
+ghost use Rattle.refutation_trees.specs.declared.tree.Refutation.TheViews.{Round, Quotient};
+ghost use Rattle.refutation_trees.specs.declared.tree.Refutation.TheVariants.{Leaf};
 ghost use Rattle.node_rows.specs.Known.{has_short_constant};
 ghost use Rattle.lia_close.specs.Placed.{IsSoundAt, Place};
 ghost use Rattle.lia_close.specs.machinery.Falsehood.{sign_of, summed_pair};
@@ -12,8 +12,8 @@ ghost use Rattle.lia_close.specs.machinery.Falsehood.{sign_of, summed_pair};
 use crate::legal::is_legal;
 use crate::numbers::{numbered, numbered_sum};
 use base::{Boxed, Items, Memory};
-use farkas_proof::Refutation;
 use lin_atoms::{Lin, Lit};
+use refutation_trees::Refutation;
 use std::alloc::Global;
 
 /// A leaf of one literal.

@@ -3,15 +3,15 @@
 ghost use Rattle.std.specs.Prelude.{◌≡◌, ◌<◌, pos, IfOk, OnOk, true, false};
 ghost use Rattle.lin_atoms.specs.Linear.{is_short};
 ghost use Rattle.int_rows.specs.Ready.{has_no_variable};
-ghost use Rattle.farkas_proof.specs.declared.tree.Refutation.TheVariants.{Leaf as IsLeaf};
+ghost use Rattle.refutation_trees.specs.declared.tree.Refutation.TheVariants.{Leaf as IsLeaf};
 ghost use Rattle.lia_close.specs.machinery.Closing.{divisor_of, multiplier_of, under, with_taken};
 
 use crate::content::content;
 use crate::numbers::{numbered, numbered_sum};
 use crate::side::Side;
 use base::{Boxed, Items, Memory};
-use farkas_proof::Refutation;
 use lin_atoms::Lit;
+use refutation_trees::Refutation;
 use std::alloc::Global;
 
 /// One literal, with a sign, is divided and rounded.

@@ -5,8 +5,8 @@ ghost use Rattle.lia_close.specs.declared.written.Step.TheVariants.{Named, Split
 ghost use Rattle.lia_close.specs.Written.{assembled, with_step};
 
 use base::{Boxed, Items, Memory};
-use farkas_proof::Refutation;
 use lin_atoms::Lin;
+use refutation_trees::Refutation;
 use std::alloc::Global;
 
 /// A node, as the search comes to it. What is below it is written behind it, in order.

@@ -13,14 +13,14 @@ use Rattle.lin_atoms.specs.declared.lit.Lit.TheVariants.{Le}
 use Rattle.lin_atoms.specs.declared.form.Form.{Form}
 use Rattle.lin_atoms.proofs.Public.{both_true}
 use Rattle.int_rows.specs.Ready.{rounded}
-use Rattle.farkas_proof.specs.Combination.{are_multipliers, combined, is_above_zero, is_divided_by, is_multiplier, linear_at, may_be_multiplied, one_minus}
-use Rattle.farkas_proof.specs.Flatten.{disjunctions, literals}
-use Rattle.farkas_proof.specs.Refutation.{Finding, Judge, Sound, Illegal, Wide, checked, followed_by, form_end, is_sound, judge_step, judged, judged_at}
-use Rattle.farkas_proof.specs.declared.tree.Refutation.{Refutation, map-Refutation}
-use Rattle.farkas_proof.specs.declared.tree.Refutation.TheOpen.{Refutation-F}
-use Rattle.farkas_proof.specs.declared.tree.Refutation.TheViews.{roll-Refutation}
-use Rattle.farkas_proof.specs.declared.tree.Refutation.TheVariants.{Leaf, rolls-Round, rolls-Split}
-use Rattle.farkas_proof.specs.declared.tree.Refutation.TheFolds.{fold-roll-Refutation, ind-Refutation}
+use Rattle.refutation_trees.specs.Combination.{are_multipliers, combined, is_above_zero, is_divided_by, is_multiplier, linear_at, may_be_multiplied, one_minus}
+use Rattle.refutation_trees.specs.Flatten.{disjunctions, literals}
+use Rattle.refutation_trees.specs.Refutation.{Finding, Judge, Sound, Illegal, Wide, checked, followed_by, form_end, is_sound, judge_step, judged, judged_at}
+use Rattle.refutation_trees.specs.declared.tree.Refutation.{Refutation, map-Refutation}
+use Rattle.refutation_trees.specs.declared.tree.Refutation.TheOpen.{Refutation-F}
+use Rattle.refutation_trees.specs.declared.tree.Refutation.TheViews.{roll-Refutation}
+use Rattle.refutation_trees.specs.declared.tree.Refutation.TheVariants.{Leaf, rolls-Round, rolls-Split}
+use Rattle.refutation_trees.specs.declared.tree.Refutation.TheFolds.{fold-roll-Refutation, ind-Refutation}
 use Rattle.lia_close.specs.Placed.{IsSoundAt, Place, with_known}
 use Rattle.lia_close.proofs.PlacedLemmas.{sound-leaf, sound-round, sound-split}
 use Rattle.lia_divisors.specs.machinery.Plain.{is_plain, plain_step}

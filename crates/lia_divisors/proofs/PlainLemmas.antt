@@ -7,11 +7,11 @@ use Rattle.std.proofs.lemmas.List.Folds.{list_all-append}
 use denote.Hole.Carrier.{roll}
 use Rattle.lin_atoms.specs.Linear.{Linear}
 use Rattle.lin_atoms.proofs.Public.{both_true}
-use Rattle.farkas_proof.specs.declared.tree.Refutation.{Refutation}
-use Rattle.farkas_proof.specs.declared.tree.Refutation.TheOpen.{Refutation-F}
-use Rattle.farkas_proof.specs.declared.tree.Refutation.TheViews.{Round, Split, roll-Refutation}
-use Rattle.farkas_proof.specs.declared.tree.Refutation.TheVariants.{Leaf, rolls-Round, rolls-Split}
-use Rattle.farkas_proof.specs.declared.tree.Refutation.TheFolds.{fold-roll-Refutation}
+use Rattle.refutation_trees.specs.declared.tree.Refutation.{Refutation}
+use Rattle.refutation_trees.specs.declared.tree.Refutation.TheOpen.{Refutation-F}
+use Rattle.refutation_trees.specs.declared.tree.Refutation.TheViews.{Round, Split, roll-Refutation}
+use Rattle.refutation_trees.specs.declared.tree.Refutation.TheVariants.{Leaf, rolls-Round, rolls-Split}
+use Rattle.refutation_trees.specs.declared.tree.Refutation.TheFolds.{fold-roll-Refutation}
 use Rattle.lia_parts.specs.declared.chain.Rounding.{Rounding}
 use Rattle.lia_divisors.specs.machinery.Chain.{chained}
 use Rattle.lia_divisors.specs.machinery.Plain.{is_plain, plain_step}

@@ -14,12 +14,12 @@ use Rattle.lin_atoms.specs.declared.form.Form.TheFolds.{fold-roll-Form}
 use Rattle.lin_atoms.proofs.Public.{both_true}
 use Rattle.int_rows.specs.Node.{quotients}
 use Rattle.int_rows.specs.Ready.{has_no_variable}
-use Rattle.farkas_proof.specs.Combination.{may_be_multiplied}
-use Rattle.farkas_proof.specs.Flatten.{literals, literals_step}
-use Rattle.farkas_proof.proofs.FlattenLemmas.{literals-And}
+use Rattle.refutation_trees.specs.Combination.{may_be_multiplied}
+use Rattle.refutation_trees.specs.Flatten.{literals, literals_step}
+use Rattle.refutation_trees.proofs.FlattenLemmas.{literals-And}
 use Rattle.lia_close.specs.Said.{AreAt, AreReasons, said_by}
-use Rattle.farkas_proof.specs.declared.tree.Refutation.{Refutation}
-use Rattle.farkas_proof.specs.declared.tree.Refutation.TheViews.{Round}
+use Rattle.refutation_trees.specs.declared.tree.Refutation.{Refutation}
+use Rattle.refutation_trees.specs.declared.tree.Refutation.TheViews.{Round}
 use Rattle.lia_parts.specs.declared.chain.Rounding.{Rounding}
 use Rattle.lia_parts.specs.declared.said.Said.{Said}
 use Rattle.lia_divisors.specs.machinery.Chain.{chained}

@@ -1,13 +1,13 @@
 //! The tree of a chain of roundings, before it is checked.
 
 ghost use Rattle.std.specs.Prelude.{◌≡◌, IfOk};
-ghost use Rattle.farkas_proof.specs.declared.tree.Refutation.TheVariants.{Leaf as IsLeaf};
-ghost use Rattle.farkas_proof.specs.declared.tree.Refutation.TheViews.{Round};
+ghost use Rattle.refutation_trees.specs.declared.tree.Refutation.TheVariants.{Leaf as IsLeaf};
+ghost use Rattle.refutation_trees.specs.declared.tree.Refutation.TheViews.{Round};
 ghost use Rattle.lia_divisors.specs.machinery.Chain.{chained};
 
 use base::{Boxed, Items, Memory};
-use farkas_proof::Refutation;
 use lia_parts::{Chain, Rounding};
+use refutation_trees::Refutation;
 use std::alloc::Global;
 
 /// The tree.

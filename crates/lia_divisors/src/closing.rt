@@ -12,9 +12,10 @@ use crate::filled::{conjunction, filled};
 use crate::said::all_said;
 use crate::written::tree_of;
 use base::Memory;
-use farkas_proof::{CheckStop, Refutation, check};
+use farkas_proof::{CheckStop, check};
 use lia_parts::{Move, Said, guessed};
 use lin_atoms::Lit;
+use refutation_trees::{Refutation, Refutation};
 use std::alloc::Global;
 
 /// The tree of the moves, where it is a proof by what the node knows: its own literals and what is

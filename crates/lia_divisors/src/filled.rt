@@ -2,7 +2,7 @@
 
 ghost use Rattle.std.specs.Prelude.{◌≡◌, List, length, slice_get, IfOk, OnOk, Some, true};
 ghost use Rattle.std.specs.List.{list_all};
-ghost use Rattle.farkas_proof.specs.Flatten.{literals};
+ghost use Rattle.refutation_trees.specs.Flatten.{literals};
 ghost use Rattle.lin_atoms.specs.declared.lit.Lit.{Lit};
 ghost use Rattle.lia_divisors.specs.machinery.There.{AreThere, StandsFor, is_blank};
 

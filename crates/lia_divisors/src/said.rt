@@ -5,7 +5,7 @@ ghost use Rattle.lin_atoms.specs.Algebra.{plus};
 ghost use Rattle.lin_atoms.specs.declared.lit.Lit.{Lit};
 ghost use Rattle.lin_atoms.specs.declared.lit.Lit.TheVariants.{Le, Div, NDiv};
 ghost use Rattle.int_rows.specs.Ready.{has_no_variable, less_multiple};
-ghost use Rattle.farkas_proof.specs.Combination.{one_minus};
+ghost use Rattle.refutation_trees.specs.Combination.{one_minus};
 ghost use Rattle.lia_close.specs.Said.{AreAt, AreReasons, said_by};
 ghost use Rattle.lia_divisors.specs.machinery.There.{AreThere};
 

@@ -2,14 +2,14 @@
 
 ghost use Rattle.std.specs.Prelude.{◌≡◌, IfOk, IfSome, OnOk, true};
 ghost use Rattle.std.specs.List.{list_all};
-ghost use Rattle.farkas_proof.specs.declared.tree.Refutation.TheViews.{Split};
+ghost use Rattle.refutation_trees.specs.declared.tree.Refutation.TheViews.{Split};
 ghost use Rattle.lia_divisors.specs.machinery.Plain.{is_plain};
 
 use crate::chain::chain_tree;
 use base::{Boxed, Memory};
-use farkas_proof::Refutation;
 use lia_parts::{Chain, Move};
 use lin_atoms::Lin;
+use refutation_trees::{Refutation, Refutation};
 use std::alloc::Global;
 
 /// The two sides of a split.

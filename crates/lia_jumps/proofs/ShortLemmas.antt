@@ -5,7 +5,7 @@ use Rattle.std.specs.List.{list_all}
 use Rattle.std.specs.Option.{option_map_or}
 use Rattle.lin_atoms.specs.declared.lit.Lit.{Lit}
 use Rattle.lin_atoms.proofs.Public.{both_true}
-use Rattle.farkas_proof.specs.Split.{is_no_falsehood}
+use Rattle.refutation_trees.specs.Split.{is_no_falsehood}
 use Rattle.node_rows.specs.Known.{has_short_constant}
 use Rattle.lia_node.specs.Tells.{Tells}
 use Rattle.lia_node.specs.declared.examined.Examined.{Examined}

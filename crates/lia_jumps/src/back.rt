@@ -12,10 +12,10 @@ use crate::ranges::Ranges;
 use crate::telling::{Told, tell};
 use crate::used::put_used;
 use base::Memory;
-use farkas_proof::Refutation;
 use lia_node::{above, at_most};
 use lia_search::any_holds;
 use lin_atoms::Lit;
+use refutation_trees::Refutation;
 use std::alloc::Global;
 
 /// So many splits are above one another at most.

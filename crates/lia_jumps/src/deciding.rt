@@ -12,9 +12,10 @@ use crate::numbering::{Flat, flat_of, size};
 use crate::past::Past;
 use crate::writing::written;
 use base::{Copied, Memory};
-use farkas_proof::{CheckStop, Refutation, check};
+use farkas_proof::{CheckStop, check};
 use lia_search::Decision;
 use lin_atoms::{Form, Lin, Lit, holds};
+use refutation_trees::Refutation;
 use std::alloc::Global;
 
 /// So many nodes are split at most for each inner node of a split tree that is allowed.

@@ -5,8 +5,8 @@ use crate::frames::{BRANCHES, Closed};
 use crate::nodes::{Node, known_of_quotient, number_of};
 use crate::numbering::{Case, size};
 use base::Memory;
-use farkas_proof::Refutation;
 use lin_atoms::Lit;
+use refutation_trees::Refutation;
 use std::alloc::Global;
 
 /// So many trees are kept, the last ones.

@@ -2,7 +2,7 @@
 
 ghost use Rattle.std.specs.Prelude.{◌≡◌, ◌<◌, ◌^◌, false, length, true};
 ghost use Rattle.std.specs.List.{list_all};
-ghost use Rattle.farkas_proof.specs.Split.{is_no_falsehood};
+ghost use Rattle.refutation_trees.specs.Split.{is_no_falsehood};
 ghost use Rattle.node_rows.specs.Known.{are_known, has_short_constant};
 
 use crate::names::{Ordered, in_order};
@@ -10,13 +10,13 @@ use crate::nodes::Node;
 use crate::numbering::PER_LITERAL;
 use crate::used::DERIVED;
 use base::Memory;
-use farkas_proof::Refutation;
 use lia_close::{close, close_falsehood};
 use lia_divisors::close_by_parts;
 use lia_node::{Examined, examine};
 use lia_points::point_near;
 use lin_atoms::Lit;
 use node_rows::{are_known, have_short_constants};
+use refutation_trees::Refutation;
 use std::alloc::Global;
 
 /// What a node tells.

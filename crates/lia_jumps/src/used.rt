@@ -1,7 +1,7 @@
 //! Which numbers a tree uses.
 
 use base::Memory;
-use farkas_proof::Refutation;
+use refutation_trees::Refutation;
 
 /// Literals that a tree derives below a node have numbers from here on.
 pub(crate) const DERIVED: u32 = 1 << 30;

@@ -7,8 +7,8 @@ use crate::nodes::known_of_quotient;
 use crate::numbering::{Case, Numbered, PER_LITERAL, flat_of, replaced, size};
 use crate::used::{DERIVED, put_used};
 use base::{Boxed, Items, Memory};
-use farkas_proof::Refutation;
 use lin_atoms::{Form, Lin, Lit};
+use refutation_trees::Refutation;
 use std::alloc::Global;
 
 /// What is known of own numbers where a node stands.

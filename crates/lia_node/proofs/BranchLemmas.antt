@@ -10,7 +10,7 @@ use Rattle.lin_atoms.specs.declared.lit.Lit.TheVariants.{Le}
 use Rattle.lin_atoms.proofs.Public.{both_true}
 use Rattle.int_rows.specs.Node.{end_of_quotients, quotients, system}
 use Rattle.int_rows.proofs.ReadyLemmas.{true-le}
-use Rattle.farkas_proof.specs.Split.{HasSolution, HasVertexBetween, IsInner, Node, at_least, at_most, by_branch, with_bound}
+use Rattle.refutation_trees.specs.Split.{HasSolution, HasVertexBetween, IsInner, Node, at_least, at_most, by_branch, with_bound}
 use Rattle.node_rows.specs.Known.{are_known}
 
 pub fraction-splits : (q : ℕ) (node : Node) (x : ℕ) (c : ℤ) → HasSolution q node.lits → HasVertexBetween (system q node.lits) x c → IsInner q node (with_bound node (at_most x c) ∷ with_bound node (at_least x (c +ℤ pos 1)) ∷ [])

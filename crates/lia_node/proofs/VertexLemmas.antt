@@ -19,7 +19,7 @@ use Rattle.int_rows.specs.Node.{end_of_quotients, system}
 use Rattle.int_rows.specs.Rows.{entry}
 use Rattle.int_rows.specs.Table.{Table}
 use Rattle.simplex_core.specs.Meaning.{IsVertex, system_of}
-use Rattle.farkas_proof.specs.Split.{HasSolution, HasVertexBetween, is_no_falsehood}
+use Rattle.refutation_trees.specs.Split.{HasSolution, HasVertexBetween, is_no_falsehood}
 use Rattle.node_rows.specs.Known.{are_known, is_legal}
 use Rattle.node_rows.specs.Whole.{AreWhole, is_met}
 use Rattle.int_rows.proofs.ReadyLemmas.{value-none}

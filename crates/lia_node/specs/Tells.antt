@@ -8,11 +8,11 @@ use Rattle.lin_atoms.specs.declared.form.Form.{Form}
 use Rattle.lin_atoms.specs.declared.lit.Lit.{Lit}
 use Rattle.int_rows.specs.Node.{end_of_quotients, system}
 use Rattle.simplex_core.specs.Meaning.{IsConflict}
-use Rattle.farkas_proof.specs.GivenUp.{AreOfNode, IsEvidence}
-use Rattle.farkas_proof.specs.Refutation.{form_end}
-use Rattle.farkas_proof.specs.Split.{HasSolution, HasVertexBetween, is_no_falsehood}
-use Rattle.farkas_proof.specs.declared.evidence.Evidence.{Evidence}
-use Rattle.farkas_proof.specs.declared.evidence.Evidence.TheVariants.{Row, Coordinate, Rows, Nodes}
+use Rattle.refutation_trees.specs.GivenUp.{AreOfNode, IsEvidence}
+use Rattle.refutation_trees.specs.Refutation.{form_end}
+use Rattle.refutation_trees.specs.Split.{HasSolution, HasVertexBetween, is_no_falsehood}
+use Rattle.refutation_trees.specs.declared.evidence.Evidence.{Evidence}
+use Rattle.refutation_trees.specs.declared.evidence.Evidence.TheVariants.{Row, Coordinate, Rows, Nodes}
 use Rattle.node_rows.specs.Nodes.{node_table}
 use Rattle.lia_node.specs.declared.examined.Examined.{Examined}
 use Rattle.lia_node.specs.declared.examined.Examined.TheVariants.{False, Conflict, Model, Fraction, Wide}

@@ -3,7 +3,7 @@
 ghost use Rattle.std.specs.Prelude.{◌≡◌, ◌+ℤ◌, ◌∷◌, [], neg_ℤ, pos, nat_abs, ◌≤◌, IfOk};
 ghost use Rattle.base.specs.Widths.{short_limit};
 ghost use Rattle.lin_atoms.specs.declared.lit.Lit.TheVariants.{Le};
-ghost use Rattle.farkas_proof.specs.Split.{at_least, at_most};
+ghost use Rattle.refutation_trees.specs.Split.{at_least, at_most};
 
 use base::Memory;
 use lin_atoms::{Lin, Lit};

@@ -5,7 +5,7 @@ ghost use Rattle.std.specs.List.{list_all};
 ghost use Rattle.std.specs.Option.{option_map_or};
 ghost use Rattle.lin_atoms.specs.Denial.{linear_of};
 ghost use Rattle.int_rows.specs.Ready.{has_no_variable};
-ghost use Rattle.farkas_proof.specs.Split.{is_no_falsehood};
+ghost use Rattle.refutation_trees.specs.Split.{is_no_falsehood};
 
 use lin_atoms::{Lin, Lit};
 

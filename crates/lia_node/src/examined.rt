@@ -1,4 +1,4 @@
-use farkas_proof::Evidence;
+use refutation_trees::Evidence;
 
 /// What a node tells.
 #[derive(Debug, Drop)]

@@ -4,7 +4,7 @@ ghost use Rattle.std.specs.Prelude.{◌≡◌, ◌+◌, ◌<◌, ◌≤◌, ◌^
 ghost use Rattle.std.specs.List.{list_all};
 ghost use Rattle.base.specs.Limits.{most_rows};
 ghost use Rattle.int_rows.specs.Node.{end_of_quotients};
-ghost use Rattle.farkas_proof.specs.Split.{is_no_falsehood};
+ghost use Rattle.refutation_trees.specs.Split.{is_no_falsehood};
 ghost use Rattle.node_rows.specs.Known.{are_known, has_short_constant};
 ghost use Rattle.node_rows.specs.Nodes.{node_table};
 ghost use Rattle.lia_node.specs.Tells.{Tells, has_tableau};

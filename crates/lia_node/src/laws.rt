@@ -9,7 +9,7 @@ ghost use Rattle.int_rows.specs.Node.{end_of_quotients, system};
 ghost use Rattle.int_rows.specs.Rows.{SolvesAll};
 ghost use Rattle.int_rows.specs.Table.{Table, width};
 ghost use Rattle.simplex_core.specs.Meaning.{IsConflict, system_of};
-ghost use Rattle.farkas_proof.specs.Split.{HasSolution, HasVertexBetween, IsInner, Node, at_least, at_most, with_bound};
+ghost use Rattle.refutation_trees.specs.Split.{HasSolution, HasVertexBetween, IsInner, Node, at_least, at_most, with_bound};
 ghost use Rattle.node_rows.specs.Known.{are_known, is_legal};
 ghost use Rattle.node_rows.specs.Nodes.{node_table};
 

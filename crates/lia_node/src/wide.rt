@@ -9,8 +9,8 @@ ghost use Rattle.simplex_core.specs.declared.answer.Feasible.TheVariants.{Wide a
 ghost use Rattle.lia_node.specs.Tells.{IsEvidenceAt, is_of_node};
 
 use base::{Copied, Items, Memory};
-use farkas_proof::Evidence;
 use lin_atoms::Lit;
+use refutation_trees::Evidence;
 use simplex_core::WideEvidence;
 use std::alloc::Global;
 

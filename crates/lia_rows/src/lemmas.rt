@@ -1,10 +1,11 @@
 //! Formulas with lemmas that were worked out by hand.
 
 use crate::made::{le, pair};
-use farkas_proof::{Refutation, Refuted, check};
+use farkas_proof::{Refuted, check};
 use lia_cases::{Decision, are_below, decide, have_short_multiples};
 use lia_search::has_short_multiples;
 use lin_atoms::{Form, holds};
+use refutation_trees::Refutation;
 use std::alloc::Global;
 use std::mem;
 use std::process::Abort;

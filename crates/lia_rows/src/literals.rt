@@ -1,8 +1,8 @@
 //! Conjunctions that were worked out by hand.
 
 use crate::conjunctions::{Row, decided, is_refuted, point};
-use farkas_proof::Evidence;
 use lia_branch::Decision;
+use refutation_trees::Evidence;
 use std::mem;
 
 /// 3 divides x + y, 3 divides x - y - 1, and both are from 0 to 5: x is 2 and y is 1, or both are 3 more

@@ -1,9 +1,9 @@
 //! Conjunctions of as many rows as a tableau may have, and of one more.
 
 use crate::made::lin;
-use farkas_proof::Evidence;
 use lia_branch::{Decision, are_below, decide_all, have_short_constants};
 use lin_atoms::Lit;
+use refutation_trees::Evidence;
 use std::alloc::Global;
 use std::mem;
 use std::process::Abort;

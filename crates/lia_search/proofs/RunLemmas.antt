@@ -6,8 +6,8 @@ use Rattle.base.specs.declared.memory.Memory.{Memory}
 use Rattle.lin_atoms.specs.declared.form.Form.{Form}
 use Rattle.lin_atoms.specs.declared.lit.Lit.{Lit}
 use Rattle.int_rows.specs.Node.{end_of_quotients}
-use Rattle.farkas_proof.specs.GivenUp.{IsEvidence}
-use Rattle.farkas_proof.specs.declared.evidence.Evidence.TheVariants.{Nodes}
+use Rattle.refutation_trees.specs.GivenUp.{IsEvidence}
+use Rattle.refutation_trees.specs.declared.evidence.Evidence.TheVariants.{Nodes}
 use Rattle.lia_node.specs.Tells.{Tells, has_tableau}
 use Rattle.lia_node.specs.declared.examined.Examined.{Examined}
 use Rattle.lia_stack.specs.declared.waiting.Open.{Open}

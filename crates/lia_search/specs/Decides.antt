@@ -5,7 +5,7 @@ use Rattle.lin_atoms.specs.Linear.{is_short}
 use Rattle.lin_atoms.specs.Truth.{truth}
 use Rattle.lin_atoms.specs.declared.form.Form.{Form}
 use Rattle.farkas_proof.specs.Kept.{form_of}
-use Rattle.farkas_proof.specs.KeptEvidence.{given_evidence, given_form}
+use Rattle.refutation_trees.specs.KeptEvidence.{given_evidence, given_form}
 use Rattle.lia_search.specs.declared.decision.Decision.{Decision}
 use Rattle.lia_search.specs.declared.decision.Decision.TheVariants.{Model, Refuted, GaveUp}
 pub use Rattle.lia_stack.specs.Counted.{CountsTo}

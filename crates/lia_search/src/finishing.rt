@@ -3,16 +3,17 @@
 ghost use Rattle.std.specs.Prelude.{◌≡◌, IfOk, true};
 ghost use Rattle.lin_atoms.specs.Truth.{is_below};
 ghost use Rattle.farkas_proof.specs.Kept.{form_of};
-ghost use Rattle.farkas_proof.specs.Refutation.{is_sound, judged};
+ghost use Rattle.refutation_trees.specs.Refutation.{is_sound, judged};
 ghost use Rattle.lin_atoms.specs.Denial.{lit_fits};
 ghost use Rattle.lia_search.specs.Decides.{Decides};
 ghost use Rattle.lia_stack.specs.machinery.Searched.{Ends};
 
 use crate::decision::Decision;
 use base::Memory;
-use farkas_proof::{CheckStop, GaveUp, Refutation, Refuted, check_owned};
+use farkas_proof::{CheckStop, Refuted, check_owned};
 use lia_stack::{End, cut};
 use lin_atoms::Form;
+use refutation_trees::{GaveUp, GaveUp, Refutation, Refutation};
 use std::alloc::Global;
 
 /// The form with its refutation, which is checked once more where it is kept.

@@ -3,16 +3,16 @@
 ghost use Rattle.std.specs.Prelude.{◌≡◌, ◌+◌, ◌<◌, ◌≤◌, IfOk};
 ghost use Rattle.base.specs.Limits.{most_rows};
 ghost use Rattle.int_rows.specs.Node.{end_of_quotients, system};
-ghost use Rattle.farkas_proof.specs.Split.{HasSolution, HasVertexBetween};
+ghost use Rattle.refutation_trees.specs.Split.{HasSolution, HasVertexBetween};
 ghost use Rattle.lia_stack.specs.machinery.Searched.{Ends, IsSearch, StopsAt, Turns, Waits};
 
 use base::Memory;
-use farkas_proof::Evidence;
 use lia_close::Step;
 use lia_divisors::close_by_parts;
 use lia_node::{Examined, examine};
 use lia_points::point_near;
 use lia_stack::{End, Open, Search, Turn};
+use refutation_trees::Evidence;
 use std::alloc::Global;
 
 /// A bound on how many parts a node is split into.

@@ -13,8 +13,8 @@ use Rattle.lin_atoms.specs.declared.form.Form.TheVariants.{rolls-And, rolls-Or}
 use Rattle.lin_atoms.specs.declared.form.Form.TheFolds.{fold-roll-Form, ind-Form}
 use Rattle.lin_atoms.specs.declared.lit.Lit.{Lit}
 use Rattle.lin_atoms.proofs.Public.{both_true, truth-And, truth-Or}
-use Rattle.farkas_proof.specs.Flatten.{disjunctions, literals, literals_step}
-use Rattle.farkas_proof.proofs.FlattenLemmas.{disjunctions-And, disjunctions-Or, literals-And}
+use Rattle.refutation_trees.specs.Flatten.{disjunctions, literals, literals_step}
+use Rattle.refutation_trees.proofs.FlattenLemmas.{disjunctions-And, disjunctions-Or, literals-And}
 
 abbrev Covers : List ℤ → Form → Type 0
 Covers point form = list_all (lit_truth point) (literals form) ≡ true → list_all (list_any (truth point)) (disjunctions form) ≡ true → truth point form ≡ true

@@ -12,8 +12,8 @@ use Rattle.lin_atoms.specs.declared.form.Form.TheOpen.{Form-F}
 use Rattle.lin_atoms.specs.declared.form.Form.TheViews.{roll-Form}
 use Rattle.lin_atoms.specs.declared.form.Form.TheFolds.{fold-roll-Form, ind-Form}
 use Rattle.lin_atoms.proofs.Public.{both_true}
-use Rattle.farkas_proof.specs.Combination.{lits_end, terms_end}
-use Rattle.farkas_proof.specs.Refutation.{end_step, form_end, greatest_of}
+use Rattle.refutation_trees.specs.Combination.{lits_end, terms_end}
+use Rattle.refutation_trees.specs.Refutation.{end_step, form_end, greatest_of}
 
 -- the variables of literals below a number end there
 terms-end : (n : ℕ) (ts : List (ℕ × ℤ)) → list_all (λ (t : ℕ × ℤ). nat_lt t.0 n) ts ≡ true → terms_end ts ≤ n

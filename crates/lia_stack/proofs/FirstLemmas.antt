@@ -10,10 +10,10 @@ use Rattle.lin_atoms.specs.declared.form.Form.{Form}
 use Rattle.lin_atoms.specs.declared.lit.Lit.{Lit}
 use Rattle.lin_atoms.proofs.Public.{both_true}
 use Rattle.int_rows.specs.Node.{quotients}
-use Rattle.farkas_proof.specs.Flatten.{disjunctions, literals}
-use Rattle.farkas_proof.specs.Refutation.{form_end}
-use Rattle.farkas_proof.specs.Split.{HaveTrees, IsNode, Node, first, start, taken_in, takes_in}
-use Rattle.farkas_proof.proofs.FormLemmas.{form_below}
+use Rattle.refutation_trees.specs.Flatten.{disjunctions, literals}
+use Rattle.refutation_trees.specs.Refutation.{form_end}
+use Rattle.refutation_trees.specs.Split.{HaveTrees, IsNode, Node, first, start, taken_in, takes_in}
+use Rattle.refutation_trees.proofs.FormLemmas.{form_below}
 use Rattle.node_rows.specs.Known.{are_known, has_short_constant}
 use Rattle.lia_close.specs.Placed.{root}
 use Rattle.lia_close.specs.Said.{ArePlaced}

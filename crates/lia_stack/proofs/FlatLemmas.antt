@@ -15,8 +15,8 @@ use Rattle.lin_atoms.specs.declared.form.Form.TheViews.{And, Or, roll-Form}
 use Rattle.lin_atoms.specs.declared.form.Form.TheVariants.{rolls-And, rolls-Or}
 use Rattle.lin_atoms.specs.declared.form.Form.TheFolds.{fold-roll-Form, ind-Form}
 use Rattle.lin_atoms.proofs.Public.{both_true, is_below-And, is_below-Or}
-use Rattle.farkas_proof.specs.Flatten.{disjunctions, literals, literals_step}
-use Rattle.farkas_proof.proofs.FlattenLemmas.{disjunctions-And, disjunctions-Or, literals-And}
+use Rattle.refutation_trees.specs.Flatten.{disjunctions, literals, literals_step}
+use Rattle.refutation_trees.proofs.FlattenLemmas.{disjunctions-And, disjunctions-Or, literals-And}
 use Rattle.node_rows.specs.Known.{has_short_constant}
 use Rattle.lia_stack.specs.Short.{has_short_multiples, short_step}
 

@@ -14,9 +14,9 @@ use Rattle.lin_atoms.specs.declared.lit.Lit.{Lit}
 use Rattle.lin_atoms.specs.declared.lit.Lit.TheVariants.{Le, Eq, Div, NDiv}
 use Rattle.lin_atoms.proofs.Public.{both_true}
 use Rattle.int_rows.specs.Node.{end_of_quotients, quotients}
-use Rattle.farkas_proof.specs.Combination.{lits_end, terms_end}
-use Rattle.farkas_proof.specs.Refutation.{form_end, new_variable}
-use Rattle.farkas_proof.specs.Split.{IsNode, taken_in}
+use Rattle.refutation_trees.specs.Combination.{lits_end, terms_end}
+use Rattle.refutation_trees.specs.Refutation.{form_end, new_variable}
+use Rattle.refutation_trees.specs.Split.{IsNode, taken_in}
 use Rattle.node_rows.specs.Known.{are_known, has_short_constant}
 use Rattle.node_rows.proofs.BelowLemmas.{ends-more, terms-weaker}
 use Rattle.lia_close.specs.Placed.{Place, with_known}

@@ -18,9 +18,9 @@ use Rattle.lin_atoms.proofs.LinearLemmas.{are_short-negated}
 use Rattle.lin_atoms.proofs.Public.{both_true}
 use Rattle.int_rows.specs.Node.{end_of_quotients, quotients}
 use Rattle.int_rows.specs.Ready.{has_no_variable}
-use Rattle.farkas_proof.specs.Combination.{is_division, lits_end, quotient, terms_end}
-use Rattle.farkas_proof.specs.Refutation.{form_end, has_quotient, new_variable, quotient_at}
-use Rattle.farkas_proof.specs.declared.tree.Refutation.{Refutation}
+use Rattle.refutation_trees.specs.Combination.{is_division, lits_end, quotient, terms_end}
+use Rattle.refutation_trees.specs.Refutation.{form_end, has_quotient, new_variable, quotient_at}
+use Rattle.refutation_trees.specs.declared.tree.Refutation.{Refutation}
 use Rattle.node_rows.specs.Known.{has_short_constant, is_legal}
 use Rattle.node_rows.proofs.BelowLemmas.{ends-more}
 use Rattle.node_rows.proofs.FitLemmas.{linear-parts}

@@ -5,8 +5,8 @@ use Rattle.std.proofs.lemmas.List.{map-append}
 use Rattle.lin_atoms.specs.declared.lit.Lit.{Lit}
 use Rattle.lin_atoms.specs.declared.form.Form.{Form}
 use Rattle.int_rows.specs.Node.{system}
-use Rattle.farkas_proof.specs.Flatten.{literals}
-use Rattle.farkas_proof.specs.Split.{HasSolution, HasVertexBetween, HaveTrees, IsInner, Node, at_least, at_most, by_branch, by_cases, inner, joined, leaf, takes_in, with_bound, with_part}
+use Rattle.refutation_trees.specs.Flatten.{literals}
+use Rattle.refutation_trees.specs.Split.{HasSolution, HasVertexBetween, HaveTrees, IsInner, Node, at_least, at_most, by_branch, by_cases, inner, joined, leaf, takes_in, with_bound, with_part}
 use Rattle.lia_close.specs.Said.{named_by}
 use Rattle.lia_close.proofs.Public.{reverse-push}
 use Rattle.lia_stack.specs.declared.waiting.LeftOut.{LeftOut}

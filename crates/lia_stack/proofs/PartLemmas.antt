@@ -11,10 +11,10 @@ use Rattle.lin_atoms.specs.declared.form.Form.{Form}
 use Rattle.lin_atoms.specs.declared.lit.Lit.{Lit}
 use Rattle.lin_atoms.proofs.Public.{both_true}
 use Rattle.int_rows.specs.Node.{end_of_quotients, quotients}
-use Rattle.farkas_proof.specs.Combination.{lits_end}
-use Rattle.farkas_proof.specs.Flatten.{disjunctions, literals}
-use Rattle.farkas_proof.specs.Refutation.{form_end, new_variable}
-use Rattle.farkas_proof.specs.Split.{HasSolution, IsInner, IsNode, by_cases, under, with_part}
+use Rattle.refutation_trees.specs.Combination.{lits_end}
+use Rattle.refutation_trees.specs.Flatten.{disjunctions, literals}
+use Rattle.refutation_trees.specs.Refutation.{form_end, new_variable}
+use Rattle.refutation_trees.specs.Split.{HasSolution, IsInner, IsNode, by_cases, under, with_part}
 use Rattle.node_rows.specs.Known.{are_known, has_short_constant}
 use Rattle.lia_close.specs.Placed.{Place, in_part}
 use Rattle.lia_close.specs.Said.{ArePlaced, AreReasons}

@@ -10,11 +10,11 @@ use Rattle.lin_atoms.specs.declared.form.Form.{Form}
 use Rattle.lin_atoms.specs.declared.lit.Lit.{Lit}
 use Rattle.lin_atoms.proofs.Public.{both_true, form-agree}
 use Rattle.int_rows.specs.Node.{system}
-use Rattle.farkas_proof.specs.GivenUp.{IsEvidence}
-use Rattle.farkas_proof.specs.Refutation.{form_end}
-use Rattle.farkas_proof.specs.Split.{HasSolution, HasVertexBetween, IsInner, IsNode, Node, at_least, at_most, by_branch, under, with_bound}
-use Rattle.farkas_proof.specs.declared.evidence.Evidence.{Evidence}
-use Rattle.farkas_proof.proofs.FormLemmas.{form_below}
+use Rattle.refutation_trees.specs.GivenUp.{IsEvidence}
+use Rattle.refutation_trees.specs.Refutation.{form_end}
+use Rattle.refutation_trees.specs.Split.{HasSolution, HasVertexBetween, IsInner, IsNode, Node, at_least, at_most, by_branch, under, with_bound}
+use Rattle.refutation_trees.specs.declared.evidence.Evidence.{Evidence}
+use Rattle.refutation_trees.proofs.FormLemmas.{form_below}
 use Rattle.lia_close.specs.Placed.{Place, in_part, with_known}
 use Rattle.lia_node.specs.Tells.{IsEvidenceAt}
 use Rattle.lia_stack.specs.declared.waiting.Open.{Open}

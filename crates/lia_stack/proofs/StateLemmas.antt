@@ -15,13 +15,13 @@ use Rattle.lin_atoms.specs.declared.form.Form.{Form}
 use Rattle.lin_atoms.specs.declared.lit.Lit.{Lit}
 use Rattle.lin_atoms.proofs.Public.{both_true}
 use Rattle.int_rows.specs.Node.{end_of_quotients, system}
-use Rattle.farkas_proof.specs.GivenUp.{IsEvidence}
-use Rattle.farkas_proof.specs.Flatten.{disjunctions, literals}
-use Rattle.farkas_proof.specs.Refutation.{form_end, is_sound, judged, new_variable}
-use Rattle.farkas_proof.specs.Split.{HasSolution, HasVertexBetween, HaveTrees, at_least, at_most, is_no_falsehood, leaf, start}
-use Rattle.farkas_proof.specs.declared.evidence.Evidence.{Evidence}
-use Rattle.farkas_proof.specs.declared.evidence.Evidence.TheVariants.{Row, Coordinate, Rows, Nodes}
-use Rattle.farkas_proof.specs.declared.tree.Refutation.{Refutation}
+use Rattle.refutation_trees.specs.GivenUp.{IsEvidence}
+use Rattle.refutation_trees.specs.Flatten.{disjunctions, literals}
+use Rattle.refutation_trees.specs.Refutation.{form_end, is_sound, judged, new_variable}
+use Rattle.refutation_trees.specs.Split.{HasSolution, HasVertexBetween, HaveTrees, at_least, at_most, is_no_falsehood, leaf, start}
+use Rattle.refutation_trees.specs.declared.evidence.Evidence.{Evidence}
+use Rattle.refutation_trees.specs.declared.evidence.Evidence.TheVariants.{Row, Coordinate, Rows, Nodes}
+use Rattle.refutation_trees.specs.declared.tree.Refutation.{Refutation}
 use Rattle.node_rows.specs.Known.{are_known, has_short_constant}
 use Rattle.node_rows.proofs.BelowLemmas.{ends-more}
 use Rattle.lia_close.specs.Placed.{AreSoundAt, IsSoundAt, Place, root}

@@ -11,13 +11,13 @@ use Rattle.lin_atoms.specs.declared.form.Form.{Form}
 use Rattle.lin_atoms.specs.declared.lit.Lit.{Lit}
 use Rattle.lin_atoms.specs.declared.lit.Lit.TheVariants.{Le}
 use Rattle.int_rows.specs.Node.{end_of_quotients, system}
-use Rattle.farkas_proof.specs.Combination.{one_minus}
-use Rattle.farkas_proof.specs.GivenUp.{IsEvidence}
-use Rattle.farkas_proof.specs.Refutation.{form_end}
-use Rattle.farkas_proof.specs.Split.{HasSolution, HasVertexBetween, HaveTrees, Node, at_least, at_most, leaf, start}
-use Rattle.farkas_proof.specs.declared.evidence.Evidence.{Evidence}
-use Rattle.farkas_proof.specs.declared.tree.Refutation.{Refutation}
-use Rattle.farkas_proof.proofs.ForestLemmas.{all-leaves}
+use Rattle.refutation_trees.specs.Combination.{one_minus}
+use Rattle.refutation_trees.specs.GivenUp.{IsEvidence}
+use Rattle.refutation_trees.specs.Refutation.{form_end}
+use Rattle.refutation_trees.specs.Split.{HasSolution, HasVertexBetween, HaveTrees, Node, at_least, at_most, leaf, start}
+use Rattle.refutation_trees.specs.declared.evidence.Evidence.{Evidence}
+use Rattle.refutation_trees.specs.declared.tree.Refutation.{Refutation}
+use Rattle.refutation_trees.proofs.ForestLemmas.{all-leaves}
 use Rattle.node_rows.specs.Known.{is_legal}
 use Rattle.lia_close.specs.Placed.{AreSoundAt, IsSoundAt, Place, in_part, root, with_known}
 use Rattle.lia_close.specs.Said.{named_by}

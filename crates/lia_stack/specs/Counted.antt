@@ -1,7 +1,7 @@
 -- The count of inner nodes in evidence of giving up.
 use Rattle.std.specs.Prelude.{◌≡◌, ℕ}
-use Rattle.farkas_proof.specs.declared.evidence.Evidence.{Evidence}
-use Rattle.farkas_proof.specs.declared.evidence.Evidence.TheVariants.{Row, Coordinate, Rows, Nodes}
+use Rattle.refutation_trees.specs.declared.evidence.Evidence.{Evidence}
+use Rattle.refutation_trees.specs.declared.evidence.Evidence.TheVariants.{Row, Coordinate, Rows, Nodes}
 
 -- a count of inner nodes is the one that was allowed
 abbrev pub CountsTo : ℕ → Evidence → Type 0

@@ -3,7 +3,7 @@
 ghost use Rattle.std.specs.Prelude.{◌≡◌, ◌++◌, ◌∷◌, [], ◌<◌, ◌^◌, drop, IfOk, OnOk, pos, true};
 ghost use Rattle.lin_atoms.specs.Linear.{of_constant};
 ghost use Rattle.lin_atoms.specs.declared.lit.Lit.TheVariants.{Le};
-ghost use Rattle.farkas_proof.specs.Refutation.{form_end};
+ghost use Rattle.refutation_trees.specs.Refutation.{form_end};
 ghost use Rattle.lia_stack.specs.Short.{has_short_multiples};
 ghost use Rattle.lia_stack.specs.machinery.Opened.{first_open, left_from};
 ghost use Rattle.lia_stack.specs.machinery.Searched.{IsSearch};

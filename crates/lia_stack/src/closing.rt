@@ -1,16 +1,16 @@
 //! The tree that closes a node by one of its literals.
 
 ghost use Rattle.std.specs.Prelude.{◌≡◌, ◌<◌, ◌^◌, ℕ, IfOk, Some, false, length, slice_get, slice_index_or, true};
-ghost use Rattle.farkas_proof.specs.Refutation.{new_variable};
-ghost use Rattle.farkas_proof.specs.Split.{is_no_falsehood};
+ghost use Rattle.refutation_trees.specs.Refutation.{new_variable};
+ghost use Rattle.refutation_trees.specs.Split.{is_no_falsehood};
 ghost use Rattle.node_rows.specs.Known.{has_short_constant};
 ghost use Rattle.lia_close.specs.Placed.{IsSoundAt, Place};
 ghost use Rattle.lia_stack.specs.machinery.Opened.{no_lit};
 
 use crate::waiting::Open;
 use base::Memory;
-use farkas_proof::Refutation;
 use lia_close::close_falsehood;
+use refutation_trees::Refutation;
 use std::alloc::Global;
 
 /// A tree for the literal of the node at that place, which is false by itself.

@@ -1,7 +1,7 @@
 //! The values at a point that a form asks for.
 
 ghost use Rattle.std.specs.Prelude.{◌≡◌, ◌≤◌, length, IfOk};
-ghost use Rattle.farkas_proof.specs.Refutation.{form_end};
+ghost use Rattle.refutation_trees.specs.Refutation.{form_end};
 ghost use Rattle.lia_stack.specs.machinery.Searched.{cut, value_of};
 
 use crate::ends::form_end;

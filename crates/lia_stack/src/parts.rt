@@ -2,8 +2,8 @@
 
 ghost use Rattle.std.specs.Prelude.{◌≡◌, ◌+◌, ◌+ℤ◌, ◌++◌, ◌∷◌, [], ◌<◌, drop, length, map, neg_ℤ, pos, reverse, slice_index_or, take, IfOk, OnOk};
 ghost use Rattle.std.specs.List.{flat_map};
-ghost use Rattle.farkas_proof.specs.Flatten.{disjunctions, literals};
-ghost use Rattle.farkas_proof.specs.Split.{at_least, at_most};
+ghost use Rattle.refutation_trees.specs.Flatten.{disjunctions, literals};
+ghost use Rattle.refutation_trees.specs.Split.{at_least, at_most};
 ghost use Rattle.lia_stack.specs.machinery.Opened.{opened_part, with_lit, with_lits};
 
 use crate::flat::{falsehood, push_disjunctions};

@@ -8,7 +8,7 @@ ghost use Rattle.base.specs.Limits.{most_rows};
 ghost use Rattle.lin_atoms.specs.Linear.{is_short};
 ghost use Rattle.lin_atoms.specs.Truth.{lit_truth};
 ghost use Rattle.int_rows.specs.Node.{end_of_quotients, system};
-ghost use Rattle.farkas_proof.specs.Split.{HasSolution, HasVertexBetween, is_no_falsehood};
+ghost use Rattle.refutation_trees.specs.Split.{HasSolution, HasVertexBetween, is_no_falsehood};
 ghost use Rattle.node_rows.specs.Nodes.{node_table};
 ghost use Rattle.simplex_core.specs.Meaning.{IsConflict};
 ghost use Rattle.lia_node.specs.Tells.{IsEvidenceAt, is_of_node};
@@ -21,10 +21,10 @@ use crate::names::name_all;
 use crate::parts::{push_parts, push_sides, side};
 use crate::waiting::Open;
 use base::Memory;
-use farkas_proof::{Evidence, Refutation};
 use lia_close::{Step, close, numbered, tree_of};
 use lin_atoms::Form;
 use node_rows::are_legal;
+use refutation_trees::{Evidence, Refutation};
 use std::alloc::Global;
 
 /// A search of a form, and how far it has come.

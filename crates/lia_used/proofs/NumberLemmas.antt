@@ -13,7 +13,7 @@ use Rattle.lin_atoms.specs.declared.form.Form.TheVariants.{True}
 use Rattle.lin_atoms.proofs.Public.{both_true, truth-And}
 use Rattle.int_rows.specs.Basis.{are_rising}
 use Rattle.farkas_proof.specs.Kept.{form_of}
-use Rattle.farkas_proof.specs.Refutation.{HasNoPoint}
+use Rattle.refutation_trees.specs.Refutation.{HasNoPoint}
 use Rattle.farkas_proof.specs.declared.refuted.Refuted.{Refuted}
 use Rattle.lia_used.specs.Used.{AreNumbers, IsRefutedBy, lemma_at}
 

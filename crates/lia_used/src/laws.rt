@@ -2,7 +2,7 @@
 
 ghost use Rattle.std.specs.Prelude.{◌∷◌};
 ghost use Rattle.lin_atoms.specs.declared.form.Form.TheViews.{And};
-ghost use Rattle.farkas_proof.specs.Refutation.{HasNoPoint};
+ghost use Rattle.refutation_trees.specs.Refutation.{HasNoPoint};
 ghost use Rattle.lia_used.specs.Used.{IsRefutedBy};
 
 use farkas_proof::Refuted;

@@ -1,4 +1,5 @@
-use farkas_proof::{GaveUp, Refuted};
+use farkas_proof::Refuted;
+use refutation_trees::GaveUp;
 
 /// What is decided of a formula with lemmas.
 #[derive(Drop)]

@@ -3,7 +3,7 @@
 
 use crate::uses::Uses;
 use base::{Boxed, Copied, Items, Memory};
-use farkas_proof::Refutation;
+use refutation_trees::Refutation;
 use std::alloc::Global;
 
 /// How many literals and disjunctions go.

@@ -1,8 +1,8 @@
 //! Which lemmas a refutation uses.
 
 use base::{Items, Memory};
-use farkas_proof::Refutation;
 use lin_atoms::Form;
+use refutation_trees::Refutation;
 use std::alloc::Global;
 
 /// How deep a tree is looked at.

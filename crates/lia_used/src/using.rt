@@ -14,9 +14,10 @@ use crate::outcome::Outcome;
 use crate::renumbering::renumbered;
 use crate::uses::uses_of;
 use base::Memory;
-use farkas_proof::{CheckStop, Refutation, Refuted, check_owned};
+use farkas_proof::{CheckStop, Refuted, check_owned};
 use lia_cases::{Decision, decide};
 use lin_atoms::Form;
+use refutation_trees::Refutation;
 use std::alloc::Global;
 
 /// A refutation of the formula and the lemmas that the tree uses, with their numbers, where there are others

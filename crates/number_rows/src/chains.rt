@@ -1,8 +1,9 @@
 //! Chains of ten thousand nodes.
 
 use base::{Boxed, Items};
-use farkas_proof::{Refutation, check, check_owned};
+use farkas_proof::{check, check_owned};
 use lin_atoms::{Form, Lin};
+use refutation_trees::Refutation;
 use std::alloc::Global;
 use std::process::Abort;
 

@@ -1,10 +1,10 @@
 //! Nodes that were worked out by hand.
 
 use crate::made::{divisor, form};
-use farkas_proof::Evidence;
 use lia_node::{Examined, examine};
 use lin_atoms::Lit;
 use node_rows::{are_known, have_short_constants};
+use refutation_trees::Evidence;
 use std::alloc::Global;
 use std::mem;
 use std::process::Abort;

@@ -6,8 +6,8 @@ ghost use Rattle.farkas_proof.specs.Instances.{both, large_on_first, large_on_se
 
 use crate::made::lin;
 use base::{Items, Same};
-use farkas_proof::{Evidence, GaveUp};
 use lin_atoms::{Form, Lit};
+use refutation_trees::{Evidence, GaveUp};
 use std::alloc::Global;
 use std::mem;
 use std::process::Abort;

@@ -3,8 +3,9 @@
 
 use crate::made::{divisor, lin};
 use base::{Boxed, Items, Same};
-use farkas_proof::{CheckStop, Refutation, check};
+use farkas_proof::{CheckStop, check};
 use lin_atoms::{Divisor, Form, Lin, Lit};
+use refutation_trees::Refutation;
 use std::alloc::Global;
 use std::mem;
 use std::process::Abort;

@@ -5,7 +5,7 @@ use Rattle.std.specs.List.{list_all}
 use Rattle.lin_atoms.specs.declared.lit.Lit.{Lit}
 use Rattle.lin_atoms.specs.declared.form.Form.{Form}
 use Rattle.lin_atoms.specs.declared.form.Form.TheViews.{And}
-use Rattle.farkas_proof.specs.KeptEvidence.{given_form}
+use Rattle.refutation_trees.specs.KeptEvidence.{given_form}
 use Rattle.clause_form.specs.declared.clause.Clause.{Clause}
 use Rattle.chc_tokens.specs.Queries.{base as token_base, goal_cube, has_places, has_used, query as token_query, query_in}
 use Rattle.chc_tokens.specs.declared.goal.Goal.{Goal}

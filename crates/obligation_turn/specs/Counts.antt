@@ -1,6 +1,6 @@
 -- How far queries were searched: evidence that counts the inner nodes of a search counts those that were allowed.
 use Rattle.std.specs.Prelude.{ℕ}
-use Rattle.farkas_proof.specs.KeptEvidence.{given_evidence}
+use Rattle.refutation_trees.specs.KeptEvidence.{given_evidence}
 use Rattle.lia_search.specs.Decides.{CountsTo}
 use Rattle.chc_tokens.specs.Kept.{kept_why}
 use Rattle.chc_tokens.specs.declared.why.Why.{Why}

@@ -1,8 +1,8 @@
 -- What the tokens of a step stand for, as the plain data of the rules.
 use Rattle.std.specs.Prelude.{List, map, Option, Some, None}
 use Rattle.lin_atoms.specs.declared.lit.Lit.{Lit}
-use Rattle.farkas_proof.specs.KeptEvidence.{given_form, given_evidence}
-use Rattle.farkas_proof.specs.declared.gave_up.GaveUp.{GaveUp}
+use Rattle.refutation_trees.specs.KeptEvidence.{given_form, given_evidence}
+use Rattle.refutation_trees.specs.declared.gave_up.GaveUp.{GaveUp}
 use Rattle.chc_tokens.specs.Kept.{kept_lemma, kept_why, seen_clause, seen_point, shown_clause, shown_goal, shown_used}
 use Rattle.chc_tokens.specs.declared.goal.Goal.{Goal}
 use Rattle.chc_tokens.specs.declared.goal.Goal.TheVariants.{Query, Holds}

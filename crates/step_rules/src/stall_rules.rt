@@ -6,7 +6,7 @@ ghost use Rattle.book_rules.specs.Proofs.{all_may_use};
 ghost use Rattle.book_rules.specs.Walks.{has};
 ghost use Rattle.cube_rules.specs.Views.{lemmas_of};
 ghost use Rattle.std.specs.List.{list_all};
-ghost use Rattle.farkas_proof.specs.KeptEvidence.{given_form};
+ghost use Rattle.refutation_trees.specs.KeptEvidence.{given_form};
 ghost use Rattle.book_rules.specs.Queries.{query};
 ghost use Rattle.book_rules.specs.Same.{same_form};
 ghost use Rattle.book_rules.specs.StallRules.{has_used_atoms, query_fits, rule_50, rule_52, rule_53, rule_54};

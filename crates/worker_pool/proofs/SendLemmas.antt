@@ -18,8 +18,8 @@ use Rattle.cube_forms.proofs.held.Held.TheSendSync as held
 use Rattle.cube_forms.proofs.lemma.Lemma.TheSendSync as lemma
 use Rattle.cube_forms.proofs.table.Table.TheSendSync as table
 use Rattle.derivations.proofs.facts.Facts.TheSendSync as facts
-use Rattle.farkas_proof.proofs.evidence.Evidence.TheSendSync as evidence
-use Rattle.farkas_proof.proofs.tree.Refutation.TheLaws.TheKnot as refutation
+use Rattle.refutation_trees.proofs.evidence.Evidence.TheSendSync as evidence
+use Rattle.refutation_trees.proofs.tree.Refutation.TheLaws.TheKnot as refutation
 use Rattle.lemma_frames.proofs.frames.Frames.TheSendSync as frames
 use Rattle.lin_atoms.proofs.divisor.Divisor.TheSendSync as divisor
 use Rattle.lin_atoms.proofs.form.Form.TheLaws.TheKnot as form

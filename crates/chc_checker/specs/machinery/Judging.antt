@@ -6,8 +6,8 @@ use Rattle.term_tree.specs.declared.script.Script.{Script}
 use Rattle.term_tree.specs.Solution.{IsTrueUnder}
 use Rattle.lin_atoms.specs.Truth.{truth}
 use Rattle.lin_atoms.specs.declared.form.Form.{Form}
-use Rattle.farkas_proof.specs.KeptEvidence.{given_evidence, given_form}
-use Rattle.farkas_proof.specs.Refutation.{HasNoPoint}
+use Rattle.refutation_trees.specs.KeptEvidence.{given_evidence, given_form}
+use Rattle.refutation_trees.specs.Refutation.{HasNoPoint}
 use Rattle.lia_search.specs.Decides.{CountsTo}
 use Rattle.lia_search.specs.declared.decision.Decision.{Decision}
 use Rattle.lia_search.specs.declared.decision.Decision.TheVariants.{Model, Refuted, GaveUp}

@@ -8,7 +8,7 @@ use Rattle.lin_atoms.specs.declared.form.Form.{Form, And', Or', items-the_row-Fo
 use Rattle.lin_atoms.specs.declared.form.Form.TheOpen.{Form-F}
 use Rattle.lin_atoms.specs.declared.form.Form.TheFolds.{fold-Form}
 use Rattle.clause_form.specs.declared.clause.Clause.{Clause}
-use Rattle.farkas_proof.specs.Flatten.{disjunctions, literals}
+use Rattle.refutation_trees.specs.Flatten.{disjunctions, literals}
 use Rattle.clause_index.specs.declared.places.Place.{Place}
 use Rattle.clause_index.specs.declared.places.Places.{Places}
 

@@ -2,7 +2,7 @@
 use Rattle.std.specs.Prelude.{ℕ, List, [], ◌∷◌, max}
 use Rattle.lin_atoms.specs.Denial.{linear_of}
 use Rattle.lin_atoms.specs.declared.lit.Lit.{Lit}
-use Rattle.farkas_proof.specs.Combination.{terms_end}
+use Rattle.refutation_trees.specs.Combination.{terms_end}
 
 -- for each literal: above the variables of those up to it, and at least `from`
 abbrev pub ends_from : ℕ → List Lit → List ℕ

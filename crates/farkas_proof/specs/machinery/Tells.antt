@@ -3,7 +3,7 @@ use Rattle.std.specs.Prelude.{◌≡◌, ℕ, Bool, true, false, List, Result, O
 use Rattle.std.specs.List.{list_all}
 use Rattle.lin_atoms.specs.Denial.{lit_fits}
 use Rattle.lin_atoms.specs.declared.lit.Lit.{Lit}
-use Rattle.farkas_proof.specs.Refutation.{Finding, Sound, Illegal, Wide}
+use Rattle.refutation_trees.specs.Refutation.{Finding, Sound, Illegal, Wide}
 use Rattle.farkas_proof.specs.declared.stop.CheckStop.{CheckStop}
 use Rattle.farkas_proof.specs.declared.stop.CheckStop.TheVariants.{Memory as OutOfMemory, NoProof, SumWide}
 

@@ -4,13 +4,12 @@ use Rattle.std.specs.List.{sum_by}
 use Rattle.std.specs.Borrow.{Bor}
 use Rattle.lin_atoms.specs.Denial.{lit_fits}
 use Rattle.lin_atoms.specs.declared.form.Form.{Form}
-use Rattle.farkas_proof.specs.Flatten.{disjunctions, literals}
-use Rattle.farkas_proof.specs.Refutation.{Finding, Sound, Illegal, Wide, Judge, followed_by, judged_at}
+use Rattle.refutation_trees.specs.Flatten.{disjunctions, literals}
+use Rattle.refutation_trees.specs.Refutation.{Finding, Sound, Illegal, Wide, Judge, followed_by, judged_at}
 use Rattle.farkas_proof.specs.declared.stop.CheckStop.{CheckStop}
 use Rattle.farkas_proof.specs.declared.stop.CheckStop.TheVariants.{Memory as OutOfMemory, NoProof, SumWide}
-use Rattle.farkas_proof.specs.declared.tree.Refutation.{Refutation}
-use Rattle.farkas_proof.specs.declared.tree.Refutation.TheOpen.{Refutation-F}
-use Rattle.farkas_proof.specs.declared.tree.Refutation.TheFolds.{fold-Refutation}
+use Rattle.refutation_trees.specs.declared.tree.Refutation.{Refutation}
+use Rattle.refutation_trees.specs.machinery.Sizes.{size}
 use Rattle.farkas_proof.specs.declared.walk.Work.{Work}
 use Rattle.farkas_proof.specs.declared.walk.Work.TheVariants.{Tree, Under, Part, Forget, Reopen}
 use Rattle.farkas_proof.specs.declared.walk.Walk.{Walk}
@@ -74,21 +73,6 @@ GoesOn before walk (Ok next) = before ≡ found_next walk next
 GoesOn before walk (Err OutOfMemory) = Unit {0}
 GoesOn before walk (Err (NoProof node)) = before ≡ Illegal node
 GoesOn before walk (Err (SumWide node)) = before ≡ Wide node
-
--- a bound on the turns that a tree takes
-abbrev pub sizes : List ℕ → ℕ
-sizes [] = 0
-sizes (n ∷ ns) = n + 1 + sizes ns
-
-abbrev pub size_step : Refutation-F ℕ → ℕ
-size_step (Refutation-F.Leaf ms) = 2
-size_step (Refutation-F.Round ms d sub) = sub + 3
-size_step (Refutation-F.Split lin below above) = below + above + 3
-size_step (Refutation-F.Cases which subs) = sizes subs + 2
-size_step (Refutation-F.Quotient lit sub) = sub + 2
-
-abbrev pub size : Refutation → ℕ
-size = fold-Refutation ℕ size_step
 
 -- a tree that comes next, or the turn that ends one
 abbrev pub size_of : Option (Bor Refutation) → ℕ

@@ -7,9 +7,9 @@ use Rattle.lin_atoms.specs.declared.lit.Lit.{Lit}
 use Rattle.lin_atoms.specs.declared.lit.Lit.TheVariants.{Le, Eq, Div, NDiv}
 use Rattle.int_rows.specs.Ready.{has_no_variable, lin_content, rounded}
 use Rattle.int_rows.specs.declared.bounds.Ready.{Ready}
-use Rattle.farkas_proof.specs.Combination.{are_multipliers, combined, is_divided_by, is_multiplier}
-use Rattle.farkas_proof.specs.declared.tree.Refutation.{Refutation}
-use Rattle.farkas_proof.specs.declared.tree.Refutation.TheViews as tree
+use Rattle.refutation_trees.specs.Combination.{are_multipliers, combined, is_divided_by, is_multiplier}
+use Rattle.refutation_trees.specs.declared.tree.Refutation.{Refutation}
+use Rattle.refutation_trees.specs.declared.tree.Refutation.TheViews as tree
 use Rattle.lia_close.specs.declared.leaf.Rounding.{Rounding}
 use Rattle.lia_close.specs.declared.side.Side.{Side}
 use Rattle.lia_close.specs.declared.side.Side.TheVariants.{Lower, Upper}

@@ -1,8 +1,8 @@
 -- Trees for a literal without a variable that is false.
 use Rattle.std.specs.Prelude.{ℕ, ◌+◌, [], ◌∷◌, ℤ, pos, neg_ℤ, int_lt, ◌==◌, if◌then◌else◌}
-use Rattle.farkas_proof.specs.declared.tree.Refutation.{Refutation}
-use Rattle.farkas_proof.specs.declared.tree.Refutation.TheViews.{Round}
-use Rattle.farkas_proof.specs.declared.tree.Refutation.TheVariants.{Leaf}
+use Rattle.refutation_trees.specs.declared.tree.Refutation.{Refutation}
+use Rattle.refutation_trees.specs.declared.tree.Refutation.TheViews.{Round}
+use Rattle.refutation_trees.specs.declared.tree.Refutation.TheVariants.{Leaf}
 
 abbrev pub sign_of : ℤ → ℤ
 sign_of k = if int_lt (pos 0) k then pos 1 else neg_ℤ (pos 1)

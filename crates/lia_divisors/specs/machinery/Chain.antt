@@ -1,7 +1,7 @@
 -- A chain of roundings above a tree.
 use Rattle.std.specs.Prelude.{List, [], ◌∷◌}
-use Rattle.farkas_proof.specs.declared.tree.Refutation.{Refutation}
-use Rattle.farkas_proof.specs.declared.tree.Refutation.TheViews as tree
+use Rattle.refutation_trees.specs.declared.tree.Refutation.{Refutation}
+use Rattle.refutation_trees.specs.declared.tree.Refutation.TheViews as tree
 use Rattle.lia_parts.specs.declared.chain.Rounding.{Rounding}
 
 abbrev pub chained : List Rounding → Refutation → Refutation

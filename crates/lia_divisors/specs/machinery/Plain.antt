@@ -1,8 +1,8 @@
 -- Trees of leaves, roundings and splits alone.
 use Rattle.std.specs.Prelude.{Bool, true, false, ◌&&◌}
-use Rattle.farkas_proof.specs.declared.tree.Refutation.{Refutation}
-use Rattle.farkas_proof.specs.declared.tree.Refutation.TheOpen.{Refutation-F}
-use Rattle.farkas_proof.specs.declared.tree.Refutation.TheFolds.{fold-Refutation}
+use Rattle.refutation_trees.specs.declared.tree.Refutation.{Refutation}
+use Rattle.refutation_trees.specs.declared.tree.Refutation.TheOpen.{Refutation-F}
+use Rattle.refutation_trees.specs.declared.tree.Refutation.TheFolds.{fold-Refutation}
 
 abbrev pub plain_step : Refutation-F Bool → Bool
 plain_step (Refutation-F.Leaf ms) = true

@@ -2,7 +2,7 @@
 use Rattle.std.specs.Prelude.{◌≡◌, ℕ, List, [], ◌∷◌, ℤ, Bool, true, false, Some, slice_get}
 use Rattle.lin_atoms.specs.declared.lit.Lit.{Lit}
 use Rattle.lin_atoms.specs.declared.lit.Lit.TheVariants.{Le, Eq, Div, NDiv}
-use Rattle.farkas_proof.specs.Combination.{may_be_multiplied}
+use Rattle.refutation_trees.specs.Combination.{may_be_multiplied}
 use Rattle.lia_parts.specs.declared.said.Said.{Said}
 
 -- each of them stands there, at its number

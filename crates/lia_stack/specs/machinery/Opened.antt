@@ -8,9 +8,9 @@ use Rattle.lin_atoms.specs.declared.form.Form.{Form}
 use Rattle.lin_atoms.specs.declared.lit.Lit.{Lit}
 use Rattle.lin_atoms.specs.declared.lit.Lit.TheVariants.{Le}
 use Rattle.int_rows.specs.Node.{end_of_quotients}
-use Rattle.farkas_proof.specs.Flatten.{disjunctions, literals}
-use Rattle.farkas_proof.specs.Refutation.{form_end, new_variable}
-use Rattle.farkas_proof.specs.Split.{IsNode, Node}
+use Rattle.refutation_trees.specs.Flatten.{disjunctions, literals}
+use Rattle.refutation_trees.specs.Refutation.{form_end, new_variable}
+use Rattle.refutation_trees.specs.Split.{IsNode, Node}
 use Rattle.node_rows.specs.Known.{are_known, has_short_constant}
 use Rattle.lia_close.specs.Placed.{Place}
 use Rattle.lia_close.specs.Said.{ArePlaced, AreReasons, named_by}

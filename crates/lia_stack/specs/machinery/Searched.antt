@@ -6,11 +6,11 @@ use Rattle.lin_atoms.specs.Denial.{lit_fits}
 use Rattle.lin_atoms.specs.Linear.{is_short, variable_at}
 use Rattle.lin_atoms.specs.Truth.{truth}
 use Rattle.lin_atoms.specs.declared.form.Form.{Form}
-use Rattle.farkas_proof.specs.GivenUp.{IsEvidence}
-use Rattle.farkas_proof.specs.Refutation.{form_end, is_sound, judged}
-use Rattle.farkas_proof.specs.Split.{HaveTrees, start}
-use Rattle.farkas_proof.specs.declared.evidence.Evidence.{Evidence}
-use Rattle.farkas_proof.specs.declared.tree.Refutation.{Refutation}
+use Rattle.refutation_trees.specs.GivenUp.{IsEvidence}
+use Rattle.refutation_trees.specs.Refutation.{form_end, is_sound, judged}
+use Rattle.refutation_trees.specs.Split.{HaveTrees, start}
+use Rattle.refutation_trees.specs.declared.evidence.Evidence.{Evidence}
+use Rattle.refutation_trees.specs.declared.tree.Refutation.{Refutation}
 use Rattle.lia_close.specs.Placed.{AreSoundAt, Place, root}
 use Rattle.lia_close.specs.Written.{assembled}
 use Rattle.lia_stack.specs.Counted.{CountsTo}

@@ -1,5 +1,5 @@
 use Rattle.std.proofs.Common.{subst}
-use Rattle.farkas_proof.specs.Refutation.{HasNoPoint}
+use Rattle.refutation_trees.specs.Refutation.{HasNoPoint}
 use Rattle.lia_search.specs.Decides.{Decides}
 use Rattle.lia_search.specs.declared.decision.Decision.{Decision}
 use Rattle.chc_checker.proofs.deciding.told.Goals as goal

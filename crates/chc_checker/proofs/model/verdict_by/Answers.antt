@@ -1,7 +1,7 @@
 use Rattle.std.proofs.Common.{◌≡◌, [], ◌∷◌, length, take, rules, subst, ◌∙◌}
 use Rattle.lin_atoms.specs.declared.form.Form.{Form}
 use Rattle.lin_atoms.specs.declared.form.Form.TheViews.{And}
-use Rattle.farkas_proof.specs.Refutation.{HasNoPoint}
+use Rattle.refutation_trees.specs.Refutation.{HasNoPoint}
 use Rattle.lia_search.specs.declared.decision.Decision.{Decision}
 use Rattle.lia_search.specs.declared.decision.Decision.TheVariants.{Model}
 use Rattle.clause_normal.specs.Normal.{normal_clause}

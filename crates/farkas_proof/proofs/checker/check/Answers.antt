@@ -3,8 +3,8 @@ use Rattle.std.specs.Prelude.{IfOk, OnOk}
 use Rattle.lin_atoms.specs.Denial.{lit_fits}
 use Rattle.lin_atoms.specs.declared.form.Form.{Form}
 use Rattle.farkas_proof.specs.Kept.{form_of, proof_of}
-use Rattle.farkas_proof.specs.Refutation.{is_refutation, is_sound, judged}
-use Rattle.farkas_proof.specs.declared.tree.Refutation.{Refutation}
+use Rattle.refutation_trees.specs.Refutation.{is_refutation, is_sound, judged}
+use Rattle.refutation_trees.specs.declared.tree.Refutation.{Refutation}
 use Rattle.farkas_proof.proofs.checker.check.Goals as goal
 
 pub returns-clause-form : goal.returns-clause-form

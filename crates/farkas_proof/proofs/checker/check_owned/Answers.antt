@@ -1,6 +1,6 @@
 use Rattle.std.proofs.Common.{ap}
 use Rattle.lin_atoms.specs.Denial.{lit_fits}
-use Rattle.farkas_proof.specs.Refutation.{is_sound}
+use Rattle.refutation_trees.specs.Refutation.{is_sound}
 use Rattle.farkas_proof.proofs.RoomLemmas.{legal_without}
 use Rattle.farkas_proof.proofs.TreeLemmas.{no_point}
 use Rattle.farkas_proof.proofs.checker.check_owned.Goals as goal

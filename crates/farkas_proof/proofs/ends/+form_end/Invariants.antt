@@ -1,6 +1,6 @@
 use Rattle.std.proofs.Common.{◌≡◌, ◌≤◌, ◌^◌, drop, map}
 use Rattle.std.specs.Prelude.{max}
-use Rattle.farkas_proof.specs.Refutation.{form_end, greatest_of}
+use Rattle.refutation_trees.specs.Refutation.{form_end, greatest_of}
 use Rattle.farkas_proof.proofs.ends.+form_end.Given as goal
 
 -- with the rest, it is that of all

@@ -2,9 +2,9 @@ use Rattle.std.proofs.Common.{◌++◌, ap, sym, ◌∙◌, List}
 use Rattle.std.specs.List.{flat_map}
 use Rattle.std.proofs.lemmas.List.{take_all}
 use Rattle.lin_atoms.specs.declared.form.Form.{Form}
-use Rattle.farkas_proof.specs.Flatten.{disjunctions}
+use Rattle.refutation_trees.specs.Flatten.{disjunctions}
 use Rattle.farkas_proof.specs.machinery.Walk.{opened}
-use Rattle.farkas_proof.proofs.FlattenLemmas.{disjunctions-And, disjunctions-Or, part-more}
+use Rattle.refutation_trees.proofs.FlattenLemmas.{disjunctions-And, disjunctions-Or, part-more}
 use Rattle.farkas_proof.proofs.WalkLemmas.{opened-push}
 use Rattle.farkas_proof.proofs.flatten.+disjunctions.Goals as goal
 

@@ -1,6 +1,6 @@
 use Rattle.std.proofs.Common.{◌≡◌, ◌++◌, take}
 use Rattle.std.specs.List.{flat_map}
-use Rattle.farkas_proof.specs.Flatten.{disjunctions}
+use Rattle.refutation_trees.specs.Flatten.{disjunctions}
 use Rattle.farkas_proof.specs.machinery.Walk.{opened}
 use Rattle.farkas_proof.proofs.flatten.+disjunctions.Given as goal
 

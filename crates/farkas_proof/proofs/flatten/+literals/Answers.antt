@@ -2,8 +2,8 @@ use Rattle.std.proofs.Common.{◌++◌, ◌∙◌, ap, sym, List}
 use Rattle.std.specs.List.{flat_map}
 use Rattle.std.proofs.lemmas.List.{take_all}
 use Rattle.lin_atoms.specs.declared.form.Form.{Form}
-use Rattle.farkas_proof.specs.Flatten.{literals}
-use Rattle.farkas_proof.proofs.FlattenLemmas.{literals-And, part-more}
+use Rattle.refutation_trees.specs.Flatten.{literals}
+use Rattle.refutation_trees.proofs.FlattenLemmas.{literals-And, part-more}
 use Rattle.farkas_proof.proofs.flatten.+literals.Goals as goal
 
 pub push_literals-returns-in-And : goal.push_literals-returns-in-And

@@ -1,6 +1,6 @@
 use Rattle.std.proofs.Common.{◌≡◌, ◌++◌, take}
 use Rattle.std.specs.List.{flat_map}
-use Rattle.farkas_proof.specs.Flatten.{literals}
+use Rattle.refutation_trees.specs.Flatten.{literals}
 use Rattle.farkas_proof.proofs.flatten.+literals.Given as goal
 
 -- what the parts so far give was put behind

@@ -2,7 +2,7 @@ use Rattle.std.proofs.Common.{◌≡◌, ◌<◌, ℕ, List, take, length, get_o
 use Rattle.std.specs.Prelude.{max}
 use Rattle.lin_atoms.specs.Denial.{linear_of}
 use Rattle.lin_atoms.specs.declared.lit.Lit.{Lit}
-use Rattle.farkas_proof.specs.Combination.{lits_end, terms_end}
+use Rattle.refutation_trees.specs.Combination.{lits_end, terms_end}
 use Rattle.farkas_proof.specs.machinery.Ends.{ends_from}
 use Rattle.farkas_proof.proofs.KnownLemmas.{kept-more}
 use Rattle.farkas_proof.proofs.known.complete.Goals as goal

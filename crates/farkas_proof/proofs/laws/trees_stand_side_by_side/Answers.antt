@@ -1,4 +1,4 @@
-use Rattle.farkas_proof.proofs.ForestLemmas.{all-leaves, apart, together}
+use Rattle.refutation_trees.proofs.ForestLemmas.{all-leaves, apart, together}
 use Rattle.farkas_proof.proofs.laws.trees_stand_side_by_side.Goals as goal
 
 pub returns : goal.returns

@@ -1,5 +1,5 @@
 use Rattle.std.proofs.Common.{◌≡◌, ◌≤◌, true, drop, length}
-use Rattle.farkas_proof.specs.Combination.{are_multipliers, combined}
+use Rattle.refutation_trees.specs.Combination.{are_multipliers, combined}
 use Rattle.farkas_proof.specs.machinery.Sum.{IsSum, standing}
 use Rattle.farkas_proof.proofs.sum.combine.Given as goal
 

@@ -1,5 +1,5 @@
 use Rattle.std.proofs.Common.{◌∙◌, sym, subst, Err}
-use Rattle.farkas_proof.specs.Refutation.{Finding}
+use Rattle.refutation_trees.specs.Refutation.{Finding}
 use Rattle.farkas_proof.specs.machinery.Tells.{Tells}
 use Rattle.farkas_proof.specs.machinery.Walk.{found, left_to, opened, work_step}
 use Rattle.farkas_proof.proofs.WalkLemmas.{leads-err, left_to-push}

@@ -1,6 +1,6 @@
 use Rattle.std.proofs.Common.{◌≡◌}
 use Rattle.lin_atoms.specs.Denial.{lit_fits}
-use Rattle.farkas_proof.specs.Refutation.{judged}
+use Rattle.refutation_trees.specs.Refutation.{judged}
 use Rattle.farkas_proof.specs.machinery.Walk.{found, weight}
 use Rattle.farkas_proof.proofs.walk.judge.Given as goal
 

@@ -2,8 +2,9 @@ use Rattle.std.proofs.Common.{◌≡◌, ℕ, ◌+◌, ◌≤◌, List, map, dro
 use Rattle.lin_atoms.specs.Denial.{lit_fits}
 use Rattle.lin_atoms.specs.declared.form.Form.{Form}
 use Rattle.lin_atoms.specs.declared.lit.Lit.{Lit}
-use Rattle.farkas_proof.specs.Refutation.{each_part, followed_by, judged_at}
-use Rattle.farkas_proof.specs.machinery.Walk.{left_to, size, sizes, weights}
+use Rattle.refutation_trees.specs.Refutation.{each_part, followed_by, judged_at}
+use Rattle.refutation_trees.specs.machinery.Sizes.{size, sizes}
+use Rattle.farkas_proof.specs.machinery.Walk.{left_to, weights}
 use Rattle.farkas_proof.proofs.walk.push_parts.Given as goal
 
 -- the parts from the one at `left` on wait, the first of them before the others

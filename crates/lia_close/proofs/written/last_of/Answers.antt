@@ -1,5 +1,5 @@
 use Rattle.std.proofs.Common.{◌∙◌, ap, sym, take, drop, reverse, ◌++◌, List}
-use Rattle.farkas_proof.specs.declared.tree.Refutation.{Refutation}
+use Rattle.refutation_trees.specs.declared.tree.Refutation.{Refutation}
 use Rattle.lia_close.proofs.StackLemmas.{drop-one, take-one}
 use Rattle.lia_close.proofs.written.last_of.Goals as goal
 

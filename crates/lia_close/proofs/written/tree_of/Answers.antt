@@ -1,5 +1,5 @@
 use Rattle.std.proofs.Common.{◌∙◌, ap, sym, reverse, List}
-use Rattle.farkas_proof.specs.declared.tree.Refutation.{Refutation}
+use Rattle.refutation_trees.specs.declared.tree.Refutation.{Refutation}
 use Rattle.lia_close.specs.Written.{assembled}
 use Rattle.lia_close.proofs.WrittenLemmas.{assembled-push}
 use Rattle.lia_close.proofs.written.tree_of.Goals as goal

@@ -1,5 +1,5 @@
 use Rattle.std.proofs.Common.{ap, sym, ◌∙◌}
-use Rattle.farkas_proof.specs.declared.tree.Refutation.{Refutation}
+use Rattle.refutation_trees.specs.declared.tree.Refutation.{Refutation}
 use Rattle.lia_divisors.specs.machinery.Chain.{chained}
 use Rattle.lia_divisors.proofs.ThereLemmas.{chained-push}
 use Rattle.lia_divisors.proofs.chain.chain_tree.Goals as goal

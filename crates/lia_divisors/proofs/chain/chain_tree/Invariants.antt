@@ -1,5 +1,5 @@
 use Rattle.std.proofs.Common.{◌≡◌, length}
-use Rattle.farkas_proof.specs.declared.tree.Refutation.TheVariants.{Leaf}
+use Rattle.refutation_trees.specs.declared.tree.Refutation.TheVariants.{Leaf}
 use Rattle.lia_divisors.specs.machinery.Chain.{chained}
 use Rattle.lia_divisors.proofs.chain.chain_tree.Given as goal
 

@@ -1,6 +1,6 @@
 use Rattle.std.proofs.Common.{◌≡◌, Option, sym, subst, true, ◌∙◌}
 use Rattle.std.specs.Option.{IfSome}
-use Rattle.farkas_proof.specs.declared.tree.Refutation.{Refutation}
+use Rattle.refutation_trees.specs.declared.tree.Refutation.{Refutation}
 use Rattle.lia_divisors.specs.machinery.Plain.{is_plain}
 use Rattle.lia_divisors.proofs.MovedLemmas.{tree-moved}
 use Rattle.lia_divisors.proofs.closing.checked.Goals as goal

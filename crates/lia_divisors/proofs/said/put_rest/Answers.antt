@@ -5,7 +5,7 @@ use Rattle.lin_atoms.specs.Algebra.{plus}
 use Rattle.lin_atoms.specs.Linear.{Linear}
 use Rattle.lin_atoms.specs.declared.lit.Lit.TheVariants.{Le}
 use Rattle.int_rows.specs.Ready.{less_multiple}
-use Rattle.farkas_proof.specs.Combination.{one_minus}
+use Rattle.refutation_trees.specs.Combination.{one_minus}
 use Rattle.lia_divisors.proofs.ThereLemmas.{at-first, at-second}
 use Rattle.lia_divisors.proofs.said.put_rest.Goals as goal
 

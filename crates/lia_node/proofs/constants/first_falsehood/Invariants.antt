@@ -1,6 +1,6 @@
 use Rattle.std.proofs.Common.{◌≡◌, take, true}
 use Rattle.std.specs.List.{list_all}
-use Rattle.farkas_proof.specs.Split.{is_no_falsehood}
+use Rattle.refutation_trees.specs.Split.{is_no_falsehood}
 use Rattle.lia_node.proofs.constants.first_falsehood.Given as goal
 
 -- none so far

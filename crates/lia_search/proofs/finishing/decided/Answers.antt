@@ -1,6 +1,6 @@
 use Rattle.std.proofs.Common.{◌≤◌, List, length, refl, subst, sym}
 use Rattle.std.specs.Prelude.{ℤ}
-use Rattle.farkas_proof.specs.Refutation.{form_end}
+use Rattle.refutation_trees.specs.Refutation.{form_end}
 use Rattle.lia_stack.specs.machinery.Searched.{Ends}
 use Rattle.lia_stack.proofs.Public.{decides-model}
 use Rattle.lia_search.proofs.finishing.decided.Goals as goal

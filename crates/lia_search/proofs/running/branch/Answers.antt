@@ -3,8 +3,8 @@ use Rattle.std.specs.List.{list_all}
 use Rattle.std.specs.Option.{IfSome}
 use Rattle.lin_atoms.specs.declared.lit.Lit.{Lit}
 use Rattle.int_rows.specs.Node.{system}
-use Rattle.farkas_proof.specs.Split.{HasSolution, HasVertexBetween}
-use Rattle.farkas_proof.specs.declared.tree.Refutation.{Refutation}
+use Rattle.refutation_trees.specs.Split.{HasSolution, HasVertexBetween}
+use Rattle.refutation_trees.specs.declared.tree.Refutation.{Refutation}
 use Rattle.node_rows.specs.Known.{are_known, has_short_constant}
 use Rattle.lia_close.specs.Placed.{IsSoundAt, Place}
 use Rattle.lia_close.specs.Said.{AreReasons}

@@ -1,5 +1,5 @@
 use Rattle.std.proofs.Common.{Ok, ap, arith, refl, subst, ◌∙◌, ◌≡◌, ◌<◌}
-use Rattle.farkas_proof.specs.declared.evidence.Evidence.TheVariants.{Nodes}
+use Rattle.refutation_trees.specs.declared.evidence.Evidence.TheVariants.{Nodes}
 use Rattle.lia_stack.specs.machinery.Searched.{StopsAt}
 use Rattle.lia_stack.specs.declared.state.End.TheVariants.{GivenUp}
 use Rattle.lia_stack.proofs.Public.{same-then}

@@ -1,7 +1,7 @@
 use Rattle.std.proofs.Common.{List, [], ◌∷◌, ◌++◌, ap, ◌∙◌, refl}
 use Rattle.lin_atoms.specs.declared.form.Form.{Form}
 use Rattle.lin_atoms.specs.declared.lit.Lit.{Lit}
-use Rattle.farkas_proof.specs.Flatten.{literals}
+use Rattle.refutation_trees.specs.Flatten.{literals}
 use Rattle.lia_stack.specs.declared.waiting.Open.{Open}
 use Rattle.lia_stack.specs.machinery.Opened.{first_open}
 use Rattle.lia_stack.proofs.StateLemmas.{begins}

@@ -1,5 +1,5 @@
 use Rattle.std.proofs.Common.{◌≡◌}
-use Rattle.farkas_proof.specs.Refutation.{form_end}
+use Rattle.refutation_trees.specs.Refutation.{form_end}
 use Rattle.lia_stack.specs.machinery.Searched.{cut}
 use Rattle.lia_stack.proofs.cutting.cut.Given as goal
 

@@ -1,5 +1,5 @@
 use Rattle.std.proofs.Common.{sym}
-use Rattle.farkas_proof.proofs.EndLemmas.{form_end-And, form_end-Or}
+use Rattle.refutation_trees.proofs.EndLemmas.{form_end-And, form_end-Or}
 use Rattle.lia_stack.proofs.ends.+form_end.Goals as goal
 
 pub form_end-returns-in-And-clause-is : goal.form_end-returns-in-And-clause-is

@@ -1,6 +1,6 @@
 use Rattle.std.proofs.Common.{◌≡◌, ◌≤◌, ◌^◌, drop}
 use Rattle.std.specs.Prelude.{max}
-use Rattle.farkas_proof.specs.Combination.{terms_end}
+use Rattle.refutation_trees.specs.Combination.{terms_end}
 use Rattle.lia_stack.proofs.ends.terms_end.Given as goal
 
 -- with the rest, it is that of all

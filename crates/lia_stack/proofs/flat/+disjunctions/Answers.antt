@@ -1,6 +1,6 @@
 use Rattle.std.proofs.Common.{List, [], ◌∷◌, ◌++◌, ap, sym, ◌∙◌}
 use Rattle.lin_atoms.specs.declared.form.Form.{Form}
-use Rattle.farkas_proof.proofs.FlattenLemmas.{disjunctions-And, disjunctions-Or}
+use Rattle.refutation_trees.proofs.FlattenLemmas.{disjunctions-And, disjunctions-Or}
 use Rattle.lia_stack.proofs.flat.+disjunctions.Goals as goal
 
 pub push_disjunctions-returns-in-And : goal.push_disjunctions-returns-in-And

@@ -1,5 +1,5 @@
 use Rattle.std.proofs.Common.{sym}
-use Rattle.farkas_proof.proofs.FlattenLemmas.{literals-And}
+use Rattle.refutation_trees.proofs.FlattenLemmas.{literals-And}
 use Rattle.lia_stack.proofs.PartLemmas.{joined-more}
 use Rattle.lia_stack.proofs.parts.+joining.Goals as goal
 

@@ -1,6 +1,6 @@
 use Rattle.std.proofs.Common.{◌≡◌, take}
 use Rattle.std.specs.List.{flat_map}
-use Rattle.farkas_proof.specs.Flatten.{literals}
+use Rattle.refutation_trees.specs.Flatten.{literals}
 use Rattle.lia_stack.specs.machinery.Opened.{with_lits}
 use Rattle.lia_stack.proofs.parts.+joining.Given as goal
 

@@ -1,6 +1,6 @@
 use Rattle.std.proofs.Common.{◌+◌, ◌++◌, List, ap, drop, take, ◌∙◌}
 use Rattle.lin_atoms.specs.declared.form.Form.{Form}
-use Rattle.farkas_proof.specs.Flatten.{disjunctions, literals}
+use Rattle.refutation_trees.specs.Flatten.{disjunctions, literals}
 use Rattle.lia_stack.specs.declared.waiting.Open.{Open}
 use Rattle.lia_stack.specs.machinery.Opened.{with_lits}
 use Rattle.lia_stack.proofs.PartLemmas.{with-cases}

@@ -2,8 +2,8 @@ use Rattle.std.proofs.Common.{◌≡◌, ◌∷◌, [], List, ℕ, ap, ◌∙◌
 use Rattle.std.specs.Prelude.{pos}
 use Rattle.lin_atoms.specs.declared.lit.Lit.{Lit}
 use Rattle.farkas_proof.specs.Instances.{both, large_on_first, large_on_second}
-use Rattle.farkas_proof.specs.declared.evidence.Evidence.{Evidence}
-use Rattle.farkas_proof.specs.declared.evidence.Evidence.TheVariants.{Row}
+use Rattle.refutation_trees.specs.declared.evidence.Evidence.{Evidence}
+use Rattle.refutation_trees.specs.declared.evidence.Evidence.TheVariants.{Row}
 use Rattle.farkas_proof.proofs.PairLemmas.{same-evidence}
 use Rattle.farkas_proof.proofs.WideRowLemmas.{large-given-up, wide}
 use Rattle.number_rows.proofs.gave_up.crossing.Goals as goal

@@ -1,5 +1,5 @@
 use Rattle.std.proofs.Common.{◌∙◌}
-use Rattle.farkas_proof.specs.KeptEvidence.{given_form}
+use Rattle.refutation_trees.specs.KeptEvidence.{given_form}
 use Rattle.step_rules.specs.Views.{fresh_of}
 use Rattle.step_rules.proofs.AskLemmas.{asked-found, asked-missing}
 use Rattle.step_rules.proofs.stall_rules.is_asked.Goals as goal

@@ -1,6 +1,6 @@
 use Rattle.std.proofs.Common.{not, ◌||◌, sym, ◌∙◌}
 use Rattle.std.specs.Prelude.{◌==◌}
-use Rattle.farkas_proof.specs.KeptEvidence.{given_form}
+use Rattle.refutation_trees.specs.KeptEvidence.{given_form}
 use Rattle.book_rules.specs.Proofs.{is_empty, is_head}
 use Rattle.book_rules.specs.Queries.{query}
 use Rattle.book_rules.specs.Same.{same_form}

@@ -1,5 +1,5 @@
 use Rattle.std.proofs.Common.{List, ap, sym, ◌∙◌}
-use Rattle.farkas_proof.specs.declared.gave_up.GaveUp.{GaveUp}
+use Rattle.refutation_trees.specs.declared.gave_up.GaveUp.{GaveUp}
 use Rattle.chc_tokens.specs.declared.used.Used.{Used}
 use Rattle.chc_tokens.specs.declared.why.Why.TheVariants.{Unknown}
 use Rattle.chc_tokens.proofs.why.WhyCopied.copy.Goals as goal

@@ -4,7 +4,7 @@ use Rattle.std.specs.Int.{w64}
 use Rattle.std.proofs.lemmas.Int.{to_z-of_z}
 use Rattle.lin_atoms.specs.Algebra.{added, scaled}
 use Rattle.lin_atoms.specs.Linear.{Linear}
-use Rattle.farkas_proof.specs.Combination.{are_multipliers, combined, linear_at}
+use Rattle.refutation_trees.specs.Combination.{are_multipliers, combined, linear_at}
 use Rattle.farkas_proof.specs.machinery.Narrow.{sum_of}
 use Rattle.farkas_proof.proofs.SumLemmas.{combined-more, multipliers-more}
 use Rattle.farkas_proof.proofs.narrow.Narrow.combine.Goals as goal

@@ -1,6 +1,6 @@
 use Rattle.std.proofs.Common.{◌≡◌, ◌≤◌, true, drop, length}
 use Rattle.lin_atoms.specs.Linear.{are_ordered}
-use Rattle.farkas_proof.specs.Combination.{are_multipliers, combined}
+use Rattle.refutation_trees.specs.Combination.{are_multipliers, combined}
 use Rattle.farkas_proof.specs.machinery.Narrow.{sum_of}
 use Rattle.farkas_proof.proofs.narrow.Narrow.combine.Given as goal
 

@@ -2,8 +2,8 @@ use Rattle.std.proofs.Common.{ap, ◌∙◌}
 use Rattle.lin_atoms.specs.Denial.{lit_fits}
 use Rattle.lin_atoms.specs.Truth.{truth}
 use Rattle.lin_atoms.specs.declared.form.Form.{Form}
-use Rattle.farkas_proof.specs.Refutation.{is_sound, judged}
-use Rattle.farkas_proof.specs.declared.tree.Refutation.{Refutation}
+use Rattle.refutation_trees.specs.Refutation.{is_sound, judged}
+use Rattle.refutation_trees.specs.declared.tree.Refutation.{Refutation}
 use Rattle.farkas_proof.proofs.refuted.Refuted.copy.Goals as goal
 
 -- the copy is the same formula, and the same tree

@@ -1,5 +1,5 @@
 use Rattle.std.proofs.Common.{◌≡◌, drop}
-use Rattle.farkas_proof.specs.Combination.{is_divided_by}
+use Rattle.refutation_trees.specs.Combination.{is_divided_by}
 use Rattle.farkas_proof.specs.machinery.Sum.{standing}
 use Rattle.farkas_proof.proofs.sum.Sum.is_divided_by.Given as goal
 

@@ -1,6 +1,6 @@
 use Rattle.std.proofs.Common.{◌++◌, ◌∙◌, ap, sym, ℕ}
 use Rattle.lin_atoms.specs.Denial.{lit_fits}
-use Rattle.farkas_proof.specs.Refutation.{followed_by, judged_at}
+use Rattle.refutation_trees.specs.Refutation.{followed_by, judged_at}
 use Rattle.farkas_proof.specs.machinery.Walk.{after, opened}
 use Rattle.farkas_proof.proofs.WalkLemmas.{with-more}
 use Rattle.farkas_proof.proofs.walk.Walk.go_on_with.Goals as goal

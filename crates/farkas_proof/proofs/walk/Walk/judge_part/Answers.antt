@@ -1,7 +1,7 @@
 use Rattle.std.proofs.Common.{◌++◌, ◌∙◌, ap, subst, List}
 use Rattle.lin_atoms.specs.declared.lit.Lit.{Lit}
-use Rattle.farkas_proof.specs.Flatten.{literals}
-use Rattle.farkas_proof.specs.Refutation.{Finding}
+use Rattle.refutation_trees.specs.Flatten.{literals}
+use Rattle.refutation_trees.specs.Refutation.{Finding}
 use Rattle.farkas_proof.specs.machinery.Walk.{Leads, found, left_to, opened, replaced}
 use Rattle.farkas_proof.specs.declared.walk.Work.TheVariants.{Reopen}
 use Rattle.farkas_proof.proofs.WalkLemmas.{with-part}

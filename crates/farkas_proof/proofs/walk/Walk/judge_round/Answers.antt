@@ -5,7 +5,7 @@ use Rattle.std.proofs.lemmas.Int.{to_z-of_z}
 use Rattle.lin_atoms.specs.declared.lit.Lit.{Lit}
 use Rattle.lin_atoms.specs.declared.lit.Lit.TheVariants.{Le}
 use Rattle.int_rows.specs.Ready.{rounded}
-use Rattle.farkas_proof.specs.Combination.{are_multipliers, combined, is_divided_by}
+use Rattle.refutation_trees.specs.Combination.{are_multipliers, combined, is_divided_by}
 use Rattle.farkas_proof.specs.machinery.Walk.{after, opened}
 use Rattle.farkas_proof.proofs.WalkLemmas.{round-leads}
 use Rattle.farkas_proof.proofs.walk.Walk.judge_round.Goals as goal

@@ -2,7 +2,7 @@ use Rattle.std.proofs.Common.{◌≡◌, ◌∙◌, ◌&&◌, ap, sym, true, rul
 use Rattle.lin_atoms.specs.Denial.{lit_fits}
 use Rattle.lin_atoms.specs.Linear.{Linear}
 use Rattle.lin_atoms.specs.declared.lit.Lit.TheVariants.{Le}
-use Rattle.farkas_proof.specs.Combination.{one_minus}
+use Rattle.refutation_trees.specs.Combination.{one_minus}
 use Rattle.farkas_proof.specs.machinery.Walk.{after, opened}
 use Rattle.farkas_proof.proofs.WalkLemmas.{split-leads}
 use Rattle.farkas_proof.proofs.walk.Walk.judge_split.Goals as goal

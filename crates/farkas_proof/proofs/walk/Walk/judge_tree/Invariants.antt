@@ -1,5 +1,6 @@
 use Rattle.std.proofs.Common.{◌≡◌, ◌+◌, ◌≤◌}
-use Rattle.farkas_proof.specs.machinery.Walk.{found_in, size, weight}
+use Rattle.refutation_trees.specs.machinery.Sizes.{size}
+use Rattle.farkas_proof.specs.machinery.Walk.{found_in, weight}
 use Rattle.farkas_proof.proofs.walk.Walk.judge_tree.Given as goal
 
 -- what is found stays, and less is ahead

@@ -1,5 +1,5 @@
 use Rattle.std.proofs.Common.{◌∷◌, [], subst, sym}
-use Rattle.farkas_proof.specs.Refutation.{Finding}
+use Rattle.refutation_trees.specs.Refutation.{Finding}
 use Rattle.farkas_proof.specs.machinery.Walk.{Leads, found, opened}
 use Rattle.farkas_proof.proofs.WalkLemmas.{with-more}
 use Rattle.farkas_proof.proofs.walk.Walk.judge_under.Goals as goal

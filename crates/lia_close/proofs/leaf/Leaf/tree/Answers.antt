@@ -2,8 +2,8 @@ use Rattle.std.proofs.Common.{◌∙◌, ap, sym, rules, FitsSigned, List, ℕ, 
 use Rattle.std.specs.Prelude.{ℤ}
 use Rattle.std.specs.Int.{w64}
 use Rattle.std.proofs.lemmas.Int.{to_z-of_z}
-use Rattle.farkas_proof.specs.declared.tree.Refutation.{Refutation}
-use Rattle.farkas_proof.specs.declared.tree.Refutation.TheViews.{Round}
+use Rattle.refutation_trees.specs.declared.tree.Refutation.{Refutation}
+use Rattle.refutation_trees.specs.declared.tree.Refutation.TheViews.{Round}
 use Rattle.lia_close.specs.declared.leaf.Rounding.{Rounding}
 use Rattle.lia_close.specs.machinery.Closing.{under}
 use Rattle.lia_close.proofs.StackLemmas.{under-push}

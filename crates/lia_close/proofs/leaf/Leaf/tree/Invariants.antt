@@ -1,5 +1,5 @@
 use Rattle.std.proofs.Common.{◌≡◌, length}
-use Rattle.farkas_proof.specs.declared.tree.Refutation.TheVariants.{Leaf}
+use Rattle.refutation_trees.specs.declared.tree.Refutation.TheVariants.{Leaf}
 use Rattle.lia_close.specs.machinery.Closing.{under}
 use Rattle.lia_close.proofs.leaf.Leaf.tree.Given as goal
 

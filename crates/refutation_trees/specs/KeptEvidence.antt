@@ -1,0 +1,10 @@
+-- What a form that was given up is, and its evidence.
+use Rattle.lin_atoms.specs.declared.form.Form.{Form}
+use Rattle.refutation_trees.specs.declared.evidence.Evidence.{Evidence}
+use Rattle.refutation_trees.specs.declared.gave_up.GaveUp.{GaveUp}
+
+abbrev pub given_form : GaveUp → Form
+given_form gave_up = gave_up.form
+
+abbrev pub given_evidence : GaveUp → Evidence
+given_evidence gave_up = gave_up.evidence

@@ -1,0 +1,3 @@
+-- What the code keeps for itself: no rule cites it.
+pub mod Copying
+pub mod Sizes
