@@ -1,7 +1,7 @@
 use Rattle.std.proofs.Common.{◌≡◌, ℕ, ap, ◌∙◌, rules, FitsSigned}
 use Rattle.std.specs.Int.{w64}
 use Rattle.std.proofs.lemmas.Int.{to_z-of_z}
-use Rattle.farkas_proof.specs.Refutation.{form_end}
+use Rattle.refutation_trees.specs.Refutation.{form_end}
 use Rattle.lia_stack.specs.machinery.Searched.{value_of}
 use Rattle.lia_stack.proofs.SearchLemmas.{cut-more}
 use Rattle.lia_stack.proofs.cutting.cut.Goals as goal
