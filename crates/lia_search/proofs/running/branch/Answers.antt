@@ -1,4 +1,4 @@
-use Rattle.std.proofs.Common.{◌≡◌, ap, ◌∙◌, List, length, ℕ, Option, refl, subst, sym}
+use Rattle.std.proofs.Common.{◌≡◌, ◌<◌, ap, ◌∙◌, List, length, ℕ, Option, refl, subst, sym}
 use Rattle.std.specs.List.{list_all}
 use Rattle.std.specs.Option.{IfSome}
 use Rattle.lin_atoms.specs.declared.lit.Lit.{Lit}
@@ -8,6 +8,7 @@ use Rattle.refutation_trees.specs.declared.tree.Refutation.{Refutation}
 use Rattle.node_rows.specs.Known.{are_known, has_short_constant}
 use Rattle.lia_close.specs.Placed.{IsSoundAt, Place}
 use Rattle.lia_close.specs.Said.{AreReasons}
+use Rattle.lia_stack.specs.declared.state.Search.{Search}
 use Rattle.lia_stack.proofs.Public.{closed-bounds, closes-named, named-keeps, splits-named, top, top-known, top-short}
 use Rattle.lia_search.proofs.RunLemmas.{closes-goes}
 use Rattle.lia_search.proofs.running.branch.Goals as goal
@@ -46,6 +47,9 @@ split_sides-requires-clause-solution c = named-keeps (λ q lits. HasSolution q l
 
 pub split_sides-requires-clause-vertex : goal.split_sides-requires-clause-vertex
 split_sides-requires-clause-vertex c = named-keeps (λ q lits. HasVertexBetween (system q lits) c.args.variable c.args.floor) c.args.search.now c.name.new.self c.args.waiting c.name.new.waiting c.in_ok-name.ensures c.requires.vertex
+
+pub split_sides-requires-clause-room : goal.split_sides-requires-clause-room
+split_sides-requires-clause-room c = subst (λ (s : Search). s.count < s.nodes) (sym c.in_ok-name.ensures.steps) c.requires.room
 
 pub returns : goal.returns
 returns c = splits-named c.args.search.now c.name.new.self _ c.args.waiting c.name.new.waiting c.in_ok-name.ensures c.in_ok-split_sides.ensures
