@@ -15,7 +15,7 @@ use base::Memory;
 use farkas_proof::{CheckStop, check};
 use lia_parts::{Move, Said, guessed};
 use lin_atoms::Lit;
-use refutation_trees::{Refutation, Refutation};
+use refutation_trees::Refutation;
 use std::alloc::Global;
 
 /// The tree of the moves, where it is a proof by what the node knows: its own literals and what is

@@ -9,7 +9,7 @@ use crate::chain::chain_tree;
 use base::{Boxed, Memory};
 use lia_parts::{Chain, Move};
 use lin_atoms::Lin;
-use refutation_trees::{Refutation, Refutation};
+use refutation_trees::Refutation;
 use std::alloc::Global;
 
 /// The two sides of a split.

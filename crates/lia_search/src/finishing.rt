@@ -13,7 +13,7 @@ use base::Memory;
 use farkas_proof::{CheckStop, Refuted, check_owned};
 use lia_stack::{End, cut};
 use lin_atoms::Form;
-use refutation_trees::{GaveUp, GaveUp, Refutation, Refutation};
+use refutation_trees::{GaveUp, Refutation};
 use std::alloc::Global;
 
 /// The form with its refutation, which is checked once more where it is kept.
