@@ -43,26 +43,9 @@ impl Walk {
     }
 }
 
-fn are_equal(first: &[i64], second: &[i64]) -> bool {
-    if first.len() != second.len() {
-        return false;
-    }
-    for (at, value) in first.iter().enumerate() {
-        match second.get(at) {
-            Some(other) => {
-                if *value != *other {
-                    return false;
-                }
-            }
-            None => return false,
-        }
-    }
-    true
-}
-
 fn has(met: &[Met], pred: u32, tuple: &[i64]) -> bool {
     for one in met {
-        if one.pred == pred && are_equal(one.tuple.as_slice(), tuple) {
+        if one.pred == pred && one.tuple.as_slice() == tuple {
             return true;
         }
     }

@@ -1,8 +1,8 @@
 -- Cubes over the first places of variables.
-use Rattle.std.proofs.Common.{◌≡◌, ℕ, zero, suc, ◌+◌, ◌<◌, ◌≤◌, List, [], ◌∷◌, ◌++◌, length, drop, get_or, map, Bool, true, false, ◌&&◌, ◌||◌, cond, refl, ap, ap₂, sym, ◌∙◌, arith, inl, inr}
+use Rattle.std.proofs.Common.{◌≡◌, ℕ, zero, suc, ◌+◌, ◌<◌, ◌≤◌, List, [], ◌∷◌, ◌++◌, length, drop, take, get_or, map, Bool, true, false, ◌&&◌, ◌||◌, cond, refl, ap, ap₂, sym, ◌∙◌, arith, inl, inr}
 use Rattle.std.specs.Prelude.{ℤ, nat_abs, nat_le, ◌==◌, ◌⊎◌}
 use Rattle.std.specs.List.{list_all, list_any, range_with_len}
-use Rattle.std.proofs.lemmas.List.{map-append}
+use Rattle.std.proofs.lemmas.List.{map-append, map_more}
 use Rattle.std.proofs.lemmas.Bool.{cases_lt}
 use Rattle.std.proofs.lemmas.Bool.Decides.{nat_tests}
 use mathlib.Core.Bool.{true≢false}
@@ -147,3 +147,9 @@ wide-more (x ∷ xs) ys h = or-more (list_any is_wide_term (linear_of x).terms) 
 pub apart-more : (xs ys : List Lit) → list_all lit_fits xs ≡ false → list_all lit_fits (xs ++ ys) ≡ false
 apart-more [] ys h = absurd (true≢false h)
 apart-more (x ∷ xs) ys h = and-more (lit_fits x) (list_all lit_fits xs) (list_all lit_fits (xs ++ ys)) (apart-more xs ys) h
+
+-- one more literal
+pub placed-more : (args : List ℕ) (cube : List Lit) (i : ℕ) (lit made : Lit) (before new : List Lit) → i < length cube → lit ≡ get_or cube i lit → made ≡ lit_in_places args lit
+    → before ≡ map (lit_in_places args) (take i cube) → new ≡ before ++ made ∷ [] → new ≡ map (lit_in_places args) (take (i + 1) cube)
+placed-more args cube i lit made before new less is placed sofar more =
+    more ∙ ap₂ (λ (xs : List Lit) (x : Lit). xs ++ x ∷ []) sofar (placed ∙ ap (lit_in_places args) is) ∙ sym (map_more (lit_in_places args) cube i lit less)

@@ -1,6 +1,7 @@
 -- The first that passes, or of which something is told, as loops find it.
-use Rattle.std.proofs.Common.{◌≡◌, ℕ, zero, suc, ◌+◌, ◌≤◌, List, [], ◌∷◌, length, drop, Bool, true, false, cond, Some, None, refl, ap, sym, ◌∙◌, arith}
+use Rattle.std.proofs.Common.{◌≡◌, ℕ, zero, suc, ◌+◌, ◌<◌, ◌≤◌, List, [], ◌∷◌, length, drop, get_or, map, Bool, true, false, cond, Some, None, refl, ap, sym, ◌∙◌, arith}
 use Rattle.std.specs.Prelude.{Option, slice_get}
+use Rattle.std.proofs.lemmas.List.{at_drop_all, drop_more}
 use Rattle.book_rules.specs.Walks.{first_told, number_from, or_else}
 use Rattle.cube_rules.proofs.TestLemmas.{plus-one}
 
@@ -47,3 +48,15 @@ is-told tell (y ∷ xs) zero x b there told =
     let same : y ≡ x = cc in
     ap (λ found. or_else found (first_told tell xs)) (ap tell same ∙ told)
 is-told tell (y ∷ xs) (suc i) x b there told = is-told tell xs i x b there told
+
+-- the same of what each item becomes
+pub told-along : {X Y B : Type 0} (tell : X → Option B) (f : Y → X) (ys : List Y) (i : ℕ) (y : Y) → i < length ys → y ≡ get_or ys i y → tell (f y) ≡ None → first_told tell (map f (drop i ys)) ≡ first_told tell (map f (drop (i + 1) ys))
+told-along tell f ys i y less is untold =
+    ap (λ zs. first_told tell (map f zs)) (drop_more ys i y less) ∙ ap (λ told. or_else told (first_told tell (map f (drop (i + 1) ys)))) (ap (λ z. tell (f z)) (sym is) ∙ untold)
+
+pub told-by : {X Y B : Type 0} (tell : X → Option B) (f : Y → X) (ys : List Y) (i : ℕ) (y : Y) (b : B) → i < length ys → y ≡ get_or ys i y → tell (f y) ≡ Some b → first_told tell (map f (drop i ys)) ≡ Some b
+told-by tell f ys i y b less is told =
+    ap (λ zs. first_told tell (map f zs)) (drop_more ys i y less) ∙ ap (λ found. or_else found (first_told tell (map f (drop (i + 1) ys)))) (ap (λ z. tell (f z)) (sym is) ∙ told)
+
+pub told-over : {X Y B : Type 0} (tell : X → Option B) (f : Y → X) (ys : List Y) (i : ℕ) → length ys ≤ i → first_told tell (map f (drop i ys)) ≡ None
+told-over tell f ys i past = at_drop_all (λ zs. first_told tell (map f zs)) ys i past

@@ -1,9 +1,10 @@
 -- What is marked after a step, and what is collected.
-use Rattle.std.proofs.Common.{◌≡◌, ℕ, ◌+◌, ◌<◌, ◌≤◌, Bool, true, false, List, [], ◌∷◌, ◌++◌, length, get_or, set, take, replicate, refl, ap, sym, subst, ◌∙◌, arith, inl, inr}
+use Rattle.std.proofs.Common.{◌≡◌, ℕ, ◌+◌, ◌<◌, ◌≤◌, Bool, true, false, List, [], ◌∷◌, ◌++◌, length, get_or, set, take, drop, replicate, refl, ap, sym, subst, ◌∙◌, arith, inl, inr}
 use Rattle.std.specs.Prelude.{◌⊎◌, ◌↔◌}
 use Rattle.std.specs.List.{All, Contains}
-use Rattle.std.proofs.lemmas.Bool.{cases_eq, cases_lt, cases_order}
-use Rattle.std.proofs.lemmas.List.{get_or_past, get_or_push, get_or_append_left, get_or-replicate, get_or-set_same, get_or-set_other, length-append, length-replicate, take_more}
+use Rattle.std.proofs.lemmas.Bool.{cases_eq, cases_lt}
+use Rattle.std.proofs.lemmas.List.{append-nil, drop_all, get_or_past, get_or-replicate, get_or-set_same, get_or-set_other, length-replicate, length-set, take_all, take_more}
+use mathlib.Core.Bool.{true≢false}
 use Rattle.std.proofs.lemmas.List.Elements.{All-contains, Contains-append_left, Contains-get_or, Contains-push, Contains-push_cases}
 use Rattle.std.proofs.lemmas.List.Quantifiers.{all_pairs_push}
 use Rattle.derivations.specs.declared.fact.Fact.{Fact}
@@ -137,16 +138,27 @@ mark_none old m = (λ marked. inl marked, back) where
   back (inl marked) = marked
   back (inr (k, l, is)) = absurd (omega arith)
 
--- one mark at the end
-pub one_long : (n : ℕ) → length (replicate n false ++ true ∷ []) ≡ n + 1
-one_long n = let a = length-append (replicate n false) (true ∷ []) in let b = length-replicate n false in omega arith
+-- one mark alone
+pub one_long : (n : ℕ) → length (set (replicate (n + 1) false) n true) ≡ n + 1
+one_long n = length-set (replicate (n + 1) false) n true ∙ length-replicate (n + 1) false
 
-pub one_marked : (n m : ℕ) → IsMarked (replicate n false ++ true ∷ []) m ↔ (m ≡ n)
-one_marked n m = (λ marked. front (cases_order m n) marked, λ e. subst (λ k. IsMarked (replicate n false ++ true ∷ []) k) (sym e) (get_or_push (replicate n false) true false n (length-replicate n false))) where
-  long : length (replicate n false) ≡ n
-  long = length-replicate n false
+pub one_marked : (n m : ℕ) → IsMarked (set (replicate (n + 1) false) n true) m ↔ (m ≡ n)
+one_marked n m = (λ marked. front (cases_eq m n) marked, λ e. subst (λ k. IsMarked (set none n true) k) (sym e) (get_or-set_same none n true false (omega (arith, long)))) where
+  none : List Bool
+  none = replicate (n + 1) false
 
-  front : (m ≡ n) ⊎ ((m < n) ⊎ (n < m)) → IsMarked (replicate n false ++ true ∷ []) m → m ≡ n
+  long : length none ≡ n + 1
+  long = length-replicate (n + 1) false
+
+  not_there : (m < n + 1) ⊎ (n + 1 ≤ m) → get_or none m false ≡ false
+  not_there (inl less) = get_or-replicate (n + 1) m false false less
+  not_there (inr past') = get_or_past none m false (omega (arith, long))
+
+  front : (m ≡ n) ⊎ (m ≡ n → ⊥) → IsMarked (set none n true) m → m ≡ n
   front (inl e) marked = e
-  front (inr (inl less)) marked = (let in' : m < length (replicate n false) = omega (arith, long) in let no : get_or (replicate n false ++ true ∷ []) m false ≡ false = get_or_append_left (replicate n false) (true ∷ []) false m in' ∙ get_or-replicate n m false false less in absurd (cc))
-  front (inr (inr past')) marked = (let all = one_long n in let no : get_or (replicate n false ++ true ∷ []) m false ≡ false = get_or_past (replicate n false ++ true ∷ []) m false (omega (arith, all)) in absurd (cc))
+  front (inr other) marked = absurd (true≢false (sym marked ∙ get_or-set_other none n m true false other ∙ not_there (cases_lt m (n + 1))))
+
+-- what is written through a slice of all marks is all of them
+pub written : (new old : List Bool) (n : ℕ) → length new ≡ n → length old ≡ n → take n (new ++ drop (length new) old) ≡ new
+written new old n long-new long-old =
+    ap (λ rest. take n (new ++ rest)) (drop_all (length new) old (omega (arith, long-new, long-old))) ∙ ap (λ xs. take n xs) (append-nil new) ∙ take_all n new (omega (arith, long-new))

@@ -37,11 +37,8 @@ fn first(alloc: Global, id: u32) -> Result<Vec<bool>, Memory>
     ensures long { IfOk result (λ marks. length marks.items ≡ id + 1) }
     ensures marked { IfOk result (λ marks. (m : ℕ) → IsMarked marks.items m ↔ (m ≡ id)) }
 {
-    let mut marks = Vec::with_capacity(alloc, id as usize + 1)?;
-    for _ in 0..id {
-        marks.push(false)?;
-    }
-    marks.push(true)?;
+    let mut marks = vec![in alloc; false; id as usize + 1]?;
+    marks[id as usize] = true;
     Ok(marks)
 }
 

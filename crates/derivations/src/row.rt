@@ -32,9 +32,8 @@ fn inserted(alloc: Global, numbers: &[u32], at: usize, id: u32) -> Result<Items<
     ensures { IfOk result (λ longer. longer ≡ insert numbers.now at id) }
 {
     let mut longer = Vec::with_capacity(alloc, numbers.len() + 1)?;
-    longer.extend_from_slice(&numbers[..at])?;
-    longer.push(id)?;
-    longer.extend_from_slice(&numbers[at..])?;
+    longer.extend_from_slice(numbers)?;
+    longer.insert(at, id)?;
     Ok(Items::from_vec(longer))
 }
 
@@ -44,19 +43,8 @@ fn key_inserted(alloc: Global, keys: &[i64], at: usize, key: i64) -> Result<Item
     ensures { IfOk result (λ longer. longer ≡ insert keys.now at key) }
 {
     let mut longer = Vec::with_capacity(alloc, keys.len() + 1)?;
-    longer.extend_from_slice(&keys[..at])?;
-    longer.push(key)?;
-    longer.extend_from_slice(&keys[at..])?;
-    Ok(Items::from_vec(longer))
-}
-
-/// A copy with one number more at the end.
-fn extended(alloc: Global, numbers: &[u32], id: u32) -> Result<Items<u32>, Memory>
-    ensures { IfOk result (λ longer. longer ≡ numbers.now ++ id ∷ []) }
-{
-    let mut longer = Vec::with_capacity(alloc, numbers.len() + 1)?;
-    longer.extend_from_slice(numbers)?;
-    longer.push(id)?;
+    longer.extend_from_slice(keys)?;
+    longer.insert(at, key)?;
     Ok(Items::from_vec(longer))
 }
 
@@ -66,7 +54,8 @@ pub(crate) fn with(alloc: Global, row: &Row, at: usize, id: u32, key: i64) -> Re
     requires keys { at ≤ length row.now.keys }
     ensures { IfOk result (λ longer. longer ≡ record { by_number = row.now.by_number ++ id ∷ []; by_tuple = insert row.now.by_tuple at id; keys = insert row.now.keys at key }) }
 {
-    let by_number = extended(alloc, row.by_number.as_slice(), id)?;
+    let numbers = row.by_number.as_slice();
+    let by_number = inserted(alloc, numbers, numbers.len(), id)?;
     let by_tuple = inserted(alloc, row.by_tuple.as_slice(), at, id)?;
     let keys = key_inserted(alloc, row.keys.as_slice(), at, key)?;
     Ok(Row {

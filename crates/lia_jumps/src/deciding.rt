@@ -6,23 +6,16 @@ ghost use Rattle.lin_atoms.specs.Linear.{is_short};
 ghost use Rattle.farkas_proof.specs.Kept.{form_of};
 ghost use Rattle.lia_search.specs.Decides.{Decides};
 
-use crate::back::{End, Search};
-use crate::nodes::Node;
-use crate::numbering::{Flat, flat_of, size};
-use crate::past::Past;
-use crate::writing::written;
-use base::{Copied, Memory};
+use base::Memory;
 use farkas_proof::{CheckStop, check};
+use lia_back::{End, search_back};
 use lia_search::Decision;
-use lin_atoms::{Form, Lin, Lit, holds};
+use lin_atoms::{Form, holds};
 use refutation_trees::Refutation;
 use std::alloc::Global;
 
 /// So many nodes are split at most for each inner node of a split tree that is allowed.
 const SPLITS: u32 = 4;
-
-/// A form that takes more numbers isn't searched.
-const MOST_NUMBERS: u32 = 1 << 20;
 
 /// One more than the greatest variable of the form, whose variables are below `vars`.
 fn end_of(form: &Form, vars: u32) -> u32 {
@@ -105,49 +98,6 @@ fn refuted(alloc: Global, form: &Form, tree: &Refutation) -> Result<Option<Decis
     }
 }
 
-/// The first node: the first `taken` literals have joined.
-fn first<'a>(alloc: Global, flat: Flat<'a>, taken: usize) -> Result<Node<'a>, Memory> {
-    let Flat { lits, cases } = flat;
-    let count = taken.min(lits.len());
-    let mut left_out = Vec::new(alloc);
-    left_out.extend_from_slice(&lits[count..])?;
-    let mut node = Node::new(alloc, left_out, cases);
-    for (lit, number) in &lits[..count] {
-        node.join(lit.copy(alloc)?, *number)?;
-    }
-    Ok(node)
-}
-
-fn zeros(alloc: Global, count: u32) -> Result<Vec<u32>, Memory> {
-    let mut made = Vec::with_capacity(alloc, count as usize)?;
-    'zeros: for _ in 0..count {
-        made.push(0)?;
-    }
-    Ok(made)
-}
-
-/// How a search of the form ends.
-fn searched(
-    alloc: Global,
-    form: &Form,
-    falsehood: &Lit,
-    taken: usize,
-    end: u32,
-    nodes: u32,
-) -> Result<End, Memory> {
-    let flat = flat_of(alloc, form, falsehood, 0)?;
-    let node = first(alloc, flat, taken)?;
-    let mut search = Search {
-        falsehood,
-        end,
-        frames: Vec::new(alloc),
-        count: 0,
-        weights: zeros(alloc, size(form))?,
-        past: Past::new(alloc, size(form)),
-    };
-    search.run(alloc, node, nodes.saturating_mul(SPLITS))
-}
-
 /// Decides the form, whose variables are below `vars`, where a search that goes back finds a point or a refutation
 /// with at most four splits for each of `nodes`. The first `taken` literals of the flattened form join at once, as
 /// for `search`. What is found is checked. A form isn't searched where three for each literal and one for each
@@ -161,18 +111,13 @@ pub fn decide_back(
 ) -> Result<Option<Decision>, Memory>
     ensures { IfOk result (λ found. IfSome found (λ decision. Decides form.now vars nodes decision)) }
 {
-    if size(form) > MOST_NUMBERS {
-        return Ok(None);
-    }
-    let falsehood = Lit::Le(Lin::of_constant(alloc, 1));
     let end = end_of(form, vars);
-    match searched(alloc, form, &falsehood, taken, end, nodes)? {
+    match search_back(alloc, form, taken, end, nodes.saturating_mul(SPLITS))? {
         End::Point(point) => {
             let found = model(alloc, form, point.as_slice(), end, vars)?;
             Ok(found)
         }
         End::Refuted(tree) => {
-            let tree = written(alloc, form, &falsehood, &tree, end)?;
             let found = refuted(alloc, form, &tree)?;
             Ok(found)
         }

@@ -1,6 +1,6 @@
 //! The loop of the search: a stack of nodes, depth first, with the tree that is written beside it.
 
-ghost use Rattle.std.specs.Prelude.{◌≡◌, ◌+◌, ◌<◌, ◌≤◌, [], Ok, IfOk};
+ghost use Rattle.std.specs.Prelude.{◌≡◌, ◌+◌, ◌<◌, ◌≤◌, IfOk};
 ghost use Rattle.base.specs.Limits.{most_rows};
 ghost use Rattle.int_rows.specs.Node.{end_of_quotients, system};
 ghost use Rattle.refutation_trees.specs.Split.{HasSolution, HasVertexBetween};

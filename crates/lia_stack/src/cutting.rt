@@ -19,7 +19,7 @@ fn value(point: &[i64], variable: usize, end: usize) -> i64
 
 /// `vars` values: those of the form's variables, and 0 for the others.
 pub fn cut(alloc: Global, form: &Form, point: &[i64], vars: u32) -> Result<Vec<i64>, Memory>
-    requires within { form_end form.now ≤ length point.now }
+    requires { form_end form.now ≤ length point.now }
     ensures { IfOk result (λ made. made.items ≡ cut point.now (form_end form.now) vars) }
 {
     let end = form_end(form) as usize;

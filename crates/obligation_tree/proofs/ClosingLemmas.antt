@@ -1,9 +1,9 @@
 -- Closing: the pass over the live obligations closes what the rule says, and what is left is a tree.
-use Rattle.std.proofs.Common.{◌≡◌, ℕ, suc, zero, ◌+◌, ◌-◌, ◌<◌, ◌≤◌, List, [], ◌∷◌, ◌++◌, length, set, take, drop, filter, Bool, true, false, cond, not, ◌&&◌, ◌||◌, refl, ap, sym, ◌∙◌, subst, arith, ◌⊎◌, inl, inr, ⊎_elim}
+use Rattle.std.proofs.Common.{◌≡◌, ℕ, suc, zero, ◌+◌, ◌-◌, ◌<◌, ◌≤◌, List, [], ◌∷◌, ◌++◌, length, get_or, set, take, drop, filter, Bool, true, false, cond, not, ◌&&◌, ◌||◌, refl, ap, sym, ◌∙◌, subst, arith, ◌⊎◌, inl, inr, ⊎_elim}
 use Rattle.std.specs.Prelude.{is_some, nat_lt}
 use Rattle.std.specs.List.{range_with_len}
 use Rattle.std.proofs.lemmas.Bool.{cases_lt, lt-ltb, le-ltb, false≢true, not-false}
-use Rattle.std.proofs.lemmas.List.{append-nil, append_assoc, get_or_append_left, get_or_at, get_or_past, set_at, take_more, take_all, drop_more, drop_all, length-take-le, length-append, length_push}
+use Rattle.std.proofs.lemmas.List.{append-nil, append_assoc, get_or_append_left, get_or_at, get_or_past, set_at, take_more, take_all, drop_more, drop_all, length-take-le, length-append, length-set, length_push}
 use Rattle.std.proofs.lemmas.List.Elements.{filter-append}
 use Rattle.obligation_tree.specs.Nodes.{absent, closed_with, is_live, is_live_at, live_numbers, node_at, parent_at, root}
 use Rattle.obligation_tree.specs.Closing.{after, closing, hits, is_closed_at, settled}
@@ -309,3 +309,20 @@ after-is (Raise level) entry xs = refl
 -- what is live has a parent that was given out
 pub live-parents : (xs : List Node) (i : ℕ) → IsTree xs → is_live_at xs i ≡ true → parent_at xs i < length xs
 live-parents xs i tree live = live-within xs (parent_at xs i) (tree.hung i live)
+
+-- the pass after one more number
+length-either : (b : Bool) (xs ys : List Node) → length xs ≡ length ys → length (cond {A = List Node} b xs ys) ≡ length ys
+length-either true xs ys same = same
+length-either false xs ys same = refl
+
+length-settled : (test : Test) (entry number : ℕ) (xs : List Node) → length (settled_at test entry number xs) ≡ length xs
+length-settled test entry number xs =
+    let closed = set xs number (closed_with entry (node_at xs number)) in
+    length-either (test number (node_at xs number).obligation || is_closed_at xs (node_at xs number).obligation.parent) closed xs (length-set xs number (closed_with entry (node_at xs number)))
+
+pub settle-more : (test : Test) (entry : ℕ) (ns : List ℕ) (i : ℕ) (nodes new initial : List Node) → i < length ns → new ≡ settled_at test entry (get_or ns i 0) nodes
+    → (length nodes ≡ length initial) × (settled_all test entry (drop i ns) nodes ≡ settled_all test entry ns initial) → (length new ≡ length initial) × (settled_all test entry (drop (i + 1) ns) new ≡ settled_all test entry ns initial)
+settle-more test entry ns i nodes new initial less is kept = (
+  ap (λ (xs : List Node). length xs) is ∙ length-settled test entry (get_or ns i 0) nodes ∙ kept.0,
+  ap (λ (xs : List Node). settled_all test entry (drop (i + 1) ns) xs) is ∙ sym (ap (λ (ms : List ℕ). settled_all test entry ms nodes) (drop_more ns i 0 less)) ∙ kept.1,
+)

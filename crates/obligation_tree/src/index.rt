@@ -1,6 +1,7 @@
 ghost use Rattle.std.specs.Prelude.{◌≡◌, [], ◌∷◌, ◌++◌, ◌==◌, not, filter, IfOk};
 
 use base::Memory;
+use cube_forms::Held;
 use std::alloc::Global;
 
 /// The numbers of the live obligations, and of those without live children, ascending.
@@ -36,13 +37,17 @@ fn extended(alloc: Global, numbers: &[u32], next: u32) -> Result<Vec<u32>, Memor
 
 impl Index {
     /// The lists with one more obligation, which hangs under a live one.
-    pub(crate) fn with(&self, alloc: Global, parent: u32, number: u32) -> Result<Index, Memory>
+    pub(crate) fn with(
+        &self,
+        alloc: Global,
+        parent: u32,
+        number: u32,
+    ) -> Result<Held<Index>, Memory>
         ensures live { IfOk result (λ index. index.live.items ≡ self.now.live.items ++ number ∷ []) }
         ensures leaves { IfOk result (λ index. index.leaves.items ≡ filter (λ leaf. not (parent == leaf)) self.now.leaves.items ++ number ∷ []) }
     {
-        Ok(Index {
-            live: extended(alloc, self.live.as_slice(), number)?,
-            leaves: replaced(alloc, self.leaves.as_slice(), parent, number)?,
-        })
+        let live = extended(alloc, self.live.as_slice(), number)?;
+        let leaves = replaced(alloc, self.leaves.as_slice(), parent, number)?;
+        Ok(Held::new(alloc, Index { live, leaves })?)
     }
 }

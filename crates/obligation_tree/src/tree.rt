@@ -46,12 +46,13 @@ impl Tree {
     pub fn new(alloc: Global) -> Result<Tree, Memory>
         ensures { IfOk result (λ tree. tree ≡ record { nodes = fresh (root 1) ∷ []; claims = replicate most_workers None }) }
     {
+        let node = Node::new(alloc, root(alloc)?)?;
         let mut nodes = Table::new(alloc)?;
-        nodes.push(Node::new(alloc, root(alloc)?)?)?;
+        nodes.push(node)?;
         let index = first(alloc)?;
         Ok(Tree {
             nodes,
-            index: Held::new(alloc, index)?,
+            index,
             claims: [None; WORKERS],
         })
     }
@@ -137,7 +138,6 @@ impl Tree {
         let number = self.nodes.count();
         let alloc = *self.index.get().leaves.allocator();
         let index = self.index.get().with(alloc, obligation.parent, number)?;
-        let index = Held::new(alloc, index)?;
         let node = Node::new(alloc, obligation)?;
         self.nodes.push(node)?;
         self.index = index;
@@ -211,9 +211,11 @@ impl Tree {
     pub fn share(&self) -> Result<Tree, Memory>
         ensures { IfOk result (λ tree. tree ≡ self.now) }
     {
+        let index = self.index.share()?;
+        let nodes = self.nodes.share()?;
         Ok(Tree {
-            nodes: self.nodes.share()?,
-            index: self.index.share()?,
+            nodes,
+            index,
             claims: self.claims,
         })
     }
@@ -246,14 +248,13 @@ fn empty(alloc: Global) -> Result<Cube, Memory>
 }
 
 /// The lists of the root alone.
-fn first(alloc: Global) -> Result<Index, Memory>
+fn first(alloc: Global) -> Result<Held<Index>, Memory>
     ensures live { IfOk result (λ index. index.live.items ≡ 0 ∷ []) }
     ensures leaves { IfOk result (λ index. index.leaves.items ≡ 0 ∷ []) }
 {
-    Ok(Index {
-        live: Vec::from_slice(alloc, &[0])?,
-        leaves: Vec::from_slice(alloc, &[0])?,
-    })
+    let live = Vec::from_slice(alloc, &[0])?;
+    let leaves = Vec::from_slice(alloc, &[0])?;
+    Ok(Held::new(alloc, Index { live, leaves })?)
 }
 
 /// Whether the number is one of these, which ascend.

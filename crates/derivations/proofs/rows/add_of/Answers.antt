@@ -1,7 +1,8 @@
-use Rattle.std.proofs.Common.{◌≡◌, ◌∷◌, ◌++◌, [], length, get_or, Some, None, FitsSigned, rules, ap, sym, subst, ◌∙◌}
+use Rattle.std.proofs.Common.{◌≡◌, ℕ, ℤ, ◌≤◌, List, ◌∷◌, ◌++◌, [], length, map, get_or, Some, None, FitsSigned, rules, ap, sym, subst, ◌∙◌, arith}
 use Rattle.std.specs.Int.{w64}
 use Rattle.std.proofs.lemmas.Int.{to_z-of_z}
 use Rattle.std.specs.List.{insert}
+use Rattle.std.proofs.lemmas.List.{length-map}
 use Rattle.derivations.specs.Facts.{tuple_of}
 use Rattle.derivations.specs.machinery.Index.{IsIndexed, IsRank, empty, key_of}
 use Rattle.derivations.proofs.IndexLemmas.{index_of, index_same, row_is, tuples_keyed, tuples_order, tuples_there}
@@ -43,3 +44,21 @@ returns-clause-index c =
     let is : c.in_ok-row-2.row ≡ record { by_number = old.by_number ++ length fs ∷ []; by_tuple = insert old.by_tuple at (length fs); keys = insert old.keys at (key_of tuple) } =
     c.in_ok-row-2.ensures ∙ longer ∙ row_is c.row_of-old.result.now old at c.count-id.result (length fs) c.key_of.result (key_of tuple) c.row_of-old.ensures c.count-id.ensures (c.key_of.ensures ∙ ap key_of c.as_slice-tuple.ensures) in
     rw (c.put.ensures, c.in_ok-add.ensures.ok) (index_of rows fs c.args.fact c.args.pred at c.in_ok-row-2.row index c.requires.pred c.in_ok-grow.ensures.there c.requires.there c.requires.fresh (λ none. (let both : Some c.args.pred ≡ None = sym c.requires.pred ∙ none in absurd (cc))) rank is)
+
+pub put-requires : goal.put-requires
+put-requires c = c.in_ok-grow.ensures.there
+
+pub add-requires-clause-there : goal.add-requires-clause-there
+add-requires-clause-there c = c.requires.there
+
+pub with-requires-clause-keys : goal.with-requires-clause-keys
+with-requires-clause-keys c =
+    let fs = c.args.notes.now in
+    let keyed : c.as_slice-2.result.now ≡ map (λ n. key_of (tuple_of fs n)) c.as_slice.result.now =
+    tuples_keyed c.grow.new.rows.items fs c.args.pred c.as_slice.result.now c.as_slice-2.result.now (index_same c.args.rows.now.items c.grow.new.rows.items fs c.in_ok-grow.ensures.same c.requires.index) (c.as_slice.ensures ∙ ap (λ r. r.by_tuple) c.row_of-old.ensures) (c.as_slice-2.ensures ∙ ap (λ r. r.keys) c.row_of-old.ensures) in
+    let long : length c.row_of-old.result.now.keys ≡ length c.as_slice.result.now = ap (λ (ks : List ℤ). length ks) (sym c.as_slice-2.ensures ∙ keyed) ∙ length-map c.as_slice.result.now (λ n. key_of (tuple_of fs n)) in
+    let within = c.rank-at.ensures.within in
+    omega (arith, long)
+
+pub with-requires-clause-tuples : goal.with-requires-clause-tuples
+with-requires-clause-tuples c = subst (λ (ns : List ℕ). c.rank-at.result ≤ length ns) c.as_slice.ensures c.rank-at.ensures.within

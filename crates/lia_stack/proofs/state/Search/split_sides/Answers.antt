@@ -12,6 +12,5 @@ returns c =
     let has_room : FitsSigned w64 c.args.floor = search rules in
     let lin = simp to_z-of_z at c.in_ok-lin.ensures in
     let sides = simp to_z-of_z at c.in_ok-push_sides.ensures in
-    let vertex = simp to_z-of_z at c.requires.vertex in
-    sided c.args.self.now _ c.args.waiting c.args.variable c.args.floor c.requires.is c.requires.full c.requires.solution vertex (omega (arith, ints, fits)) refl
+    sided c.args.self.now _ c.args.waiting c.args.variable c.args.floor c.requires.is c.requires.full c.requires.solution c.requires.vertex (omega (arith, ints, fits)) refl
     (c.in_ok-push.ensures.items ∙ ap (λ (l : Linear). c.args.self.now.steps.items ++ Split l ∷ []) lin) sides
