@@ -3,7 +3,7 @@
 ghost use Rattle.std.specs.Prelude.{◌<◌};
 
 use crate::cubes::cube_of;
-use crate::hulls::Known;
+use crate::hull::Known;
 use base::{Copied, Items, Memory};
 use clause_form::{Atom, Clause};
 use lia_cases::{Decision, decide_owned};

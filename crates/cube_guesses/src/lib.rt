@@ -3,8 +3,8 @@
 #![tactic(auto)]
 
 mod cubes;
+mod hull;
 mod hull_queries;
-mod hulls;
 mod reducing;
 mod settling;
 mod shutting;

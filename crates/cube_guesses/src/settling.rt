@@ -1,8 +1,8 @@
 //! Hulls of all predicates: what each clause keeps, found by asking it for tuples that break it
 //! (Karr, "Affine relationships among variables of a program", for the equations).
 
+use crate::hull::{Known, MOST_WITH_RESIDUES, hull_of};
 use crate::hull_queries::{Verdict, visit_divisibilities, visit_equations};
-use crate::hulls::{Known, MOST_WITH_RESIDUES, hull_of};
 use crate::shutting::broken_at;
 use base::Memory;
 use clause_form::{Atom, Clause, System};
