@@ -64,7 +64,3 @@ insert_has xs i y = Contains-permutation (y ∷ xs) (insert xs i y) y (IsPermuta
 
 pub insert_keeps : {X : Type 0} (xs : List X) (i : ℕ) (y z : X) → Contains xs z → Contains (insert xs i y) z
 insert_keeps xs i y z has = Contains-permutation (y ∷ xs) (insert xs i y) z (IsPermutation-insert xs i y) (Contains-append_right (y ∷ []) xs z has)
-
-pub insert_end : {X : Type 0} (xs : List X) (x : X) → insert xs (length xs) x ≡ xs ++ x ∷ []
-insert_end [] x = refl
-insert_end (y ∷ ys) x = ap (λ zs. y ∷ zs) (insert_end ys x)

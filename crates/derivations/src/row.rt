@@ -48,14 +48,23 @@ fn key_inserted(alloc: Global, keys: &[i64], at: usize, key: i64) -> Result<Item
     Ok(Items::from_vec(longer))
 }
 
+/// A copy with one number more at the end.
+fn extended(alloc: Global, numbers: &[u32], id: u32) -> Result<Items<u32>, Memory>
+    ensures { IfOk result (λ longer. longer ≡ numbers.now ++ id ∷ []) }
+{
+    let mut longer = Vec::with_capacity(alloc, numbers.len() + 1)?;
+    longer.extend_from_slice(numbers)?;
+    longer.push(id)?;
+    Ok(Items::from_vec(longer))
+}
+
 /// A copy of a row with one fact more, which is the last by number and stands at a place by tuple.
 pub(crate) fn with(alloc: Global, row: &Row, at: usize, id: u32, key: i64) -> Result<Row, Memory>
     requires tuples { at ≤ length row.now.by_tuple }
     requires keys { at ≤ length row.now.keys }
     ensures { IfOk result (λ longer. longer ≡ record { by_number = row.now.by_number ++ id ∷ []; by_tuple = insert row.now.by_tuple at id; keys = insert row.now.keys at key }) }
 {
-    let numbers = row.by_number.as_slice();
-    let by_number = inserted(alloc, numbers, numbers.len(), id)?;
+    let by_number = extended(alloc, row.by_number.as_slice(), id)?;
     let by_tuple = inserted(alloc, row.by_tuple.as_slice(), at, id)?;
     let keys = key_inserted(alloc, row.keys.as_slice(), at, key)?;
     Ok(Row {

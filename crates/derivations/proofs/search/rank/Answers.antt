@@ -1,6 +1,5 @@
-use Rattle.std.proofs.Common.{◌≡◌, ℤ, pos, ◌+◌, ◌-◌, ◌/◌, ◌<◌, List, length, get_or, ap, ◌∙◌, arith}
-use Rattle.std.proofs.lemmas.Int.{to_z-of_z}
-use Rattle.std.proofs.lemmas.List.{get_or-map, length-map}
+use Rattle.std.proofs.Common.{◌≡◌, ℤ, ◌+◌, ◌-◌, ◌/◌, List, length, ap, ◌∙◌, arith}
+use Rattle.std.proofs.lemmas.List.{length-map}
 use Rattle.derivations.specs.machinery.Index.{key_of}
 use Rattle.derivations.specs.Facts.{tuple_of}
 use Rattle.derivations.proofs.SearchLemmas.{rank_low, rank_high}
@@ -17,17 +16,6 @@ loop-low-preserved c =
     let inv = c.loop-low.invariant in let test = c.loop-low-test.true in let within = inv.1 in
     let middle = c.loop-low.low + (c.loop-low.high - c.loop-low.low) / 2 in
     (omega arith, omega arith, inv.2, rank_high (tuple_of c.args.notes.now) c.args.row.now c.args.tuple.now middle c.requires.order (omega arith) (c.is_below.ensures.behind c.if-is_below.false))
-
-pub is_below-requires-clause-own : goal.is_below-requires-clause-own
-is_below-requires-clause-own c =
-    let fs = c.args.notes.now in
-    let test = c.loop-low-test.true in
-    let high = c.loop-low.invariant.1 in
-    let middle = c.loop-low.low + (c.loop-low.high - c.loop-low.low) / 2 in
-    let within : middle < length c.args.row.now = omega arith in
-    let own : get_or c.args.keys.now middle (pos 0) ≡ key_of (tuple_of fs (get_or c.args.row.now middle 0)) =
-    ap (λ (ks : List ℤ). get_or ks middle (pos 0)) c.requires.keyed ∙ get_or-map (λ n. key_of (tuple_of fs n)) c.args.row.now middle 0 (pos 0) within in
-    simp to_z-of_z own
 
 pub bounds-keys-middle : goal.bounds-keys-middle
 bounds-keys-middle c =
