@@ -308,13 +308,15 @@ pub fn written<'a>(
     end: u32,
 ) -> Result<Refutation, Memory> {
     let flat = flat_of(alloc, form, falsehood, 0)?;
+    let mut used = Vec::new(alloc);
+    closed.tree.put_used(&mut used)?;
     let mut writing = Writing {
         falsehood,
         numbers: Vec::new(alloc),
         branches: Vec::new(alloc),
         before: Vec::new(alloc),
         names: Vec::new(alloc),
-        used: Vec::new(alloc),
+        used,
         open: Vec::new(alloc),
         later: Vec::new(alloc),
         steps: Vec::new(alloc),
@@ -322,7 +324,6 @@ pub fn written<'a>(
         multipliers: 0,
         terms: 0,
     };
-    writing.tree.put_used(&mut writing.used)?;
     let place = Place {
         known: 0,
         end,
@@ -330,10 +331,6 @@ pub fn written<'a>(
         branches: 0,
     };
     writing.write_all(alloc, &flat, place)?;
-    joined(
-        alloc,
-        writing.steps.as_slice(),
-        &mut writing.tree.multipliers,
-        &mut writing.tree.terms,
-    )
+    writing.tree.steps = std::mem::replace(&mut writing.steps, Vec::new(alloc));
+    joined(alloc, &mut writing.tree)
 }
