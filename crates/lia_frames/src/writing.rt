@@ -331,6 +331,7 @@ pub fn written<'a>(
         branches: 0,
     };
     writing.write_all(alloc, &flat, place)?;
-    writing.tree.steps = std::mem::replace(&mut writing.steps, Vec::new(alloc));
-    joined(alloc, &mut writing.tree)
+    let mut tree = std::mem::replace(&mut writing.tree, Tree::new(alloc));
+    tree.steps = std::mem::replace(&mut writing.steps, Vec::new(alloc));
+    joined(alloc, &mut tree)
 }
