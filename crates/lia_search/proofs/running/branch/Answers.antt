@@ -1,6 +1,8 @@
-use Rattle.std.proofs.Common.{◌≡◌, ◌<◌, ap, ◌∙◌, List, length, ℕ, Option, refl, subst, sym}
+use Rattle.std.proofs.Common.{◌≡◌, ◌<◌, ap, ◌∙◌, List, length, ℕ, Option, refl, subst, sym, rules, FitsSigned}
+use Rattle.std.specs.Int.{w64}
 use Rattle.std.specs.List.{list_all}
 use Rattle.std.specs.Option.{IfSome}
+use Rattle.std.proofs.lemmas.Int.{to_z-of_z}
 use Rattle.lin_atoms.specs.declared.lit.Lit.{Lit}
 use Rattle.int_rows.specs.Node.{system}
 use Rattle.refutation_trees.specs.Split.{HasSolution, HasVertexBetween}
@@ -46,7 +48,10 @@ pub split_sides-requires-clause-solution : goal.split_sides-requires-clause-solu
 split_sides-requires-clause-solution c = named-keeps (λ q lits. HasSolution q lits) c.args.search.now c.name.new.self c.args.waiting c.name.new.waiting c.in_ok-name.ensures c.requires.solution
 
 pub split_sides-requires-clause-vertex : goal.split_sides-requires-clause-vertex
-split_sides-requires-clause-vertex c = named-keeps (λ q lits. HasVertexBetween (system q lits) c.args.variable c.args.floor) c.args.search.now c.name.new.self c.args.waiting c.name.new.waiting c.in_ok-name.ensures c.requires.vertex
+split_sides-requires-clause-vertex c =
+    let fits = c.ranges.floor.sfits in
+    let has_room : FitsSigned w64 c.args.floor = search rules in
+    simp to_z-of_z (named-keeps (λ q lits. HasVertexBetween (system q lits) c.args.variable c.args.floor) c.args.search.now c.name.new.self c.args.waiting c.name.new.waiting c.in_ok-name.ensures c.requires.vertex)
 
 pub split_sides-requires-clause-room : goal.split_sides-requires-clause-room
 split_sides-requires-clause-room c = subst (λ (s : Search). s.count < s.nodes) (sym c.in_ok-name.ensures.steps) c.requires.room
