@@ -5,9 +5,9 @@ ghost use Rattle.lin_atoms.specs.declared.lit.Lit.{Lit};
 ghost use Rattle.refutation_trees.specs.Combination.{lits_end};
 ghost use Rattle.farkas_proof.specs.machinery.Ends.{ends_from};
 
-use crate::ends::lit_end;
 use base::Memory;
 use lin_atoms::Lit;
+use refutation_trees::lit_end;
 use std::alloc::Global;
 use std::marker::Model;
 

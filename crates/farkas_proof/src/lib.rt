@@ -4,7 +4,6 @@
 
 mod checker;
 mod division;
-mod ends;
 mod flatten;
 mod known;
 mod laws;

@@ -14,7 +14,6 @@ ghost use Rattle.refutation_trees.specs.machinery.Sizes.{size, sizes};
 ghost use Rattle.farkas_proof.specs.machinery.Walk.{GoesOn, Leads, after, begun, found, found_in, found_next, left_to, opened, replaced, size_of, weight, weight_of, weights};
 ghost use Rattle.std.specs.List.{list_all};
 
-use crate::ends::form_end;
 use crate::flatten::{push_disjunctions, push_literals};
 use crate::known::Known;
 use crate::narrow::Narrow;
@@ -24,7 +23,7 @@ use crate::stop::CheckStop;
 use crate::sum::Sum;
 use base::{Copied, Items, Memory};
 use lin_atoms::{Form, Lin, Lit};
-use refutation_trees::Refutation;
+use refutation_trees::{Refutation, form_end};
 use std::alloc::Global;
 use std::mem;
 

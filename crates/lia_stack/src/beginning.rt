@@ -8,7 +8,6 @@ ghost use Rattle.lia_stack.specs.Short.{has_short_multiples};
 ghost use Rattle.lia_stack.specs.machinery.Opened.{first_open, left_from};
 ghost use Rattle.lia_stack.specs.machinery.Searched.{IsSearch};
 
-use crate::ends::small_end;
 use crate::flat::{lent_disjunctions, lent_literals};
 use crate::lent::Lent;
 use crate::state::Search;
@@ -16,6 +15,7 @@ use crate::waiting::{LeftOut, Open};
 use base::{Copied, Items, Memory};
 use lia_close::numbered;
 use lin_atoms::{Form, Lit};
+use refutation_trees::form_end;
 use std::alloc::Global;
 
 /// The literals of the flattened form from one on, with their numbers, which are left out.
@@ -81,6 +81,14 @@ fn first<'a>(
         left_out,
         cases,
     })
+}
+
+/// One more than the greatest variable of the formula, where it is known to be small.
+fn small_end(form: &Form) -> u32
+    requires { form_end form.now < 2 ^ 31 }
+    ensures { result ≡ form_end form.now }
+{
+    form_end(form) as u32
 }
 
 /// Where a search begins. `False` in the form is lent by `falsehood`.

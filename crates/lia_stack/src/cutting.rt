@@ -4,9 +4,9 @@ ghost use Rattle.std.specs.Prelude.{◌≡◌, ◌≤◌, length, IfOk};
 ghost use Rattle.refutation_trees.specs.Refutation.{form_end};
 ghost use Rattle.lia_stack.specs.machinery.Searched.{cut, value_of};
 
-use crate::ends::form_end;
 use base::Memory;
 use lin_atoms::Form;
+use refutation_trees::form_end;
 use std::alloc::Global;
 
 /// The value of a variable of the form, and 0 for one that it doesn't have.

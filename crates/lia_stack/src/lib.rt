@@ -7,7 +7,6 @@ mod beginning;
 mod broken;
 mod closing;
 mod cutting;
-mod ends;
 mod flat;
 mod lent;
 mod names;

@@ -3,10 +3,12 @@
 #![tactic(auto)]
 
 mod copying;
+mod ends;
 mod evidence;
 mod gave_up;
 mod tree;
 
+pub use ends::{form_end, lit_end};
 pub use evidence::Evidence;
 pub use gave_up::GaveUp;
 pub use tree::Refutation;

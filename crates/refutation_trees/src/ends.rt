@@ -1,4 +1,4 @@
-//! The first number that no variable has.
+//! The first number that no variable of a form has.
 
 ghost use Rattle.std.specs.Prelude.{◌≡◌, ◌≤◌, ◌^◌, map};
 ghost use Rattle.lin_atoms.specs.Denial.{linear_of};
@@ -18,7 +18,7 @@ fn terms_end(terms: &[(u32, i64)]) -> u64
     end
 }
 
-pub(crate) fn linear_of(lit: &Lit) -> &Lin
+fn linear_of(lit: &Lit) -> &Lin
     ensures { result.now ≡ linear_of lit.now }
 {
     match lit {
@@ -29,7 +29,8 @@ pub(crate) fn linear_of(lit: &Lit) -> &Lin
     }
 }
 
-pub(crate) fn lit_end(lit: &Lit) -> u64
+/// One more than the greatest variable of the literal, 0 where it has none.
+pub fn lit_end(lit: &Lit) -> u64
     ensures is { result ≡ terms_end (linear_of lit.now).terms }
     ensures small { result ≤ 2 ^ 32 }
 {
@@ -39,7 +40,7 @@ pub(crate) fn lit_end(lit: &Lit) -> u64
 
 /// One more than the greatest variable of the form, 0 where there is none.
 #[cycle(form_end)]
-pub(crate) fn form_end(form: &Form) -> u64
+pub fn form_end(form: &Form) -> u64
     ensures is { result ≡ form_end form.now }
     ensures small { result ≤ 2 ^ 32 }
 {

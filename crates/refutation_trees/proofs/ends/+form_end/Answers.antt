@@ -1,6 +1,6 @@
 use Rattle.std.proofs.Common.{sym}
 use Rattle.refutation_trees.proofs.EndLemmas.{form_end-And, form_end-Or}
-use Rattle.farkas_proof.proofs.ends.+form_end.Goals as goal
+use Rattle.refutation_trees.proofs.ends.+form_end.Goals as goal
 
 pub form_end-returns-in-And-clause-is : goal.form_end-returns-in-And-clause-is
 form_end-returns-in-And-clause-is t c = rw (c.in-And.is, form_end-And, sym c.as_slice.ensures) c.forms_end.ensures.is

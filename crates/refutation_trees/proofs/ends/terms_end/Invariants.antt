@@ -1,7 +1,7 @@
 use Rattle.std.proofs.Common.{◌≡◌, ◌≤◌, ◌^◌, drop}
 use Rattle.std.specs.Prelude.{max}
 use Rattle.refutation_trees.specs.Combination.{terms_end}
-use Rattle.lia_stack.proofs.ends.terms_end.Given as goal
+use Rattle.refutation_trees.proofs.ends.terms_end.Given as goal
 
 -- with the rest, it is that of all
 abbrev pub invariant-loop-variable : goal.invariant-loop-variable

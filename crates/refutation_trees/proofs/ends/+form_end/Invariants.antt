@@ -1,7 +1,7 @@
 use Rattle.std.proofs.Common.{◌≡◌, ◌≤◌, ◌^◌, drop, map}
 use Rattle.std.specs.Prelude.{max}
 use Rattle.refutation_trees.specs.Refutation.{form_end, greatest_of}
-use Rattle.lia_stack.proofs.ends.+form_end.Given as goal
+use Rattle.refutation_trees.proofs.ends.+form_end.Given as goal
 
 -- with the rest, it is that of all
 abbrev pub invariant-forms_end-loop-part : goal.invariant-forms_end-loop-part
