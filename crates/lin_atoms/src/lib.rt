@@ -37,3 +37,4 @@ pub use lit::Lit;
 pub use ratio::Ratio;
 pub use stop::WideStop;
 pub use truth::holds;
+pub use wide_terms::{collected, narrowed};

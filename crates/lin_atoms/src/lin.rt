@@ -123,7 +123,10 @@ impl Lin {
             return Err(WideStop::Wide);
         }
         let terms = wide_terms::narrowed(alloc, terms.as_slice())?;
-        Ok(Lin { terms, constant })
+        Ok(Lin {
+            terms: Items::from_vec(terms),
+            constant,
+        })
     }
 
     /// The form of which each value is this form's with the other sign. It always has room.

@@ -36,7 +36,7 @@ impl Lin {
     }
 
     /// The exact value at the point.
-    fn total_at(&self, point: &[i64]) -> Accumulator
+    pub fn total_at(&self, point: &[i64]) -> Accumulator
         ensures { result.value ≡ value_at point.now self.now }
     {
         let mut total = Accumulator::new(self.constant());

@@ -6,9 +6,7 @@ ghost use Rattle.lin_atoms.specs.Algebra.{collected};
 ghost use Rattle.linear_terms.specs.Linear.{is_narrow};
 ghost use Rattle.linear_sums.specs.Short.{short_or_none};
 
-use crate::collect::collected;
-use base::Memory;
-use lin_atoms::{Lin, WideStop};
+use lin_atoms::{Lin, WideStop, collected, narrowed};
 use std::alloc::Global;
 
 /// Whether the number is below 2^63 in magnitude.
@@ -29,20 +27,6 @@ pub(crate) fn narrow(n: i128) -> Option<i64>
     } else {
         None
     }
-}
-
-/// The terms with coefficients of 64 bits, unless one is wide.
-fn narrowed(alloc: Global, terms: &[(u32, i128)]) -> Result<Vec<(u32, i64)>, WideStop>
-    ensures made { IfOk result (λ made. made.items ≡ terms.now) }
-    ensures within { OnOk result (are_short terms.now ≡ true) }
-    ensures wide { IsErrOf result WideStop.Wide → are_short terms.now ≡ false }
-{
-    let mut made = Vec::with_capacity(alloc, terms.len()).map_err(Memory::from)?;
-    for (variable, coefficient) in terms {
-        let narrow = narrow(*coefficient).ok_or(WideStop::Wide)?;
-        made.push((*variable, narrow)).map_err(Memory::from)?;
-    }
-    Ok(made)
 }
 
 /// The form of terms that are in order, with short numbers.

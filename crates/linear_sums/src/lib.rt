@@ -3,7 +3,6 @@
 //! every other one is refused.
 #![tactic(auto)]
 
-mod collect;
 mod judge;
 mod minus;
 mod product;

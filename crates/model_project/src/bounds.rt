@@ -3,13 +3,13 @@
 ghost use Rattle.std.specs.Prelude.{Some, ◌≡◌, ◌<◌, ◌≤◌, ◌*◌, nat_abs, None, true, false, IfOk, IfSome, IsErr, IsNone, IsSome, OnOk};
 ghost use Rattle.std.specs.Option.{option_map};
 ghost use Rattle.base.specs.Widths.{short_limit};
-ghost use Rattle.lin_atoms.specs.Linear.{value_at, variable_at};
+ghost use Rattle.lin_atoms.specs.Linear.{variable_at};
 ghost use Rattle.model_project.specs.Elimination.{gap, gaps_are_short, is_bound, is_nearer, nearer, nearest};
 ghost use Rattle.model_project.specs.Substitution.{coefficient};
 
 use crate::period::short;
 use crate::reading;
-use lin_atoms::{Accumulator, Lin, Lit};
+use lin_atoms::{Lin, Lit};
 
 /// What a variable stands for at a point.
 pub(crate) fn variable_at(point: &[i64], variable: usize) -> i64
@@ -22,25 +22,13 @@ pub(crate) fn variable_at(point: &[i64], variable: usize) -> i64
     }
 }
 
-/// The exact value at the point.
-fn total_at(lin: &Lin, point: &[i64]) -> Accumulator
-    ensures { result.value ≡ value_at point.now lin.now }
-{
-    let mut total = Accumulator::new(lin.constant());
-    for (variable, coefficient) in lin.terms() {
-        let value = variable_at(point, *variable as usize);
-        total.add(*coefficient, i128::from(value));
-    }
-    total
-}
-
 /// The gap of a bound, unless it is wide.
 fn gap(lin: &Lin, model: &[i64]) -> Option<u64>
     ensures some { IfSome result (λ n. n ≡ gap model.now lin.now) }
     ensures short { IfSome result (λ n. gap model.now lin.now < short_limit) }
     ensures none { IsNone result → short_limit ≤ gap model.now lin.now }
 {
-    match total_at(lin, model).to_i128() {
+    match lin.total_at(model).to_i128() {
         Some(value) => short(value.unsigned_abs()),
         None => None,
     }

@@ -13,7 +13,7 @@ use crate::period::short;
 use crate::terms::form_of;
 use crate::{reading, terms};
 use base::{Copied, Memory};
-use lin_atoms::{Divisor, Lin, Lit, WideStop};
+use lin_atoms::{Divisor, Lin, Lit, WideStop, narrowed};
 use std::alloc::Global;
 
 /// A number with the other sign.
@@ -46,7 +46,7 @@ fn crossed(
     if terms.is_empty() {
         return Ok(None);
     }
-    match terms::narrowed(alloc, terms.as_slice()) {
+    match narrowed(alloc, terms.as_slice()) {
         Ok(narrow) => match terms::constant(k, lin.constant(), m, equation.constant()) {
             Some(constant) => {
                 let made = form_of(narrow, i128::from(constant));

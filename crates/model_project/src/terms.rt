@@ -1,14 +1,14 @@
 //! Terms of combinations, term by term, exactly: a sum of two products of numbers below 2^63 is
 //! below 2^127.
 
-ghost use Rattle.std.specs.Prelude.{◌≡◌, ℕ, ◌+◌, ◌<◌, ◌≤◌, ◌^◌, ◌+ℤ◌, ◌*ℤ◌, ◌++◌, ◌==◌, ◌∷◌, [], drop, length, nat_abs, not, pos, true, false, IsErrOf, IsNone, IfOk, IfSome, OnOk, ◌↔◌};
+ghost use Rattle.std.specs.Prelude.{◌≡◌, ℕ, ◌+◌, ◌<◌, ◌≤◌, ◌^◌, ◌+ℤ◌, ◌*ℤ◌, ◌++◌, ◌==◌, ◌∷◌, [], drop, length, nat_abs, not, pos, true, false, IsNone, IfOk, IfSome, OnOk, ◌↔◌};
 ghost use Rattle.std.specs.List.{filter};
 ghost use Rattle.base.specs.Widths.{long_limit, short_limit};
 ghost use Rattle.lin_atoms.specs.Linear.{are_ordered, are_short, is_short};
 ghost use Rattle.lin_atoms.specs.Algebra.{collected, scaled_terms, term_on};
 
 use base::Memory;
-use lin_atoms::{Accumulator, Lin, LinStop, WideStop};
+use lin_atoms::{Accumulator, Lin, LinStop};
 use std::alloc::Global;
 
 /// The exact product.
@@ -136,20 +136,6 @@ pub(crate) fn narrow(n: i128) -> Option<i64>
     } else {
         None
     }
-}
-
-/// The terms with coefficients of 64 bits, unless one is wide.
-pub(crate) fn narrowed(alloc: Global, terms: &[(u32, i128)]) -> Result<Vec<(u32, i64)>, WideStop>
-    ensures made { IfOk result (λ made. made.items ≡ terms.now) }
-    ensures within { OnOk result (are_short terms.now ≡ true) }
-    ensures wide { IsErrOf result WideStop.Wide → are_short terms.now ≡ false }
-{
-    let mut made = Vec::with_capacity(alloc, terms.len()).map_err(Memory::from)?;
-    for (variable, coefficient) in terms {
-        let narrow = narrow(*coefficient).ok_or(WideStop::Wide)?;
-        made.push((*variable, narrow)).map_err(Memory::from)?;
-    }
-    Ok(made)
 }
 
 /// The exact sum of two products.
