@@ -169,7 +169,7 @@ fn is_leaf(tree: &Refutation, last: Terms) -> bool {
 }
 
 fn is_first(lin: &Lin, constant: i128) -> bool {
-    lin.constant() == constant && lin.terms() == &[(0, 1)]
+    lin.constant() == constant && lin.terms() == [(0, 1)].as_slice()
 }
 
 /// What is below the node, where the tree begins with it.
