@@ -1,4 +1,4 @@
-use base::{Copied, Items, Memory, Same};
+use base::{Copied, Items, Memory};
 use std::alloc::Global;
 
 /// A predicate, numbered from 0 in the order of the declarations, at variables of its clause.
@@ -6,12 +6,6 @@ use std::alloc::Global;
 pub struct Atom {
     pub pred: u32,
     pub args: Items<u32>,
-}
-
-impl Same for Atom {
-    fn equals(&self, other: &Atom) -> bool {
-        self.pred == other.pred && self.args.equals(&other.args)
-    }
 }
 
 impl Copied for Atom {

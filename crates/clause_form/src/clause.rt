@@ -1,5 +1,5 @@
 use crate::atom::Atom;
-use base::{Copied, Items, Memory, Same};
+use base::{Copied, Items, Memory};
 use lin_atoms::Form;
 use std::alloc::Global;
 use term_tree::Sort;
@@ -21,17 +21,6 @@ pub struct Clause {
     pub guard: Form,
     /// The head, or none for false.
     pub head: Option<Atom>,
-}
-
-impl Same for Clause {
-    fn equals(&self, other: &Clause) -> bool {
-        self.assertion == other.assertion
-            && self.user == other.user
-            && self.sorts.equals(&other.sorts)
-            && self.atoms.equals(&other.atoms)
-            && self.guard.equals(&other.guard)
-            && self.head.equals(&other.head)
-    }
 }
 
 impl Copied for Clause {

@@ -3,7 +3,7 @@ ghost use Rattle.clause_form.specs.System.{are_clauses, is_clause, is_system};
 
 use crate::clause::Clause;
 use crate::legal::are_clauses;
-use base::{Copied, Items, Memory, Same};
+use base::{Copied, Items, Memory};
 use std::alloc::Global;
 use std::marker::Model;
 use term_tree::Sort;
@@ -78,12 +78,6 @@ impl System {
         ensures legal { is_clause self.now.preds result.now ≡ true }
     {
         &self.clauses()[number]
-    }
-}
-
-impl Same for System {
-    fn equals(&self, other: &System) -> bool {
-        self.clauses.equals(&other.clauses) && self.preds.equals(&other.preds)
     }
 }
 

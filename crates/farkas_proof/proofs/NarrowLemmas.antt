@@ -1,9 +1,10 @@
 -- The sum of a multiple of terms and of other terms, term by term.
-use Rattle.std.proofs.Common.{◌≡◌, ◌<◌, ◌≤◌, ◌+◌, ◌^◌, ◌&&◌, ℕ, zero, suc, List, [], ◌∷◌, ◌++◌, map, take, drop, length, get_or, refl, ap, sym, ◌∙◌, arith, Bool, true, false, ◌==◌, FitsSigned}
+use Rattle.std.proofs.Common.{◌≡◌, ◌<◌, ◌≤◌, ◌+◌, ◌^◌, ◌&&◌, ℕ, zero, suc, List, [], ◌∷◌, ◌++◌, map, take, drop, length, get_or, refl, ap, sym, ◌∙◌, arith, Bool, true, false, ◌==◌, FitsSigned, Vec, Global, vec_len}
 use Rattle.std.specs.Prelude.{ℤ, nat_abs, neg_ℤ, ◌+ℤ◌, ◌-ℤ◌, ◌*ℤ◌}
 use Rattle.std.specs.Int.{int_div_euclid, w64, w128}
 use Rattle.std.proofs.Math.Nat.{mul-le-mul}
 use Rattle.std.proofs.lemmas.Int.{ints, unsigned_abs-mul}
+use Rattle.std.proofs.lemmas.Bool.{eqb-true}
 use Rattle.std.proofs.lemmas.List.{append-nil, drop_more, drop_all}
 use Rattle.std.specs.List.{list_all}
 use Rattle.lin_atoms.specs.Multiples.{is_multiple}
@@ -125,3 +126,11 @@ first-true false b h = absurd (cc)
 
 pub linear-ordered : (lin : Linear) → is_linear lin ≡ true → are_ordered 0 lin.terms ≡ true
 linear-ordered lin h = first-true (are_ordered 0 lin.terms) (fits lin) h
+
+-- a list that says that it has no item
+no-length : (ts : List (ℕ × ℤ)) → length ts ≡ 0 → ts ≡ []
+no-length [] h = refl
+no-length (t ∷ ts) h = absurd (cc)
+
+pub no-items : (v : Vec (ℕ × ℤ) Global) → true ≡ (vec_len v == 0) → v.items ≡ []
+no-items v h = no-length v.items (sym v.ok.0 ∙ eqb-true (vec_len v) 0 (sym h))

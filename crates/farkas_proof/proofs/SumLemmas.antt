@@ -15,7 +15,7 @@ use Rattle.farkas_proof.proofs.SoundLemmas.{divided}
 use Rattle.lin_atoms.specs.Algebra.{added, term_on, with_term, collected, scaled, scaled_terms}
 use Rattle.lin_atoms.specs.Linear.{Linear, are_ordered, is_short}
 use Rattle.lin_atoms.specs.declared.lit.Lit.{Lit}
-use Rattle.refutation_trees.specs.Combination.{are_multipliers, combined, is_multiplier, linear_at}
+use Rattle.refutation_trees.specs.Combination.{are_multipliers, combined, is_divided_by, is_multiplier, linear_at}
 use Rattle.int_rows.specs.Ready.{rounded}
 use Rattle.lin_atoms.proofs.Public.{both_true, collected-ordered, collected-same, length_at, ordered, ordered-cons, quotient_is, scaled-drop, scaled-ordered, term_on-whole, with_term-behind, with_term-same}
 use Rattle.farkas_proof.specs.machinery.Sum.{are_counted, seen, standing}
@@ -340,3 +340,18 @@ product-none ts v a none = sym (append-nil (seen ts)) ∙ ap (λ (xs : List (ℕ
 pub first-sum : (k : ℤ) (ts us made : List (ℕ × ℤ)) → us ≡ [] → are_ordered 0 ts ≡ true → made ≡ scaled_terms k ts → made ≡ collected (scaled_terms k ts ++ us)
 first-sum k ts us made none is m =
     m ∙ sym (collected-same 0 (scaled_terms k ts) (scaled-ordered k 0 ts is)) ∙ ap collected (sym (append-nil (scaled_terms k ts)) ∙ ap (λ (xs : List (ℕ × ℤ)). scaled_terms k ts ++ xs) (sym none))
+
+-- whether the divisor divides what is left of a sum
+pub divided-at : (d : ℤ) (ts : List (ℕ × Total)) (n : Total) (i : ℕ) (t : ℕ × Total) → t ≡ get_or ts i t → i < length ts
+    → is_divided_by d (standing (drop i ts) n) ≡ is_multiple d t.1.value && is_divided_by d (standing (drop (i + 1) ts) n)
+divided-at d ts n i t is h =
+    ap (λ (us : List (ℕ × Total)). is_divided_by d (standing us n)) (drop_more ts i t h) ∙ ap (λ (e : ℕ × Total). is_multiple d e.1.value && is_divided_by d (standing (drop (i + 1) ts) n)) (sym is)
+
+-- a product that is 0 adds no term
+pub free-zero : (ts : List (ℕ × Total)) (i v : ℕ) (a : ℤ) (n : ℤ) (whole : List (ℕ × ℤ)) → n ≡ a → true ≡ (nat_abs n == 0)
+    → whole ≡ take i (seen ts) ++ term_on v a (drop i (seen ts)) → seen ts ≡ whole
+free-zero ts i v a n whole is none told = free-none ts i v a whole (ap nat_abs (sym is) ∙ eqb-true _ _ (sym none)) told
+
+-- a test has one answer
+pub never : true ≡ false → ⊥
+never h = cc

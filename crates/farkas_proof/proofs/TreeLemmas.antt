@@ -79,17 +79,26 @@ pub or_true : (a b : Bool) → (a || b) ≡ true → a ≡ false → b ≡ true
 or_true true b h t = absurd (cc)
 or_true false b h t = h
 
+nothing_true : false ≡ true → ⊥
+nothing_true h = cc
+
+no_length : (n : ℕ) → suc n ≡ 0 → ⊥
+no_length n h = omega (arith, h)
+
+one_less : (m n : ℕ) → suc m ≡ suc n → m ≡ n
+one_less m n h = omega (arith, h)
+
 parts_leave : (room : Lit → Bool) (end : ℕ) (es : List (Sub room end)) (parts : List Form) (which : ℕ) (lits : List Lit) (cases : List (List Form)) (at : ℕ)
     → is_sound (each_part (judges room end es) parts which lits cases at) ≡ true → length parts ≡ length (judges room end es)
     → list_all (list_all (is_below end)) cases ≡ true → list_all (is_below end) parts ≡ true
     → (point : List ℤ) → list_all (lit_truth point) lits ≡ true → list_all (list_any (truth point)) cases ≡ true → list_any (truth point) parts ≡ true → ⊥
-parts_leave room end [] [] which lits cases at h count b pb point l c t = cc
-parts_leave room end [] (p ∷ parts) which lits cases at h count b pb point l c t = omega arith
-parts_leave room end (e ∷ es) [] which lits cases at h count b pb point l c t = cc
+parts_leave room end [] [] which lits cases at h count b pb point l c t = nothing_true t
+parts_leave room end [] (p ∷ parts) which lits cases at h count b pb point l c t = no_length (length parts) count
+parts_leave room end (e ∷ es) [] which lits cases at h count b pb point l c t = nothing_true t
 parts_leave room end (e ∷ es) (p ∷ parts) which lits cases at h count b pb point l c t =
     let followed = sound-followed (judged_at room end e.0 (lits ++ literals p) (take which cases ++ (disjunctions p ++ drop (which + 1) cases)) at) (each_part (judges room end es) parts which lits cases) h in
     let below = both_true (is_below end p) _ pb in
-    let fewer : length parts ≡ length (judges room end es) = omega arith in
+    let fewer : length parts ≡ length (judges room end es) = one_less (length parts) (length (judges room end es)) count in
     elim (truth point p) as (λ v. truth point p ≡ v → ⊥) [
       | true ↦ λ is. e.1 (lits ++ literals p) (take which cases ++ (disjunctions p ++ drop (which + 1) cases)) at followed.1.0
           (all_replaced (list_all (is_below end)) which cases (disjunctions p) b (disjunctions_below end p below.0)) point

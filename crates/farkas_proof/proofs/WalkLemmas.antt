@@ -130,7 +130,7 @@ part-waits end which subs parts vs ws us i left tree part lits cases next u l h 
     ∙ ap (λ (k : ℕ). followed_by (followed_by there (rest k)) (left_to end vs lits cases)) (sym l)
     ∙ ap (λ (f : Finding). followed_by f (left_to end vs lits cases)) (sym (part-step end which subs parts lits cases next i tree.now part.now h g is ip))
 
-weights-push : (ws : List Work) (w : Work) → weights (ws ++ w ∷ []) ≡ weights ws + weight_of w
+pub weights-push : (ws : List Work) (w : Work) → weights (ws ++ w ∷ []) ≡ weights ws + weight_of w
 weights-push ws w = sum_by_push weight_of ws w
 
 -- the turns of the parts from one on

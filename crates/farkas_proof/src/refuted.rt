@@ -9,7 +9,7 @@ use std::alloc::Global;
 
 /// A form that no integer point satisfies, with its proof: each node is legal, and each literal that
 /// it derives has room. Only `check` and `check_owned` make one.
-#[derive(Debug, Drop)]
+#[derive(Drop)]
 pub struct Refuted {
     pub(crate) form: Form,
     pub(crate) proof: Refutation,

@@ -1,7 +1,7 @@
 use lin_atoms::Lin;
 
 /// A form without a constant, and what bounds it.
-#[derive(Debug, Drop)]
+#[derive(Drop)]
 pub struct Bounded {
     pub form: Lin,
     pub lower: Option<i128>,
@@ -9,7 +9,7 @@ pub struct Bounded {
 }
 
 /// A literal made ready for a tableau.
-#[derive(Debug, Drop)]
+#[derive(Drop)]
 pub enum Ready {
     /// A literal without a variable is true or false.
     Truth(bool),

@@ -8,7 +8,7 @@ use std::marker::Model;
 
 /// A primitive row: integers below 2^63 in magnitude that only 1 divides. It stands for the
 /// equation that the sum of its entries times the variables is 0.
-#[derive(Debug, Drop)]
+#[derive(Drop)]
 pub struct Row {
     entries: Items<i64>,
 }

@@ -1,7 +1,7 @@
 use refutation_trees::Evidence;
 
 /// What a node tells.
-#[derive(Debug, Drop)]
+#[derive(Drop)]
 pub enum Examined {
     /// The literal of this number has no variable and is false.
     False(usize),

@@ -1,13 +1,14 @@
 -- Numbers as a multiple of 2^128 and a rest from -2^127 up to 2^127.
-use Rattle.std.proofs.Common.{◌≡◌, ◌^◌, ◌≤◌, arith, refl, ap, FitsSigned}
+use Rattle.std.proofs.Common.{◌≡◌, ◌^◌, ◌<◌, ◌≤◌, arith, refl, ap, FitsSigned}
 use Rattle.std.specs.Prelude.{ℤ, pos, negsuc, ◌+ℤ◌, ◌*ℤ◌, ◌<ℤ◌, ◌≤ℤ◌, nat_abs}
-use Rattle.std.specs.Int.{w128, int_signum}
+use Rattle.std.specs.Int.{w64, w128, int_signum}
 use Rattle.std.specs.Ordering.{int_cmp}
 use Rattle.std.specs.declared.cmp.Ordering.{Ordering}
 use Rattle.std.specs.declared.cmp.Ordering.TheVariants.{Less, Equal, Greater}
 use Rattle.std.specs.Cmp.{int_cmp_is, int_ranks}
 use Rattle.std.specs.Ordering.{MatchOrdering}
-use Rattle.std.proofs.lemmas.Int.{ints, by_lt_z}
+use Rattle.std.proofs.Math.Nat.{mul-le-mul}
+use Rattle.std.proofs.lemmas.Int.{ints, by_lt_z, unsigned_abs-mul}
 
 sign_above : (v : ℤ) → pos 0 <ℤ v → int_signum v ≡ pos 1
 sign_above (pos n) h = omega (arith, ints)
@@ -53,3 +54,15 @@ high_between_below h l v h' l' q is is' fits fits' some le = omega (arith, ints)
 -- a number with a multiple has no room
 pub no_room : (h l v : ℤ) → h *ℤ pos (2 ^ 128) +ℤ l ≡ v → FitsSigned w128 l → (h ≡ pos 0 → ⊥) → FitsSigned w128 v → ⊥
 no_room h l v is fits some room = by_lt_z h (pos 0) (λ lt. omega (arith, ints)) (λ ge. some (omega (arith, ints)))
+
+-- a product of a number with 64 bits and one below 2^64 in magnitude
+product-abs : (a b : ℤ) → FitsSigned w64 a → nat_abs b < 2 ^ 64 → nat_abs (a *ℤ b) ≤ 170141183460469231731687303715884105727
+product-abs a b f h =
+    let p : nat_abs a ≤ 2 ^ 63 = omega (arith, ints, f.sfits) in
+    let q : nat_abs b ≤ 18446744073709551615 = omega (arith, h) in
+    omega (arith, unsigned_abs-mul a b, mul-le-mul p q)
+
+pub long-product : (a b p : ℤ) → FitsSigned w64 a → nat_abs b < 2 ^ 64 → p ≡ a → FitsSigned w128 (p *ℤ b)
+long-product a b p f h is =
+    let small : nat_abs (p *ℤ b) ≤ 170141183460469231731687303715884105727 = rw is (product-abs a b f h) in
+    omega (arith, ints, small)

@@ -8,7 +8,7 @@ use std::alloc::Global;
 
 /// A formula: literals under conjunctions and disjunctions. An empty conjunction is true, an
 /// empty disjunction false.
-#[derive(Debug, Drop)]
+#[derive(Drop)]
 pub enum Form {
     True,
     False,

@@ -13,7 +13,7 @@ use thiserror::Error;
 /// A linear form: coefficients times variables, added up, and a constant. Variables are numbers
 /// and rise; no coefficient is 0; coefficients are below 2^63 and the constant is below 2^64 in
 /// magnitude.
-#[derive(Debug, Drop)]
+#[derive(Drop)]
 pub struct Lin {
     terms: Items<(u32, i64)>,
     constant: i128,

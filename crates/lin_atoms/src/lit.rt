@@ -7,7 +7,7 @@ use base::{Copied, Memory, Same};
 use std::alloc::Global;
 
 /// A literal over integer variables.
-#[derive(Debug, Drop)]
+#[derive(Drop)]
 pub enum Lit {
     /// The form is at most 0.
     Le(Lin),

@@ -8,7 +8,7 @@ use crate::wide::is_product_below;
 use std::marker::Model;
 
 /// A rational number in lowest terms, its numerator above -2^127 and its denominator positive.
-#[derive(Clone, Copy, Debug)]
+#[derive(Clone, Copy)]
 pub struct Ratio {
     num: i128,
     den: i128,

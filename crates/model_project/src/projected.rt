@@ -10,7 +10,7 @@ use std::marker::Model;
 
 /// A conjunction with a model of it, the variables that are kept, and the cube that projects it.
 /// Only `project` makes one.
-#[derive(Debug, Drop)]
+#[derive(Drop)]
 pub struct Projected {
     pub(crate) lits: Items<Lit>,
     pub(crate) model: Items<i64>,

@@ -85,10 +85,31 @@ fn half(rt: &impl Abort, alloc: Global) -> GaveUp {
     GaveUp::keep(form, Evidence::Nodes { nodes: 1 })
 }
 
+/// Whether both are the same entry of a row, or the same number of splits.
+fn are_equal(one: &Evidence, other: &Evidence) -> bool {
+    match (one, other) {
+        (
+            Evidence::Row {
+                lits: k,
+                basis: a,
+                entry: x,
+            },
+            Evidence::Row {
+                lits: l,
+                basis: b,
+                entry: y,
+            },
+        ) => k.equals(l) && a.equals(b) && x == y,
+        (Evidence::Nodes { nodes: m }, Evidence::Nodes { nodes: n }) => m == n,
+        _ => false,
+    }
+}
+
 /// Whether a copy has the same form and evidence.
 fn has_equal_copy(rt: &impl Abort, alloc: Global, kept: &GaveUp) -> bool {
     let copied = kept.copy(alloc).expect(rt, "memory");
-    let is_equal = copied.form().equals(kept.form()) && copied.evidence().equals(kept.evidence());
+    let is_equal = copied.form().equals(kept.form())
+        && are_equal(copied.evidence(), kept.evidence());
     mem::forget(copied);
     is_equal
 }
@@ -127,7 +148,7 @@ fn split_at_a_half_is_kept(rt: HostRuntime) {
 fn kinds_of_evidence_differ(rt: HostRuntime) {
     let row = crossing(&rt, rt.alloc());
     let split = half(&rt, rt.alloc());
-    let same = row.evidence().equals(split.evidence());
+    let same = are_equal(row.evidence(), split.evidence());
     assert!(rt; !same);
     mem::forget(row);
     mem::forget(split);

@@ -161,10 +161,64 @@ fn tree(rt: &impl Abort, alloc: Global, nodes: &[Node], last: Terms) -> Refutati
     tree
 }
 
-fn answer_to(alloc: Global, form: &Form, proof: &Refutation) -> Answer {
+fn is_leaf(tree: &Refutation, last: Terms) -> bool {
+    match tree {
+        Refutation::Leaf { multipliers } => multipliers.as_slice() == last,
+        _ => false,
+    }
+}
+
+fn is_first(lin: &Lin, constant: i128) -> bool {
+    lin.constant() == constant && lin.terms() == [(0, 1)].as_slice()
+}
+
+/// What is below the node, where the tree begins with it.
+fn below(node: Node, tree: &Refutation) -> Option<&Refutation> {
+    let (is_node, sub) = match (node, tree) {
+        (
+            Node::Round(terms, by),
+            Refutation::Round {
+                multipliers,
+                divisor,
+                sub,
+            },
+        ) => (multipliers.as_slice() == terms && *divisor == by, sub.get()),
+        (Node::Quotient(which), Refutation::Quotient { lit, sub }) => (*lit == which, sub.get()),
+        (Node::Split(constant, terms), Refutation::Split { lin, below, above }) => (
+            is_first(lin, constant) && is_leaf(below.get(), terms),
+            above.get(),
+        ),
+        (Node::Cases(at, terms), Refutation::Cases { which, subs }) => match subs.as_slice() {
+            [first, last] => (*which == at && is_leaf(first, terms), last),
+            _ => (false, tree),
+        },
+        _ => (false, tree),
+    };
+    if is_node { Some(sub) } else { None }
+}
+
+/// Whether the tree is the nodes' over the leaf.
+fn is_tree(tree: &Refutation, nodes: &[Node], last: Terms) -> bool {
+    let mut here = tree;
+    for node in nodes.iter().rev() {
+        match below(*node, here) {
+            Some(sub) => here = sub,
+            None => return false,
+        }
+    }
+    is_leaf(here, last)
+}
+
+fn answer_to(
+    alloc: Global,
+    form: &Form,
+    proof: &Refutation,
+    nodes: &[Node],
+    last: Terms,
+) -> Answer {
     match check(alloc, form, proof) {
         Ok(refuted) => {
-            let same = refuted.form().equals(form) && refuted.proof().equals(proof);
+            let same = refuted.form().equals(form) && is_tree(refuted.proof(), nodes, last);
             mem::forget(refuted);
             if same { Answer::Refuted } else { Answer::Other }
         }
@@ -183,7 +237,7 @@ fn is_answered(
     answer: Answer,
 ) -> bool {
     let tree = tree(rt, alloc, nodes, last);
-    let found = answer_to(alloc, form, &tree);
+    let found = answer_to(alloc, form, &tree, nodes, last);
     mem::forget(tree);
     found == answer
 }

@@ -1,5 +1,5 @@
 -- The values of what is derived of a form.
-use Rattle.std.proofs.Common.{◌≡◌, ℕ, List, arith}
+use Rattle.std.proofs.Common.{◌≡◌, List, arith}
 use Rattle.std.specs.Prelude.{ℤ, pos, ◌+ℤ◌, ◌-ℤ◌}
 use Rattle.std.proofs.lemmas.Int.{ints}
 use Rattle.lin_atoms.specs.Algebra.{negated, plus}

@@ -1,4 +1,4 @@
-use base::{Copied, Items, Memory, Same};
+use base::{Copied, Items, Memory};
 use lin_atoms::Lit;
 use std::alloc::Global;
 
@@ -7,7 +7,7 @@ use std::alloc::Global;
 /// order in which they joined the node or one above it. In the node's tableau columns are numbered:
 /// first the form's variables, then the quotients of the literals, then the slacks, both in order of
 /// the literals.
-#[derive(Debug, Drop)]
+#[derive(Drop)]
 pub enum Evidence {
     /// A basis of the node's tableau, in order of number, has a primitive row with this entry, of
     /// 2^63 or more in magnitude.
@@ -33,42 +33,6 @@ pub enum Evidence {
     Nodes {
         nodes: u32,
     },
-}
-
-impl Same for Evidence {
-    fn equals(&self, other: &Evidence) -> bool {
-        match (self, other) {
-            (
-                Evidence::Row {
-                    lits: k,
-                    basis: a,
-                    entry: x,
-                },
-                Evidence::Row {
-                    lits: l,
-                    basis: b,
-                    entry: y,
-                },
-            ) => k.equals(l) && a.equals(b) && x == y,
-            (
-                Evidence::Coordinate {
-                    lits: k,
-                    basis: a,
-                    outside: v,
-                    variable: x,
-                },
-                Evidence::Coordinate {
-                    lits: l,
-                    basis: b,
-                    outside: w,
-                    variable: y,
-                },
-            ) => k.equals(l) && a.equals(b) && v.equals(w) && x == y,
-            (Evidence::Rows { lits: k }, Evidence::Rows { lits: l }) => k.equals(l),
-            (Evidence::Nodes { nodes: m }, Evidence::Nodes { nodes: n }) => m == n,
-            _ => false,
-        }
-    }
 }
 
 impl Copied for Evidence {

@@ -7,7 +7,7 @@ use std::alloc::Global;
 
 /// A form whose search was given up, with the evidence. Only `keep` makes one, from evidence that
 /// is one for the form.
-#[derive(Debug, Drop)]
+#[derive(Drop)]
 pub struct GaveUp {
     pub(crate) form: Form,
     pub(crate) evidence: Evidence,

@@ -1,13 +1,12 @@
 ghost use Rattle.std.specs.Prelude.{◌≡◌, IfOk};
 
 use crate::copying::copied;
-use base::{Boxed, Copied, Items, Memory, Same};
+use base::{Boxed, Copied, Items, Memory};
 use lin_atoms::Lin;
 use std::alloc::Global;
 
 /// A proof that literals and open disjunctions have no common integer point. Each node speaks of
 /// the literals, by their numbers, that stand where it stands.
-#[derive(Debug)]
 pub enum Refutation {
     /// A combination of literals that is a number above 0, and so not at most 0 (Farkas).
     Leaf {
@@ -71,47 +70,6 @@ impl Drop for Refutation {
                 }
                 Refutation::Quotient { lit: _, sub } => self = sub.into_inner(),
             }
-        }
-    }
-}
-
-impl Same for Refutation {
-    fn equals(&self, other: &Refutation) -> bool {
-        match (self, other) {
-            (Refutation::Leaf { multipliers: a }, Refutation::Leaf { multipliers: b }) => {
-                a.equals(b)
-            }
-            (
-                Refutation::Round {
-                    multipliers: a,
-                    divisor: c,
-                    sub: s,
-                },
-                Refutation::Round {
-                    multipliers: b,
-                    divisor: d,
-                    sub: t,
-                },
-            ) => a.equals(b) && c == d && s.equals(t),
-            (
-                Refutation::Split {
-                    lin: l,
-                    below: a,
-                    above: b,
-                },
-                Refutation::Split {
-                    lin: m,
-                    below: c,
-                    above: d,
-                },
-            ) => l.equals(m) && a.equals(c) && b.equals(d),
-            (Refutation::Cases { which: i, subs: a }, Refutation::Cases { which: j, subs: b }) => {
-                i == j && a.equals(b)
-            }
-            (Refutation::Quotient { lit: i, sub: s }, Refutation::Quotient { lit: j, sub: t }) => {
-                i == j && s.equals(t)
-            }
-            _ => false,
         }
     }
 }

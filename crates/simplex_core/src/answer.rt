@@ -1,7 +1,7 @@
 use lin_atoms::Ratio;
 
 /// What `feasible` answers.
-#[derive(Debug, Drop)]
+#[derive(Drop)]
 pub enum Feasible {
     /// The value of each variable, in order of number: they meet all rows and bounds.
     Vertex(Vec<Ratio>),
@@ -14,7 +14,7 @@ pub enum Feasible {
 }
 
 /// Which number has no room.
-#[derive(Debug, Drop)]
+#[derive(Drop)]
 pub enum WideEvidence {
     /// A row of the basis has this entry, of 2^63 or more in magnitude.
     Row {

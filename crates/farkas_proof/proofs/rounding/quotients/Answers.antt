@@ -6,7 +6,7 @@ use Rattle.std.proofs.lemmas.List.{take_all}
 use Rattle.lin_atoms.specs.machinery.Accumulator.{Total}
 use Rattle.lin_atoms.specs.Linear.{are_short, is_short}
 use Rattle.farkas_proof.specs.machinery.Sum.{seen}
-use Rattle.farkas_proof.proofs.SumLemmas.{divided-more, divided-rest}
+use Rattle.farkas_proof.proofs.SumLemmas.{divided-more, divided-rest, never}
 use Rattle.farkas_proof.proofs.rounding.quotients.Goals as goal
 
 pub loop-term-preserved : goal.loop-term-preserved
@@ -39,7 +39,7 @@ returns-clause-some c =
     made ∙ ap (λ (ts : List (ℕ × Total)). map f (seen ts)) (take_all c.loop-term.term-index c.args.terms.now c.loop-term-test.false)
 
 pub returns-clause-none : goal.returns-clause-none
-returns-clause-none c = λ no. absurd (cc)
+returns-clause-none c = λ no. absurd (never no)
 
 pub returns-in-None-clause-none : goal.returns-in-None-clause-none
 returns-in-None-clause-none c =

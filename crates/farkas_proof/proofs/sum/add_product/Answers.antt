@@ -6,7 +6,7 @@ use Rattle.std.proofs.lemmas.Int.{to_z-of_z}
 use Rattle.lin_atoms.specs.machinery.Accumulator.{Total}
 use Rattle.lin_atoms.specs.Algebra.{with_term}
 use Rattle.farkas_proof.specs.machinery.Sum.{are_counted, seen}
-use Rattle.farkas_proof.proofs.SumLemmas.{counted-at, counted-gone, counted-put, counted-set, counted-weaker, free-put, met-gone, met-set, removed, set-gone, stood}
+use Rattle.farkas_proof.proofs.SumLemmas.{counted-at, counted-gone, counted-put, counted-set, counted-weaker, free-zero, free-put, met-gone, met-set, removed, set-gone, stood}
 use Rattle.farkas_proof.proofs.sum.add_product.Goals as goal
 
 pub returns-then-is_zero-clause-value : goal.returns-then-is_zero-clause-value
@@ -78,3 +78,13 @@ returns-in_ok-insert-in-Err-clause-counted c =
 
 pub returns-else-not-is_zero-clause-counted : goal.returns-else-not-is_zero-clause-counted
 returns-else-not-is_zero-clause-counted c = counted-weaker c.args.products (c.args.products + 1) c.args.terms.now.items (omega arith) c.requires.counted
+
+pub returns-else-not-is_zero-clause-value : goal.returns-else-not-is_zero-clause-value
+returns-else-not-is_zero-clause-value c =
+    let k_fits : FitsSigned w64 c.args.k = c.ranges.k in
+    let a_fits : FitsSigned w64 c.args.a = c.ranges.a in
+    let items = c.args.terms.now.items in
+    let a = c.args.k *ℤ c.args.a in
+    let free = rw c.as_slice.ensures.value at c.in-Err.ensures.free in
+    let value = simp to_z-of_z at c.one_product-total.ensures.value in
+    free-zero items c.in-Err.at c.args.variable a c.one_product-total.result.value (with_term c.args.variable a (seen items)) value c.if-not-is_zero.ensures (free.1 a)

@@ -1,7 +1,9 @@
-use Rattle.std.proofs.Common.{◌≡◌, ◌+◌, ◌^◌, ◌∙◌, arith, rules, get_or, FitsSigned, to_z}
-use Rattle.std.specs.Prelude.{pos, ◌+ℤ◌, ◌*ℤ◌}
-use Rattle.std.specs.Int.{w64, w128}
+use Rattle.std.proofs.Common.{◌≡◌, ◌+◌, ◌^◌, ◌∙◌, ap, List, drop, arith, rules, get_or, FitsSigned, to_z}
+use Rattle.std.specs.Prelude.{ℤ, pos, ◌+ℤ◌, ◌*ℤ◌}
+use Rattle.std.specs.Int.{int_signum, w8, w64, w128}
 use Rattle.std.proofs.lemmas.Int.{ints, to_z-of_z}
+use Rattle.std.proofs.lemmas.List.{drop_all}
+use Rattle.lin_atoms.specs.Dot.{dot}
 use Rattle.lin_atoms.proofs.DotLemmas.{dot-more}
 use Rattle.lin_atoms.proofs.dot.sign_of_dot.Goals as goal
 
@@ -28,3 +30,14 @@ loop-i-preserved c =
       high = omega (arith, ints, c.loop-i.invariant.high, c.parts-upper.ensures.high);
       low = omega (arith, c.loop-i.invariant.low, c.parts-upper.ensures.low);
     })
+
+pub returns : goal.returns
+returns c =
+    let i = c.loop-i.i in
+    let high = to_z w128 c.loop-i.high-bits in
+    let r_fits : FitsSigned w8 c.sign_of_parts.result = search rules in
+    let c_fits : FitsSigned w128 c.args.c = c.ranges.c in
+    let before = simp to_z-of_z at c.loop-i.invariant.value in
+    let gone : dot (drop i c.args.a.now) (drop i c.args.b.now) ≡ pos 0 = ap (λ (xs : List ℤ). dot xs (drop i c.args.b.now)) (drop_all i c.args.a.now c.loop-i-test.false) in
+    let same : high *ℤ pos (2 ^ 64) +ℤ pos c.loop-i.low ≡ dot c.args.a.now c.args.b.now +ℤ c.args.c = omega (arith, ints, before, gone) in
+    simp to_z-of_z (c.sign_of_parts.ensures ∙ ap int_signum same)

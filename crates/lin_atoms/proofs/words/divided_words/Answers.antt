@@ -1,4 +1,4 @@
-use Rattle.std.proofs.Common.{◌≡◌, ◌+◌, ◌*◌, ◌^◌, ap, arith, rules, sym, ◌∙◌, FitsSigned}
+use Rattle.std.proofs.Common.{◌≡◌, ◌+◌, ◌*◌, ◌^◌, ◌≤◌, ap, arith, rules, sym, ◌∙◌, FitsSigned}
 use Rattle.std.specs.Prelude.{pos, ◌+ℤ◌, ◌*ℤ◌, nat_abs}
 use Rattle.std.specs.Int.{w64, w128}
 use Rattle.std.proofs.lemmas.Int.{ints, to_z-of_z}
@@ -22,3 +22,14 @@ returns-clause-value c =
     let all = long_division c.args.high c.args.low c.digits-borrow.result.0 c.halves-high.result.0 c.digits-borrow.result.1 c.digits-borrow.result.2 c.divided-first.result.0 c.divided-second.result.0 c.halves-high.result.1 c.divided-first.result.1 c.divided-second.result.1 c.unsigned_abs-size.result
     digits top c.divided-first.ensures.value c.divided-second.ensures.value in
     simp to_z-of_z (ap (λ z. (c.halves-high.result.0 *ℤ pos (2 ^ 128) +ℤ pos (c.divided-first.result.0 * 2 ^ 64 + c.divided-second.result.0)) *ℤ z +ℤ pos c.divided-second.result.1) same ∙ all)
+
+pub returns-clause-small : goal.returns-clause-small
+returns-clause-small c =
+    let high_fits : FitsSigned w64 c.args.high = c.ranges.high in
+    let b_fits : FitsSigned w64 c.digits-borrow.result.0 = search rules in
+    let t_fits : FitsSigned w64 c.halves-high.result.0 = search rules in
+    let sum_fits : FitsSigned w64 (c.args.high +ℤ c.digits-borrow.result.0) = omega (arith, ints, c.requires.room, c.digits-borrow.ensures.borrow) in
+    let less : nat_abs c.halves-high.result.0 ≤ nat_abs (c.args.high +ℤ c.digits-borrow.result.0) = simp to_z-of_z at c.halves-high.ensures.small in
+    let sum : nat_abs (c.args.high +ℤ c.digits-borrow.result.0) ≤ 2 ^ 32 + 1 = omega (arith, ints, c.requires.room, c.digits-borrow.ensures.borrow) in
+    let small : nat_abs c.halves-high.result.0 ≤ 2 ^ 32 + 1 = omega (arith, less, sum) in
+    simp to_z-of_z small

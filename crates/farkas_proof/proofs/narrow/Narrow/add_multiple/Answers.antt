@@ -4,7 +4,7 @@ use Rattle.std.specs.Int.{w64, w128}
 use Rattle.std.proofs.lemmas.Int.{ints, to_z-of_z}
 use Rattle.lin_atoms.specs.Algebra.{collected, scaled_terms}
 use Rattle.lin_atoms.specs.Linear.{are_ordered}
-use Rattle.farkas_proof.proofs.NarrowLemmas.{linear-ordered, negated-less, same-parts}
+use Rattle.farkas_proof.proofs.NarrowLemmas.{linear-ordered, negated-less, no-items, same-parts}
 use Rattle.farkas_proof.proofs.SumLemmas.{ordered-made}
 use Rattle.farkas_proof.proofs.narrow.Narrow.add_multiple.Goals as goal
 
@@ -59,3 +59,6 @@ merge-requires-clause-ours c = ap (are_ordered 0) c.terms-in-Some.ensures.is ∙
 
 pub merge-requires-clause-theirs : goal.merge-requires-clause-theirs
 merge-requires-clause-theirs c = ap (are_ordered 0) c.as_slice.ensures.value ∙ c.requires
+
+pub put_multiple-requires-clause-empty : goal.put_multiple-requires-clause-empty
+put_multiple-requires-clause-empty c = no-items c.args.self.now.terms c.if-is_empty.ensures
