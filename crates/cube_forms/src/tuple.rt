@@ -9,7 +9,7 @@ use std::marker::Model;
 
 /// The values of a predicate's arguments, a Bool value as 0 or 1. Up to four of them lie in the
 /// value itself.
-#[derive(Debug, Drop)]
+#[derive(Drop)]
 pub struct Tuple {
     values: SmallVec<i64, 4>,
 }
