@@ -1,6 +1,7 @@
 //! When bounds are looked for, and what was found.
 
-ghost use Rattle.std.specs.Prelude.{◌≡◌, true, false};
+ghost use Rattle.std.specs.Prelude.{◌≡◌, ◌-◌, ◌^◌, [], true, false, if◌then◌else◌, ◌==◌, None, IfOk, IsOk, OnOk, OnErr};
+ghost use Rattle.bound_hints.specs.Rounds.{IsRenewed, are_due, first_round, is_safe, level_of, work_of};
 
 use crate::fixing::fix;
 use crate::needing::needs_of;
@@ -59,7 +60,9 @@ pub struct Bounds {
 }
 
 /// The level of the book from which on the round comes.
-fn level_of(round: u32) -> u32 {
+fn level_of(round: u32) -> u32
+    ensures { result ≡ level_of round }
+{
     match round {
         0 => 4,
         1 => 6,
@@ -83,7 +86,9 @@ fn size_of(round: u32) -> Size {
 }
 
 /// How much work a round may take.
-fn work_of(round: u32, units: u32) -> u32 {
+fn work_of(round: u32, units: u32) -> u32
+    ensures { result ≡ work_of round units }
+{
     let least = if round == 0 { FIRST_WORK } else { LEAST_WORK };
     units
         .saturating_mul(WORK_OF_A_UNIT)
@@ -98,7 +103,9 @@ fn settled(
     sys: &System,
     walk: &Walk,
     left: &mut u32,
-) -> Result<Outcome, Memory> {
+) -> Result<Outcome, Memory>
+    ensures { IfOk result (λ outcome. outcome ≡ Outcome.Broken → ⊥) }
+{
     raise_by(alloc, table, walk.first())?;
     if !fix(alloc, table, sys, left)? {
         return Ok(Outcome::Dropped);
@@ -115,7 +122,9 @@ fn found_in(
     sys: &System,
     walk: &Walk,
     left: u32,
-) -> Result<Outcome, Memory> {
+) -> Result<Outcome, Memory>
+    ensures { IfOk result (λ outcome. outcome ≡ Outcome.Broken → ⊥) }
+{
     let mut table = table;
     let mut left = left;
     settled(alloc, &mut table, sys, walk, &mut left)
@@ -128,7 +137,10 @@ fn round_of(
     walk: &Walk,
     size: Size,
     left: u32,
-) -> Result<Outcome, Memory> {
+) -> Result<Outcome, Memory>
+    ensures broken { walk.now.is_broken ≡ true → IfOk result (λ outcome. outcome ≡ Outcome.Broken) }
+    ensures open { walk.now.is_broken ≡ false → IfOk result (λ outcome. outcome ≡ Outcome.Broken → ⊥) }
+{
     if walk.is_broken {
         return Ok(Outcome::Broken);
     }
@@ -138,20 +150,20 @@ fn round_of(
     }
 }
 
-/// Contracts see whether the bounds refute each query, as far as is known.
+/// Contracts see the rounds, and of the bounds whether they refute each query, as far as is known.
 impl Model for Bounds {
-    ghost use Rattle.std.specs.Prelude.{Bool, false};
-    ghost use Rattle.std.specs.Option.{option_map_or};
+    ghost use Rattle.std.specs.Option.{option_map};
+    ghost use Rattle.bound_hints.specs.Rounds.{Rounds};
 
-    ghost Value = { Bool };
+    ghost Value = { Rounds };
 
-    ghost view = { λ b. option_map_or (λ f. f.needs.is_safe) b.found false };
+    ghost view = { λ b. record { found = option_map (λ f. f.needs.is_safe) b.found; round = b.round; wait = b.wait; drops = b.drops } };
 }
 
 impl Bounds {
     /// Nothing was found yet.
     pub fn new() -> Bounds
-        ensures { result ≡ false }
+        ensures { result ≡ first_round }
     {
         Bounds {
             found: None,
@@ -163,7 +175,7 @@ impl Bounds {
 
     /// Whether the bounds refute each query, as far as is known.
     pub fn are_safe(&self) -> bool
-        ensures { result ≡ self.now }
+        ensures { result ≡ is_safe self.now }
     {
         match &self.found {
             Some(found) => found.needs.is_safe,
@@ -173,7 +185,7 @@ impl Bounds {
 
     /// Whether it is time to look for more bounds.
     pub fn are_due(&self, level: u32, units: u32) -> bool
-        ensures { result ≡ true → self.now ≡ false }
+        ensures { result ≡ are_due level units self.now }
     {
         level >= level_of(self.round)
             && units >= self.wait
@@ -193,7 +205,9 @@ impl Bounds {
         level: u32,
         units: u32,
     ) -> Result<(), Memory>
-        ensures { self.old ≡ true → self.new ≡ true }
+        ensures early { are_due level units self.old ≡ false → IsOk result × (self.new ≡ self.old) }
+        ensures renewed { are_due level units self.old ≡ true → OnOk result (IsRenewed walk.now.is_broken units self.old self.new) }
+        ensures err { OnErr result (self.new ≡ self.old) }
     {
         if !self.are_due(level, units) {
             return Ok(());
@@ -223,7 +237,9 @@ impl Bounds {
 
     /// Cubes to try as lemmas of the predicate for the point: those of bounds that the point breaks,
     /// needed ones first.
-    pub fn cubes(&self, alloc: Global, pred: u32, point: &[i64]) -> Result<Vec<Cube>, Memory> {
+    pub fn cubes(&self, alloc: Global, pred: u32, point: &[i64]) -> Result<Vec<Cube>, Memory>
+        ensures { self.now.found ≡ None → IfOk result (λ cubes. cubes.items ≡ []) }
+    {
         match &self.found {
             Some(found) => cubes_at(alloc, found.bounds.as_slice(), &found.needs, pred, point),
             None => Ok(Vec::new(alloc)),

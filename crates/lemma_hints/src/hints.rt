@@ -1,5 +1,9 @@
 //! What is guessed of a system before its search.
 
+ghost use Rattle.std.specs.Prelude.{◌≡◌, true, false, None, Some, is_some, IfOk, IfSome, IsOk, OnOk, OnErr};
+ghost use Rattle.bound_hints.specs.Rounds.{IsRenewed, are_due};
+ghost use Rattle.lemma_hints.specs.Hinted.{is_broken, is_wanted, unhinted};
+
 use crate::paces::{Pace, paced_at, paces_of};
 use base::Memory;
 use bound_hints::{Bounds, Walk, walked};
@@ -9,6 +13,7 @@ use cube_forms::Cube;
 use cube_guesses::{Hulls, hulls_of};
 use lin_atoms::Lin;
 use std::alloc::Global;
+use std::marker::Model;
 
 /// What was found of the predicates of a system, before its search and in rounds beside it: guesses, of
 /// which none has to be right.
@@ -22,9 +27,21 @@ pub struct Hints {
     paces: Vec<Pace>,
 }
 
+/// Contracts see the rounds of the bounds, and whether false follows from what running clauses forward met.
+impl Model for Hints {
+    ghost use Rattle.std.specs.Option.{option_map};
+    ghost use Rattle.lemma_hints.specs.Hinted.{Hinted};
+
+    ghost Value = { Hinted };
+
+    ghost view = { λ h. record { rounds = h.bounds; broken = option_map (λ w. w.is_broken) h.walk } };
+}
+
 /// What is guessed of the tuples of each predicate of the system: equations and residues that they have
 /// in common.
-pub fn hints_of(alloc: Global, sys: &IndexedSystem) -> Result<Hints, Memory> {
+pub fn hints_of(alloc: Global, sys: &IndexedSystem) -> Result<Hints, Memory>
+    ensures { IfOk result (λ hints. hints ≡ unhinted) }
+{
     Ok(Hints {
         hulls: hulls_of(alloc, sys.plain())?,
         bounds: Bounds::new(),
@@ -69,7 +86,10 @@ fn shared_forms(
 
 impl Hints {
     /// Runs clauses forward, the first time.
-    fn walk(&mut self, alloc: Global, sys: &IndexedSystem) -> Result<Walk, Memory> {
+    fn walk(&mut self, alloc: Global, sys: &IndexedSystem) -> Result<Walk, Memory>
+        ensures met { IfOk result (λ met. IfSome self.old.broken (λ b. met.is_broken ≡ b)) }
+        ensures rounds { self.new.rounds ≡ self.old.rounds }
+    {
         if let Some(met) = self.walk.take() {
             return Ok(met);
         }
@@ -88,7 +108,14 @@ impl Hints {
         sys: &IndexedSystem,
         level: u32,
         units: u32,
-    ) -> Result<(), Memory> {
+    ) -> Result<(), Memory>
+        ensures early { is_wanted level units self.old ≡ false → IsOk result × (self.new ≡ self.old) }
+        ensures walked { is_wanted level units self.old ≡ true → OnOk result (is_some self.new.broken ≡ true) }
+        ensures kept { OnOk result (IfSome self.old.broken (λ b. self.new.broken ≡ Some b)) }
+        ensures renewed { are_due level units self.old.rounds ≡ true → OnOk result (IsRenewed (is_broken self.new) units self.old.rounds self.new.rounds) }
+        ensures waits { are_due level units self.old.rounds ≡ false → self.new.rounds ≡ self.old.rounds }
+        ensures err { OnErr result (self.new.rounds ≡ self.old.rounds) }
+    {
         let are_due = self.bounds.are_due(level, units);
         if !are_due && (level == 0 || self.walk.is_some()) {
             return Ok(());
@@ -116,7 +143,9 @@ impl Hints {
     }
 
     /// The bounds that were found so far.
-    pub fn bounds(&self) -> &Bounds {
+    pub fn bounds(&self) -> &Bounds
+        ensures { result.now ≡ self.now.rounds }
+    {
         &self.bounds
     }
 

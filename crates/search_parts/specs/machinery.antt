@@ -1,2 +1,3 @@
 -- What the code keeps for itself: no rule cites it.
+pub mod Passes
 pub mod Steps

@@ -1,10 +1,11 @@
 //! Lemmas that are lifted after a step for the root.
 
-ghost use Rattle.std.specs.Prelude.{◌<◌, length, IfOk, IfSome};
+ghost use Rattle.std.specs.Prelude.{◌≡◌, ◌<◌, length, IfOk, IfSome};
 ghost use Rattle.std.specs.Bool.{OnTrue};
 ghost use Rattle.lemma_frames.specs.Frames.{level_of};
 ghost use Rattle.obligation_turn.specs.Turns.{GoesOn};
 ghost use Rattle.obligation_turn.specs.Workspaces.{IsWorkspaceFor};
+ghost use Rattle.search_parts.specs.machinery.Passes.{pass_of};
 ghost use Rattle.search_parts.specs.machinery.Steps.{IsTaken};
 
 use base::Memory;
@@ -25,7 +26,9 @@ pub struct Pass {
 
 /// The lemmas that are lifted after the step in a book of this level: after a Raise those of the level
 /// that was the highest, after a Lift the later ones.
-pub fn pass_of(level: u32, step: &Step) -> Option<Pass> {
+pub fn pass_of(level: u32, step: &Step) -> Option<Pass>
+    ensures { result ≡ pass_of level step.now }
+{
     match step {
         Step::RaiseStep(_) => Some(Pass {
             next: 0,

@@ -1,5 +1,8 @@
 //! The means of a search, and which of them a worker uses.
 
+ghost use Rattle.std.specs.Prelude.{◌≡◌};
+ghost use Rattle.search_parts.specs.machinery.Passes.{means_of};
+
 /// Which means the work on a lemma uses, and the order in which it tries. They decide what is tried, and
 /// nothing else: each step is made of tokens, whatever they are, and the book judges it.
 #[derive(Clone, Copy)]
@@ -28,7 +31,9 @@ pub struct Means {
 /// others differ from it in the order of what they try, since one book takes the lemmas of all: those of
 /// even numbers leave out literals in the other order, and those of odd ones begin with what the proofs
 /// use. A worker without hints would learn weak lemmas, which lead the others away.
-pub fn means_of(worker: u32) -> Means {
+pub fn means_of(worker: u32) -> Means
+    ensures { result ≡ means_of worker }
+{
     Means {
         again: true,
         bounds: true,

@@ -1,6 +1,6 @@
 -- What the book of a run keeps over claims and entries.
 use Rattle.std.proofs.Common.{◌≡◌, ℕ, ◌+◌, List, [], ◌∷◌, ◌++◌, map, length, false, refl, ap, sym, ◌∙◌, subst}
-use Rattle.std.specs.Prelude.{Option}
+use Rattle.std.specs.Prelude.{Option, Some, None, IfSome}
 use Rattle.std.proofs.lemmas.List.{length_push}
 use Rattle.clause_form.specs.System.{Clauses}
 use Rattle.book_rules.specs.Areas.{is_wide}
@@ -22,8 +22,9 @@ use Rattle.chc_core.specs.Views.{standing_of, state_of, steps_of}
 use Rattle.chc_core.specs.declared.entry.Entry.{Entry}
 use Rattle.clause_queries.specs.Answers.{AreFew}
 use Rattle.obligation_turn.specs.Turns.{IsThin, StepIsThin}
-use Rattle.shared_book.specs.Locks.{with_claims}
-use Rattle.shared_book.specs.Runs.{IsEntry, IsRunBook}
+use Rattle.step_rules.specs.declared.lemma_part.LemmaPart.{LemmaPart}
+use Rattle.shared_book.specs.Locks.{IsOlder, with_claims}
+use Rattle.shared_book.specs.Runs.{IsEntry, IsOlderInRun, IsRunBook}
 
 -- thin cubes
 
@@ -119,3 +120,9 @@ named-legal sys units b system given is =
 
 pub named-good : (sys : Clauses) (b : Contents) → b.system ≡ sys → AreGood (instances b.system) (state_of b).lemmas → AreGood (instances sys) (state_of b).lemmas
 named-good sys b system good = subst (λ (x : Clauses). AreGood (instances x) (state_of b).lemmas) system good
+
+-- what is older in a book of the run
+
+pub older-in-run : (sys : Clauses) (units nodes workers : ℕ) (part : LemmaPart) (b : Contents) (found : Option (ℕ × ℕ)) → IsRunBook sys units nodes workers b → IfSome found (λ one. IsOlder b.frames.lemmas part one.0 one.1) → IfSome found (λ one. IsOlderInRun sys units nodes workers part one.0 one.1)
+older-in-run sys units nodes workers part b None run older = older
+older-in-run sys units nodes workers part b (Some one) run older = (∣ (b, run, older) ∣₁)

@@ -8,6 +8,8 @@ use Rattle.chc_core.specs.declared.entry.Entry.{Entry}
 use Rattle.clause_queries.specs.Answers.{AreFew}
 use Rattle.obligation_turn.specs.Counts.{StepCounts}
 use Rattle.obligation_turn.specs.Turns.{IsThin}
+use Rattle.step_rules.specs.declared.lemma_part.LemmaPart.{LemmaPart}
+use Rattle.shared_book.specs.Locks.{IsOlder}
 
 -- an entry of one of the workers, who are numbered from 1; evidence that counts inner nodes counts those that the run allows
 pub record IsEntry (workers nodes : ℕ) (entry : Entry) : Type 0 where
@@ -22,3 +24,7 @@ pub record IsRunBook (sys : Clauses) (units nodes workers : ℕ) (b : Contents) 
   pub few : AreFew sys
   pub entries : AllOf (IsEntry workers nodes) b.journal
   pub thin : IsThin (standing_of b)
+
+-- the number and the level of an older lemma in some book of the run
+abbrev pub IsOlderInRun : Clauses → ℕ → ℕ → ℕ → LemmaPart → ℕ → ℕ → Type 0
+IsOlderInRun sys units nodes workers part id level = ∥ ((b : Contents) × IsRunBook sys units nodes workers b × IsOlder b.frames.lemmas part id level) ∥₁

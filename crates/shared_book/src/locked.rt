@@ -1,4 +1,4 @@
-ghost use Rattle.std.specs.Prelude.{◌≡◌, ◌≤◌, ◌+◌, ℕ, [], ◌∷◌, ◌++◌, length, true, false, None, Some, IfOk, IfSome, OnOk, OnErr, IsErrOf};
+ghost use Rattle.std.specs.Prelude.{◌≡◌, ◌≤◌, ◌+◌, ℕ, [], ◌∷◌, ◌++◌, length, true, false, None, Some, IfOk, IfSome, IsSomeAnd, OnOk, OnErr, IsErrOf};
 ghost use Rattle.book_rules.specs.declared.by.By.{By as BrokenBy};
 ghost use Rattle.book_rules.specs.declared.end.End.{End as BookEnd};
 ghost use Rattle.book_rules.specs.declared.end.End.TheVariants.{Spent as UnitsSpent};
@@ -190,10 +190,12 @@ impl<R: Run> Locked<R> {
         self.noted = true;
     }
 
-    /// The number and the level of a lemma that has the part's cube, on its predicate and at a lower
-    /// level: to be lifted in place of a copy.
+    /// The number and the level of the last lemma that has the part's cube, on its predicate and at a
+    /// lower level: to be lifted in place of a copy. None exactly where there is no such lemma.
     pub fn older(&self, part: &LemmaPart) -> Option<(u32, u32)>
-        ensures { IfSome result (λ found. IsOlder self.now.book.frames.lemmas part.now found.0 found.1) }
+        ensures older { IfSome result (λ found. IsOlder self.now.book.frames.lemmas part.now found.0 found.1) }
+        ensures last { (id level : ℕ) → IsOlder self.now.book.frames.lemmas part.now id level → IsSomeAnd result (λ found. id ≤ found.0) }
+        ensures run { IsRunBook R.system R.units R.nodes R.workers self.now.book }
     {
         older(self.book.frames(), part)
     }

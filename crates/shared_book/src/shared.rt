@@ -1,4 +1,4 @@
-ghost use Rattle.std.specs.Prelude.{◌≡◌, ◌+◌, ◌<◌, ◌≤◌, [], length, map, replicate, sum, true, vec_len, IfOk, OnOk, OnErr};
+ghost use Rattle.std.specs.Prelude.{◌≡◌, ◌+◌, ◌<◌, ◌≤◌, [], length, map, replicate, sum, true, vec_len, IfOk, IfSome, OnOk, OnErr};
 ghost use Rattle.std.specs.List.{range_with_len};
 ghost use Rattle.book_rules.specs.Places.{has_places};
 ghost use Rattle.book_rules.specs.Walks.{AllOf};
@@ -8,7 +8,7 @@ ghost use Rattle.obligation_tree.specs.Claims.{most_workers};
 ghost use Rattle.obligation_turn.specs.Counts.{StepCounts};
 ghost use Rattle.obligation_turn.specs.Turns.{IsThin, StepIsThin};
 ghost use Rattle.step_rules.specs.Taken.{IsMadeFor, step_of};
-ghost use Rattle.shared_book.specs.Runs.{IsEntry};
+ghost use Rattle.shared_book.specs.Runs.{IsEntry, IsOlderInRun};
 
 use crate::job::Job;
 use crate::locked::Locked;
@@ -125,8 +125,10 @@ impl<R: Run> SharedBook<R> {
     }
 
     /// The number and the level that a lemma with the part's cube had under the lock, as `Locked::older`
-    /// answers it.
-    pub fn older(&self, rt: &impl Wait, part: &LemmaPart) -> Option<(u32, u32)> {
+    /// answers it: a lemma of a book of the run.
+    pub fn older(&self, rt: &impl Wait, part: &LemmaPart) -> Option<(u32, u32)>
+        ensures { IfSome result (λ found. IsOlderInRun R.system R.units R.nodes R.workers part.now found.0 found.1) }
+    {
         let locked = self.lock.lock(rt);
         locked.older(part)
     }

@@ -1,6 +1,6 @@
 //! Steps that are offered to the shared book, from the snapshot that they were made on.
 
-ghost use Rattle.std.specs.Prelude.{◌≡◌, true};
+ghost use Rattle.std.specs.Prelude.{◌≡◌, ◌≤◌, ◌+◌, true, if◌then◌else◌, nat_lt, IfOk, OnErr};
 ghost use Rattle.chc_tokens.specs.Tokens.{is_seen};
 ghost use Rattle.step_rules.specs.declared.step.Step.TheVariants.{LemmaStep, OpenStep};
 ghost use Rattle.obligation_turn.specs.Turns.{GoesOn};
@@ -23,6 +23,9 @@ fn offer<R: Run>(
     step: Step,
 ) -> Result<bool, Memory>
     requires { IsOffered R.system R.nodes step }
+    ensures taken { IfOk result (λ taken. share.new.count ≡ (if taken then share.old.count + 1 else share.old.count)) }
+    ensures err { OnErr result (share.new.count ≡ share.old.count) }
+    ensures worker { share.new.worker ≡ share.old.worker }
 {
     match shared.commit(rt, share, step) {
         Ok(_) => Ok(true),
@@ -44,6 +47,8 @@ fn offer_sibling<R: Run>(
 ) -> Result<bool, Memory>
     requires system { lent.now.system ≡ R.system }
     requires seen { is_seen lent.now.system from.now.seen ≡ true }
+    ensures grows { share.old.count ≤ share.new.count }
+    ensures worker { share.new.worker ≡ share.old.worker }
 {
     match sibling(lent, from, number)? {
         Some(step) => {
@@ -67,6 +72,8 @@ fn offer_siblings<R: Run>(
     requires goes_on { GoesOn lent.now }
     requires system { lent.now.system ≡ R.system }
     requires seen { is_seen lent.now.system from.now.seen ≡ true }
+    ensures grows { share.old.count ≤ share.new.count }
+    ensures worker { share.new.worker ≡ share.old.worker }
 {
     let mut offered = 0;
     for number in 0..atoms_of(lent, from) {
@@ -89,6 +96,9 @@ fn offer_open<R: Run>(
     requires goes_on { GoesOn lent.now }
     requires system { lent.now.system ≡ R.system }
     requires open { IsOffered R.system R.nodes (OpenStep part) }
+    ensures taken { IfOk result (λ taken. taken ≡ nat_lt share.old.count share.new.count) }
+    ensures grows { share.old.count ≤ share.new.count }
+    ensures worker { share.new.worker ≡ share.old.worker }
 {
     if most == 0 {
         return offer(rt, shared, share, Step::OpenStep(part));
@@ -112,6 +122,9 @@ fn offer_lift<R: Run>(
     part: &LemmaPart,
 ) -> Result<bool, Memory>
     requires { AreFor R.system part.now.proofs }
+    ensures taken { IfOk result (λ taken. share.new.count ≡ (if taken then share.old.count + 1 else share.old.count)) }
+    ensures err { OnErr result (share.new.count ≡ share.old.count) }
+    ensures worker { share.new.worker ≡ share.old.worker }
 {
     let proofs = part.proofs.copy(lent.alloc)?;
     let step = Step::LiftStep(LiftPart {
@@ -134,6 +147,9 @@ fn carry<R: Run>(
     part: &LemmaPart,
 ) -> Result<bool, Memory>
     requires { AreFor R.system part.now.proofs }
+    ensures taken { IfOk result (λ taken. taken ≡ nat_lt share.old.count share.new.count) }
+    ensures grows { share.old.count ≤ share.new.count }
+    ensures worker { share.new.worker ≡ share.old.worker }
 {
     let (id, level) = older;
     let mut taken = false;
@@ -146,16 +162,24 @@ fn carry<R: Run>(
     Ok(taken)
 }
 
-/// Lifts an older lemma that has the part's cube, if there is one; whether it was lifted.
+/// Lifts an older lemma that has the part's cube, if there is one and the means are so; whether it was
+/// lifted.
 fn carry_older<R: Run>(
     rt: &impl Wait,
     lent: &Lent,
     shared: &SharedBook<R>,
     share: &mut Share<R>,
     part: &LemmaPart,
+    means: Means,
 ) -> Result<bool, Memory>
     requires { AreFor R.system part.now.proofs }
+    ensures taken { IfOk result (λ taken. taken ≡ nat_lt share.old.count share.new.count) }
+    ensures grows { share.old.count ≤ share.new.count }
+    ensures worker { share.new.worker ≡ share.old.worker }
 {
+    if !means.lifts {
+        return Ok(false);
+    }
     match shared.older(rt, part) {
         Some(older) => carry(rt, lent, shared, share, older, part),
         None => Ok(false),
@@ -172,8 +196,11 @@ fn offer_lemma<R: Run>(
     means: Means,
 ) -> Result<bool, Memory>
     requires { IsOffered R.system R.nodes (LemmaStep part) }
+    ensures taken { IfOk result (λ taken. taken ≡ nat_lt share.old.count share.new.count) }
+    ensures grows { share.old.count ≤ share.new.count }
+    ensures worker { share.new.worker ≡ share.old.worker }
 {
-    if means.lifts && carry_older(rt, lent, shared, share, &part)? {
+    if carry_older(rt, lent, shared, share, &part, means)? {
         return Ok(true);
     }
     offer(rt, shared, share, Step::LemmaStep(part))
@@ -193,6 +220,9 @@ pub fn offer_turn<R: Run>(
     requires goes_on { GoesOn lent.now }
     requires system { lent.now.system ≡ R.system }
     requires step { IsOffered R.system R.nodes step }
+    ensures taken { IfOk result (λ taken. taken ≡ nat_lt share.old.count share.new.count) }
+    ensures grows { share.old.count ≤ share.new.count }
+    ensures worker { share.new.worker ≡ share.old.worker }
 {
     match step {
         Step::OpenStep(part) => offer_open(rt, lent, shared, share, part, most),

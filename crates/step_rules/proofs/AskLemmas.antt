@@ -1,15 +1,17 @@
 -- What a Stall's evidence is compared with, as the code asks it.
-use Rattle.std.proofs.Common.{◌≡◌, ℕ, List, [], Bool, true, false, not, ◌&&◌, Some, None, refl, ap, sym, ◌∙◌}
+use Rattle.std.proofs.Common.{◌≡◌, ℕ, List, [], Bool, true, false, cond, not, ◌&&◌, Some, None, refl, ap, ap₂, sym, ◌∙◌}
 use Rattle.std.specs.Prelude.{Option, slice_get}
 use Rattle.std.specs.List.{list_all}
 use Rattle.lin_atoms.specs.declared.lit.Lit.{Lit}
 use Rattle.lin_atoms.specs.declared.form.Form.{Form}
 use Rattle.clause_form.specs.System.{Clauses, is_clause}
+use Rattle.clause_form.specs.declared.atom.Atom.{Atom}
 use Rattle.clause_form.specs.declared.clause.Clause.{Clause}
 use Rattle.chc_tokens.specs.Queries.{goal_cube, has_goal, query_at, query_in}
 use Rattle.chc_tokens.specs.declared.goal.Goal.{Goal}
 use Rattle.chc_tokens.specs.declared.used.Used.{Used as UsedLemma}
 use Rattle.book_rules.specs.Places.{obligation_fits, used_has_places}
+use Rattle.book_rules.specs.declared.by.By.{By}
 use Rattle.book_rules.specs.Proofs.{is_head}
 use Rattle.book_rules.specs.Queries.{query}
 use Rattle.book_rules.specs.Same.{same_form}
@@ -70,3 +72,19 @@ not-true false h = refl
 pub not-false : (b : Bool) → not b ≡ false → b ≡ true
 not-false true h = refl
 not-false false h = absurd (cc)
+
+-- a clause that was looked up in what is lent
+pub clause-as : (shown sys : Clauses) (xs : List Clause) (n m : ℕ) (found : Option Clause) → shown ≡ sys → xs ≡ shown.clauses → n ≡ m → slice_get xs n ≡ found → slice_get sys.clauses m ≡ found
+clause-as shown sys xs n m found same is at there = sym (ap₂ slice_get (is ∙ ap (λ (s : Clauses). s.clauses) same) at) ∙ there
+
+-- what is told by a test of a clause that was looked up
+pub clause-told : (test : Option Clause → Bool) (by : By) (found looked : Option Clause) (b : Bool) → found ≡ looked → test looked ≡ b → cond {A = Option By} b None (Some by) ≡ cond {A = Option By} (test found) None (Some by)
+clause-told test by found looked b there is = sym (ap (λ (o : Option Clause). cond {A = Option By} (test o) None (Some by)) there ∙ ap (λ (t : Bool). cond {A = Option By} t None (Some by)) is)
+
+-- the same of an atom that was looked up, behind another test that was passed
+pub atom-told : (passed : Bool) (test : Option Atom → Bool) (found looked : Option Atom) (b : Bool) → passed ≡ true → found ≡ looked → b ≡ test looked → b ≡ (passed && test found)
+atom-told passed test found looked b held there is = is ∙ sym (ap₂ (λ (p : Bool) (o : Option Atom). p && test o) held there)
+
+-- what is told by a test of a clause and of an atom of it that were looked up
+pub used-told : (test : Option Clause → Bool) (own : Option Atom → Bool) (found : Option Clause) (clause : Clause) (n : ℕ) (looked : Option Atom) (b : Bool) → found ≡ Some clause → test (Some clause) ≡ own (slice_get clause.atoms n) → slice_get clause.atoms n ≡ looked → b ≡ own looked → b ≡ test found
+used-told test own found clause n looked b there same at is = is ∙ sym (ap test there ∙ same ∙ ap own at)

@@ -1,0 +1,8 @@
+use Rattle.std.specs.Prelude.{◌≡◌, ◌≤◌}
+use Rattle.step_offers.proofs.offering.offer_siblings.Given as goal
+
+abbrev pub invariant-loop-number : goal.invariant-loop-number
+invariant-loop-number g l = record {
+  grows : l.fn.share.count ≤ l.share.count;
+  worker : l.share.worker ≡ l.fn.share.worker;
+}
