@@ -104,8 +104,10 @@ impl Seen {
         for there in self.there.iter_mut() {
             *there = false;
         }
-        for (lit, reason) in node.lits.as_slice().iter().zip(node.reasons.iter()) {
-            self.mark_literal(lit, number_of(lit, *reason));
+        for (at, lit) in node.lits.as_slice().iter().enumerate() {
+            if let Some(reason) = node.reasons.get(at) {
+                self.mark_literal(lit, number_of(lit, *reason));
+            }
         }
         for (lit, number) in node.left_out.as_slice() {
             self.mark_literal(lit, *number);
