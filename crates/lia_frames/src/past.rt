@@ -1,6 +1,8 @@
 //! Trees of what was closed, which close other nodes, too: own numbers are the same wherever a literal or a disjunction
 //! of the form is.
 
+ghost use Rattle.std.specs.Prelude.{◌≡◌, ◌^◌, [], IfOk, OnOk, false, if◌then◌else◌, nat_lt, replicate};
+
 use crate::frames::{BRANCHES, Closed};
 use crate::nodes::{Node, known_of_quotient, number_of};
 use crate::numbering::{Case, size};
@@ -25,20 +27,21 @@ const MOST_NUMBERS: u32 = 1 << 12;
 /// Trees of what was closed, and what they use; and what is seen at the node that was looked at last.
 #[derive(Drop)]
 pub struct Past {
-    numbers: u32,
-    kept: Vec<Closed>,
+    /// How many numbers the form takes, or 0 where these are too many and no trees are kept.
+    pub numbers: u32,
+    pub kept: Vec<Closed>,
     /// Where the next one is kept.
-    next: usize,
-    seen: Seen,
+    pub next: usize,
+    pub seen: Seen,
 }
 
 /// What is there at a node, and the parts that a tree closes.
 #[derive(Drop)]
 pub struct Seen {
     /// Whether what has the number is there.
-    there: Vec<bool>,
+    pub there: Vec<bool>,
     /// The first numbers of the parts.
-    shut: Vec<u32>,
+    pub shut: Vec<u32>,
 }
 
 /// Whether a number is one of a branch.
@@ -52,7 +55,12 @@ fn has_branch(used: &[u32]) -> bool {
 }
 
 /// The other one becomes a copy.
-fn put_copy(alloc: Global, closed: &Closed, to: &mut Closed) -> Result<(), Memory> {
+fn put_copy(alloc: Global, closed: &Closed, to: &mut Closed) -> Result<(), Memory>
+    ensures used { OnOk result (to.new.used.items ≡ closed.now.used.items) }
+    ensures steps { OnOk result (to.new.tree.steps.items ≡ closed.now.tree.steps.items) }
+    ensures multipliers { OnOk result (to.new.tree.multipliers.items ≡ closed.now.tree.multipliers.items) }
+    ensures terms { OnOk result (to.new.tree.terms.items ≡ closed.now.tree.terms.items) }
+{
     to.used.clear();
     to.used.extend_from_slice(closed.used.as_slice())?;
     to.tree = Tree::new(alloc);
@@ -96,8 +104,10 @@ impl Seen {
         for there in self.there.iter_mut() {
             *there = false;
         }
-        for (lit, reason) in node.lits.as_slice().iter().zip(node.reasons.iter()) {
-            self.mark_literal(lit, number_of(lit, *reason));
+        for (at, lit) in node.lits.as_slice().iter().enumerate() {
+            if let Some(reason) = node.reasons.get(at) {
+                self.mark_literal(lit, number_of(lit, *reason));
+            }
         }
         for (lit, number) in node.left_out.as_slice() {
             self.mark_literal(lit, *number);
@@ -157,7 +167,9 @@ enum Lacking {
 }
 
 /// So many that aren't there.
-fn nothing(alloc: Global, numbers: u32) -> Result<Vec<bool>, Memory> {
+fn nothing(alloc: Global, numbers: u32) -> Result<Vec<bool>, Memory>
+    ensures { IfOk result (λ there. there.items ≡ replicate numbers false) }
+{
     let mut there = Vec::with_capacity(alloc, numbers as usize)?;
     'there: for _ in 0..numbers {
         there.push(false)?;
@@ -167,7 +179,13 @@ fn nothing(alloc: Global, numbers: u32) -> Result<Vec<bool>, Memory> {
 
 impl Past {
     /// Nothing was closed yet. The form takes so many numbers.
-    pub fn new(alloc: Global, numbers: u32) -> Result<Past, Memory> {
+    pub fn new(alloc: Global, numbers: u32) -> Result<Past, Memory>
+        ensures numbers { IfOk result (λ past. past.numbers ≡ (if nat_lt (2 ^ 12) numbers then 0 else numbers)) }
+        ensures kept { IfOk result (λ past. past.kept.items ≡ []) }
+        ensures next { IfOk result (λ past. past.next ≡ 0) }
+        ensures there { IfOk result (λ past. past.seen.there.items ≡ replicate past.numbers false) }
+        ensures shut { IfOk result (λ past. past.seen.shut.items ≡ []) }
+    {
         let numbers = if numbers > MOST_NUMBERS { 0 } else { numbers };
         Ok(Past {
             numbers,
@@ -181,7 +199,9 @@ impl Past {
     }
 
     /// What was seen at the node that was looked at last.
-    pub fn seen(&self) -> &Seen {
+    pub fn seen(&self) -> &Seen
+        ensures { result.now ≡ self.now.seen }
+    {
         &self.seen
     }
 

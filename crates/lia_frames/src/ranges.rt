@@ -1,5 +1,7 @@
 //! What variables can be where literals are true, by intervals: a guess of which parts of a disjunction are left.
 
+ghost use Rattle.std.specs.Prelude.{◌≡◌, ◌≤◌, IfOk, length};
+
 use crate::numbering::{Case, size};
 use crate::past::Seen;
 use base::Memory;
@@ -11,15 +13,15 @@ const ROUNDS: u32 = 3;
 
 /// What a variable is at least and at most.
 #[derive(Clone, Copy)]
-struct Range {
-    least: Option<i128>,
-    most: Option<i128>,
+pub struct Range {
+    pub least: Option<i128>,
+    pub most: Option<i128>,
 }
 
 /// For each variable its range. Those from the end of the list on may be anything.
 #[derive(Drop)]
 pub struct Ranges {
-    each: Vec<Range>,
+    pub each: Vec<Range>,
 }
 
 /// The lesser one of two upper bounds.
@@ -69,7 +71,9 @@ impl Ranges {
     }
 
     /// `coefficient` times the variable is at most the number.
-    fn meet(&mut self, variable: u32, coefficient: i128, most: i128) {
+    fn meet(&mut self, variable: u32, coefficient: i128, most: i128)
+        ensures { length self.new.each.items ≡ length self.old.each.items }
+    {
         let Some(size) = coefficient.checked_abs() else {
             return;
         };
@@ -86,7 +90,9 @@ impl Ranges {
     }
 
     /// The form with the sign is at most 0.
-    fn meet_lin(&mut self, lin: &Lin, sign: i128) {
+    fn meet_lin(&mut self, lin: &Lin, sign: i128)
+        ensures { length self.new.each.items ≡ length self.old.each.items }
+    {
         for (at, (variable, coefficient)) in lin.terms().iter().enumerate() {
             if let Some(most) = self.least(lin, sign, at).and_then(i128::checked_neg) {
                 if let Some(term) = i128::from(*coefficient).checked_mul(sign) {
@@ -96,7 +102,9 @@ impl Ranges {
         }
     }
 
-    fn meet_lit(&mut self, lit: &Lit) {
+    fn meet_lit(&mut self, lit: &Lit)
+        ensures { length self.new.each.items ≡ length self.old.each.items }
+    {
         match lit {
             Lit::Le(lin) => self.meet_lin(lin, 1),
             Lit::Eq(lin) => {
@@ -109,7 +117,9 @@ impl Ranges {
     }
 
     /// The ranges of the variables below `end` where the literals are true.
-    pub fn new(alloc: Global, lits: &[Lit], end: u32) -> Result<Ranges, Memory> {
+    pub fn new(alloc: Global, lits: &[Lit], end: u32) -> Result<Ranges, Memory>
+        ensures { IfOk result (λ ranges. length ranges.each.items ≡ end) }
+    {
         let mut each = Vec::with_capacity(alloc, end as usize)?;
         'each: for _ in 0..end {
             each.push(Range {
@@ -195,7 +205,9 @@ impl Ranges {
     }
 
     /// How many parts of the disjunction are left.
-    pub fn left(&self, case: &Case, seen: &Seen) -> usize {
+    pub fn left(&self, case: &Case, seen: &Seen) -> usize
+        ensures { result ≤ length case.now.0.now }
+    {
         let (parts, number) = case;
         let mut first = number.saturating_add(1);
         let mut count: usize = 0;

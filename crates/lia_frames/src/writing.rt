@@ -241,7 +241,8 @@ impl<'a> Writing<'a> {
         };
         let parts = parts.as_slice();
         let mut first = number.saturating_add(1).saturating_add(sizes(parts));
-        for part in parts.iter().rev() {
+        'parts: for behind in 0..parts.len() {
+            let part = &parts[parts.len() - 1 - behind];
             first = first.saturating_sub(size(part));
             let part = Some((at, part, first));
             self.later.push(Later { place, part })?;
@@ -254,40 +255,36 @@ impl<'a> Writing<'a> {
     /// The next node is written.
     fn write(&mut self, alloc: Global, step: Step) -> Result<(), Memory> {
         let place = self.next(alloc)?;
-        match step {
+        let (written, below) = match step {
             Step::Leaf(count) => {
                 self.put_multipliers(count, place.known);
-                self.steps.push(step)?;
-                Ok(())
+                (step, 0_usize)
             }
             Step::Round(count, _) => {
                 self.put_multipliers(count, place.known);
-                self.steps.push(step)?;
-                self.put_later(place)
+                (step, 1)
             }
             Step::Split(count, _) => {
                 self.put_terms(count);
-                self.steps.push(step)?;
-                self.put_later(place)?;
-                self.put_later(place)
+                (step, 2)
             }
-            Step::Branch(number) => self.put_branch(number, place),
-            Step::Cases(number, count) => self.put_cases(number, count, place),
-            Step::Quotient(own) => {
-                let lit = self.number(own, place.known);
-                self.steps.push(Step::Quotient(lit))?;
-                self.put_later(place)
-            }
+            Step::Branch(number) => return self.put_branch(number, place),
+            Step::Cases(number, count) => return self.put_cases(number, count, place),
+            Step::Quotient(own) => (Step::Quotient(self.number(own, place.known)), 1),
+        };
+        self.steps.push(written)?;
+        'below: for _ in 0..below {
+            self.put_later(place)?;
         }
+        Ok(())
     }
 
     /// The whole tree is written, where the form gives that.
-    fn write_all(&mut self, alloc: Global, flat: &Flat<'a>, place: Place) -> Result<(), Memory> {
+    fn write_all(&mut self, alloc: Global, flat: Flat<'a>, place: Place) -> Result<(), Memory> {
+        let Flat { lits, cases } = flat;
         let mut place = place;
-        self.enter(flat.lits.as_slice(), &mut place)?;
-        let mut open = Vec::new(alloc);
-        open.extend_from_slice(flat.cases.as_slice())?;
-        self.open.push(open)?;
+        self.open.push(cases)?;
+        self.enter(lits.as_slice(), &mut place)?;
         self.put_later(place)?;
         'nodes: for at in 0..self.tree.steps.len() {
             if let Some(step) = self.tree.steps.get(at) {
@@ -307,9 +304,9 @@ pub fn written<'a>(
     closed: &mut Closed,
     end: u32,
 ) -> Result<Refutation, Memory> {
-    let flat = flat_of(alloc, form, falsehood, 0)?;
     let mut used = Vec::new(alloc);
     closed.tree.put_used(&mut used)?;
+    let flat = flat_of(alloc, form, falsehood, 0)?;
     let mut writing = Writing {
         falsehood,
         numbers: Vec::new(alloc),
@@ -330,7 +327,7 @@ pub fn written<'a>(
         open: 1,
         branches: 0,
     };
-    writing.write_all(alloc, &flat, place)?;
+    writing.write_all(alloc, flat, place)?;
     let mut tree = std::mem::replace(&mut writing.tree, Tree::new(alloc));
     tree.steps = std::mem::replace(&mut writing.steps, Vec::new(alloc));
     joined(alloc, &mut tree)

@@ -1,0 +1,4 @@
+pub mod FlatLemmas
+pub mod NameLemmas
+pub mod TreeLemmas
+pub mod WayLemmas
