@@ -18,8 +18,8 @@ cube_if_short lits = if cube_is_short lits then Some lits else None
 abbrev pub passing : Linear → ℤ → Option Linear
 passing part limit = if is_short (limit +ℤ pos 1) && fits (plus (negated part) (limit +ℤ pos 1)) then Some (plus (negated part) (limit +ℤ pos 1)) else None
 
--- what a bound excludes, if that has room: that the condition is met and the part passes the limit. A bound that isn't
--- known excludes what meets the condition, if it is one of no terms
+-- what a bound excludes, if its numbers have room: that the condition is met and the part passes the limit. As long as no
+-- tuple is known to meet the condition, only a part without terms excludes something, what meets the condition
 abbrev pub excluded : List Lit → Linear → Limit → Option (List Lit)
 excluded condition part Nothing = if length part.terms == 0 then cube_if_short condition else None
 excluded condition part (At limit) = option_and_then (λ lin. cube_if_short (condition ++ Le lin ∷ [])) (passing part limit)

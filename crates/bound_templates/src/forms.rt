@@ -1,6 +1,6 @@
 //! Values of forms, their parts, and lists of what is different.
 
-ghost use Rattle.std.specs.Prelude.{◌≡◌, ◌++◌, [], ◌∷◌, ◌↔◌, ◌+ℤ◌, ◌*ℤ◌, Contains, FitsSigned, IsTrue, IfOk, OnOk, OnErr, SomeIff};
+ghost use Rattle.std.specs.Prelude.{◌≡◌, ◌++◌, [], ◌∷◌, ◌↔◌, ◌+ℤ◌, ◌*ℤ◌, Contains, FitsSigned, IsTrue, IfOk, OnOk, SomeIff};
 ghost use Rattle.std.specs.Int.{w128};
 ghost use Rattle.lin_atoms.specs.Denial.{linear_of};
 ghost use Rattle.lin_atoms.specs.Linear.{value_at, variable_at};

@@ -1,9 +1,7 @@
 //! Queries of one way through a clause, with bounds on its body atoms: of what they are made.
 
-ghost use Rattle.std.specs.Prelude.{◌≡◌, ◌++◌, [], ◌∷◌, map, option_to_list, remove, IfOk, OnOk};
-ghost use Rattle.std.specs.List.{list_any};
+ghost use Rattle.std.specs.Prelude.{◌≡◌, ◌++◌, map, option_to_list, remove, IfOk, OnOk};
 ghost use Rattle.lin_atoms.specs.declared.form.Form.TheVariants.{Lit as Literal};
-ghost use Rattle.bound_templates.specs.Bounds.{excludes, stands};
 ghost use Rattle.bound_templates.specs.Queries.{bound_on, lemma_if_room, use_of, uses_on};
 
 use crate::arms::Arm;
