@@ -1,5 +1,5 @@
 -- Bounds of linear parts under conditions: each tuple that meets the condition has a value of the part up to the limit.
-use Rattle.std.specs.Prelude.{ℕ, ◌+◌, List, [], ◌∷◌, ◌++◌, length, ℤ, pos, ◌+ℤ◌, int_le, Bool, false, ◌&&◌, ◌==◌, not, Option, Some, None, option_map, option_and_then, unwrap_or, is_some, slice_get, if◌then◌else◌}
+use Rattle.std.specs.Prelude.{ℕ, List, [], ◌∷◌, ◌++◌, length, ℤ, pos, ◌+ℤ◌, int_le, Bool, false, ◌&&◌, ◌==◌, not, Option, Some, None, option_map, option_and_then, unwrap_or, is_some, slice_get, if◌then◌else◌}
 use Rattle.base.specs.Widths.{is_short}
 use Rattle.lin_atoms.specs.Linear.{Linear, fits}
 use Rattle.lin_atoms.specs.Algebra.{negated, plus}
