@@ -1,1 +1,3 @@
+mod NeedLemmas
 mod TightLemmas
+mod ValueLemmas

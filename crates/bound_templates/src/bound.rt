@@ -1,5 +1,11 @@
 //! A bound of a part, and what was asked about it.
 
+ghost use Rattle.std.specs.Prelude.{◌≡◌, ◌+◌, ◌-◌, ◌^◌, ◌<◌, ◌≤◌, ◌++◌, [], ◌∷◌, length, min, HoldsAt, IfOk, OnOk, OnErr};
+ghost use Rattle.lin_atoms.specs.declared.lit.Lit.TheVariants.{Le};
+ghost use Rattle.cube_forms.specs.Cubes.{cube_holds};
+ghost use Rattle.bound_templates.specs.declared.bound.Limit.TheVariants.{At};
+ghost use Rattle.bound_templates.specs.Bounds.{cube_if_short, excluded, excludes, is_needless, passing, stands};
+
 use crate::forms::{copied, push_copies, value_at};
 use base::Memory;
 use cube_forms::{Cube, CubeStop, Lemma, negate};
@@ -54,7 +60,9 @@ pub struct Bound {
 }
 
 /// The lemma that denies these literals, where numbers have room.
-fn denying(alloc: Global, lits: Vec<Lit>) -> Result<Option<Lemma>, Memory> {
+fn denying(alloc: Global, lits: Vec<Lit>) -> Result<Option<Lemma>, Memory>
+    ensures { IfOk result (λ lemma. lemma ≡ cube_if_short lits.items) }
+{
     match Cube::new(alloc, lits) {
         Ok(cube) => Ok(Some(negate(alloc, &cube)?)),
         Err(CubeStop::Wide) => Ok(None),
@@ -63,7 +71,9 @@ fn denying(alloc: Global, lits: Vec<Lit>) -> Result<Option<Lemma>, Memory> {
 }
 
 /// The form that is at most 0 where the part passes the limit.
-fn passing(alloc: Global, part: &Lin, limit: i64) -> Result<Option<Lin>, Memory> {
+fn passing(alloc: Global, part: &Lin, limit: i64) -> Result<Option<Lin>, Memory>
+    ensures { IfOk result (λ made. made ≡ passing part.now limit) }
+{
     match limit.checked_add(1) {
         Some(more) => Ok(part.negated(alloc)?.plus(more)),
         None => Ok(None),
@@ -71,7 +81,9 @@ fn passing(alloc: Global, part: &Lin, limit: i64) -> Result<Option<Lin>, Memory>
 }
 
 /// The condition, and that the form is at most 0.
-fn with_bound(alloc: Global, condition: &[Lit], lin: Lin) -> Result<Vec<Lit>, Memory> {
+fn with_bound(alloc: Global, condition: &[Lit], lin: Lin) -> Result<Vec<Lit>, Memory>
+    ensures { IfOk result (λ lits. lits.items ≡ condition.now ++ Le lin ∷ []) }
+{
     let mut lits = Vec::new(alloc);
     push_copies(alloc, &mut lits, condition)?;
     lits.push(Lit::Le(lin))?;
@@ -83,7 +95,9 @@ fn lemma_at(
     condition: &[Lit],
     part: &Lin,
     limit: i64,
-) -> Result<Option<Lemma>, Memory> {
+) -> Result<Option<Lemma>, Memory>
+    ensures { IfOk result (λ lemma. lemma ≡ excluded condition.now part.now (At limit)) }
+{
     match passing(alloc, part, limit)? {
         Some(lin) => denying(alloc, with_bound(alloc, condition, lin)?),
         None => Ok(None),
@@ -96,7 +110,9 @@ fn lemma_of(
     condition: &[Lit],
     part: &Lin,
     limit: Limit,
-) -> Result<Option<Lemma>, Memory> {
+) -> Result<Option<Lemma>, Memory>
+    ensures { IfOk result (λ lemma. lemma ≡ excluded condition.now part.now limit) }
+{
     match limit {
         Limit::Nothing => {
             if part.terms().len() > 0 {
@@ -110,7 +126,9 @@ fn lemma_of(
 }
 
 /// Whether each literal is true at the tuple.
-fn all_hold(lits: &[Lit], tuple: &[i64]) -> bool {
+fn all_hold(lits: &[Lit], tuple: &[i64]) -> bool
+    ensures { result ≡ cube_holds tuple.now lits.now }
+{
     for lit in lits {
         if !lit.holds(tuple) {
             return false;
@@ -172,8 +190,12 @@ impl Bound {
         }
     }
 
-    /// Puts the limit up.
-    pub fn put(&mut self, alloc: Global, limit: Limit) -> Result<(), Memory> {
+    /// Puts the limit up: it then excludes what passes this one, and has a new version. Without memory nothing
+    /// changes.
+    pub fn put(&mut self, alloc: Global, limit: Limit) -> Result<(), Memory>
+        ensures put { OnOk result (self.new ≡ record self.old { limit = limit; lemma = excluded self.old.condition.items self.old.part limit; version = min (self.old.version + 1) (2 ^ 32 - 1) }) }
+        ensures unchanged { OnErr result (self.new ≡ self.old) }
+    {
         let lemma = lemma_of(alloc, self.condition.as_slice(), &self.part, limit)?;
         self.lemma = lemma;
         self.limit = limit;
@@ -182,7 +204,9 @@ impl Bound {
     }
 
     /// Whether the bound excludes the tuple.
-    pub(crate) fn excludes(&self, tuple: &[i64]) -> bool {
+    pub(crate) fn excludes(&self, tuple: &[i64]) -> bool
+        ensures { result ≡ excludes tuple.now self.now }
+    {
         match &self.lemma {
             Some(lemma) => lemma.excludes(tuple),
             None => false,
@@ -190,31 +214,29 @@ impl Bound {
     }
 }
 
-/// Where the bounds of a predicate begin: they stand in the order of their predicates.
-pub fn first_of(bounds: &[Bound], pred: u32) -> usize {
-    let mut low: usize = 0;
-    let mut high = bounds.len();
-    for _ in 0..usize::BITS {
-        if low >= high {
-            return low;
-        }
-        let middle = low.saturating_add(high.saturating_sub(low) / 2);
-        match bounds.get(middle) {
-            Some(bound) => {
-                if bound.pred < pred {
-                    low = middle.saturating_add(1);
-                } else {
-                    high = middle;
-                }
-            }
-            None => high = middle,
+/// Where the bounds of a predicate begin: they stand in the order of their predicates. The bound before that place
+/// is one of an earlier predicate, and that at the place isn't.
+pub fn first_of(bounds: &[Bound], pred: u32) -> usize
+    ensures within { result ≤ length bounds.now }
+    ensures before { 0 < result → HoldsAt (λ bound. bound.pred < pred) bounds.now (result - 1) }
+    ensures behind { result < length bounds.now → HoldsAt (λ bound. pred ≤ bound.pred) bounds.now result }
+{
+    let (mut low, mut high) = (0, bounds.len());
+    while low < high {
+        let middle = low + (high - low) / 2;
+        if bounds[middle].pred < pred {
+            low = middle + 1;
+        } else {
+            high = middle;
         }
     }
     low
 }
 
 /// Whether a bound without the condition says as much.
-fn is_needless(bounds: &[Bound], bound: &Bound) -> bool {
+fn is_needless(bounds: &[Bound], bound: &Bound) -> bool
+    ensures { result ≡ is_needless bounds.now bound.now }
+{
     let plain = match bound.plain {
         Some(plain) => plain,
         None => return false,
@@ -229,6 +251,8 @@ fn is_needless(bounds: &[Bound], bound: &Bound) -> bool {
 }
 
 /// Whether the bound excludes something that no other one does.
-pub fn stands(bounds: &[Bound], bound: &Bound) -> bool {
+pub fn stands(bounds: &[Bound], bound: &Bound) -> bool
+    ensures { result ≡ stands bounds.now bound.now }
+{
     bound.lemma.is_some() && !is_needless(bounds, bound)
 }

@@ -1,6 +1,11 @@
 //! What a bound's lemma denies at the atoms of a clause. A bound is kept without a query where that is the same
 //! at the head and at a body atom.
 
+ghost use Rattle.std.specs.Prelude.{◌≡◌, ◌<◌, ◌↔◌, length, option_and_then, slice_get, HoldsAt, IfOk, IsTrue, MatchOption, Some};
+ghost use Rattle.std.specs.List.{AllWithin};
+ghost use Rattle.bound_templates.specs.Bounds.{denied_at, denied_by};
+ghost use Rattle.bound_templates.specs.Goals.{Denies};
+
 use crate::bound::{Bound, Use};
 use base::{Items, Memory, Same};
 use clause_form::Clause;
@@ -9,7 +14,9 @@ use lin_atoms::{Lit, WideStop};
 use std::alloc::Global;
 
 /// What a lemma denies, at arguments.
-pub fn denied_at(alloc: Global, lemma: &Lemma, args: &[u32]) -> Result<Option<Items<Lit>>, Memory> {
+pub fn denied_at(alloc: Global, lemma: &Lemma, args: &[u32]) -> Result<Option<Items<Lit>>, Memory>
+    ensures { IfOk result (λ lits. lits ≡ denied_at args.now lemma.now) }
+{
     match lemma.cube().at(alloc, args) {
         Ok(lits) => Ok(Some(lits)),
         Err(WideStop::Wide) => Ok(None),
@@ -23,7 +30,9 @@ pub fn denied_by(
     bounds: &[Bound],
     at: usize,
     clause: &Clause,
-) -> Result<Option<Items<Lit>>, Memory> {
+) -> Result<Option<Items<Lit>>, Memory>
+    ensures { IfOk result (λ lits. lits ≡ option_and_then (λ head. denied_by head.args (slice_get bounds.now at)) clause.now.head) }
+{
     let head = match &clause.head {
         Some(head) => head,
         None => return Ok(None),
@@ -38,7 +47,9 @@ pub fn denied_by(
 }
 
 /// Whether the lemma denies these literals at the arguments.
-fn denies(alloc: Global, lemma: &Lemma, args: &[u32], goal: &Items<Lit>) -> Result<bool, Memory> {
+fn denies(alloc: Global, lemma: &Lemma, args: &[u32], goal: &Items<Lit>) -> Result<bool, Memory>
+    ensures { IfOk result (λ yes. IsTrue yes ↔ (denied_at args.now lemma.now ≡ Some goal.now)) }
+{
     match denied_at(alloc, lemma, args)? {
         Some(own) => Ok(own.equals(goal)),
         None => Ok(false),
@@ -53,7 +64,11 @@ fn atom_of(
     pred: u32,
     lemma: &Lemma,
     goal: &Items<Lit>,
-) -> Result<Option<usize>, Memory> {
+) -> Result<Option<usize>, Memory>
+    ensures { IfOk result (λ found. MatchOption found
+        (AllWithin (λ atom. ¬ Denies pred (Some lemma.now) goal.now atom) clause.now.atoms 0 (length clause.now.atoms))
+        (λ at. (at < length clause.now.atoms) × HoldsAt (Denies pred (Some lemma.now) goal.now) clause.now.atoms at × AllWithin (λ atom. ¬ Denies pred (Some lemma.now) goal.now atom) clause.now.atoms 0 at)) }
+{
     for (number, atom) in clause.atoms.as_slice().iter().enumerate() {
         if atom.pred == pred && denies(alloc, lemma, atom.args.as_slice(), goal)? {
             return Ok(Some(number));
@@ -62,14 +77,19 @@ fn atom_of(
     Ok(None)
 }
 
-/// The bound itself, used on a body atom, where the clause moves none of its places.
+/// The bound itself, used on the first body atom of its predicate at which its lemma denies what it denies at the
+/// head: the clause moves none of its places there.
 pub fn unmoved(
     alloc: Global,
     clause: &Clause,
     at: usize,
     bound: &Bound,
     goal: &Items<Lit>,
-) -> Result<Option<Use>, Memory> {
+) -> Result<Option<Use>, Memory>
+    ensures { IfOk result (λ found. MatchOption found
+        (AllWithin (λ atom. ¬ Denies bound.now.pred bound.now.lemma goal.now atom) clause.now.atoms 0 (length clause.now.atoms))
+        (λ one. (one.bound ≡ at) × (one.version ≡ bound.now.version) × (one.atom < length clause.now.atoms) × HoldsAt (Denies bound.now.pred bound.now.lemma goal.now) clause.now.atoms one.atom × AllWithin (λ atom. ¬ Denies bound.now.pred bound.now.lemma goal.now atom) clause.now.atoms 0 one.atom)) }
+{
     let lemma = match &bound.lemma {
         Some(lemma) => lemma,
         None => return Ok(None),

@@ -23,6 +23,7 @@ mod tightening;
 pub use arms::{Arm, arms_of};
 pub use bound::{Bound, Limit, Memo, Use, first_of, stands};
 pub use candidates::cubes_at;
+pub use forms::{has_lit, push_new, value_at, variable_at};
 pub use goals::{denied_at, denied_by, unmoved};
 pub use memos::{forgotten, is_kept, push_first, remember};
 pub use met::{MOST_MET, Met, Walk, meet};

@@ -1,5 +1,8 @@
 //! Which bounds are needed, and on how many others each one rests.
 
+ghost use Rattle.std.specs.Prelude.{◌≡◌, true, false, length, not, slice_index_or, slice_set, IfOk};
+ghost use Rattle.bound_templates.specs.Needs.{has_new, marked, uses_in};
+
 use crate::bound::{Bound, Memo, Use};
 use base::Memory;
 use std::alloc::Global;
@@ -18,40 +21,47 @@ pub struct Needs {
     pub ranks: Vec<u32>,
 }
 
-pub fn mark(needed: &mut Vec<bool>, at: usize) -> bool {
-    match needed.as_mut_slice().get_mut(at) {
-        Some(place) => {
-            let is_new = !*place;
-            *place = true;
-            is_new
-        }
-        None => false,
+/// Marks the bound at a place; whether it is there and wasn't marked.
+pub fn mark(needed: &mut Vec<bool>, at: usize) -> bool
+    ensures marked { needed.new.items ≡ slice_set needed.old.items at true }
+    ensures is_new { result ≡ not (slice_index_or needed.old.items at true) }
+{
+    if at >= needed.len() {
+        return false;
     }
+    let is_new = !needed[at];
+    needed[at] = true;
+    is_new
 }
 
 /// Marks the bounds in use; whether one is new.
-pub fn mark_uses(needed: &mut Vec<bool>, uses: &[Use]) -> bool {
+pub fn mark_uses(needed: &mut Vec<bool>, uses: &[Use]) -> bool
+    ensures marked { needed.new.items ≡ marked needed.old.items uses.now }
+    ensures is_new { result ≡ has_new needed.old.items uses.now }
+{
     let mut changed = false;
     for one in uses {
-        if mark(needed, one.bound) {
-            changed = true;
-        }
+        changed |= mark(needed, one.bound);
     }
     changed
 }
 
 /// Marks what the bound rests on; whether something is new.
-pub fn mark_memos(needed: &mut Vec<bool>, memos: &[Memo]) -> bool {
+pub fn mark_memos(needed: &mut Vec<bool>, memos: &[Memo]) -> bool
+    ensures marked { needed.new.items ≡ marked needed.old.items (uses_in memos.now) }
+    ensures is_new { result ≡ has_new needed.old.items (uses_in memos.now) }
+{
     let mut changed = false;
     for memo in memos {
-        if mark_uses(needed, memo.uses.as_slice()) {
-            changed = true;
-        }
+        changed |= mark_uses(needed, memo.uses.as_slice());
     }
     changed
 }
 
-pub fn is_marked(needed: &[bool], at: usize) -> bool {
+/// Whether the bound at a place is there and marked.
+pub fn is_marked(needed: &[bool], at: usize) -> bool
+    ensures { result ≡ slice_index_or needed.now at false }
+{
     match needed.get(at) {
         Some(true) => true,
         _ => false,
@@ -85,7 +95,9 @@ fn rank_of(ranks: &[u32], own: usize, memos: &[Memo]) -> u32 {
 }
 
 /// The ranks, of those before.
-fn next_ranks(alloc: Global, ranks: &[u32], bounds: &[Bound]) -> Result<Vec<u32>, Memory> {
+fn next_ranks(alloc: Global, ranks: &[u32], bounds: &[Bound]) -> Result<Vec<u32>, Memory>
+    ensures { IfOk result (λ ranks. length ranks.items ≡ length bounds.now) }
+{
     let mut made = Vec::new(alloc);
     for (at, bound) in bounds.iter().enumerate() {
         made.push(rank_of(ranks, at, bound.memos.as_slice()))?;
@@ -93,7 +105,10 @@ fn next_ranks(alloc: Global, ranks: &[u32], bounds: &[Bound]) -> Result<Vec<u32>
     Ok(made)
 }
 
-pub fn ranks_of(alloc: Global, bounds: &[Bound]) -> Result<Vec<u32>, Memory> {
+/// The rank of each bound.
+pub fn ranks_of(alloc: Global, bounds: &[Bound]) -> Result<Vec<u32>, Memory>
+    ensures { IfOk result (λ ranks. length ranks.items ≡ length bounds.now) }
+{
     let mut ranks = Vec::new(alloc);
     for _ in 0..MOST_RANK {
         ranks = next_ranks(alloc, ranks.as_slice(), bounds)?;

@@ -1,5 +1,9 @@
 //! Queries of one way through a clause, with bounds on its body atoms: of what they are made.
 
+ghost use Rattle.std.specs.Prelude.{◌≡◌, ◌++◌, map, option_to_list, remove, IfOk, OnOk};
+ghost use Rattle.lin_atoms.specs.declared.form.Form.TheVariants.{Lit as Literal};
+ghost use Rattle.bound_templates.specs.Queries.{bound_on, lemma_if_room, use_of, uses_on};
+
 use crate::arms::Arm;
 use crate::bound::{Bound, Use, first_of, stands};
 use base::{Copied, Items, Memory};
@@ -11,7 +15,9 @@ use std::alloc::Global;
 /// How many bounds are taken in at once.
 const AT_ONCE: usize = 3;
 
-fn push_lits(alloc: Global, parts: &mut Items<Form>, lits: &[Lit]) -> Result<(), Memory> {
+fn push_lits(alloc: Global, parts: &mut Items<Form>, lits: &[Lit]) -> Result<(), Memory>
+    ensures { OnOk result (parts.new ≡ parts.old ++ map Literal lits.now) }
+{
     for lit in lits {
         parts.push(Form::Lit(lit.copy(alloc)?))?;
     }
@@ -24,7 +30,9 @@ fn push_lemma(
     parts: &mut Items<Form>,
     lemma: &Lemma,
     atom: &Atom,
-) -> Result<(), Memory> {
+) -> Result<(), Memory>
+    ensures { OnOk result (parts.new ≡ parts.old ++ option_to_list (lemma_if_room atom.now.args lemma.now)) }
+{
     match lemma.checked_form(alloc, atom.args.as_slice()) {
         Ok(form) => {
             parts.push(form)?;
@@ -41,9 +49,30 @@ fn push_bound(
     parts: &mut Items<Form>,
     bound: &Bound,
     atom: &Atom,
-) -> Result<(), Memory> {
+) -> Result<(), Memory>
+    ensures { OnOk result (parts.new ≡ parts.old ++ option_to_list (bound_on atom.now bound.now)) }
+{
     match &bound.lemma {
         Some(lemma) => push_lemma(alloc, parts, lemma, atom),
+        None => Ok(()),
+    }
+}
+
+/// Adds the bound on its atom, if there are both.
+fn push_use(
+    alloc: Global,
+    parts: &mut Items<Form>,
+    bounds: &[Bound],
+    atoms: &[Atom],
+    one: &Use,
+) -> Result<(), Memory>
+    ensures { OnOk result (parts.new ≡ parts.old ++ option_to_list (use_of bounds.now atoms.now one.now)) }
+{
+    match bounds.get(one.bound) {
+        Some(bound) => match atoms.get(one.atom) {
+            Some(atom) => push_bound(alloc, parts, bound, atom),
+            None => Ok(()),
+        },
         None => Ok(()),
     }
 }
@@ -55,13 +84,11 @@ fn push_uses(
     bounds: &[Bound],
     atoms: &[Atom],
     uses: &[Use],
-) -> Result<(), Memory> {
+) -> Result<(), Memory>
+    ensures { OnOk result (parts.new ≡ parts.old ++ uses_on bounds.now atoms.now uses.now) }
+{
     for one in uses {
-        if let Some(bound) = bounds.get(one.bound) {
-            if let Some(atom) = atoms.get(one.atom) {
-                push_bound(alloc, parts, bound, atom)?;
-            }
-        }
+        push_use(alloc, parts, bounds, atoms, one)?;
     }
     Ok(())
 }
@@ -141,7 +168,8 @@ pub fn push_broken(
     Ok(())
 }
 
-/// Adds the parts of the query with these bounds.
+/// Adds the parts of the query with these bounds: the arm's literals, the goal's, and the bounds' lemmas at the
+/// arguments of their atoms, where these have room.
 pub fn push_parts(
     alloc: Global,
     parts: &mut Items<Form>,
@@ -150,19 +178,21 @@ pub fn push_parts(
     bounds: &[Bound],
     goal: &[Lit],
     uses: &[Use],
-) -> Result<(), Memory> {
+) -> Result<(), Memory>
+    ensures { OnOk result (parts.new ≡ parts.old ++ map Literal arm.now.lits.items ++ map Literal goal.now ++ uses_on bounds.now clause.now.atoms uses.now) }
+{
     push_lits(alloc, parts, arm.lits.as_slice())?;
     push_lits(alloc, parts, goal)?;
     push_uses(alloc, parts, bounds, clause.atoms.as_slice(), uses)
 }
 
 /// All but the one at a place.
-pub fn without(alloc: Global, uses: &[Use], at: usize) -> Result<Vec<Use>, Memory> {
-    let mut made = Vec::new(alloc);
-    for (i, one) in uses.iter().enumerate() {
-        if i != at {
-            made.push(*one)?;
-        }
+pub fn without(alloc: Global, uses: &[Use], at: usize) -> Result<Vec<Use>, Memory>
+    ensures { IfOk result (λ made. made.items ≡ remove uses.now at) }
+{
+    let mut made = Vec::from_slice(alloc, uses)?;
+    if at < made.len() {
+        let _left = made.remove(at);
     }
     Ok(made)
 }

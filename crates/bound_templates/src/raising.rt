@@ -1,8 +1,13 @@
 //! Bounds rise by tuples that break them.
 
+ghost use Rattle.std.specs.Prelude.{◌≡◌};
+ghost use Rattle.std.specs.List.{list_all};
+ghost use Rattle.bound_templates.specs.Needs.{is_reached};
+
 use crate::bound::{Bound, Limit, first_of};
 use crate::conditions::thresholds;
 use crate::met::Met;
+use crate::needs::is_marked;
 use crate::table::{About, Table};
 use base::Memory;
 use clause_form::Atom;
@@ -16,11 +21,12 @@ const TO_THRESHOLDS: u32 = 4;
 pub const MOST_RISES: u32 = 30;
 
 /// Whether a tuple of each atom's predicate was met.
-pub fn are_reached(reached: &[bool], atoms: &[Atom]) -> bool {
+pub fn are_reached(reached: &[bool], atoms: &[Atom]) -> bool
+    ensures { result ≡ list_all (is_reached reached.now) atoms.now }
+{
     for atom in atoms {
-        match reached.get(atom.pred as usize) {
-            Some(true) => {}
-            _ => return false,
+        if !is_marked(reached, atom.pred as usize) {
+            return false;
         }
     }
     true

@@ -1,5 +1,9 @@
 //! What the arm of a clause with at most one body atom is asked for: what follows from a tuple.
 
+ghost use Rattle.std.specs.Prelude.{◌≡◌, ◌++◌, [], ◌∷◌, pos, negsuc, IfOk, OnOk};
+ghost use Rattle.lin_atoms.specs.declared.lit.Lit.TheVariants.{Le};
+ghost use Rattle.bound_templates.specs.Values.{form_if_legal};
+
 use crate::arms::Arm;
 use crate::forms::lin_of;
 use crate::met::Met;
@@ -14,7 +18,9 @@ fn form_of(
     variable: u32,
     coefficient: i64,
     constant: i128,
-) -> Result<Option<Lin>, Memory> {
+) -> Result<Option<Lin>, Memory>
+    ensures { IfOk result (λ made. made ≡ form_if_legal (record { terms = (variable, coefficient) ∷ []; constant = constant })) }
+{
     let mut terms = Vec::new(alloc);
     terms.push((variable, coefficient))?;
     match Lin::new(terms, constant) {
@@ -29,15 +35,16 @@ pub fn push_least(
     goal: &mut Vec<Lit>,
     variable: u32,
     least: usize,
-) -> Result<(), Memory> {
-    let constant = match i128::try_from(least) {
-        Ok(constant) => constant,
-        Err(_) => 0,
-    };
-    if let Some(lin) = form_of(alloc, variable, -1, constant)? {
-        goal.push(Lit::Le(lin))?;
+) -> Result<(), Memory>
+    ensures { OnOk result (goal.new.items ≡ goal.old.items ++ Le (record { terms = (variable, negsuc 0) ∷ []; constant = pos least }) ∷ []) }
+{
+    match form_of(alloc, variable, -1, least as i128)? {
+        Some(lin) => {
+            goal.push(Lit::Le(lin))?;
+            Ok(())
+        }
+        None => Ok(()),
     }
-    Ok(())
 }
 
 /// That the variable has this value.

@@ -1,4 +1,4 @@
-use Rattle.std.proofs.Common.{◌≡◌, ◌≤◌, ◌∙◌, ap, sym, arith, take, length}
+use Rattle.std.proofs.Common.{◌≤◌, ◌∙◌, ap, sym, arith, take, length}
 use Rattle.std.proofs.lemmas.List.{length-take-le, take_all}
 use Rattle.bound_templates.proofs.met.Walk.first.Goals as goal
 
