@@ -1,7 +1,7 @@
 -- Quotients that are rounded down, their rests, and multiples.
-use Rattle.std.proofs.Common.{◌≡◌, ℕ, suc, ◌+◌, ◌*◌, ◌^◌, ◌/◌, ◌%◌, ◌<◌, ◌≤◌, arith, ap, sym, ◌∙◌, refl, mod-eq_of_lt}
+use Rattle.std.proofs.Common.{◌≡◌, ℕ, suc, ◌+◌, ◌*◌, ◌^◌, ◌/◌, ◌%◌, ◌<◌, ◌≤◌, arith, ap, sym, ◌∙◌, refl, mod-eq_of_lt, FitsSigned}
 use Rattle.std.specs.Prelude.{ℤ, pos, negsuc, ◌+ℤ◌, ◌-ℤ◌, ◌*ℤ◌, ◌<ℤ◌, ◌≤ℤ◌, neg_ℤ, nat_abs, ◌==◌}
-use Rattle.std.specs.Int.{int_div_euclid, int_rem_euclid}
+use Rattle.std.specs.Int.{int_div_euclid, int_rem_euclid, w64}
 use Rattle.std.proofs.Math.IntN.{*ℤ_comm}
 use Rattle.std.proofs.Math.Nat.{mul-mod_left, mul-le-mul_right, mul-le-mul_left}
 use Rattle.std.proofs.lemmas.Nat.{mod-mul-add}
@@ -130,3 +130,13 @@ quotient_below (negsuc v) (negsuc a) (pos d) r some is small h =
     let one : 1 ≤ d = omega (arith, ints) in
     let le : a * 1 ≤ a * d = mul-le-mul_left a one in
     (omega (arith, ints), omega (arith, ints))
+
+-- a number of at most 2^32 in magnitude with a borrow
+pub with-borrow : (n borrow : ℤ) → nat_abs n ≤ 2 ^ 32 → nat_abs borrow ≤ 1 → nat_abs (n +ℤ borrow) ≤ 2 ^ 32 + 1
+with-borrow n borrow h b = omega (arith, ints, h, b)
+
+pub few-fit : (n : ℤ) → nat_abs n ≤ 2 ^ 32 + 1 → FitsSigned w64 n
+few-fit n h = omega (arith, ints, h)
+
+pub no-more : (m n : ℕ) → m ≤ n → n ≤ 2 ^ 32 + 1 → m ≤ 2 ^ 32 + 1
+no-more m n h k = omega (arith, h, k)

@@ -1,11 +1,11 @@
 -- Lowest terms.
-use Rattle.std.proofs.Common.{◌≡◌, ◌↔◌, ℕ, zero, suc, ◌+◌, ◌*◌, ◌^◌, ◌<◌, ◌≤◌, ◌%◌, true, arith, ap, sym, subst, ◌∙◌, ⊎_elim, FitsSigned}
-use Rattle.std.specs.Prelude.{ℤ, pos, negsuc, ◌+ℤ◌, ◌*ℤ◌, ◌<ℤ◌, nat_abs, ◌==◌}
+use Rattle.std.proofs.Common.{◌≡◌, ◌↔◌, ℕ, zero, suc, ◌+◌, ◌*◌, ◌^◌, ◌<◌, ◌≤◌, ◌%◌, true, false, refl, arith, ap, sym, subst, ◌∙◌, ⊎_elim, FitsSigned}
+use Rattle.std.specs.Prelude.{ℤ, pos, negsuc, neg_ℤ, ◌+ℤ◌, ◌*ℤ◌, ◌<ℤ◌, int_le, int_lt, nat_lt, nat_abs, ◌==◌}
 use Rattle.std.specs.Int.{◌∣◌, IsGcd, int_div_euclid, int_rem_euclid, w128}
-use Rattle.std.proofs.Math.IntN.{*ℤ_comm}
-use Rattle.std.proofs.Math.Nat.{one-dvd, div-mul_cancel, mul-dvd-mul_right, dvd_of_mul-dvd-mul_right, mul-le-mul_left, dvd-add_iff_left, dvd-add_iff_right, dvd-mul_left_of_dvd}
-use Rattle.std.proofs.lemmas.Bool.{cases_lt}
-use Rattle.std.proofs.lemmas.Bool.Decides.{Decides-eqb}
+use Rattle.std.proofs.Math.IntN.{*ℤ_comm, negsuc-*ℤ-pos, pos-*ℤ-pos}
+use Rattle.std.proofs.Math.Nat.{one-dvd, div-mul_cancel, mul-dvd-mul_right, dvd_of_mul-dvd-mul_right, mul-le-mul, mul-le-mul_left, dvd-add_iff_left, dvd-add_iff_right, dvd-mul_left_of_dvd}
+use Rattle.std.proofs.lemmas.Bool.{cases_lt, leb-false}
+use Rattle.std.proofs.lemmas.Bool.Decides.{Decides-eqb, nat_tests}
 use Rattle.std.proofs.lemmas.Nat.Gcd.{mod-eq-zero_of_dvd, same_from_IsGcd}
 use Rattle.std.proofs.lemmas.Int.{ints, unsigned_abs-mul, fits_signed_from_abs}
 use Rattle.base.proofs.Public.{*ℤ_assoc}
@@ -110,3 +110,55 @@ numerator_is num v den d some common is =
 
 pub wide_where : (z : ℤ) → (FitsSigned w128 z → ⊥) → 2 ^ 127 ≤ nat_abs z
 wide_where z wide = ⊎_elim (λ lt. absurd (wide (fits_signed_from_abs w128 z lt))) (λ ge. ge) (cases_lt (nat_abs z) (2 ^ 127))
+
+-- products of numerators and denominators are compared by their sizes and signs
+neg-less : (a b : ℕ) → int_lt (neg_ℤ (pos a)) (neg_ℤ (pos b)) ≡ nat_lt b a
+neg-less zero zero = grind (arith, nat_tests)
+neg-less zero (suc b) = grind (arith, nat_tests)
+neg-less (suc a) zero = grind (arith, nat_tests)
+neg-less (suc a) (suc b) = grind (arith, nat_tests)
+
+pub less-both : (n d m e : ℤ) → int_le (pos 0) n ≡ true → int_le (pos 0) m ≡ true → pos 0 <ℤ d → pos 0 <ℤ e → nat_lt (nat_abs n * nat_abs e) (nat_abs m * nat_abs d) ≡ int_lt (n *ℤ e) (m *ℤ d)
+less-both (negsuc n) d m e h i p q = absurd (cc)
+less-both (pos n) d (negsuc m) e h i p q = absurd (cc)
+less-both (pos n) (negsuc d) (pos m) e h i p q = absurd (omega (arith, ints))
+less-both (pos n) (pos d) (pos m) (negsuc e) h i p q = absurd (omega (arith, ints))
+less-both (pos n) (pos d) (pos m) (pos e) h i p q = sym (ap (λ z. int_lt z (pos m *ℤ pos d)) (pos-*ℤ-pos n e) ∙ ap (λ z. int_lt (pos (n * e)) z) (pos-*ℤ-pos m d))
+
+pub less-neither : (n d m e : ℤ) → int_le (pos 0) n ≡ false → int_le (pos 0) m ≡ false → pos 0 <ℤ d → pos 0 <ℤ e → nat_lt (nat_abs m * nat_abs d) (nat_abs n * nat_abs e) ≡ int_lt (n *ℤ e) (m *ℤ d)
+less-neither (pos n) d m e h i p q = absurd (let below : n < 0 = leb-false 0 n h in omega (arith, below))
+less-neither (negsuc n) d (pos m) e h i p q = absurd (let below : m < 0 = leb-false 0 m i in omega (arith, below))
+less-neither (negsuc n) (negsuc d) (negsuc m) e h i p q = absurd (omega (arith, ints))
+less-neither (negsuc n) (pos d) (negsuc m) (negsuc e) h i p q = absurd (omega (arith, ints))
+less-neither (negsuc n) (pos d) (negsuc m) (pos e) h i p q =
+    sym (ap (λ z. int_lt z (negsuc m *ℤ pos d)) (negsuc-*ℤ-pos n e) ∙ ap (λ z. int_lt (neg_ℤ (pos (suc n * e))) z) (negsuc-*ℤ-pos m d) ∙ neg-less (suc n * e) (suc m * d))
+
+neg-below : (a b : ℕ) → 0 < a → int_lt (neg_ℤ (pos a)) (pos b) ≡ true
+neg-below zero b h = absurd (omega (arith, h))
+neg-below (suc a) b h = refl
+
+not-below : (a b : ℕ) → 0 < b → int_lt (pos a) (neg_ℤ (pos b)) ≡ false
+not-below a zero h = absurd (omega (arith, h))
+not-below a (suc b) h = refl
+
+some-product : (n e : ℕ) → pos 0 <ℤ pos e → 0 < suc n * e
+some-product n e h =
+    let one : 1 ≤ suc n = omega arith in
+    let some : 1 ≤ e = omega (arith, ints) in
+    omega (arith, mul-le-mul one some)
+
+pub less-second : (n d m e : ℤ) → int_le (pos 0) n ≡ false → int_le (pos 0) m ≡ true → pos 0 <ℤ d → pos 0 <ℤ e → int_lt (n *ℤ e) (m *ℤ d) ≡ true
+less-second (pos n) d m e h i p q = absurd (let below : n < 0 = leb-false 0 n h in omega (arith, below))
+less-second (negsuc n) d (negsuc m) e h i p q = absurd (cc)
+less-second (negsuc n) (negsuc d) (pos m) e h i p q = absurd (omega (arith, ints))
+less-second (negsuc n) (pos d) (pos m) (negsuc e) h i p q = absurd (omega (arith, ints))
+less-second (negsuc n) (pos d) (pos m) (pos e) h i p q =
+    ap (λ z. int_lt z (pos m *ℤ pos d)) (negsuc-*ℤ-pos n e) ∙ ap (λ z. int_lt (neg_ℤ (pos (suc n * e))) z) (pos-*ℤ-pos m d) ∙ neg-below (suc n * e) (m * d) (some-product n e q)
+
+pub less-first : (n d m e : ℤ) → int_le (pos 0) n ≡ true → int_le (pos 0) m ≡ false → pos 0 <ℤ d → pos 0 <ℤ e → int_lt (n *ℤ e) (m *ℤ d) ≡ false
+less-first (negsuc n) d m e h i p q = absurd (cc)
+less-first (pos n) d (pos m) e h i p q = absurd (let below : m < 0 = leb-false 0 m i in omega (arith, below))
+less-first (pos n) (negsuc d) (negsuc m) e h i p q = absurd (omega (arith, ints))
+less-first (pos n) (pos d) (negsuc m) (negsuc e) h i p q = absurd (omega (arith, ints))
+less-first (pos n) (pos d) (negsuc m) (pos e) h i p q =
+    ap (λ z. int_lt z (negsuc m *ℤ pos d)) (pos-*ℤ-pos n e) ∙ ap (λ z. int_lt (pos (n * e)) z) (negsuc-*ℤ-pos m d) ∙ not-below (n * e) (suc m * d) (some-product m d p)

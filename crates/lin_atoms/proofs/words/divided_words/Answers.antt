@@ -1,8 +1,8 @@
-use Rattle.std.proofs.Common.{◌≡◌, ◌+◌, ◌*◌, ◌^◌, ◌≤◌, ap, arith, rules, sym, ◌∙◌, FitsSigned}
+use Rattle.std.proofs.Common.{◌≡◌, ◌+◌, ◌*◌, ◌^◌, ◌≤◌, ap, rules, sym, ◌∙◌, FitsSigned}
 use Rattle.std.specs.Prelude.{pos, ◌+ℤ◌, ◌*ℤ◌, nat_abs}
 use Rattle.std.specs.Int.{w64, w128}
-use Rattle.std.proofs.lemmas.Int.{ints, to_z-of_z}
-use Rattle.lin_atoms.proofs.DivisionLemmas.{positive, long_division}
+use Rattle.std.proofs.lemmas.Int.{to_z-of_z}
+use Rattle.lin_atoms.proofs.DivisionLemmas.{few-fit, long_division, no-more, positive, with-borrow}
 use Rattle.lin_atoms.proofs.words.divided_words.Goals as goal
 
 pub returns-clause-value : goal.returns-clause-value
@@ -12,7 +12,8 @@ returns-clause-value c =
     let d_fits : FitsSigned w64 c.args.divisor = c.ranges.divisor in
     let b_fits : FitsSigned w64 c.digits-borrow.result.0 = search rules in
     let t_fits : FitsSigned w64 c.halves-high.result.0 = search rules in
-    let sum_fits : FitsSigned w64 (c.args.high +ℤ c.digits-borrow.result.0) = omega (arith, ints, c.requires.room, c.digits-borrow.ensures.borrow) in
+    let sum : nat_abs (c.args.high +ℤ c.digits-borrow.result.0) ≤ 2 ^ 32 + 1 = with-borrow c.args.high c.digits-borrow.result.0 c.requires.room c.digits-borrow.ensures.borrow in
+    let sum_fits : FitsSigned w64 (c.args.high +ℤ c.digits-borrow.result.0) = few-fit (c.args.high +ℤ c.digits-borrow.result.0) sum in
     let d : c.args.divisor ≡ pos (nat_abs c.args.divisor) = positive c.args.divisor c.requires.positive in
     let size = simp to_z-of_z at c.unsigned_abs-size.ensures.value in
     let digits = simp to_z-of_z at c.digits-borrow.ensures.value in
@@ -28,8 +29,8 @@ returns-clause-small c =
     let high_fits : FitsSigned w64 c.args.high = c.ranges.high in
     let b_fits : FitsSigned w64 c.digits-borrow.result.0 = search rules in
     let t_fits : FitsSigned w64 c.halves-high.result.0 = search rules in
-    let sum_fits : FitsSigned w64 (c.args.high +ℤ c.digits-borrow.result.0) = omega (arith, ints, c.requires.room, c.digits-borrow.ensures.borrow) in
+    let sum : nat_abs (c.args.high +ℤ c.digits-borrow.result.0) ≤ 2 ^ 32 + 1 = with-borrow c.args.high c.digits-borrow.result.0 c.requires.room c.digits-borrow.ensures.borrow in
+    let sum_fits : FitsSigned w64 (c.args.high +ℤ c.digits-borrow.result.0) = few-fit (c.args.high +ℤ c.digits-borrow.result.0) sum in
     let less : nat_abs c.halves-high.result.0 ≤ nat_abs (c.args.high +ℤ c.digits-borrow.result.0) = simp to_z-of_z at c.halves-high.ensures.small in
-    let sum : nat_abs (c.args.high +ℤ c.digits-borrow.result.0) ≤ 2 ^ 32 + 1 = omega (arith, ints, c.requires.room, c.digits-borrow.ensures.borrow) in
-    let small : nat_abs c.halves-high.result.0 ≤ 2 ^ 32 + 1 = omega (arith, less, sum) in
+    let small : nat_abs c.halves-high.result.0 ≤ 2 ^ 32 + 1 = no-more (nat_abs c.halves-high.result.0) (nat_abs (c.args.high +ℤ c.digits-borrow.result.0)) less sum in
     simp to_z-of_z small

@@ -2,7 +2,6 @@ use Rattle.std.proofs.Common.{◌&&◌, ◌+◌, ℕ, List, get_or, ap, sym, ◌
 use Rattle.std.specs.Int.{w64}
 use Rattle.std.proofs.lemmas.Int.{to_z-of_z}
 use Rattle.lin_atoms.specs.machinery.Accumulator.{Total}
-use Rattle.lin_atoms.specs.Multiples.{is_multiple}
 use Rattle.refutation_trees.specs.Combination.{is_divided_by}
 use Rattle.farkas_proof.specs.machinery.Sum.{standing}
 use Rattle.farkas_proof.proofs.SumLemmas.{divided-at}

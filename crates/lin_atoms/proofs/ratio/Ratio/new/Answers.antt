@@ -66,3 +66,16 @@ returns-clause-lowest c =
     let den = simp to_z-of_z at c.unsigned_abs-2.ensures.value in
     let is = rw (num, den) at c.gcd-divisor.ensures in
     simp to_z-of_z (lowest c.args.num c.args.den c.reduced-num.result.0 c.reduced-num.result.1 c.gcd-divisor.result is c.requires.positive left right)
+
+pub returns-clause-above : goal.returns-clause-above
+returns-clause-above c =
+    let n_fits : FitsSigned w128 c.args.num = c.ranges.num in
+    let d_fits : FitsSigned w128 c.args.den = c.ranges.den in
+    let n'_fits : FitsSigned w128 c.reduced-num.result.0 = search rules in
+    let left = simp to_z-of_z at c.reduced-num.ensures.num in
+    let den = simp to_z-of_z at c.unsigned_abs-2.ensures.value in
+    let divides = rw den at c.gcd-divisor.ensures.1 in
+    let some : 0 < nat_abs c.args.den = omega (arith, ints, c.requires.positive) in
+    let le : nat_abs c.reduced-num.result.0 ≤ nat_abs c.args.num = no_greater c.args.num c.reduced-num.result.0 c.gcd-divisor.result (divisor-some c.gcd-divisor.result (nat_abs c.args.den) divides some) left in
+    let below : nat_abs c.reduced-num.result.0 < 2 ^ 127 = omega (arith, c.requires.above, le) in
+    simp to_z-of_z below
