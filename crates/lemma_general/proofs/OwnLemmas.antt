@@ -1,8 +1,9 @@
 -- A lemma that uses itself: what is shown with the lemma at its own level is a proof by the frame and itself.
 use Rattle.std.proofs.Common.{◌≡◌, ℕ, List, [], ◌∷◌, ◌++◌, Bool, true, false, ◌&&◌, ◌||◌, cond, inl, inr, Some, None, refl, ap, sym, ◌∙◌, subst}
-use Rattle.std.specs.Prelude.{Option, nat_le, ◌==◌}
+use Rattle.std.specs.Prelude.{Option, Result, Ok, Err, IfOk, nat_le, ◌==◌}
 use Rattle.std.specs.List.{list_all}
 use mathlib.Core.Bool.{true≢false}
+use Rattle.base.specs.declared.memory.Memory.{Memory}
 use Rattle.lin_atoms.specs.declared.lit.Lit.{Lit}
 use Rattle.clause_form.specs.System.{Clauses}
 use Rattle.lemma_frames.specs.declared.framed.Framed.{Framed as KeptLemma}
@@ -24,13 +25,15 @@ use Rattle.book_rules.proofs.ListLemmas.{all_of-push}
 use Rattle.cube_rules.specs.Views.{framed_of, lemmas_of}
 use Rattle.cube_rules.proofs.Public.{both_true, from_both}
 use Rattle.clause_queries.specs.Answers.{IsHit}
+use Rattle.clause_queries.specs.declared.finding.Found.{Found}
+use Rattle.clause_queries.specs.declared.finding.Found.TheVariants.{Refuted, Instance, GivenUp}
 use Rattle.clause_queries.specs.Uses.{use_of, uses_on}
 use Rattle.clause_queries.proofs.Public.{uses-all, uses-back}
 use Rattle.step_rules.specs.Standing.{Standing}
 use Rattle.step_rules.specs.Tokens.{all_shown}
 use Rattle.obligation_turn.specs.Turns.{GoesOn}
 use Rattle.obligation_turn.proofs.ProvedLemmas.{IsProved, proved}
-use Rattle.lemma_general.specs.machinery.Passes.{AreShownOf, IsCubeOf, with_own}
+use Rattle.lemma_general.specs.machinery.Passes.{AreShownOf, IsAnswerOf, IsCubeOf, IsFoundOf, with_own}
 
 -- a lemma of F(k) with one more lemma is in F(k), or that one
 
@@ -143,3 +146,10 @@ own-hit b pred k cube seen hit =
         body = uses-all test k b.frames.lemmas atoms (λ n atom there. on-fewer test k n atom.pred b.frames.lemmas own (uses-back test k (with_own b pred cube k) n atoms atom there (hit.instance).body));
       };
     }
+
+-- what is found without the lemma itself is an answer, too
+pub answered : (b : Standing) (pred : ℕ) (cube : List Lit) (k nodes : ℕ) (found : Result Found Memory) → IfOk found (IsFoundOf b pred cube k nodes) → IfOk found (IsAnswerOf b pred cube k nodes)
+answered b pred cube k nodes (Ok (Instance seen)) is = is
+answered b pred cube k nodes (Ok (Refuted proofs)) is = inl is
+answered b pred cube k nodes (Ok (GivenUp lost)) is = is
+answered b pred cube k nodes (Err memory) is = is

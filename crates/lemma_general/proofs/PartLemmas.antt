@@ -1,5 +1,6 @@
 -- Parts of lists of literals, and a list without a literal.
 use Rattle.std.proofs.Common.{◌≡◌, ℕ, ◌<◌, zero, suc, List, [], ◌∷◌, ◌++◌, Bool, true, false, ◌||◌, inl, inr, length, take, drop, refl, ap, sym, ◌∙◌, subst, arith}
+use Rattle.std.specs.Prelude.{Option, option_map, slice_get}
 use Rattle.std.specs.List.{list_all, list_any}
 use mathlib.Core.Bool.{true≢false}
 use Rattle.lin_atoms.specs.declared.lit.Lit.{Lit}
@@ -8,6 +9,7 @@ use Rattle.cube_forms.specs.Cubes.{cube_is_short, lit_is_short}
 use Rattle.cube_rules.proofs.Public.{both_true, from_both, plus-one}
 use Rattle.lemma_general.specs.Generals.{IsPart, without}
 use Rattle.lemma_general.specs.Tries.{IsWiderCube}
+use Rattle.book_rules.specs.Walks.{has}
 
 pub part-self : (lits : List Lit) → IsPart lits lits
 part-self [] = tt
@@ -74,3 +76,7 @@ part-holds part whole h = λ tuple held. part-all (lit_truth tuple) part whole h
 
 pub short-without : (at : ℕ) (lits : List Lit) → at < length lits → cube_is_short lits ≡ true → cube_is_short (without at lits) ≡ true
 short-without at lits within short = part-all lit_is_short (without at lits) lits (part-without at lits within) short
+
+-- a test of how many places a predicate has, by what was looked up
+pub over-told : {S : Type 0} (preds : List (List S)) (pred : ℕ) (found : Option (List S)) (test : ℕ → Bool) → slice_get preds pred ≡ found → has (option_map (λ (sorts : List S). length sorts) found) test ≡ has (option_map (λ (sorts : List S). length sorts) (slice_get preds pred)) test
+over-told {S = S} preds pred found test there = sym (ap (λ (o : Option (List S)). has (option_map (λ (sorts : List S). length sorts) o) test) there)

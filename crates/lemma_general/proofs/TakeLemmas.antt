@@ -12,6 +12,8 @@ use Rattle.chc_tokens.specs.declared.seeing.Seen.{Seen}
 use Rattle.book_rules.specs.Walks.{AllOf}
 use Rattle.clause_queries.specs.Answers.{IsHit, IsLost}
 use Rattle.clause_queries.specs.Kept.{is_kept}
+use Rattle.clause_queries.specs.declared.finding.Found.{Found}
+use Rattle.clause_queries.specs.declared.finding.Found.TheVariants.{Refuted, Instance, GivenUp}
 use Rattle.clause_queries.specs.declared.lost.Lost.{Lost}
 use Rattle.step_rules.specs.Standing.{Standing}
 use Rattle.step_rules.specs.declared.lemma_part.LemmaPart.{LemmaPart}
@@ -19,7 +21,7 @@ use Rattle.obligation_turn.specs.Turns.{GoesOn}
 use Rattle.obligation_turn.proofs.LiftLemmas.{lifts}
 use Rattle.lemma_general.specs.Generals.{IsAgainst, IsForSame, IsLearnt, IsLiftOf, bounds_of, without}
 use Rattle.lemma_general.specs.Tries.{IsMet, point_of}
-use Rattle.lemma_general.specs.machinery.Passes.{AreMet, AreProofsOf, AreShownOf, IsCubeOf, IsRaisedOnce, IsReplaced, IsSplit, IsTaken}
+use Rattle.lemma_general.specs.machinery.Passes.{AreMet, AreProofsOf, AreShownOf, IsAnswerOf, IsCubeOf, IsFoundOf, IsPlainlyShown, IsRaisedOnce, IsReplaced, IsShownOf, IsSplit, IsTaken, refuted_of}
 use Rattle.lemma_general.specs.declared.breaking.Breaking.{Breaking}
 use Rattle.lemma_general.proofs.LearnLemmas.{held-at, placed, relearnt}
 use Rattle.lemma_general.proofs.MetLemmas.{any-hit}
@@ -117,3 +119,15 @@ level-below a b level same low = subst (λ (x : Standing). level < x.level) same
 
 pub level-above : (a b : Standing) (level : ℕ) → a ≡ b → a.level ≤ level → b.level ≤ level
 level-above a b level same high = subst (λ (x : Standing). x.level ≤ level) same high
+
+-- what was found, as its refutations
+
+pub plainly : (b : Standing) (pred k nodes : ℕ) (cube : List Lit) (found : Found) → IsFoundOf b pred cube k nodes found → IsPlainlyShown b pred cube k nodes (refuted_of found)
+plainly b pred k nodes cube (Refuted proofs) is = is
+plainly b pred k nodes cube (Instance seen) is = inl (seen, is)
+plainly b pred k nodes cube (GivenUp lost) is = inr (lost, is)
+
+pub shown : (b : Standing) (pred k nodes : ℕ) (cube : List Lit) (found : Found) → IsAnswerOf b pred cube k nodes found → IsShownOf b pred cube k nodes (refuted_of found)
+shown b pred k nodes cube (Refuted proofs) is = is
+shown b pred k nodes cube (Instance seen) is = inl (seen, is)
+shown b pred k nodes cube (GivenUp lost) is = inr (lost, is)

@@ -6,8 +6,8 @@ ghost use Rattle.obligation_turn.specs.Turns.{GoesOn};
 ghost use Rattle.obligation_turn.specs.Workspaces.{IsWorkspaceFor};
 ghost use Rattle.lemma_general.specs.Generals.{IsLiftFound};
 
+use crate::showing::refuted;
 use base::Memory;
-use clause_queries::Found;
 use obligation_turn::{Workspace, found_of_lemma};
 use step_rules::{Lent, LiftPart};
 
@@ -29,8 +29,8 @@ pub fn lift_in(
 {
     let from = lent.frames.level_of(id);
     let found = found_of_lemma(lent, id, nodes, work)?;
-    match found {
-        Found::Refuted(proofs) => {
+    match refuted(found) {
+        Some(proofs) => {
             let part = LiftPart {
                 lemma: id,
                 from,
@@ -38,14 +38,7 @@ pub fn lift_in(
             };
             Ok(Some(part))
         }
-        Found::Instance(seen) => {
-            let _seen = seen;
-            Ok(None)
-        }
-        Found::GivenUp(lost) => {
-            let _lost = lost;
-            Ok(None)
-        }
+        None => Ok(None),
     }
 }
 

@@ -1,10 +1,10 @@
 //! What a frame says of a cube.
 
-ghost use Rattle.std.specs.Prelude.{◌-◌, ◌<◌, IfOk, Some};
+ghost use Rattle.std.specs.Prelude.{◌≡◌, ◌-◌, ◌<◌, IfOk, Some};
 ghost use Rattle.chc_tokens.specs.declared.goal.Goal.TheVariants.{Holds};
 ghost use Rattle.clause_queries.specs.Answers.{IsFound, MayAskAll};
 ghost use Rattle.obligation_turn.specs.Turns.{GoesOn};
-ghost use Rattle.lemma_general.specs.machinery.Passes.{IsAnswerOf, IsCubeOf, IsFoundByOwn, IsFoundOf, IsShownOf};
+ghost use Rattle.lemma_general.specs.machinery.Passes.{IsAnswerOf, IsCubeOf, IsFoundByOwn, IsFoundOf, IsShownOf, refuted_of};
 
 use crate::own::with_own;
 use base::{Items, Memory};
@@ -112,6 +112,23 @@ fn ask_by(
     }
 }
 
+/// The refutations that were found; none where there is an instance, or the search was given up.
+pub(crate) fn refuted(found: Found) -> Option<Items<Shown>>
+    ensures { result ≡ refuted_of found }
+{
+    match found {
+        Found::Refuted(proofs) => Some(proofs),
+        Found::Instance(seen) => {
+            let _seen = seen;
+            None
+        }
+        Found::GivenUp(lost) => {
+            let _lost = lost;
+            None
+        }
+    }
+}
+
 /// Its refutations, through each clause; none where there is an instance, or the search was given up.
 pub(crate) fn show(
     lent: &Lent,
@@ -126,17 +143,8 @@ pub(crate) fn show(
     ensures { IfOk result (IsShownOf lent.now pred cube.now k nodes) }
 {
     let found = ask_by(lent, pred, cube, k, nodes, &[])?;
-    match found {
-        Found::Refuted(proofs) => Ok(Some(proofs)),
-        Found::Instance(seen) => {
-            let _seen = seen;
-            Ok(None)
-        }
-        Found::GivenUp(lost) => {
-            let _lost = lost;
-            Ok(None)
-        }
-    }
+    let shown = refuted(found);
+    Ok(shown)
 }
 
 /// The same for a lemma's predicate and the frame below its level, with the lemma's own proofs.

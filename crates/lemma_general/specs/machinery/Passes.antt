@@ -46,11 +46,22 @@ IsFoundByOwn b pred cube k nodes None = Unit {0}
 abbrev pub AreShownOf : Standing → ℕ → List Lit → ℕ → List Shown → Type 0
 AreShownOf b pred cube k proofs = AreProofsOf b pred cube k proofs ⊎ AreProofs b.system (with_own b pred cube k) (Some pred) (Holds cube) k proofs
 
+-- the refutations of a cube under F(k); none where something stands against it
+abbrev pub IsPlainlyShown : Standing → ℕ → List Lit → ℕ → ℕ → Option (List Shown) → Type 0
+IsPlainlyShown b pred cube k nodes (Some proofs) = AreProofsOf b pred cube k proofs
+IsPlainlyShown b pred cube k nodes None = IsAgainst b pred k nodes cube
+
 -- what is answered of a cube that the lemma itself may help to refute
 abbrev pub IsAnswerOf : Standing → ℕ → List Lit → ℕ → ℕ → Found → Type 0
 IsAnswerOf b pred cube k nodes (Instance seen) = IsHit b.system b.frames.lemmas (Some pred) (Holds cube) k seen
 IsAnswerOf b pred cube k nodes (Refuted proofs) = AreShownOf b pred cube k proofs
 IsAnswerOf b pred cube k nodes (GivenUp lost) = IsLost b.system b.frames.lemmas (Some pred) (Holds cube) k nodes lost
+
+-- the refutations that were found, if no instance was and the search wasn't given up
+abbrev pub refuted_of : Found → Option (List Shown)
+refuted_of (Refuted proofs) = Some proofs
+refuted_of (Instance seen) = None
+refuted_of (GivenUp lost) = None
 
 -- the refutations of a cube under F(k), by the lemma itself, too; none where something stands against it
 abbrev pub IsShownOf : Standing → ℕ → List Lit → ℕ → ℕ → Option (List Shown) → Type 0

@@ -1,7 +1,7 @@
-use Rattle.std.proofs.Common.{subst}
-use Rattle.lemma_general.specs.machinery.Passes.{IsAnswerOf}
-use Rattle.lemma_general.proofs.TakeLemmas.{lost-against}
+use Rattle.std.proofs.Common.{sym, subst}
+use Rattle.lemma_general.specs.machinery.Passes.{IsShownOf}
+use Rattle.lemma_general.proofs.TakeLemmas.{shown}
 use Rattle.lemma_general.proofs.showing.show.Goals as goal
 
-pub returns-in-GivenUp : goal.returns-in-GivenUp
-returns-in-GivenUp c = lost-against c.args.lent.now c.args.pred c.args.k c.args.nodes c.args.cube.now c.in-GivenUp.lost (subst (IsAnswerOf c.args.lent.now c.args.pred c.args.cube.now c.args.k c.args.nodes) c.in-GivenUp.is c.in_ok-found.ensures)
+pub returns : goal.returns
+returns c = subst (IsShownOf c.args.lent.now c.args.pred c.args.cube.now c.args.k c.args.nodes) (sym c.refuted-shown.ensures) (shown c.args.lent.now c.args.pred c.args.k c.args.nodes c.args.cube.now c.in_ok-found.found c.in_ok-found.ensures)
