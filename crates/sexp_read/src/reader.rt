@@ -35,7 +35,9 @@ pub struct Reader {
 }
 
 impl Reader {
-    pub fn new(alloc: Global) -> Reader {
+    pub fn new(alloc: Global) -> Reader
+        ensures { (result.lists.items ≡ []) × (result.trees.items ≡ []) }
+    {
         Reader {
             lists: Vec::new(alloc),
             trees: Vec::new(alloc),
