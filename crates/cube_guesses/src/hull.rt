@@ -1,9 +1,13 @@
 //! What all tuples of a predicate that were met have in common: linear equations, and residues of
 //! simple forms.
 
+ghost use Rattle.std.specs.Prelude.{◌≡◌, [], IsSome, OnOk, unwrap_or};
+ghost use Rattle.cube_guesses.specs.Hulls.{equations_of};
+
 use crate::reducing::primitive;
-use crate::values::{combined, value_at};
+use crate::values::combined;
 use base::{Copied, Memory};
+use bound_templates::value_at;
 use lin_atoms::{Divisor, Lin, Lit, gcd};
 use std::alloc::Global;
 
@@ -348,7 +352,9 @@ impl Hull {
     }
 
     /// The forms that are 0 at each tuple.
-    pub(crate) fn equations(&self) -> &[Lin] {
+    pub(crate) fn equations(&self) -> &[Lin]
+        ensures { result.now ≡ self.now.equations.items }
+    {
         self.equations.as_slice()
     }
 
@@ -367,5 +373,28 @@ impl Hull {
             push_divisibilities(alloc, &mut lits, self.residues.as_slice())?;
         }
         Ok(lits)
+    }
+}
+
+impl Known {
+    /// Takes a tuple in.
+    pub(crate) fn take(&mut self, alloc: Global, tuple: &[i64]) -> Result<(), Memory>
+        ensures { OnOk result (IsSome (equations_of self.new)) }
+    {
+        match self {
+            Known::Nothing => *self = Known::Common(hull_of(alloc, tuple)?),
+            Known::Common(hull) => hull.add(alloc, tuple)?,
+        }
+        Ok(())
+    }
+
+    /// The forms that are 0 at each tuple; none where no tuple was met.
+    pub(crate) fn equations(&self) -> &[Lin]
+        ensures { result.now ≡ unwrap_or (equations_of self.now) [] }
+    {
+        match self {
+            Known::Nothing => &[],
+            Known::Common(hull) => hull.equations(),
+        }
     }
 }

@@ -5,6 +5,7 @@ ghost use Rattle.std.specs.Prelude.{◌<◌};
 use crate::cubes::cube_of;
 use crate::hull::Known;
 use base::{Copied, Items, Memory};
+use bound_templates::variable_at;
 use clause_form::{Atom, Clause};
 use lia_cases::{Decision, decide_owned};
 use lia_search::has_short_multiples;
@@ -135,10 +136,7 @@ fn body_of(
 fn tuple_at(alloc: Global, point: &[i64], args: &[u32]) -> Result<Vec<i64>, Memory> {
     let mut tuple = Vec::new(alloc);
     for arg in args {
-        match point.get(*arg as usize) {
-            Some(value) => tuple.push(*value)?,
-            None => tuple.push(0)?,
-        }
+        tuple.push(variable_at(point, *arg))?;
     }
     Ok(tuple)
 }

@@ -16,4 +16,3 @@ pub use cubes::cube_of;
 pub use settling::{Hulls, hulls_of};
 pub use simplifying::simplest;
 pub use sums::pair_sums;
-pub use values::value_at;

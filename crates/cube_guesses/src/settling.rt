@@ -1,7 +1,10 @@
 //! Hulls of all predicates: what each clause keeps, found by asking it for tuples that break it
 //! (Karr, "Affine relationships among variables of a program", for the equations).
 
-use crate::hull::{Known, MOST_WITH_RESIDUES, hull_of};
+ghost use Rattle.std.specs.Prelude.{◌≡◌, ◌≢◌, ◌<◌, [], ℕ, length, unwrap_or, slice_index_or, IfOk, IsSome, None, OnOk};
+ghost use Rattle.cube_guesses.specs.Hulls.{unknown};
+
+use crate::hull::{Known, MOST_WITH_RESIDUES};
 use crate::hull_queries::{Verdict, visit_divisibilities, visit_equations};
 use crate::shutting::broken_at;
 use base::Memory;
@@ -9,14 +12,26 @@ use clause_form::{Atom, Clause, System};
 use cube_forms::Cube;
 use lin_atoms::Lin;
 use std::alloc::Global;
+use std::marker::Model;
 
 /// How many queries are asked.
 const MOST_QUERIES: u32 = 3_000;
 
 /// What the tuples of each predicate of a system have in common: equations, and residues of simple forms.
+/// Contracts see it as a list of the forms that are 0, for each predicate of which a tuple was met.
 #[derive(Drop)]
 pub struct Hulls {
     known: Vec<Known>,
+}
+
+impl Model for Hulls {
+    ghost use Rattle.std.specs.Prelude.{List, Option, map};
+    ghost use Rattle.lin_atoms.specs.Linear.{Linear};
+    ghost use Rattle.cube_guesses.specs.Hulls.{equations_of};
+
+    ghost Value = { List (Option (List Linear)) };
+
+    ghost view = { λ h. map equations_of h.known.items };
 }
 
 /// Whether a tuple of each atom's predicate was met.
@@ -229,7 +244,9 @@ pub fn hulls_of(alloc: Global, sys: &System) -> Result<Hulls, Memory> {
 
 impl Hulls {
     /// Those of predicates of which no tuple was met.
-    pub fn unknown(alloc: Global, sys: &System) -> Result<Hulls, Memory> {
+    pub fn unknown(alloc: Global, sys: &System) -> Result<Hulls, Memory>
+        ensures { IfOk result (λ hulls. hulls ≡ unknown sys.now.preds) }
+    {
         let mut known = Vec::new(alloc);
         for _ in sys.preds() {
             known.push(Known::Nothing)?;
@@ -237,15 +254,17 @@ impl Hulls {
         Ok(Hulls { known })
     }
 
-    /// Takes a tuple of the predicate in.
-    pub fn take(&mut self, alloc: Global, pred: u32, tuple: &[i64]) -> Result<(), Memory> {
-        if let Some(place) = self.known.as_mut_slice().get_mut(pred as usize) {
-            match place {
-                Known::Nothing => *place = Known::Common(hull_of(alloc, tuple)?),
-                Known::Common(hull) => hull.add(alloc, tuple)?,
-            }
+    /// Takes a tuple of the predicate in. Of other predicates nothing changes.
+    pub fn take(&mut self, alloc: Global, pred: u32, tuple: &[i64]) -> Result<(), Memory>
+        ensures met { OnOk result (pred < length self.old → IsSome (slice_index_or self.new pred None)) }
+        ensures others { (n : ℕ) → n ≢ pred → slice_index_or self.new n None ≡ slice_index_or self.old n None }
+        ensures length { length self.new ≡ length self.old }
+    {
+        let at = pred as usize;
+        if at >= self.known.len() {
+            return Ok(());
         }
-        Ok(())
+        self.known[at].take(alloc, tuple)
     }
 
     /// Adds to each predicate's list the forms of equations that its tuples have in common, and that pairs of
@@ -260,11 +279,14 @@ impl Hulls {
     }
 
     /// The forms that are 0 at each tuple of the predicate.
-    pub fn equations(&self, pred: u32) -> &[Lin] {
-        match self.known.as_slice().get(pred as usize) {
-            Some(Known::Common(hull)) => hull.equations(),
-            _ => &[],
+    pub fn equations(&self, pred: u32) -> &[Lin]
+        ensures { result.now ≡ unwrap_or (slice_index_or self.now pred None) [] }
+    {
+        let at = pred as usize;
+        if at >= self.known.len() {
+            return &[];
         }
+        self.known[at].equations()
     }
 
     /// Cubes that hold the point, and in which no tuple of the predicate lies as far as is known: by the

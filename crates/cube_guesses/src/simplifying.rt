@@ -1,28 +1,10 @@
 //! Literals in their simplest form.
 
 use crate::reducing::residue;
-use base::{Memory, Same};
-use bound_templates::tightened;
+use base::Memory;
+use bound_templates::{push_new, tightened};
 use lin_atoms::Lit;
 use std::alloc::Global;
-
-/// Whether the literal is one of these.
-fn has(lits: &[Lit], lit: &Lit) -> bool {
-    for one in lits {
-        if one.equals(lit) {
-            return true;
-        }
-    }
-    false
-}
-
-/// Adds the literal, unless it is there.
-fn push_new(lits: &mut Vec<Lit>, lit: Lit) -> Result<(), Memory> {
-    if !has(lits.as_slice(), &lit) {
-        lits.push(lit)?;
-    }
-    Ok(())
-}
 
 /// Adds the literal in its simplest form, an equation as two bounds.
 fn push_simplest(alloc: Global, lits: &mut Vec<Lit>, lit: &Lit) -> Result<(), Memory> {

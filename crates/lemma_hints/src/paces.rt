@@ -4,9 +4,10 @@
 
 use base::Memory;
 use bound_hints::{Met, Walk};
+use bound_templates::value_at;
 use clause_form::System;
 use cube_forms::Cube;
-use cube_guesses::{Hulls, cube_of, value_at};
+use cube_guesses::{Hulls, cube_of};
 use lin_atoms::{Lin, Lit};
 use std::alloc::Global;
 
