@@ -14,7 +14,7 @@ pub enum UnknownCause {
 
 /// A step of a derivation: an instance of an assertion whose body atoms are the conclusions of
 /// earlier steps. Steps and assertions are numbered from 1.
-#[derive(Debug, Drop)]
+#[derive(Debug)]
 pub struct Line {
     pub number: u64,
     pub assertion: u64,
@@ -24,6 +24,18 @@ pub struct Line {
     pub premises: Items<u64>,
     /// The predicate and its arguments; none for false.
     pub head: Option<(u32, Items<Value>)>,
+}
+
+impl Drop for Line {
+    fn drop(self) {
+        let Line {
+            number: _,
+            assertion: _,
+            values: _,
+            premises: _,
+            head: _,
+        } = self;
+    }
 }
 
 /// An answer to a script.

@@ -33,16 +33,24 @@ pub struct Use {
 }
 
 /// What an arm refuted a bound's cube with.
-#[derive(Drop)]
 pub struct Memo {
     pub arm: usize,
     pub version: u32,
     pub uses: Vec<Use>,
 }
 
+impl Drop for Memo {
+    fn drop(self) {
+        let Memo {
+            arm: _,
+            version: _,
+            uses: _,
+        } = self;
+    }
+}
+
 /// Each tuple that meets the condition has a value of the part up to the limit. A part without terms
 /// says that no tuple meets the condition.
-#[derive(Drop)]
 pub struct Bound {
     pub pred: u32,
     pub condition: Vec<Lit>,
@@ -57,6 +65,22 @@ pub struct Bound {
     /// How often queries about it had a model.
     pub rises: u32,
     pub memos: Vec<Memo>,
+}
+
+impl Drop for Bound {
+    fn drop(self) {
+        let Bound {
+            pred: _,
+            condition: _,
+            part: _,
+            plain: _,
+            limit: _,
+            lemma: _,
+            version: _,
+            rises: _,
+            memos: _,
+        } = self;
+    }
 }
 
 /// The lemma that denies these literals, where numbers have room.

@@ -12,7 +12,6 @@ use std::alloc::Global;
 pub const MOST_MET: usize = 160;
 
 /// A tuple of a predicate.
-#[derive(Drop)]
 pub struct Met {
     pub pred: u32,
     pub tuple: Vec<i64>,
@@ -20,6 +19,17 @@ pub struct Met {
     pub depth: i64,
     /// Whether clauses were asked for what follows from it.
     pub is_followed: bool,
+}
+
+impl Drop for Met {
+    fn drop(self) {
+        let Met {
+            pred: _,
+            tuple: _,
+            depth: _,
+            is_followed: _,
+        } = self;
+    }
 }
 
 /// What was met by running clauses forward.

@@ -43,7 +43,6 @@ use worker_pool::Gate;
 /// | 5 | out of memory |
 /// | 6 | the answer is wrong |
 /// | 7 | the answer isn't shown |
-#[derive(Drop)]
 pub struct Report {
     pub status: u8,
     /// The bytes that were read, all of them. None where the end wasn't met, or the words are a call of
@@ -56,6 +55,18 @@ pub struct Report {
     pub book: Option<Book>,
     /// How many of the book's entries each worker wrote, in their order. None where there is no book.
     pub counts: Vec<u64>,
+}
+
+impl Drop for Report {
+    fn drop(self) {
+        let Report {
+            status: _,
+            read: _,
+            refusal: _,
+            book: _,
+            counts: _,
+        } = self;
+    }
 }
 
 /// The program: it carries out the words after the program's name over what the source gives, and

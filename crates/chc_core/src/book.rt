@@ -41,9 +41,14 @@ use step_rules::{Lent, Step, broken_step};
 
 /// A system of clauses with lemmas, facts, obligations, and the journal of the legal steps that led
 /// to them. Only `commit` changes what the rules speak of.
-#[derive(Drop)]
 pub struct Book {
     pub(crate) parts: Parts,
+}
+
+impl Drop for Book {
+    fn drop(self) {
+        let Book { parts: _ } = self;
+    }
 }
 
 impl Model for Book {

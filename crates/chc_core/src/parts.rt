@@ -11,7 +11,6 @@ use std::marker::Model;
 use step_rules::Lent;
 
 /// What stands in a book. What grows is shared between versions, and so is the system.
-#[derive(Drop)]
 pub(crate) struct Parts {
     pub(crate) alloc: Global,
     pub(crate) system: Held<IndexedSystem>,
@@ -22,6 +21,22 @@ pub(crate) struct Parts {
     pub(crate) facts: Facts,
     pub(crate) tree: Tree,
     pub(crate) journal: Table<Entry>,
+}
+
+impl Drop for Parts {
+    fn drop(self) {
+        let Parts {
+            alloc: _,
+            system: _,
+            given: _,
+            level: _,
+            spent: _,
+            frames: _,
+            facts: _,
+            tree: _,
+            journal: _,
+        } = self;
+    }
 }
 
 impl Model for Parts {

@@ -3,13 +3,21 @@ use cube_forms::Lemma;
 use std::alloc::Global;
 
 /// What a query asks of a clause beside its guard.
-#[derive(Drop)]
 pub enum Goal {
     /// Nothing more: whether the clause has an instance. It is what is asked of a clause whose head
     /// is false.
     Query,
     /// That the head's tuple breaks the lemma: the lemma's cube holds it.
     Holds(Lemma),
+}
+
+impl Drop for Goal {
+    fn drop(self) {
+        match self {
+            Goal::Query => {}
+            Goal::Holds(_) => {}
+        }
+    }
 }
 
 impl Same for Goal {

@@ -4,10 +4,15 @@ use cube_forms::Lemma;
 use std::alloc::Global;
 
 /// A lemma with what keeps it from being lifted. Only `no_lift` makes one.
-#[derive(Drop)]
 pub struct NoLift {
     pub(crate) lemma: Lemma,
     pub(crate) why: Why,
+}
+
+impl Drop for NoLift {
+    fn drop(self) {
+        let NoLift { lemma: _, why: _ } = self;
+    }
 }
 
 impl NoLift {

@@ -7,12 +7,22 @@ use std::alloc::Global;
 /// A query of one clause that no integer point satisfies, with the proof. Where the goal is a lemma,
 /// each instance of the clause whose body atoms the used lemmas accept has a head that satisfies it.
 /// Only `shown` and `shown_by` make one.
-#[derive(Drop)]
 pub struct Shown {
     pub(crate) clause: u32,
     pub(crate) goal: Goal,
     pub(crate) used: Items<Used>,
     pub(crate) proof: Refuted,
+}
+
+impl Drop for Shown {
+    fn drop(self) {
+        let Shown {
+            clause: _,
+            goal: _,
+            used: _,
+            proof: _,
+        } = self;
+    }
 }
 
 impl Shown {

@@ -3,10 +3,18 @@ use std::alloc::Global;
 
 /// An instance of a clause: a value below 2^63 in magnitude for each of its variables, at which the
 /// guard holds. Only `seen` makes one.
-#[derive(Drop)]
 pub struct Seen {
     pub(crate) clause: u32,
     pub(crate) point: Items<i64>,
+}
+
+impl Drop for Seen {
+    fn drop(self) {
+        let Seen {
+            clause: _,
+            point: _,
+        } = self;
+    }
 }
 
 impl Seen {

@@ -3,11 +3,16 @@ use cube_forms::Lemma;
 use std::alloc::Global;
 
 /// A lemma that a query uses, on a body atom of its clause.
-#[derive(Drop)]
 pub struct Used {
     /// The number of the atom in the body, from 0.
     pub atom: u32,
     pub lemma: Lemma,
+}
+
+impl Drop for Used {
+    fn drop(self) {
+        let Used { atom: _, lemma: _ } = self;
+    }
 }
 
 impl Same for Used {

@@ -5,7 +5,6 @@ use refutation_trees::GaveUp;
 use std::alloc::Global;
 
 /// What keeps a lemma from being lifted.
-#[derive(Drop)]
 pub enum Why {
     /// The head of this instance breaks it.
     Broken(Seen),
@@ -15,6 +14,19 @@ pub enum Why {
         used: Items<Used>,
         evidence: GaveUp,
     },
+}
+
+impl Drop for Why {
+    fn drop(self) {
+        match self {
+            Why::Broken(_) => {}
+            Why::Unknown {
+                clause: _,
+                used: _,
+                evidence: _,
+            } => {}
+        }
+    }
 }
 
 impl Copied for Why {

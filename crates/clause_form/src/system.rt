@@ -12,10 +12,18 @@ use term_tree::Sort;
 /// arguments. The predicate of each atom is there and has as many arguments as sorts, at most 256;
 /// a clause has at most 2,048 variables and names no others; and in its guard the constants of the
 /// divisibilities are below 2^63 in magnitude.
-#[derive(Drop)]
 pub struct System {
     clauses: Items<Clause>,
     preds: Items<Items<Sort>>,
+}
+
+impl Drop for System {
+    fn drop(self) {
+        let System {
+            clauses: _,
+            preds: _,
+        } = self;
+    }
 }
 
 impl Model for System {

@@ -8,10 +8,15 @@ use clause_form::{Atom, System};
 use std::alloc::Global;
 
 /// The numbers of the clauses without a head, and of those with each predicate's, in order.
-#[derive(Drop)]
 pub(crate) struct Heads {
     pub(crate) queries: Items<u32>,
     pub(crate) of: Vec<Items<u32>>,
+}
+
+impl Drop for Heads {
+    fn drop(self) {
+        let Heads { queries: _, of: _ } = self;
+    }
 }
 
 /// No numbers, over `preds` predicates.

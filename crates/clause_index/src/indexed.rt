@@ -14,12 +14,22 @@ use term_tree::Sort;
 
 /// A system beside what a search reads of its clauses again and again: where in each guard its literals
 /// and disjunctions stand, and the clauses with each head. Contracts see the system alone.
-#[derive(Drop)]
 pub struct IndexedSystem {
     system: System,
     guards: Items<Places>,
     falsehood: Lit,
     heads: Heads,
+}
+
+impl Drop for IndexedSystem {
+    fn drop(self) {
+        let IndexedSystem {
+            system: _,
+            guards: _,
+            falsehood: _,
+            heads: _,
+        } = self;
+    }
 }
 
 impl Model for IndexedSystem {

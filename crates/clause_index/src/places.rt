@@ -12,18 +12,32 @@ use std::alloc::Global;
 /// The place of a part of a conjunction: its number there, its number in that part, where that is a
 /// conjunction, too, and the numbers that lead on, where more of them stand in one another. What is no
 /// conjunction is its own part 0.
-#[derive(Drop)]
 pub(crate) struct Place {
     pub(crate) first: usize,
     pub(crate) second: usize,
     pub(crate) below: Items<usize>,
 }
 
+impl Drop for Place {
+    fn drop(self) {
+        let Place {
+            first: _,
+            second: _,
+            below: _,
+        } = self;
+    }
+}
+
 /// The places of a guard's literals and of its disjunctions, in order.
-#[derive(Drop)]
 pub(crate) struct Places {
     pub(crate) lits: Items<Place>,
     pub(crate) cases: Items<Place>,
+}
+
+impl Drop for Places {
+    fn drop(self) {
+        let Places { lits: _, cases: _ } = self;
+    }
 }
 
 /// The part of a conjunction of that number; the formula itself where there is none.

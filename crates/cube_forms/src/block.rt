@@ -9,9 +9,14 @@ use std::marker::Model;
 pub(crate) const SIZE: u32 = 64;
 
 /// A few items of a table in a row. Contracts see it as their list.
-#[derive(Drop)]
 pub(crate) struct Block<T> {
     items: Vec<Held<T>>,
+}
+
+impl<T: Drop> Drop for Block<T> {
+    fn drop(self) {
+        let Block { items: _ } = self;
+    }
 }
 
 impl<T> Model for Block<T> {

@@ -13,9 +13,14 @@ use std::marker::Model;
 /// A conjunction of literals whose variables are places of a predicate's arguments, numbered from
 /// 0. Every number in it is below 2^63 in magnitude. A copy shares the literals. Contracts see it as
 /// the list of its literals.
-#[derive(Drop)]
 pub struct Cube {
     lits: Held<Items<Lit>>,
+}
+
+impl Drop for Cube {
+    fn drop(self) {
+        let Cube { lits: _ } = self;
+    }
 }
 
 impl Model for Cube {

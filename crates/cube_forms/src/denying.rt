@@ -42,18 +42,24 @@ fn push_denial(alloc: Global, parts: &mut Vec<Form>, lit: Lit) -> Result<(), Mem
     requires { IsTrue (is_short (linear_of lit).constant) }
     ensures { OnOk result (parts.new.items ≡ parts.old.items ++ map Literal (denial lit)) }
 {
-    match lit {
+    match &lit {
         Lit::Le(lin) => {
-            let above = one_less(alloc, &lin)?;
+            let above = one_less(alloc, lin)?;
             push(parts, Lit::Le(above))
         }
         Lit::Eq(lin) => {
-            let above = one_less(alloc, &lin)?;
-            push(parts, Lit::Le(one_more(lin)))?;
+            let above = one_less(alloc, lin)?;
+            push(parts, Lit::Le(one_more(lit.into_linear())))?;
             push(parts, Lit::Le(above))
         }
-        Lit::Div(d, lin) => push(parts, Lit::NDiv(d, lin)),
-        Lit::NDiv(d, lin) => push(parts, Lit::Div(d, lin)),
+        Lit::Div(d, _) => {
+            let d = *d;
+            push(parts, Lit::NDiv(d, lit.into_linear()))
+        }
+        Lit::NDiv(d, _) => {
+            let d = *d;
+            push(parts, Lit::Div(d, lit.into_linear()))
+        }
     }
 }
 

@@ -9,9 +9,14 @@ use std::sync::Arc;
 
 /// A value with several owners. Contracts see the value alone, so two owners of one value are
 /// equal.
-#[derive(Drop)]
 pub struct Held<T> {
     inner: Arc<T>,
+}
+
+impl<T: Drop> Drop for Held<T> {
+    fn drop(self) {
+        let Held { inner: _ } = self;
+    }
 }
 
 impl<T> Model for Held<T> {

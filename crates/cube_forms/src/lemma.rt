@@ -10,9 +10,14 @@ use std::marker::Model;
 
 /// The denial of a cube: it accepts the tuples that the cube doesn't hold. Contracts see it as the
 /// cube's literals. A copy shares them.
-#[derive(Drop)]
 pub struct Lemma {
     cube: Cube,
+}
+
+impl Drop for Lemma {
+    fn drop(self) {
+        let Lemma { cube: _ } = self;
+    }
 }
 
 impl Model for Lemma {

@@ -10,10 +10,18 @@ use std::marker::Model;
 /// A list whose versions share what they have in common: a version costs a count for each block of
 /// 64 items, and a change of one leaves the others as they are. Items are never copied. Contracts
 /// see it as the list.
-#[derive(Drop)]
 pub struct Table<T> {
     blocks: Vec<Held<Block<T>>>,
     count: u32,
+}
+
+impl<T: Drop> Drop for Table<T> {
+    fn drop(self) {
+        let Table {
+            blocks: _,
+            count: _,
+        } = self;
+    }
 }
 
 impl<T> Model for Table<T> {

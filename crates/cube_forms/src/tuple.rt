@@ -9,9 +9,14 @@ use std::marker::Model;
 
 /// The values of a predicate's arguments, a Bool value as 0 or 1. Up to four of them lie in the
 /// value itself.
-#[derive(Drop)]
 pub struct Tuple {
     values: SmallVec<i64, 4>,
+}
+
+impl Drop for Tuple {
+    fn drop(self) {
+        let Tuple { values: _ } = self;
+    }
 }
 
 impl Model for Tuple {

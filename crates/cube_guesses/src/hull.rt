@@ -35,20 +35,36 @@ struct Residue {
 }
 
 /// What the tuples of a predicate have in common.
-#[derive(Drop)]
 pub(crate) struct Hull {
     /// Forms that are 0 at each tuple.
     equations: Vec<Lin>,
     residues: Vec<Residue>,
 }
 
+impl Drop for Hull {
+    fn drop(self) {
+        let Hull {
+            equations: _,
+            residues: _,
+        } = self;
+    }
+}
+
 /// What is known of the tuples of a predicate.
-#[derive(Drop)]
 pub(crate) enum Known {
     /// No tuple was met.
     Nothing,
     /// What those that were met have in common.
     Common(Hull),
+}
+
+impl Drop for Known {
+    fn drop(self) {
+        match self {
+            Known::Nothing => {}
+            Known::Common(_) => {}
+        }
+    }
 }
 
 /// The form of these variables, each with a sign, that is 0 at the tuple.

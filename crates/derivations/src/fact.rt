@@ -2,7 +2,6 @@ use base::Items;
 use cube_forms::Tuple;
 
 /// A derived tuple: the conclusion of an instance of a clause whose body tuples are earlier facts.
-#[derive(Drop)]
 pub struct Fact {
     /// The clause's number.
     pub clause: u32,
@@ -14,4 +13,16 @@ pub struct Fact {
     pub pred: Option<u32>,
     /// The head's tuple, empty for false.
     pub tuple: Tuple,
+}
+
+impl Drop for Fact {
+    fn drop(self) {
+        let Fact {
+            clause: _,
+            point: _,
+            premises: _,
+            pred: _,
+            tuple: _,
+        } = self;
+    }
 }

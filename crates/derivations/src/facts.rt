@@ -14,10 +14,15 @@ use std::marker::Model;
 
 /// The facts of a book, numbered from 0 in the order in which they came. No conclusion is recorded
 /// twice, and premises are earlier facts. A version that is shared stays as it is.
-#[derive(Drop)]
 pub struct Facts {
     notes: Notes,
     rows: Rows,
+}
+
+impl Drop for Facts {
+    fn drop(self) {
+        let Facts { notes: _, rows: _ } = self;
+    }
 }
 
 impl Model for Facts {

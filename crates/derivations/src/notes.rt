@@ -9,16 +9,26 @@ use std::alloc::Global;
 use std::marker::Model;
 
 /// A fact with its height.
-#[derive(Drop)]
 pub(crate) struct Noted {
     fact: Fact,
     height: u32,
 }
 
+impl Drop for Noted {
+    fn drop(self) {
+        let Noted { fact: _, height: _ } = self;
+    }
+}
+
 /// The facts in order of number, with their heights. Versions share the facts.
-#[derive(Drop)]
 pub(crate) struct Notes {
     table: Table<Noted>,
+}
+
+impl Drop for Notes {
+    fn drop(self) {
+        let Notes { table: _ } = self;
+    }
 }
 
 impl Model for Notes {

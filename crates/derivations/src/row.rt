@@ -6,11 +6,20 @@ use std::alloc::Global;
 
 /// The numbers of one predicate's facts, in order of number and in order of tuple, and the keys of
 /// the tuples in that order.
-#[derive(Drop)]
 pub(crate) struct Row {
     pub(crate) by_number: Items<u32>,
     pub(crate) by_tuple: Items<u32>,
     pub(crate) keys: Items<i64>,
+}
+
+impl Drop for Row {
+    fn drop(self) {
+        let Row {
+            by_number: _,
+            by_tuple: _,
+            keys: _,
+        } = self;
+    }
 }
 
 /// A row without facts.

@@ -9,12 +9,17 @@ use std::alloc::Global;
 
 /// A form that no integer point satisfies, with its proof: each node is legal, and each literal that
 /// it derives has room. Only `check` and `check_owned` make one.
-#[derive(Drop)]
 pub struct Refuted {
     pub(crate) form: Form,
     pub(crate) proof: Refutation,
     pub ghost narrow: { is_sound (judged lit_fits form proof) ≡ true },
     pub ghost no_point: { HasNoPoint form },
+}
+
+impl Drop for Refuted {
+    fn drop(self) {
+        let Refuted { form: _, proof: _ } = self;
+    }
 }
 
 impl Refuted {

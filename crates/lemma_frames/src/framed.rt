@@ -4,11 +4,20 @@ ghost use Rattle.lemma_frames.specs.Frames.{level_of, pred_of, lemma_of};
 use cube_forms::{Held, Lemma, Table};
 
 /// A lemma with the predicate on which it stands and its level. Versions of a table share the lemma.
-#[derive(Drop)]
 pub struct Framed {
     pub pred: u32,
     pub level: u32,
     pub lemma: Held<Lemma>,
+}
+
+impl Drop for Framed {
+    fn drop(self) {
+        let Framed {
+            pred: _,
+            level: _,
+            lemma: _,
+        } = self;
+    }
 }
 
 /// The level of a lemma.

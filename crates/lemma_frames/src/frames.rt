@@ -13,10 +13,15 @@ use std::marker::Model;
 
 /// The lemmas of a book, numbered from 0 in the order in which they came, each with its predicate
 /// and its level. A version that is shared stays as it is.
-#[derive(Drop)]
 pub struct Frames {
     lemmas: Table<Framed>,
     rows: Vec<Row>,
+}
+
+impl Drop for Frames {
+    fn drop(self) {
+        let Frames { lemmas: _, rows: _ } = self;
+    }
 }
 
 impl Model for Frames {

@@ -13,10 +13,15 @@ use cube_forms::{Cube, Tuple};
 use step_rules::{LemmaPart, Lent};
 
 /// An instance with its body in the frame below, and its head's tuple.
-#[derive(Drop)]
 pub(crate) struct Breaking {
     pub(crate) seen: Seen,
     pub(crate) tuple: Tuple,
+}
+
+impl Drop for Breaking {
+    fn drop(self) {
+        let Breaking { seen: _, tuple: _ } = self;
+    }
 }
 
 /// Whether the head of one of the instances lies in the cube.

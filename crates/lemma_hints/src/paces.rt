@@ -21,12 +21,22 @@ const MOST_CUBES: usize = 3;
 const GREATEST: i64 = 1 << 40;
 
 /// That a form is at most a number of times the number of a tuple's step, and one more number.
-#[derive(Drop)]
 pub(crate) struct Pace {
     pred: u32,
     lin: Lin,
     step: i64,
     base: i64,
+}
+
+impl Drop for Pace {
+    fn drop(self) {
+        let Pace {
+            pred: _,
+            lin: _,
+            step: _,
+            base: _,
+        } = self;
+    }
 }
 
 /// The tuple with the number of its step behind it.

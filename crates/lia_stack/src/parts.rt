@@ -110,12 +110,8 @@ pub(crate) fn push_parts<'a>(
 pub(crate) fn side(alloc: Global, variable: u32, floor: i64) -> Result<Lin, Memory>
     ensures { IfOk result (λ lin. lin ≡ record { terms = (variable, pos 1) ∷ []; constant = neg_ℤ floor }) }
 {
-    match at_most(alloc, variable, floor)? {
-        Lit::Le(lin) => Ok(lin),
-        Lit::Eq(_) => unreachable!(),
-        Lit::Div(_, _) => unreachable!(),
-        Lit::NDiv(_, _) => unreachable!(),
-    }
+    let lit = at_most(alloc, variable, floor)?;
+    Ok(lit.into_linear())
 }
 
 /// The node below that has one literal more.

@@ -8,13 +8,24 @@ use std::alloc::Global;
 
 /// A formula: literals under conjunctions and disjunctions. An empty conjunction is true, an
 /// empty disjunction false.
-#[derive(Drop)]
 pub enum Form {
     True,
     False,
     Lit(Lit),
     And(Items<Form>),
     Or(Items<Form>),
+}
+
+impl Drop for Form {
+    fn drop(self) {
+        match self {
+            Form::True => {}
+            Form::False => {}
+            Form::Lit(_) => {}
+            Form::And(parts) => drop(parts),
+            Form::Or(parts) => drop(parts),
+        }
+    }
 }
 
 impl Form {

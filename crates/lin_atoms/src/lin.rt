@@ -13,10 +13,18 @@ use thiserror::Error;
 /// A linear form: coefficients times variables, added up, and a constant. Variables are numbers
 /// and rise; no coefficient is 0; coefficients are below 2^63 and the constant is below 2^64 in
 /// magnitude.
-#[derive(Drop)]
 pub struct Lin {
     terms: Items<(u32, i64)>,
     constant: i128,
+}
+
+impl Drop for Lin {
+    fn drop(self) {
+        let Lin {
+            terms: _,
+            constant: _,
+        } = self;
+    }
 }
 
 impl Model for Lin {
@@ -148,9 +156,7 @@ impl Lin {
         if !terms::is_long(constant) {
             return None;
         }
-        Some(Lin {
-            terms: self.terms,
-            constant,
-        })
+        let Lin { terms, constant: _ } = self;
+        Some(Lin { terms, constant })
     }
 }

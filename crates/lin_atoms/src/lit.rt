@@ -1,4 +1,5 @@
 ghost use Rattle.std.specs.Prelude.{◌≡◌};
+ghost use Rattle.lin_atoms.specs.Denial.{linear_of};
 ghost use Rattle.lin_atoms.specs.Truth.{lit_is_below, lit_truth};
 
 use crate::divisor::Divisor;
@@ -7,7 +8,6 @@ use base::{Copied, Memory, Same};
 use std::alloc::Global;
 
 /// A literal over integer variables.
-#[derive(Drop)]
 pub enum Lit {
     /// The form is at most 0.
     Le(Lin),
@@ -17,6 +17,17 @@ pub enum Lit {
     Div(Divisor, Lin),
     /// The number doesn't divide the form.
     NDiv(Divisor, Lin),
+}
+
+impl Drop for Lit {
+    fn drop(self) {
+        match self {
+            Lit::Le(_) => {}
+            Lit::Eq(_) => {}
+            Lit::Div(_, _) => {}
+            Lit::NDiv(_, _) => {}
+        }
+    }
 }
 
 impl Same for Lit {
@@ -65,6 +76,18 @@ impl Lit {
             Lit::Eq(lin) => lin.is_below(n),
             Lit::Div(_, lin) => lin.is_below(n),
             Lit::NDiv(_, lin) => lin.is_below(n),
+        }
+    }
+
+    /// The form that the literal says something of.
+    pub fn into_linear(self) -> Lin
+        ensures { result ≡ linear_of self }
+    {
+        match self {
+            Lit::Le(lin) => lin,
+            Lit::Eq(lin) => lin,
+            Lit::Div(_, lin) => lin,
+            Lit::NDiv(_, lin) => lin,
         }
     }
 }

@@ -10,12 +10,22 @@ use std::marker::Model;
 
 /// A conjunction with a model of it, the variables that are kept, and the cube that projects it.
 /// Only `project` makes one.
-#[derive(Drop)]
 pub struct Projected {
     pub(crate) lits: Items<Lit>,
     pub(crate) model: Items<i64>,
     pub(crate) keep: Items<u32>,
     pub(crate) cube: Items<Lit>,
+}
+
+impl Drop for Projected {
+    fn drop(self) {
+        let Projected {
+            lits: _,
+            model: _,
+            keep: _,
+            cube: _,
+        } = self;
+    }
 }
 
 impl Model for Projected {

@@ -5,10 +5,15 @@ use cube_forms::Held;
 use std::alloc::Global;
 
 /// The numbers of the live obligations, and of those without live children, ascending.
-#[derive(Drop)]
 pub(crate) struct Index {
     pub(crate) live: Vec<u32>,
     pub(crate) leaves: Vec<u32>,
+}
+
+impl Drop for Index {
+    fn drop(self) {
+        let Index { live: _, leaves: _ } = self;
+    }
 }
 
 /// The numbers but one, and behind them the next.

@@ -8,11 +8,20 @@ use std::alloc::Global;
 
 /// An obligation as the tree keeps it: with the journal entry that closed it, `None` while it is
 /// live, and whether it is stalled. Versions share the obligation itself.
-#[derive(Drop)]
 pub struct Node {
     pub(crate) obligation: Held<Obligation>,
     pub(crate) closed_by: Option<u64>,
     pub(crate) stalled: bool,
+}
+
+impl Drop for Node {
+    fn drop(self) {
+        let Node {
+            obligation: _,
+            closed_by: _,
+            stalled: _,
+        } = self;
+    }
 }
 
 impl Node {

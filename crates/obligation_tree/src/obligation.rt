@@ -7,7 +7,6 @@ use std::alloc::Global;
 /// A question of the search: is a tuple of the cube derivable within `level` steps? The point is one
 /// that nothing has excluded yet. The root asks it of false, at the level above the closed one; every
 /// other obligation asks it of one body atom, for its parent.
-#[derive(Drop)]
 pub struct Obligation {
     /// The predicate, `None` for false.
     pub pred: Option<u32>,
@@ -23,6 +22,20 @@ pub struct Obligation {
     pub clause: u32,
     /// The body atom of that clause which it stands for.
     pub atom: u32,
+}
+
+impl Drop for Obligation {
+    fn drop(self) {
+        let Obligation {
+            pred: _,
+            level: _,
+            cube: _,
+            point: _,
+            parent: _,
+            clause: _,
+            atom: _,
+        } = self;
+    }
 }
 
 impl Obligation {

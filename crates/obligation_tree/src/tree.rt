@@ -23,11 +23,20 @@ const WORKERS: usize = 64;
 
 /// All obligations that there have been, in order of number, and what each worker holds. Versions
 /// share the obligations and the lists of the live ones.
-#[derive(Drop)]
 pub struct Tree {
     nodes: Table<Node>,
     index: Held<Index>,
     claims: [Option<u32>; WORKERS],
+}
+
+impl Drop for Tree {
+    fn drop(self) {
+        let Tree {
+            nodes: _,
+            index: _,
+            claims: _,
+        } = self;
+    }
 }
 
 impl Model for Tree {

@@ -7,7 +7,6 @@ use std::alloc::Global;
 /// order in which they joined the node or one above it. In the node's tableau columns are numbered:
 /// first the form's variables, then the quotients of the literals, then the slacks, both in order of
 /// the literals.
-#[derive(Drop)]
 pub enum Evidence {
     /// A basis of the node's tableau, in order of number, has a primitive row with this entry, of
     /// 2^63 or more in magnitude.
@@ -33,6 +32,26 @@ pub enum Evidence {
     Nodes {
         nodes: u32,
     },
+}
+
+impl Drop for Evidence {
+    fn drop(self) {
+        match self {
+            Evidence::Row {
+                lits: _,
+                basis: _,
+                entry: _,
+            } => {}
+            Evidence::Coordinate {
+                lits: _,
+                basis: _,
+                outside: _,
+                variable: _,
+            } => {}
+            Evidence::Rows { lits: _ } => {}
+            Evidence::Nodes { nodes: _ } => {}
+        }
+    }
 }
 
 impl Copied for Evidence {

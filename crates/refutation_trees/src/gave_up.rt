@@ -7,11 +7,19 @@ use std::alloc::Global;
 
 /// A form whose search was given up, with the evidence. Only `keep` makes one, from evidence that
 /// is one for the form.
-#[derive(Drop)]
 pub struct GaveUp {
     pub(crate) form: Form,
     pub(crate) evidence: Evidence,
     pub ghost given_up: { IsGivenUp form evidence },
+}
+
+impl Drop for GaveUp {
+    fn drop(self) {
+        let GaveUp {
+            form: _,
+            evidence: _,
+        } = self;
+    }
 }
 
 impl GaveUp {

@@ -4,7 +4,6 @@ use model_project::Projected;
 
 /// An Open: it asks one body atom's tuples of a cube, for an obligation whose cube holds the head of
 /// an instance of a clause.
-#[derive(Drop)]
 pub struct OpenPart {
     /// The number of the obligation that the new one serves.
     pub parent: u32,
@@ -18,4 +17,16 @@ pub struct OpenPart {
     /// Literals that imply the guard, the parent's cube on the head and the frame below on the body,
     /// projected to the atom's variables at the instance.
     pub area: Projected,
+}
+
+impl Drop for OpenPart {
+    fn drop(self) {
+        let OpenPart {
+            parent: _,
+            atom: _,
+            seen: _,
+            cube: _,
+            area: _,
+        } = self;
+    }
 }

@@ -3,7 +3,6 @@ use chc_tokens::Used;
 use refutation_trees::GaveUp;
 
 /// A Stall: the search gave up a query of an obligation without children.
-#[derive(Drop)]
 pub struct StallPart {
     /// The obligation's number.
     pub target: u32,
@@ -13,4 +12,15 @@ pub struct StallPart {
     pub used: Items<Used>,
     /// That the query of the clause, the obligation's cube and these lemmas was given up.
     pub evidence: GaveUp,
+}
+
+impl Drop for StallPart {
+    fn drop(self) {
+        let StallPart {
+            target: _,
+            clause: _,
+            used: _,
+            evidence: _,
+        } = self;
+    }
 }

@@ -34,7 +34,7 @@ pub enum OpKind {
 }
 
 /// One node of a term. Its parts are named by number.
-#[derive(Debug, Drop)]
+#[derive(Debug)]
 pub enum Node {
     Num(i64),
     True,
@@ -78,6 +78,32 @@ pub enum Node {
         sorts: Items<Sort>,
         body: TermId,
     },
+}
+
+impl Drop for Node {
+    fn drop(self) {
+        match self {
+            Node::Num(_) => {}
+            Node::True => {}
+            Node::False => {}
+            Node::Var { binder: _, sort: _ } => {}
+            Node::LetVar { bound: _ } => {}
+            Node::Pred { pred: _, args: _ } => {}
+            Node::Op { op: _, args: _ } => {}
+            Node::Divisible { by: _, arg: _ } => {}
+            Node::Let { bound: _, body: _ } => {}
+            Node::Forall {
+                first: _,
+                sorts: _,
+                body: _,
+            } => {}
+            Node::Exists {
+                first: _,
+                sorts: _,
+                body: _,
+            } => {}
+        }
+    }
 }
 
 fn are_below(ids: &[TermId], bound: usize) -> bool

@@ -5,16 +5,28 @@ use base::{Copied, Items, Memory, Same};
 use std::alloc::Global;
 
 /// The bytes of a symbol, without bars.
-#[derive(Debug, Drop)]
+#[derive(Debug)]
 pub struct Name {
     pub bytes: Items<u8>,
 }
 
+impl Drop for Name {
+    fn drop(self) {
+        let Name { bytes: _ } = self;
+    }
+}
+
 /// A declared predicate: its name and the sorts of its arguments.
-#[derive(Debug, Drop)]
+#[derive(Debug)]
 pub struct Pred {
     pub name: Name,
     pub args: Items<Sort>,
+}
+
+impl Drop for Pred {
+    fn drop(self) {
+        let Pred { name: _, args: _ } = self;
+    }
 }
 
 /// An asserted term, with the offset of its command in the text and the number of commands before it.
@@ -26,11 +38,21 @@ pub struct Assertion {
 }
 
 /// What the commands of a text declare and assert, in their order.
-#[derive(Debug, Drop)]
+#[derive(Debug)]
 pub struct Script {
     pub preds: Items<Pred>,
     pub asserts: Items<Assertion>,
     pub terms: Terms,
+}
+
+impl Drop for Script {
+    fn drop(self) {
+        let Script {
+            preds: _,
+            asserts: _,
+            terms: _,
+        } = self;
+    }
 }
 
 impl Same for Name {

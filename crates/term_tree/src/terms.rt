@@ -9,10 +9,19 @@ use std::marker::Model;
 
 /// Terms as an arena of nodes, each with the offset at which it starts in the text. Every node stands
 /// after its parts, so a walk from a term down to its parts ends.
-#[derive(Debug, Drop)]
+#[derive(Debug)]
 pub struct Terms {
     nodes: Vec<Node>,
     offsets: Vec<u32>,
+}
+
+impl Drop for Terms {
+    fn drop(self) {
+        let Terms {
+            nodes: _,
+            offsets: _,
+        } = self;
+    }
 }
 
 impl Model for Terms {
