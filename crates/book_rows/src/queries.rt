@@ -392,8 +392,9 @@ fn unknown(
     evidence: GaveUp,
 ) -> Result<NoLift, TokenStop> {
     let found = checked_query_of(alloc, sys, 1, &goal, used.as_slice()).expect(rt, "memory");
-    match (goal, found) {
+    match (&goal, found) {
         (Goal::Holds(lemma), Some(_)) => {
+            let lemma = lemma.copy(alloc).expect(rt, "memory");
             let why = Why::Unknown {
                 clause: 1,
                 used,

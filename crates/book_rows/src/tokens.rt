@@ -8,7 +8,7 @@ ghost use Rattle.chc_tokens.specs.Tokens.{IsNoLift, IsShownToken, is_seen};
 
 use crate::clauses::{next, values};
 use crate::lits::{is, lin, not};
-use base::Items;
+use base::{Copied, Items};
 use chc_tokens::{
     Goal, NoLift, Seen, Shown, Used, Why, are_short, checked_query_of, fits_head, has_values,
     no_lift, seen, shown,
@@ -250,8 +250,9 @@ fn unknown_by(
     ensures { IsNoLift sys.now result }
 {
     let found = checked_query_of(alloc, sys, 1, &goal, used.as_slice()).expect(rt, "memory");
-    match (goal, found) {
+    match (&goal, found) {
         (Goal::Holds(lemma), Some(_)) => {
+            let lemma = lemma.copy(alloc).expect(rt, "memory");
             let why = Why::Unknown {
                 clause: 1,
                 used,
