@@ -123,7 +123,7 @@ impl<R: Run> Locked<R> {
     /// Takes a step of the share's worker, and answers the number of its entry, from 1. The answer and
     /// the book afterwards are those of the book's own `commit`: `Ok` exactly where the book has no end
     /// and the step breaks no rule. The share's count grows by one exactly at `Ok`. The worker's claim
-    /// is released in every case, and a refusal changes nothing besides.
+    /// is released in every case, and a refusal changes nothing besides. The share says that a step was offered.
     pub fn commit(&mut self, share: &mut Share<R>, step: Step) -> Result<u64, Refused>
         requires made { IsMadeFor R.system step }
         requires places { has_places R.system (step_of step) ≡ true }
@@ -143,13 +143,16 @@ impl<R: Run> Locked<R> {
         ensures err { OnErr result (self.new ≡ record self.old { book = released_by share.old.worker self.old.book }) }
         ensures uncounted { OnErr result (share.new.count ≡ share.old.count) }
         ensures worker { share.new.worker ≡ share.old.worker }
+        ensures offered { share.new.has_offered ≡ true }
     {
         let Share {
             worker,
             count,
+            has_offered,
             token,
             ..
         } = share;
+        *has_offered = true;
         let number = commit_released(&mut self.book, *worker, step)?;
         self.written.audit(token);
         self.written.add(token, 1);
@@ -160,7 +163,8 @@ impl<R: Run> Locked<R> {
     /// What the worker does next: `Ended` exactly where the book has that end, `WorkerMemory` exactly
     /// where it has none and want of memory was noted. Else `None` exactly where another worker holds
     /// every live leaf that isn't stalled, and otherwise a job, claimed for this worker. The claim is all
-    /// that changes, and only with a job. The job's book is no older than the worker's own entries.
+    /// that changes, and only with a job. The job's book is no older than the worker's own entries, and
+    /// the share says that nothing was offered for it.
     pub fn next_job(&mut self, share: &mut Share<R>) -> Result<Option<Job<R>>, Over>
         ensures ended { (e : BookEnd) → IsErrOf result (Over.Ended e) → end (state_of self.old.book) ≡ Some e }
         ensures noted { IsErrOf result Over.WorkerMemory → (end (state_of self.old.book) ≡ None) × (self.old.noted ≡ true) }
@@ -174,9 +178,16 @@ impl<R: Run> Locked<R> {
         ensures length { IfOk result (λ answer. IfSome answer (λ job. share.old.count ≤ length job.snapshot.journal)) }
         ensures err { OnErr result (self.new ≡ self.old) }
         ensures share { (share.new.worker ≡ share.old.worker) × (share.new.count ≡ share.old.count) }
+        ensures unoffered { OnOk result (share.new.has_offered ≡ false) }
     {
         may_ask(&self.book, self.noted)?;
-        let Share { worker, token, .. } = share;
+        let Share {
+            worker,
+            has_offered,
+            token,
+            ..
+        } = share;
+        *has_offered = false;
         self.written.audit(token);
         let answer = job_of(&mut self.book, *worker)?;
         Ok(answer)

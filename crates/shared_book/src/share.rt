@@ -1,15 +1,16 @@
-ghost use Rattle.std.specs.Prelude.{◌≡◌, ◌<◌, ◌≤◌};
+ghost use Rattle.std.specs.Prelude.{◌≡◌, ◌<◌, ◌≤◌, false};
 ghost use Rattle.obligation_tree.specs.Claims.{most_workers};
 
 use crate::run::Run;
 use std::sync::ledger;
 
-/// One worker's part of a run: its number, from 1, and how many entries it has written. There is one
-/// for each worker.
+/// One worker's part of a run: its number, from 1, how many entries it has written, and whether it has
+/// offered a step since it asked for its job. There is one for each worker.
 #[derive(Drop)]
 pub struct Share<R: Run> {
     pub(crate) worker: u32,
     pub(crate) count: u64,
+    pub(crate) has_offered: bool,
     pub(crate) token: ledger::Share<R>,
     pub ghost first: { 0 < worker },
     pub ghost last: { worker ≤ R.workers },
@@ -19,7 +20,7 @@ pub struct Share<R: Run> {
 }
 
 impl<R: Run> Share<R> {
-    /// The share of a worker that has written nothing.
+    /// The share of a worker that has written and offered nothing.
     pub(crate) fn new(worker: u32, token: ledger::Share<R>) -> Share<R>
         requires first { 0 < worker }
         requires last { worker ≤ R.workers }
@@ -28,10 +29,12 @@ impl<R: Run> Share<R> {
         requires parts { token.parts ≡ 1 }
         ensures worker { result.worker ≡ worker }
         ensures count { result.count ≡ 0 }
+        ensures offered { result.has_offered ≡ false }
     {
         Share {
             worker,
             count: 0,
+            has_offered: false,
             token,
         }
     }

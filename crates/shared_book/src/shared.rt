@@ -1,4 +1,4 @@
-ghost use Rattle.std.specs.Prelude.{◌≡◌, ◌+◌, ◌<◌, ◌≤◌, [], length, map, replicate, sum, true, vec_len, IfOk, IfSome, OnOk, OnErr};
+ghost use Rattle.std.specs.Prelude.{◌≡◌, ◌+◌, ◌<◌, ◌≤◌, [], length, map, replicate, sum, true, false, vec_len, IfOk, IfSome, OnOk, OnErr};
 ghost use Rattle.std.specs.List.{range_with_len};
 ghost use Rattle.book_rules.specs.Places.{has_places};
 ghost use Rattle.book_rules.specs.Walks.{AllOf};
@@ -93,6 +93,7 @@ impl<R: Run> SharedBook<R> {
         ensures counted { OnOk result (share.new.count ≡ share.old.count + 1) }
         ensures uncounted { OnErr result (share.new.count ≡ share.old.count) }
         ensures worker { share.new.worker ≡ share.old.worker }
+        ensures offered { share.new.has_offered ≡ true }
     {
         let mut locked = self.lock.lock(rt);
         let answer = locked.commit(share, step);
@@ -106,6 +107,7 @@ impl<R: Run> SharedBook<R> {
         ensures length { IfOk result (λ job. share.old.count ≤ length job.snapshot.journal) }
         ensures count { share.new.count ≡ share.old.count }
         ensures worker { share.new.worker ≡ share.old.worker }
+        ensures unoffered { OnOk result (share.new.has_offered ≡ false) }
     {
         let mut locked = self.lock.lock(rt);
         for _ in rt.forever() {

@@ -1,6 +1,6 @@
 //! Steps that are offered to the shared book, from the snapshot that they were made on.
 
-ghost use Rattle.std.specs.Prelude.{◌≡◌, ◌≤◌, ◌+◌, true, if◌then◌else◌, nat_lt, IfOk, OnErr};
+ghost use Rattle.std.specs.Prelude.{◌≡◌, ◌≤◌, ◌+◌, true, if◌then◌else◌, nat_lt, IfOk, OnErr, OnOk};
 ghost use Rattle.chc_tokens.specs.Tokens.{is_seen};
 ghost use Rattle.step_rules.specs.declared.step.Step.TheVariants.{LemmaStep, OpenStep};
 ghost use Rattle.obligation_turn.specs.Turns.{GoesOn};
@@ -26,6 +26,7 @@ fn offer<R: Run>(
     ensures taken { IfOk result (λ taken. share.new.count ≡ (if taken then share.old.count + 1 else share.old.count)) }
     ensures err { OnErr result (share.new.count ≡ share.old.count) }
     ensures worker { share.new.worker ≡ share.old.worker }
+    ensures offered { share.new.has_offered ≡ true }
 {
     match shared.commit(rt, share, step) {
         Ok(_) => Ok(true),
@@ -49,6 +50,7 @@ fn offer_sibling<R: Run>(
     requires seen { is_seen lent.now.system from.now.seen ≡ true }
     ensures grows { share.old.count ≤ share.new.count }
     ensures worker { share.new.worker ≡ share.old.worker }
+    ensures offered { share.old.has_offered ≡ true → share.new.has_offered ≡ true }
 {
     match sibling(lent, from, number)? {
         Some(step) => {
@@ -74,6 +76,7 @@ fn offer_siblings<R: Run>(
     requires seen { is_seen lent.now.system from.now.seen ≡ true }
     ensures grows { share.old.count ≤ share.new.count }
     ensures worker { share.new.worker ≡ share.old.worker }
+    ensures offered { share.old.has_offered ≡ true → share.new.has_offered ≡ true }
 {
     let mut offered = 0;
     for number in 0..atoms_of(lent, from) {
@@ -99,6 +102,7 @@ fn offer_open<R: Run>(
     ensures taken { IfOk result (λ taken. taken ≡ nat_lt share.old.count share.new.count) }
     ensures grows { share.old.count ≤ share.new.count }
     ensures worker { share.new.worker ≡ share.old.worker }
+    ensures offered { OnOk result (share.new.has_offered ≡ true) }
 {
     if most == 0 {
         return offer(rt, shared, share, Step::OpenStep(part));
@@ -125,6 +129,7 @@ fn offer_lift<R: Run>(
     ensures taken { IfOk result (λ taken. share.new.count ≡ (if taken then share.old.count + 1 else share.old.count)) }
     ensures err { OnErr result (share.new.count ≡ share.old.count) }
     ensures worker { share.new.worker ≡ share.old.worker }
+    ensures offered { OnOk result (share.new.has_offered ≡ true) }
 {
     let proofs = part.proofs.copy(lent.alloc)?;
     let step = Step::LiftStep(LiftPart {
@@ -150,6 +155,7 @@ fn carry<R: Run>(
     ensures taken { IfOk result (λ taken. taken ≡ nat_lt share.old.count share.new.count) }
     ensures grows { share.old.count ≤ share.new.count }
     ensures worker { share.new.worker ≡ share.old.worker }
+    ensures offered { IfOk result (λ taken. taken ≡ true → share.new.has_offered ≡ true) }
 {
     let (id, level) = older;
     let mut taken = false;
@@ -176,6 +182,7 @@ fn carry_older<R: Run>(
     ensures taken { IfOk result (λ taken. taken ≡ nat_lt share.old.count share.new.count) }
     ensures grows { share.old.count ≤ share.new.count }
     ensures worker { share.new.worker ≡ share.old.worker }
+    ensures offered { IfOk result (λ taken. taken ≡ true → share.new.has_offered ≡ true) }
 {
     if !means.lifts {
         return Ok(false);
@@ -199,6 +206,7 @@ fn offer_lemma<R: Run>(
     ensures taken { IfOk result (λ taken. taken ≡ nat_lt share.old.count share.new.count) }
     ensures grows { share.old.count ≤ share.new.count }
     ensures worker { share.new.worker ≡ share.old.worker }
+    ensures offered { OnOk result (share.new.has_offered ≡ true) }
 {
     if carry_older(rt, lent, shared, share, &part, means)? {
         return Ok(true);
@@ -206,8 +214,8 @@ fn offer_lemma<R: Run>(
     offer(rt, shared, share, Step::LemmaStep(part))
 }
 
-/// Offers the step of a turn, and what comes with it, of further body atoms so many at the most; whether
-/// any of it was taken.
+/// Offers the step of a turn, or lifts of an older lemma in its place, and what comes with it, of further
+/// body atoms so many at the most; whether any of it was taken.
 pub fn offer_turn<R: Run>(
     rt: &impl Wait,
     lent: &Lent,
@@ -223,6 +231,7 @@ pub fn offer_turn<R: Run>(
     ensures taken { IfOk result (λ taken. taken ≡ nat_lt share.old.count share.new.count) }
     ensures grows { share.old.count ≤ share.new.count }
     ensures worker { share.new.worker ≡ share.old.worker }
+    ensures offered { OnOk result (share.new.has_offered ≡ true) }
 {
     match step {
         Step::OpenStep(part) => offer_open(rt, lent, shared, share, part, most),

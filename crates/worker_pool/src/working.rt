@@ -1,6 +1,6 @@
 //! A worker's turns, one after another.
 
-ghost use Rattle.std.specs.Prelude.{◌≡◌, ◌<◌, OnOk};
+ghost use Rattle.std.specs.Prelude.{◌≡◌, ◌<◌, true, IfOk, OnOk};
 ghost use Rattle.obligation_turn.specs.Workspaces.{IsWorkspaceFor};
 
 use crate::gate::Gate;
@@ -26,7 +26,8 @@ fn serve<R: Run>(
     requires some { 0 < nodes }
     requires nodes { nodes ≡ R.nodes }
     requires work { IsWorkspaceFor R.system mind.old.work }
-    ensures { OnOk result (IsWorkspaceFor R.system mind.new.work) }
+    ensures work { OnOk result (IsWorkspaceFor R.system mind.new.work) }
+    ensures offered { OnOk result (share.new.has_offered ≡ true) }
 {
     let lent = job.lend();
     let step = next_step(&lent, job.obligation(), nodes, mind)?;
@@ -47,7 +48,8 @@ fn advance<R: Run>(
     requires some { 0 < nodes }
     requires nodes { nodes ≡ R.nodes }
     requires work { IsWorkspaceFor R.system mind.old.work }
-    ensures { OnOk result (IsWorkspaceFor R.system mind.new.work) }
+    ensures work { OnOk result (IsWorkspaceFor R.system mind.new.work) }
+    ensures offered { IfOk result (λ had_job. had_job ≡ true → share.new.has_offered ≡ true) }
 {
     match shared.take_job(rt, share) {
         Ok(job) => {

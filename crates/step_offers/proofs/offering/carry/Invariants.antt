@@ -1,4 +1,4 @@
-use Rattle.std.specs.Prelude.{◌≡◌, ◌≤◌, nat_lt}
+use Rattle.std.specs.Prelude.{◌≡◌, ◌≤◌, nat_lt, true}
 use Rattle.step_offers.proofs.offering.carry.Given as goal
 
 -- what was taken so far is seen by the count
@@ -7,4 +7,5 @@ invariant-loop-from g l = record {
   taken : l.taken ≡ nat_lt l.fn.share.count l.share.count;
   grows : l.fn.share.count ≤ l.share.count;
   worker : l.share.worker ≡ l.fn.share.worker;
+  offered : l.taken ≡ true → l.share.has_offered ≡ true;
 }

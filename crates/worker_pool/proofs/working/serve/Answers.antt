@@ -15,5 +15,5 @@ next_step-requires-clause-work g c = subst (λ (sys : Clauses). IsWorkspaceFor s
 pub offer_turn-requires-clause-step : goal.offer_turn-requires-clause-step
 offer_turn-requires-clause-step g c = offered-run c.lend-lent.result g.R.Run.system c.args.nodes g.R.Run.nodes c.in_ok-step.step c.lend-lent.ensures.system c.requires.nodes c.in_ok-step.ensures.taken
 
-pub returns : goal.returns
-returns g c = c.go_on.ensures g.R.Run.system (subst (λ (sys : Clauses). IsWorkspaceFor sys (c.next_step.new.mind).work) c.lend-lent.ensures.system c.in_ok-step.ensures.work)
+pub returns-clause-work : goal.returns-clause-work
+returns-clause-work g c = c.go_on.ensures g.R.Run.system (subst (λ (sys : Clauses). IsWorkspaceFor sys (c.next_step.new.mind).work) c.lend-lent.ensures.system c.in_ok-step.ensures.work)
