@@ -1,3 +1,4 @@
+mod OlderLemmas
 pub mod StepLemmas
 pub mod SystemLemmas
 pub mod ThinLemmas

@@ -1,5 +1,3 @@
-use Rattle.std.proofs.Common.{sym, subst}
-use Rattle.lemma_general.specs.Generals.{IsLearnt}
 use Rattle.search_parts.proofs.cubes.with_cube.Goals as goal
 
 pub try_cube-requires-clause-trying : goal.try_cube-requires-clause-trying

@@ -1,5 +1,4 @@
-use Rattle.std.proofs.Common.{◌<◌, arith}
-use Rattle.obligation_turn.proofs.FoundLemmas.{lower-lent, there-lent}
+use Rattle.obligation_turn.proofs.FoundLemmas.{there-lent}
 use Rattle.search_parts.proofs.lifts.is_below.Goals as goal
 
 pub level_of-level-requires : goal.level_of-level-requires
