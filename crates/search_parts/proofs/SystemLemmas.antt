@@ -55,17 +55,23 @@ record AreShortOf (asserts : List Assertion) (clauses : List Clause) : Type 0 wh
   few : AllOf IsShort clauses
   long : length clauses ≡ length asserts
 
+none_made : (refusal : Refusal) (clauses : List Clause) → (let r : Result (List Clause) Refusal = Err refusal in r) ≡ Ok clauses → ⊥
+none_made refusal clauses made = absurd (cc)
+
+these_made : (own clauses : List Clause) → (let r : Result (List Clause) Refusal = Ok own in r) ≡ Ok clauses → own ≡ clauses
+these_made own clauses made = cc
+
 short_all : (script : Script) (index : ℕ) (asserts : List Assertion) (clauses : List Clause) → all_clauses script index asserts ≡ Ok clauses → AreShortOf asserts clauses
-short_all script index [] clauses h = let same : [] ≡ clauses = cc in subst (AreShortOf []) same (record { few = tt; long = refl })
+short_all script index [] clauses h = let same : [] ≡ clauses = these_made [] clauses h in subst (AreShortOf []) same (record { few = tt; long = refl })
 short_all script index (a ∷ asserts) clauses h = by (normal_reading script index a) (all_clauses script (index + 1) asserts) refl (λ more is. short_all script (index + 1) asserts more is) refl h
   where
     by : (one : Result Clause Refusal) (rest : Result (List Clause) Refusal) → normal_reading script index a ≡ one
         → ((more : List Clause) → all_clauses script (index + 1) asserts ≡ Ok more → AreShortOf asserts more)
         → all_clauses script (index + 1) asserts ≡ rest → clause_and_others one rest ≡ Ok clauses → AreShortOf (a ∷ asserts) clauses
-    by (Err refusal) rest is others are made = absurd (cc)
-    by (Ok clause) (Err refusal) is others are made = absurd (cc)
+    by (Err refusal) rest is others are made = absurd (none_made refusal clauses made)
+    by (Ok clause) (Err refusal) is others are made = absurd (none_made refusal clauses made)
     by (Ok clause) (Ok more) is others are made =
-        let same : clause ∷ more ≡ clauses = cc in
+        let same : clause ∷ more ≡ clauses = these_made (clause ∷ more) clauses made in
         let tail = others more are in
         let long = tail.long in
         subst (AreShortOf (a ∷ asserts)) same (record { few = (short_one script index a clause is, tail.few); long = omega (arith, long) })
