@@ -8,6 +8,8 @@ mod chains;
 #[cfg(test)]
 mod coordinates;
 #[cfg(test)]
+mod disjunctions;
+#[cfg(test)]
 mod elimination;
 #[cfg(test)]
 mod examined;

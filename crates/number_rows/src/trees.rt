@@ -14,7 +14,7 @@ const MOST: i64 = i64::MAX;
 
 /// What the checker answers.
 #[derive(Clone, Copy, PartialEq, Eq)]
-enum Answer {
+pub(crate) enum Answer {
     Refuted,
     NoProof(u32),
     SumWide(u32),
@@ -39,7 +39,7 @@ pub(crate) type Literal = (Kind, Terms, i128);
 
 /// A node over a chain.
 #[derive(Clone, Copy)]
-enum Node {
+pub(crate) enum Node {
     Round(Terms, i64),
     Quotient(u32),
     /// A split at the first variable and a constant, with a leaf for what is below.
@@ -76,7 +76,7 @@ pub(crate) fn literals(rt: &impl Abort, alloc: Global, literals: &[Literal]) -> 
 
 /// The conjunction of the literals, which is a literal where there is one, and false where there is
 /// none.
-fn conjunction(rt: &impl Abort, alloc: Global, lits: &[Literal]) -> Form {
+pub(crate) fn conjunction(rt: &impl Abort, alloc: Global, lits: &[Literal]) -> Form {
     if lits.is_empty() {
         return Form::False;
     }
@@ -228,7 +228,7 @@ fn answer_to(
     }
 }
 
-fn is_answered(
+pub(crate) fn is_answered(
     rt: &impl Abort,
     alloc: Global,
     form: &Form,
@@ -442,105 +442,4 @@ fn quotients_have_a_variable_of_their_own(rt: HostRuntime) {
     for case in QUOTIENTS {
         assert!(rt; is_right(&rt, rt.alloc(), case));
     }
-}
-
-/// x is above 0 or above 1.
-fn inner(rt: &impl Abort, alloc: Global) -> Form {
-    let parts = literals(
-        rt,
-        alloc,
-        &[
-            (Kind::AtMostZero, &[(0, -1)], 1),
-            (Kind::AtMostZero, &[(0, -1)], 2),
-        ],
-    );
-    Form::Or(parts)
-}
-
-/// x is below 0, or above 0 or above 1.
-fn outer(rt: &impl Abort, alloc: Global) -> Form {
-    let inner = inner(rt, alloc);
-    let mut parts = literals(rt, alloc, &[(Kind::AtMostZero, &[(0, 1)], 1)]);
-    parts.push(inner).expect(rt, "memory");
-    Form::Or(parts)
-}
-
-/// That, and x is at most 5.
-fn both(rt: &impl Abort, alloc: Global) -> Form {
-    let outer = outer(rt, alloc);
-    let single = literals(rt, alloc, &[(Kind::AtMostZero, &[(0, 1)], -5)]);
-    let parts = Vec::from_array(alloc, [outer, Form::Or(single)]).expect(rt, "memory");
-    Form::And(Items::from_vec(parts))
-}
-
-/// That, and x is 0.
-fn nested(rt: &impl Abort, alloc: Global) -> Form {
-    let both = both(rt, alloc);
-    let mut parts = literals(rt, alloc, &[(Kind::Zero, &[(0, 1)], 0)]);
-    parts.push(both).expect(rt, "memory");
-    Form::And(parts)
-}
-
-const INNER_0: Node = Node::Cases(0, &[(0, 1), (1, 1)]);
-
-const INNER_1: Node = Node::Cases(1, &[(0, 1), (1, 1)]);
-
-const NESTED: [(&'static [Node], Terms, Answer); 5] = [
-    (
-        &[INNER_0, Node::Cases(0, &[(0, -1), (1, 1)])],
-        &[(0, 1), (1, 1)],
-        Answer::Refuted,
-    ),
-    (
-        &[INNER_0, Node::Cases(1, &[(0, -1), (1, 1)])],
-        &[(0, 1), (1, 1)],
-        Answer::NoProof(0),
-    ),
-    (
-        &[INNER_0, Node::Cases(2, &[(0, -1), (1, 1)])],
-        &[(0, 1), (1, 1)],
-        Answer::NoProof(0),
-    ),
-    (
-        &[INNER_1, Node::Cases(0, &[(0, -1), (1, 1)])],
-        &[(0, 1), (1, 1)],
-        Answer::NoProof(2),
-    ),
-    (
-        &[INNER_0, Node::Cases(0, &[(0, -1), (1, 1)])],
-        &[(0, 1), (2, 1)],
-        Answer::NoProof(4),
-    ),
-];
-
-#[test]
-fn parts_of_a_part_stand_in_its_place(rt: HostRuntime) {
-    let form = nested(&rt, rt.alloc());
-    for (nodes, last, answer) in NESTED {
-        assert!(rt; is_answered(&rt, rt.alloc(), &form, nodes, last, answer));
-    }
-    mem::forget(form);
-}
-
-/// Twice x is 1, split at these constants.
-const SPLITS: [(i128, Answer); 5] = [
-    (0, Answer::Refuted),
-    (1, Answer::NoProof(2)),
-    (-1, Answer::NoProof(1)),
-    (1 - (1 << 64), Answer::SumWide(0)),
-    (2 - (1 << 64), Answer::NoProof(1)),
-];
-
-fn is_split(rt: &impl Abort, alloc: Global, form: &Form, constant: i128, answer: Answer) -> bool {
-    let node = Node::Split(constant, &[(0, -1), (1, 2)]);
-    is_answered(rt, alloc, form, &[node], &[(0, 1), (1, 2)], answer)
-}
-
-#[test]
-fn splits_leave_out_no_integer(rt: HostRuntime) {
-    let form = conjunction(&rt, rt.alloc(), &[(Kind::Zero, &[(0, 2)], -1)]);
-    for (constant, answer) in SPLITS {
-        assert!(rt; is_split(&rt, rt.alloc(), &form, constant, answer));
-    }
-    mem::forget(form);
 }
