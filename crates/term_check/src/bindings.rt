@@ -19,10 +19,15 @@ pub const FEW: usize = 64;
 
 /// The names that are bound around a term, the innermost last. The outermost ones are found by
 /// comparing each, and those after them by their order.
-#[derive(Drop)]
 pub struct Bindings<'a> {
     few: Vec<Meaning<'a>>,
     more: Mapped<'a>,
+}
+
+impl<'a> Drop for Bindings<'a> {
+    fn drop(self) {
+        let Bindings { few: _, more: _ } = self;
+    }
 }
 
 impl<'a> Model for Bindings<'a> {

@@ -14,7 +14,6 @@ use term_tree::{Pred, TermId};
 
 /// What terms of a text are read with: the declared predicates, whether there may be quantifiers, the
 /// names that are bound around the term, and the terms of the `let`s among them, by number.
-#[derive(Drop)]
 pub struct Context<'a> {
     alloc: Global,
     text: &'a [u8],
@@ -24,6 +23,20 @@ pub struct Context<'a> {
     lets: Vec<TermId>,
     /// Lists that serve one application after the other.
     spare: Vec<Vec<Part>>,
+}
+
+impl<'a> Drop for Context<'a> {
+    fn drop(self) {
+        let Context {
+            alloc: _,
+            text: _,
+            signature: _,
+            quantifies: _,
+            bindings: _,
+            lets: _,
+            spare: _,
+        } = self;
+    }
 }
 
 impl<'a> Model for Context<'a> {

@@ -11,10 +11,18 @@ use std::marker::Model;
 
 /// Bound names, the innermost last, each found by order, so that no choice of names makes it slow. A name
 /// that was left keeps its place in the map.
-#[derive(Drop)]
 pub struct Mapped<'a> {
     bindings: Vec<Binding<'a>>,
     meanings: BTreeMap<&'a [u8], Option<Bound>>,
+}
+
+impl<'a> Drop for Mapped<'a> {
+    fn drop(self) {
+        let Mapped {
+            bindings: _,
+            meanings: _,
+        } = self;
+    }
 }
 
 impl<'a> Model for Mapped<'a> {

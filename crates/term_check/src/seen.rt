@@ -10,10 +10,15 @@ use std::marker::Model;
 
 /// The names that stand in a binder before, in their order. The first ones are found by comparing
 /// each, and those after them by a set, so that no choice of names makes it slow.
-#[derive(Drop)]
 pub struct Seen<'a> {
     few: Vec<&'a [u8]>,
     more: Sorted<'a>,
+}
+
+impl<'a> Drop for Seen<'a> {
+    fn drop(self) {
+        let Seen { few: _, more: _ } = self;
+    }
 }
 
 impl<'a> Model for Seen<'a> {

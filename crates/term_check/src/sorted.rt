@@ -8,10 +8,15 @@ use std::marker::Model;
 
 /// Names in the order in which they came, each found by an ordered set, so that no choice of names
 /// makes it slow.
-#[derive(Drop)]
 pub struct Sorted<'a> {
     names: Vec<&'a [u8]>,
     set: BTreeSet<&'a [u8]>,
+}
+
+impl<'a> Drop for Sorted<'a> {
+    fn drop(self) {
+        let Sorted { names: _, set: _ } = self;
+    }
 }
 
 impl<'a> Model for Sorted<'a> {
