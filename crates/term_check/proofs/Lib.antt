@@ -23,3 +23,4 @@ pub mod SpellingLemmas
 pub mod TellingLemmas
 pub mod TermLemmas
 pub mod ToldLemmas
+pub mod ValueLemmas
