@@ -24,3 +24,4 @@ pub mod TellingLemmas
 pub mod TermLemmas
 pub mod ToldLemmas
 pub mod ValueLemmas
+pub mod WordLemmas
