@@ -20,6 +20,7 @@ pub mod ReadingLemmas
 pub mod RuleLemmas
 pub mod SortLemmas
 pub mod SpellingLemmas
+pub mod StepLemmas
 pub mod TellingLemmas
 pub mod TermLemmas
 pub mod ToldLemmas
