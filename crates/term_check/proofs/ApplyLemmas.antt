@@ -1,6 +1,6 @@
 -- What terms that were put together tell.
 use Rattle.std.proofs.Common.{◌≡◌, ◌<◌, ℕ, ℤ, List, [], ◌∷◌, ◌++◌, length, Bool, true, false, get_or, refl, sym, ap, ◌∙◌, subst, arith}
-use Rattle.std.specs.Prelude.{if◌then◌else◌, slice_get, Option, Some, None, Ok, Result, pos, nat_eq, suc, zero}
+use Rattle.std.specs.Prelude.{if◌then◌else◌, slice_get, Option, Some, None, Ok, Err, Result, pos, nat_eq, suc, zero}
 use Rattle.term_tree.specs.declared.node.TermId.{TermId}
 use Rattle.term_tree.specs.declared.node.Node.{Node}
 use Rattle.term_tree.specs.declared.node.Node.TheVariants.{Op, Pred as PredNode, Divisible, Let}
@@ -59,6 +59,16 @@ argument_there arena lets (more t ts) (i ∷ ids) id h k =
 divides : (o : Option Fault) (by : Option ℕ) (k : ℤ) (later : Result Spelled Fault) → unless o (Ok (pos (number_or_0 by))) ≡ Ok k → (unless o later ≡ later) × (pos (number_or_0 by) ≡ k)
 divides None by k later h = (refl, cc)
 divides (Some f) by k later h = absurd (cc)
+
+refuses : (o : Option Fault) (by : Option ℕ) (f : Fault) (later : Result Spelled Fault) → unless o (Ok (pos (number_or_0 by))) ≡ Err f → unless o later ≡ Err f
+refuses None by f later h = absurd (cc)
+refuses (Some e) by f later h = let same : ◌≡◌ {A = Result ℤ Fault} (Err e) (Err f) = h in let is : e ≡ f = cc in ap Err is
+
+pub divisible_refused : (preds : List Pred) (head : Head) (by : Option ℕ) (start : ℕ) (parts : List Part) (f : Fault) (g : Gathered) → head ≡ Divisibility by → divisor_of by start parts ≡ Err f → g.parts ≡ parts
+    → application preds head start g ≡ Err f
+divisible_refused preds head by start parts f g is stop same =
+    let spelling = spells (divisible start (number_or_0 by) (the_argument g.terms)) start BoolSort None g.next in
+    ap (λ k. application preds k start g) is ∙ ap (λ ps. unless (divisible_fault by start ps) spelling) same ∙ refuses (divisible_fault by start parts) by f spelling stop
 
 pub divisible_told : (preds : List Pred) (head : Head) (by : Option ℕ) (k : ℤ) (start : ℕ) (ids : List TermId) (parts : List Part) (next : ℕ) (arg : TermId) (part : Part) (old new : Arena) (result : Result Found TermStop)
     → head ≡ Divisibility by → divisor_of by start parts ≡ Ok k → part ≡ record { start = start; sort = BoolSort; constant = None } → slice_get ids 0 ≡ Some arg → Keeps old new

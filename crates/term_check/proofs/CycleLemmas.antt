@@ -1,22 +1,28 @@
 -- The steps of the recursion over trees.
-use Rattle.std.proofs.Common.{◌≡◌, ◌<◌, ◌≤◌, ◌+◌, ◌-◌, ◌^◌, ℕ, List, [], ◌∷◌, ◌++◌, length, take, drop, get_or, Bool, true, refl, sym, ap, ◌∙◌, subst, arith, length-append}
+use Rattle.std.proofs.Common.{◌≡◌, ◌<◌, ◌≤◌, ◌+◌, ◌-◌, ◌^◌, ℕ, List, [], ◌∷◌, ◌++◌, length, take, drop, get_or, Bool, true, false, refl, sym, ap, ◌∙◌, subst, arith, length-append}
 use Rattle.std.proofs.lemmas.List.{take_all}
-use Rattle.std.specs.Prelude.{Option, None, Ok, Err, Result, IfOk, suc, zero}
+use Rattle.std.specs.Prelude.{Option, None, Some, Ok, Err, Result, IfOk, codes, suc, zero, if◌then◌else◌}
+use Rattle.std.specs.Option.{option_copied}
+use Rattle.std.specs.Str.{bytes_eq}
+use Rattle.std.specs.Borrow.{Bor}
+use Rattle.sexp_read.specs.Leaves.{word_bytes}
 use Rattle.sexp_read.specs.declared.tree.Tree.{Tree}
 use Rattle.term_tree.specs.declared.node.TermId.{TermId}
 use Rattle.term_tree.specs.Arena.{Arena}
 use Rattle.term_check.specs.declared.found.Found.{Found}
+use Rattle.term_check.specs.declared.found.FoundAll.{FoundAll}
 use Rattle.term_check.specs.declared.part.Part.{Part}
 use Rattle.term_check.specs.declared.part.Fault.{Fault}
 use Rattle.term_check.specs.declared.scope.Bound.TheVariants as Bound
 use Rattle.term_check.specs.declared.scope.Named.{Named}
 use Rattle.term_check.specs.declared.stop.TermStop.{TermStop}
+use Rattle.term_check.specs.declared.stop.TermStop.TheVariants.{Memory as OutOfMemory, Fault as Broken}
 use Rattle.term_check.specs.Rules.{unless}
 use Rattle.term_check.specs.machinery.Known.{Known, IsReady, is_let_below, are_lets_below, below_let, below_quantifier}
 use Rattle.term_check.specs.Term.{IsTermAt, AreTermsAt}
-use Rattle.term_check.specs.Spelling.{SpellingScope, Spelled, Gathered, ◌>>=◌, spelled, with_spelled, nothing_yet, items_of, lets_in, lets_from, variables_from, with_lets, with_read_variables, count_let, let_names_fault, binder_fault, variables_fault, quantifier_fault, let_spelled, quantified, quantifier, sorts_bound}
+use Rattle.term_check.specs.Spelling.{SpellingScope, Spelled, Gathered, ◌>>=◌, spelled, with_spelled, nothing_yet, items_of, lets_in, lets_from, variables_from, with_lets, with_read_variables, count_let, let_names_fault, binder_fault, variables_fault, quantifier_fault, let_spelled, quantified, quantifier, sorts_bound, is_spelled, is_word}
 use Rattle.term_check.specs.Found.{IsFoundUnder, Keeps}
-use Rattle.term_check.specs.machinery.Reading.{IsGathered, Tells, next_spelled, under_lets, under_variables, quantifier_list}
+use Rattle.term_check.specs.machinery.Reading.{IsGathered, Tells, TellsAll, TellsMore, next_spelled, all_bound, under_lets, let_list, under_variables, quantifier_list, any_list}
 use Rattle.term_check.specs.Weight.{weight, weights}
 use Rattle.term_check.proofs.ReadingLemmas.{gathered_stay, gathered_more, all_below, below_both, both, first_of_both, second_of_both, lt_test, test_lt}
 use Rattle.term_check.proofs.TermLemmas.{terms_stay}
@@ -94,6 +100,20 @@ turned step each unfolds args now old new ids ids' parts parts' next next' trees
       m.2,
       sym (ap (λ (r : Result Gathered Fault). r >>= λ j. each args j (drop (i + 1) trees)) m.1) ∙ sym (unfolds args g tree (drop (i + 1) trees)) ∙ sym (ap (each args g) (next_of trees i tree lt is)) ∙ told.2,
     )
+
+-- a refusal ends a loop over trees
+pub stopped : (step : Known → Gathered → Tree → Result Gathered Fault) (each : Known → Gathered → List Tree → Result Gathered Fault)
+    → ((k : Known) (g : Gathered) (t : Tree) (ts : List Tree) → each k g (t ∷ ts) ≡ (step k g t >>= λ h. each k h ts))
+    → (args now : Known) (old new : Arena) (ids : List TermId) (parts : List Part) (next : ℕ) (trees : List Tree) (i : ℕ) (tree : Tree) (whole : Result Gathered Fault) (all : FoundAll) (stop : TermStop)
+    → now ≡ args → i < length trees → tree ≡ get_or trees i tree
+    → (g : Gathered) × IsGathered args.lets old g ids parts next × (each args g (drop i trees) ≡ whole)
+    → ((g : Gathered) → IsGathered now.lets old g ids parts next → TellsMore now.lets (step now g tree) new all (Err stop))
+    → TellsAll args.lets whole new (Err stop)
+stopped step each unfolds args now old new ids parts next trees i tree whole all OutOfMemory same lt is told more = tt
+stopped step each unfolds args now old new ids parts next trees i tree whole all (Broken f) same lt is told more =
+    let g = told.0 in
+    let m = subst (λ (k : Known). (g : Gathered) → IsGathered k.lets old g ids parts next → step k g tree ≡ Err f) same more g told.1 in
+    sym told.2 ∙ ap (each args g) (next_of trees i tree lt is) ∙ unfolds args g tree (drop (i + 1) trees) ∙ ap (λ (r : Result Gathered Fault). r >>= λ j. each args j (drop (i + 1) trees)) m
 
 -- names below binders
 
@@ -206,3 +226,45 @@ quantifier_told text scope next start all binder body rest q is none unrepeated 
     ∙ ap (quantifier_list text scope next start all) is
     ∙ ap (λ (o : Option Fault). unless o (unless (variables_fault text [] (items_of binder)) (under_variables text scope next start all (items_of binder) body))) none
     ∙ ap (λ (o : Option Fault). unless o (under_variables text scope next start all (items_of binder) body)) unrepeated
+
+pub let_told : (known now : Known) (next start : ℕ) (binder body : Tree) (rest items : List Tree) (g : Gathered) (new : Arena) (result : Result Found TermStop)
+    → rest ≡ binder ∷ body ∷ [] → binder_fault known.text binder ≡ None → items ≡ items_of binder → all_bound known.text known.scope (nothing_yet next) items ≡ Ok g
+    → now ≡ known → Tells now.lets (under_lets now.text now.scope start items body g) new result
+    → Tells known.lets (let_list known.text known.scope next start rest) new result
+let_told known now next start binder body rest items g new result is none same gathered kept told =
+    let outcome : let_list known.text known.scope next start rest ≡ under_lets known.text known.scope start items body g =
+    ap (let_list known.text known.scope next start) is
+    ∙ ap (λ (o : Option Fault). unless o (all_bound known.text known.scope (nothing_yet next) (items_of binder) >>= under_lets known.text known.scope start (items_of binder) body)) none
+    ∙ ap (λ (xs : List Tree). all_bound known.text known.scope (nothing_yet next) xs >>= under_lets known.text known.scope start xs body) (sym same)
+    ∙ ap (λ (r : Result Gathered Fault). r >>= under_lets known.text known.scope start items body) gathered in
+    subst (λ (r : Result Spelled Fault). Tells known.lets r new result) (sym outcome)
+    (subst (λ (k : Known). Tells k.lets (under_lets k.text k.scope start items body g) new result) kept told)
+
+-- the words that begin a list
+
+pub word_test : (text : List ℕ) (head : Tree) (read : Option (Bor (List ℕ))) (word : Bor (List ℕ)) (name : List ℕ) (b : Bool) → option_copied read ≡ word_bytes text head → read ≡ Some word → b ≡ bytes_eq word.now name
+    → is_word text head name ≡ b
+word_test text head read word name b copied is test = ap (λ (o : Option (List ℕ)). is_spelled o name) (sym copied) ∙ ap (λ (o : Option (Bor (List ℕ))). is_spelled (option_copied o) name) is ∙ sym test
+
+chosen : (b : Bool) (x y : Result Spelled Fault) → b ≡ true → (if b then x else y) ≡ x
+chosen true x y h = refl
+chosen false x y h = absurd (cc)
+
+passed : (b : Bool) (x y : Result Spelled Fault) → b ≡ false → (if b then x else y) ≡ y
+passed true x y h = absurd (cc)
+passed false x y h = refl
+
+pub any_let : (text : List ℕ) (scope : SpellingScope) (next start : ℕ) (items : List Tree) (head : Tree) (rest : List Tree) → items ≡ head ∷ rest → is_word text head (codes "let") ≡ true
+    → any_list text scope next start items ≡ let_list text scope next start rest
+any_let text scope next start items head rest is h = ap (any_list text scope next start) is ∙ chosen (is_word text head (codes "let")) _ _ h
+
+pub any_forall : (text : List ℕ) (scope : SpellingScope) (next start : ℕ) (items : List Tree) (head : Tree) (rest : List Tree) → items ≡ head ∷ rest → is_word text head (codes "let") ≡ false
+    → is_word text head (codes "forall") ≡ true → any_list text scope next start items ≡ unless (quantifier_fault scope.quantifies start) (quantifier_list text scope next start true rest)
+any_forall text scope next start items head rest is h k =
+    ap (any_list text scope next start) is ∙ passed (is_word text head (codes "let")) _ _ h ∙ chosen (is_word text head (codes "forall")) _ _ k
+
+pub any_exists : (text : List ℕ) (scope : SpellingScope) (next start : ℕ) (items : List Tree) (head : Tree) (rest : List Tree) → items ≡ head ∷ rest → is_word text head (codes "let") ≡ false
+    → is_word text head (codes "forall") ≡ false → is_word text head (codes "exists") ≡ true
+    → any_list text scope next start items ≡ unless (quantifier_fault scope.quantifies start) (quantifier_list text scope next start false rest)
+any_exists text scope next start items head rest is h k l =
+    ap (any_list text scope next start) is ∙ passed (is_word text head (codes "let")) _ _ h ∙ passed (is_word text head (codes "forall")) _ _ k ∙ chosen (is_word text head (codes "exists")) _ _ l

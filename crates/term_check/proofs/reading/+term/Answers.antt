@@ -1,15 +1,17 @@
-use Rattle.std.proofs.Common.{◌≡◌, ◌≤◌, ◌+◌, [], length, refl, sym, ap, ◌∙◌, subst, arith, true, List}
-use Rattle.std.specs.Prelude.{None, Ok, Result}
+use Rattle.std.proofs.Common.{◌≡◌, ◌≤◌, ◌+◌, [], ◌∷◌, length, length-append, refl, sym, ap, ◌∙◌, subst, arith, true, false, List}
+use Rattle.std.proofs.lemmas.List.{drop_all}
+use Rattle.std.specs.Prelude.{None, Ok, Err, Result, codes}
 use Rattle.sexp_read.specs.declared.tree.Tree.{Tree}
+use Rattle.sexp_read.specs.Leaves.{word_bytes}
 use Rattle.term_tree.specs.declared.node.TermId.{TermId}
 use Rattle.term_check.specs.declared.found.Found.{Found}
 use Rattle.term_check.specs.declared.part.Fault.{Fault}
 use Rattle.term_check.specs.declared.part.Part.{Part}
 use Rattle.term_check.specs.machinery.Known.{Known, IsReady, below_let}
-use Rattle.term_check.specs.machinery.Reading.{Tells, IsGathered, each_spelled, all_bound, next_spelled, item_bound, under_variables, any_list}
-use Rattle.term_check.specs.Spelling.{Gathered, Spelled, nothing_yet, items_of, spelled, binder_fault, variables_fault, let_names_fault, sorts_bound}
+use Rattle.term_check.specs.machinery.Reading.{Tells, TellsMore, IsGathered, each_spelled, all_bound, next_spelled, item_bound, under_variables, any_list}
+use Rattle.term_check.specs.Spelling.{Gathered, Spelled, nothing_yet, items_of, spelled, binder_fault, variables_fault, let_names_fault, sorts_bound, is_word}
 use Rattle.term_check.specs.Weight.{weight, weights}
-use Rattle.term_check.proofs.CycleLemmas.{if_ok_then, rest_of, two_of, second_weighs, weigh_drop, weigh_next, none_gathered, next_told, turned, ready_below_let, ready_below_quantifier, under_lets_told, under_variables_told, quantifier_told}
+use Rattle.term_check.proofs.CycleLemmas.{if_ok_then, rest_of, two_of, second_weighs, weigh_drop, weigh_next, none_gathered, next_told, turned, stopped, let_told, word_test, any_let, any_forall, any_exists, ready_below_let, ready_below_quantifier, under_lets_told, under_variables_told, quantifier_told}
 use Rattle.term_check.proofs.ReadingLemmas.{keeps_all, keeps_then, ready_then, all_below, within, keeps_length, below_more}
 use Rattle.term_check.proofs.SpellingLemmas.{spelled-List, weight-List, weight_of_items, weighs, weigh_all}
 use Rattle.term_check.proofs.reading.+term.Goals as goal
@@ -52,6 +54,20 @@ read_arguments-loop-arg-preserved t c =
       count = let count = inv.count in let more = c.in-Ok.ensures.count in omega (arith, count, more);
     }
 
+pub read_arguments-returns-in-Err-clause-keeps : goal.read_arguments-returns-in-Err-clause-keeps
+read_arguments-returns-in-Err-clause-keeps t c = keeps_then c.args.terms.now c.loop-arg.terms c.read_next.new.terms c.loop-arg.invariant.keeps c.in-Err.ensures.keeps
+
+pub read_arguments-returns-clause-told : goal.read_arguments-returns-clause-told
+read_arguments-returns-clause-told t c =
+    let told = c.loop-arg.invariant.told in
+    (told.0, sym told.2 ∙ ap (each_spelled c.args.context.now.text c.args.context.now.scope told.0) (drop_all c.loop-arg.arg-index c.args.args.now c.loop-arg-test.false), told.1)
+
+pub read_arguments-returns-in-Err-clause-told : goal.read_arguments-returns-in-Err-clause-told
+read_arguments-returns-in-Err-clause-told t c =
+    let inv = c.loop-arg.invariant in
+    stopped (λ k g tree. next_spelled k.text k.scope g tree) (λ k g trees. each_spelled k.text k.scope g trees) (λ k g tree trees. refl) c.args.context.now c.loop-arg.context c.loop-arg.terms c.read_next.new.terms
+    c.loop-arg.all.ids.items c.loop-arg.all.parts.items c.loop-arg.all.next c.args.args.now c.loop-arg.arg-index c.arg-item.result _ c.read_next.new.all c.in-Err.stop inv.kept c.loop-arg-test.true c.arg-item.is inv.told c.in-Err.ensures.told
+
 pub read_arguments-read_next-requires : goal.read_arguments-read_next-requires
 read_arguments-read_next-requires t c =
     let inv = c.loop-arg.invariant in
@@ -88,6 +104,22 @@ read_bound-loop-item-preserved t c =
       room = let room = inv.room in let next = c.in-Ok.ensures.next in omega (arith, room, next, weigh, inner, same);
       count = let count = inv.count in let more = c.in-Ok.ensures.count in omega (arith, count, more);
     }
+
+pub read_bound-returns-in-Err-clause-keeps : goal.read_bound-returns-in-Err-clause-keeps
+read_bound-returns-in-Err-clause-keeps t c = keeps_then c.args.terms.now c.loop-item.terms c.read_item.new.terms c.loop-item.invariant.keeps c.in-Err.ensures.keeps
+
+pub read_bound-returns-clause-told : goal.read_bound-returns-clause-told
+read_bound-returns-clause-told t c =
+    let told = c.loop-item.invariant.told in
+    (told.0, sym told.2 ∙ ap (all_bound c.args.context.now.text c.args.context.now.scope told.0) (drop_all c.loop-item.item-index c.args.items.now c.loop-item-test.false), told.1)
+
+pub read_bound-returns-in-Err-clause-told : goal.read_bound-returns-in-Err-clause-told
+read_bound-returns-in-Err-clause-told t c =
+    let inv = c.loop-item.invariant in
+    stopped (λ k g tree. item_bound k.text k.scope g (items_of tree)) (λ k g trees. all_bound k.text k.scope g trees) (λ k g tree trees. refl) c.args.context.now c.loop-item.context c.loop-item.terms c.read_item.new.terms
+    c.loop-item.all.ids.items c.loop-item.all.parts.items c.loop-item.all.next c.args.items.now c.loop-item.item-index c.item-item.result _ c.read_item.new.all c.in-Err.stop inv.kept c.loop-item-test.true c.item-item.is inv.told
+    (subst (λ (xs : List Tree). (g : Gathered) → IsGathered c.loop-item.context.lets c.loop-item.terms g c.loop-item.all.ids.items c.loop-item.all.parts.items c.loop-item.all.next
+    → TellsMore c.loop-item.context.lets (item_bound c.loop-item.context.text c.loop-item.context.scope g xs) c.read_item.new.terms c.read_item.new.all (Err c.in-Err.stop)) c.items_of.ensures c.in-Err.ensures.told)
 
 pub read_bound-read_item-requires : goal.read_bound-read_item-requires
 read_bound-read_item-requires t c =
@@ -140,6 +172,16 @@ read_let-read_under_lets-requires t c =
       ),
     )
 
+pub read_let-returns-in-Ok-clause-told : goal.read_let-returns-in-Ok-clause-told
+read_let-returns-in-Ok-clause-told t c =
+    let context = c.args.context.now in
+    let two = two_of c.args.rest.now c.binder-item.result c.body-item.result c.in-len2.len_at_least c.in-len2.len_below c.binder-item.is c.body-item.is in
+    let none : binder_fault context.text c.binder-item.result ≡ None = ap (λ x. binder_fault x c.binder-item.result) (sym c.text.ensures) ∙ sym c.binder_fault.ensures ∙ c.in_default-binder_fault.is in
+    let told = c.in-Ok.ensures.told in
+    let_told context c.read_bound.new.context c.args.next c.args.start c.binder-item.result c.body-item.result c.args.rest.now c.items_of-items.result.now told.0 c.read_under_lets.new.terms c.read_under_lets.result
+    two none c.items_of-items.ensures told.1 c.in-Ok.ensures.kept
+    (c.read_under_lets.ensures.told told.0 (subst (λ (k : Known). IsGathered k.lets c.read_bound.new.terms told.0 c.in-Ok.all.ids.items c.in-Ok.all.parts.items c.in-Ok.all.next) (sym c.in-Ok.ensures.kept) told.2))
+
 pub read_let-returns-in-Ok-clause-keeps : goal.read_let-returns-in-Ok-clause-keeps
 read_let-returns-in-Ok-clause-keeps t c = keeps_then c.args.terms.now c.read_bound.new.terms c.read_under_lets.new.terms c.in-Ok.ensures.keeps c.read_under_lets.ensures.keeps
 
@@ -184,8 +226,41 @@ read_list-read_quantifier-requires-in-Some-3 t c =
       ready_then c.args.context.now c.args.terms.now c.args.terms.now c.args.next (weights c.args.items.now) c.args.next _ c.requires.ready (keeps_all c.args.terms.now) (omega (arith, all)) (omega (arith, all)),
     )
 
+pub read_list-returns-in-Some-clause-told : goal.read_list-returns-in-Some-clause-told
+read_list-returns-in-Some-clause-told t c =
+    let context = c.args.context.now in
+    let rest = rest_of c.args.items.now c.head-item.result c.in-len1-up.len_at_least c.head-item.is in
+    let copied = c.word_bytes.ensures ∙ ap (λ x. word_bytes x c.head-item.result) c.text.ensures in
+    let is_let : is_word context.text c.head-item.result (codes "let") ≡ true = word_test context.text c.head-item.result c.word_bytes.result c.in-Some.word (codes "let") true copied c.in-Some.is c.if-are_same.ensures in
+    subst (λ (r : Result Spelled Fault). Tells context.lets r c.read_let.new.terms c.read_let.result) (sym (any_let context.text context.scope c.args.next c.args.start c.args.items.now c.head-item.result _ rest is_let)) c.read_let.ensures.told
+
+pub read_list-returns-in-Some-2-clause-told : goal.read_list-returns-in-Some-2-clause-told
+read_list-returns-in-Some-2-clause-told t c =
+    let context = c.args.context.now in
+    let rest = rest_of c.args.items.now c.head-item.result c.in-len1-up.len_at_least c.head-item.is in
+    let copied = c.word_bytes.ensures ∙ ap (λ x. word_bytes x c.head-item.result) c.text.ensures in
+    let is_let : is_word context.text c.head-item.result (codes "let") ≡ false = word_test context.text c.head-item.result c.word_bytes.result c.in-Some.word (codes "let") false copied c.in-Some.is c.if-are_same.ensures in
+    let is_forall : is_word context.text c.head-item.result (codes "forall") ≡ true = word_test context.text c.head-item.result c.word_bytes.result c.in-Some.word (codes "forall") true copied c.in-Some.is c.if-are_same-2.ensures in
+    subst (λ (r : Result Spelled Fault). Tells context.lets r c.read_quantifier.new.terms c.read_quantifier.result) (sym (any_forall context.text context.scope c.args.next c.args.start c.args.items.now c.head-item.result _ rest is_let is_forall)) c.read_quantifier.ensures.told
+
+pub read_list-returns-in-Some-3-clause-told : goal.read_list-returns-in-Some-3-clause-told
+read_list-returns-in-Some-3-clause-told t c =
+    let context = c.args.context.now in
+    let rest = rest_of c.args.items.now c.head-item.result c.in-len1-up.len_at_least c.head-item.is in
+    let copied = c.word_bytes.ensures ∙ ap (λ x. word_bytes x c.head-item.result) c.text.ensures in
+    let is_let : is_word context.text c.head-item.result (codes "let") ≡ false = word_test context.text c.head-item.result c.word_bytes.result c.in-Some.word (codes "let") false copied c.in-Some.is c.if-are_same.ensures in
+    let is_forall : is_word context.text c.head-item.result (codes "forall") ≡ false = word_test context.text c.head-item.result c.word_bytes.result c.in-Some.word (codes "forall") false copied c.in-Some.is c.if-are_same-2.ensures in
+    let is_exists : is_word context.text c.head-item.result (codes "exists") ≡ true = word_test context.text c.head-item.result c.word_bytes.result c.in-Some.word (codes "exists") true copied c.in-Some.is c.if-are_same-3.ensures in
+    subst (λ (r : Result Spelled Fault). Tells context.lets r c.read_quantifier-in-Some-3.new.terms c.read_quantifier-in-Some-3.result) (sym (any_exists context.text context.scope c.args.next c.args.start c.args.items.now c.head-item.result _ rest is_let is_forall is_exists)) c.read_quantifier-in-Some-3.ensures.told
+
 pub read_next-read_term-requires : goal.read_next-read_term-requires
 read_next-read_term-requires t c = (let d = c.decreases in omega (arith, d), c.requires.ready)
+
+pub read_next-returns-in_ok-add-in-Ok-clause-count : goal.read_next-returns-in_ok-add-in-Ok-clause-count
+read_next-returns-in_ok-add-in-Ok-clause-count t c =
+    let more = ap (λ (xs : List TermId). length xs) c.in_ok-add-in-Ok.ensures.ids in
+    let long = length-append c.args.all.now.ids.items (c.in-Ok.found.id ∷ []) in
+    omega (arith, more, long)
 
 pub read_next-returns-in_ok-add-in-Ok-clause-told : goal.read_next-returns-in_ok-add-in-Ok-clause-told
 read_next-returns-in_ok-add-in-Ok-clause-told t c =
@@ -216,8 +291,8 @@ pub read_quantifier-returns-in_default-2-clause-told : goal.read_quantifier-retu
 read_quantifier-returns-in_default-2-clause-told t c =
     let context = c.args.context.now in
     let two = two_of c.args.rest.now c.binder-item.result c.body-item.result c.in-len2.len_at_least c.in-len2.len_below c.binder-item.is c.body-item.is in
-    let quantifies : context.scope.quantifies ≡ true = cc in
-    let none : binder_fault context.text c.binder-item.result ≡ None = cc in
+    let quantifies : context.scope.quantifies ≡ true = sym c.if-not-quantifies.ensures in
+    let none : binder_fault context.text c.binder-item.result ≡ None = ap (λ x. binder_fault x c.binder-item.result) (sym c.text.ensures) ∙ sym c.binder_fault.ensures ∙ c.in_default-binder_fault.is in
     let unrepeated : variables_fault context.text [] (items_of c.binder-item.result) ≡ None =
     ap (λ x. variables_fault x [] (items_of c.binder-item.result)) (sym c.text-in-len2.ensures) ∙ ap (λ (xs : List Tree). variables_fault c.text-in-len2.result.now [] xs) (sym c.items_of-items.ensures) ∙ sym c.in_ok-fault-in-len2.ensures ∙ c.in_default-2.is in
     let told = subst (λ (xs : List Tree). Tells context.lets (under_variables context.text context.scope c.args.next c.args.start c.args.is_universal xs c.body-item.result) c.read_under_variables.new.terms c.read_under_variables.result) c.items_of-items.ensures c.read_under_variables.ensures.told in
