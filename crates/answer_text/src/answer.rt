@@ -2,7 +2,7 @@ use base::Items;
 use term_tree::{Definition, Value};
 
 /// Why it is not known whether a script is satisfiable.
-#[derive(Clone, Copy, Debug, PartialEq, Eq)]
+#[derive(Clone, Copy)]
 pub enum UnknownCause {
     /// This many units of work were given, and are spent.
     Units(u32),
@@ -14,7 +14,6 @@ pub enum UnknownCause {
 
 /// A step of a derivation: an instance of an assertion whose body atoms are the conclusions of
 /// earlier steps. Steps and assertions are numbered from 1.
-#[derive(Debug)]
 pub struct Line {
     pub number: u64,
     pub assertion: u64,
@@ -39,7 +38,7 @@ impl Drop for Line {
 }
 
 /// An answer to a script.
-#[derive(Debug, Drop)]
+#[derive(Drop)]
 pub enum Answer {
     /// A solution: one definition for each predicate, in order of declaration.
     Sat(Items<Definition>),
