@@ -1,7 +1,7 @@
 -- Definitions as trees spell them.
-use Rattle.std.proofs.Common.{◌≡◌, ℕ, ◌+◌, ◌<◌, ◌≤◌, List, [], ◌∷◌, ◌++◌, length, drop, get_or, zero, suc, Bool, true, false, not, refl, sym, ap, subst, ◌∙◌, arith}
+use Rattle.std.proofs.Common.{◌≡◌, ℕ, ◌+◌, ◌-◌, ◌<◌, ◌≤◌, List, [], ◌∷◌, ◌++◌, length, take, drop, get_or, zero, suc, Bool, true, false, not, refl, sym, ap, subst, ◌∙◌, arith}
 use Rattle.std.specs.Prelude.{Option, None, Some, Result, Ok, Err}
-use Rattle.std.proofs.lemmas.List.{drop_more, drop_all}
+use Rattle.std.proofs.lemmas.List.{take_all, drop_more, drop_all}
 use Rattle.sexp_read.specs.declared.tree.Tree.{Tree, items_hidden-the_row-Tree-0}
 use Rattle.sexp_read.specs.declared.tree.Tree.TheViews.{List as ListTree}
 use Rattle.term_tree.specs.declared.sort.Sort.{Sort}
@@ -35,6 +35,10 @@ pub one_weighs : (trees : List Tree) (i : ℕ) (tree : Tree) → i < length tree
 one_weighs [] i tree h is = absurd (omega (arith, h))
 one_weighs (t ∷ trees) zero tree h is = let w = ap weight is in omega (arith, w)
 one_weighs (t ∷ trees) (suc i) tree h is = let w = one_weighs trees i tree (omega (arith, h)) is in omega (arith, w)
+
+pub rest_weighs : (trees : List Tree) (n : ℕ) → weights trees < n → weights (take (length trees - 1) (drop 1 trees)) < n
+rest_weighs [] n h = h
+rest_weighs (t ∷ trees) n h = let w = ap weights (take_all (length (t ∷ trees) - 1) trees (omega arith)) in omega (arith, w, h)
 
 -- one definition
 
@@ -75,6 +79,9 @@ five (t ∷ u ∷ v ∷ w ∷ x ∷ []) a b c d e low high ha hb hc hd he =
     ap (λ (z : Tree). z ∷ u ∷ v ∷ w ∷ x ∷ []) (sym ha) ∙ ap (λ (z : Tree). a ∷ z ∷ v ∷ w ∷ x ∷ []) (sym hb) ∙ ap (λ (z : Tree). a ∷ b ∷ z ∷ w ∷ x ∷ []) (sym hc)
     ∙ ap (λ (z : Tree). a ∷ b ∷ c ∷ z ∷ x ∷ []) (sym hd) ∙ ap (λ (z : Tree). a ∷ b ∷ c ∷ d ∷ z ∷ []) (sym he)
 five (t ∷ u ∷ v ∷ w ∷ x ∷ y ∷ ys) a b c d e low high ha hb hc hd he = absurd (omega (arith, high))
+
+pub two_of_five : (trees : List Tree) (a b c d e : Tree) (n : ℕ) → trees ≡ a ∷ b ∷ c ∷ d ∷ e ∷ [] → weights trees < n → weight c + weight e < n
+two_of_five trees a b c d e n is h = let w = ap weights is in omega (arith, w, h)
 
 -- all definitions
 

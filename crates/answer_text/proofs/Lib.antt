@@ -1,6 +1,7 @@
 pub mod DecimalLemmas
 pub mod DefiningLemmas
 pub mod DefinitionLemmas
+pub mod EachLemmas
 pub mod FoundLemmas
 pub mod LawLemmas
 pub mod LikeLemmas
@@ -11,6 +12,7 @@ pub mod ParameterLemmas
 pub mod PieceLemmas
 pub mod PlaceLemmas
 pub mod Public
+pub mod PushLemmas
 pub mod ShowLemmas
 pub mod SpellLemmas
 pub mod StepLemmas

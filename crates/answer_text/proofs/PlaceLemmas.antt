@@ -93,6 +93,17 @@ one_more before preds places d definition h within is new = record {
         let old : slice_get places number ≡ Some place = sym (set_elsewhere places definition.pred number (Some definition) (ap (λ (n : ℕ). nat_eq n number) is.pred ∙ e)) ∙ at in
         subst (λ (o : Option Defined). IsPlace o place) (sym (last_elsewhere before d number e)) (h.each number place old)
 
+-- no definitions yet
+
+last_none : (xs : List (Option Definition)) (number : ℕ) (place : Option Definition) → ((n : ℕ) (p : Option Definition) → slice_get xs n ≡ Some p → p ≡ None) → slice_get (xs ++ None ∷ []) number ≡ Some place → place ≡ None
+last_none [] zero place h at = sym (the_same None place at)
+last_none [] (suc n) place h at = absurd (cc)
+last_none (x ∷ xs) zero place h at = h 0 place at
+last_none (x ∷ xs) (suc n) place h at = last_none xs n place (λ m p e. h (suc m) p e) at
+
+pub one_more_empty : (places new : List (Option Definition)) → AreEmpty (length places) places → new ≡ places ++ None ∷ [] → AreEmpty (length new) new
+one_more_empty places new h is = record { count_is = refl; empty = λ number place at. last_none places number place h.empty (sym (ap (λ (xs : List (Option Definition)). slice_get xs number) is) ∙ at) }
+
 -- all of them in order
 
 abbrev pub Agree : Option (List Defined) → Option (List Definition) → Type 0
