@@ -1,11 +1,12 @@
 -- Quotients that are rounded down, their rests, and multiples.
 use Rattle.std.proofs.Common.{◌≡◌, ℕ, suc, ◌+◌, ◌*◌, ◌^◌, ◌/◌, ◌%◌, ◌<◌, ◌≤◌, arith, ap, sym, ◌∙◌, refl, mod-eq_of_lt, FitsSigned}
 use Rattle.std.specs.Prelude.{ℤ, pos, negsuc, ◌+ℤ◌, ◌-ℤ◌, ◌*ℤ◌, ◌<ℤ◌, ◌≤ℤ◌, neg_ℤ, nat_abs, ◌==◌}
-use Rattle.std.specs.Int.{int_div_euclid, int_rem_euclid, w64}
+use Rattle.std.specs.Int.{Width, cast_signed, cast_unsigned, int_div_euclid, int_rem_euclid, w64}
+use Rattle.std.specs.Int.RustNames.{int_div}
 use Rattle.std.proofs.Math.IntN.{*ℤ_comm}
 use Rattle.std.proofs.Math.Nat.{mul-mod_left, mul-le-mul_right, mul-le-mul_left}
 use Rattle.std.proofs.lemmas.Nat.{mod-mul-add}
-use Rattle.std.proofs.lemmas.Int.{ints, by_lt_z, unsigned_abs-mul, int_rem_euclid_is}
+use Rattle.std.proofs.lemmas.Int.{ints, by_lt_z, quot_fits, quot_is, unsigned_abs-mul, int_rem_euclid_is}
 use Rattle.std.proofs.lemmas.Bool.Decides.{same_from_decides, Decides-eqb}
 use Rattle.base.proofs.Public.{*ℤ_assoc, +ℤ-*ℤ, neg_ℤ-*ℤ}
 
@@ -50,6 +51,22 @@ rest_is v (negsuc a) d r is small =
     let some : 0 < d = omega arith in
     let e : v +ℤ pos (suc a * d) ≡ pos r = omega (arith, ints) in
     int_rem_euclid_is v (pos d) d (suc a) r some refl e ∙ ap pos (mod-eq_of_lt small)
+
+-- a quotient that leaves no rest
+exact-whole : (n d : ℤ) → pos 0 <ℤ d → nat_abs n % nat_abs d ≡ 0 → int_div n d *ℤ d ≡ n
+exact-whole n (negsuc d) some h = absurd (omega (arith, ints))
+exact-whole (pos a) (pos d) some h = ap pos (omega arith)
+exact-whole (negsuc a) (pos d) some h =
+    let whole : suc a / d * d ≡ suc a = omega arith in
+    neg_ℤ-*ℤ (pos (suc a / d)) (pos d) ∙ ap (λ (k : ℕ). neg_ℤ (pos k)) whole
+
+-- as the code divides
+pub exact-division : (w : Width) (n d : ℤ) → FitsSigned w n → FitsSigned w d → pos 0 <ℤ d → nat_abs n % nat_abs d ≡ 0
+    → cast_signed w (cast_unsigned w (int_div (cast_signed w (cast_unsigned w n)) (cast_signed w (cast_unsigned w d)))) *ℤ d ≡ n
+exact-division w n d n_fits d_fits some h = ap (λ z. z *ℤ d) (quot_is w n d n_fits d_fits (quot_fits w n d n_fits some)) ∙ exact-whole n d some h
+
+pub above-none : (d : ℕ) → 0 < d → pos 0 <ℤ pos d
+above-none d h = omega (arith, ints)
 
 from_multiple : (n : ℕ) (z : ℤ) → nat_abs z % n ≡ 0 → (q : ℤ) × (q *ℤ pos n ≡ z)
 from_multiple n (pos a) h = (pos (a / n), ap pos (omega arith))
