@@ -43,10 +43,16 @@ fn with_name(
 {
     let mut made = Vec::with_capacity(alloc, terms.len())?;
     for (old, coefficient) in terms {
-        let new = if *old == variable { name } else { *old };
+        let new = put_for(name, variable, *old);
         made.push((new, *coefficient))?;
     }
     Ok(made)
+}
+
+fn put_for(name: u32, variable: u32, old: u32) -> u32
+    ensures { result ≡ put_for name variable old }
+{
+    if old == variable { name } else { old }
 }
 
 /// The sum of the constants.
@@ -65,8 +71,7 @@ impl Lin {
     {
         let terms = wide_terms::added(alloc, self.terms(), other.terms())?;
         let constant = constants(self, other);
-        let made = Lin::of_wide(alloc, terms, constant)?;
-        Ok(made)
+        Lin::of_wide(alloc, terms, constant)
     }
 
     /// The form times the number.
@@ -77,8 +82,7 @@ impl Lin {
     {
         let terms = wide_terms::scaled(alloc, self.terms(), k)?;
         let constant = product(k, self.constant());
-        let made = Lin::of_wide(alloc, terms, constant)?;
-        Ok(made)
+        Lin::of_wide(alloc, terms, constant)
     }
 
     /// The form with each variable replaced by its name, that stands at the variable's number;
@@ -91,8 +95,7 @@ impl Lin {
         let named = with_names(alloc, self.terms(), names)?;
         let terms = wide_terms::collected(alloc, named.as_slice())?;
         let constant = self.constant();
-        let made = Lin::of_wide(alloc, terms, constant)?;
-        Ok(made)
+        Lin::of_wide(alloc, terms, constant)
     }
 
     /// The form with one variable put for another, whose coefficients are added up.
@@ -104,7 +107,6 @@ impl Lin {
         let named = with_name(alloc, self.terms(), variable, name)?;
         let terms = wide_terms::collected(alloc, named.as_slice())?;
         let constant = self.constant();
-        let made = Lin::of_wide(alloc, terms, constant)?;
-        Ok(made)
+        Lin::of_wide(alloc, terms, constant)
     }
 }

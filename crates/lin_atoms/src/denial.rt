@@ -10,21 +10,20 @@ use crate::stop::WideStop;
 use base::{Copied, Items, Memory};
 use std::alloc::Global;
 
-fn one(alloc: Global, lit: Lit) -> Result<Items<Lit>, Memory>
-    ensures { IfOk result (λ lits. lits ≡ lit ∷ []) }
+fn one(alloc: Global, lit: Lit) -> Result<Items<Lit>, WideStop>
+    ensures made { IfOk result (λ lits. lits ≡ lit ∷ []) }
+    ensures narrow { IsErrOf result WideStop.Wide → ⊥ }
 {
-    let mut lits = Items::new(alloc);
-    lits.push(lit)?;
-    Ok(lits)
+    let lits = Vec::from_array(alloc, [lit]).map_err(Memory::from)?;
+    Ok(Items::from_vec(lits))
 }
 
-fn two(alloc: Global, first: Lit, second: Lit) -> Result<Items<Lit>, Memory>
-    ensures { IfOk result (λ lits. lits ≡ first ∷ second ∷ []) }
+fn two(alloc: Global, first: Lit, second: Lit) -> Result<Items<Lit>, WideStop>
+    ensures made { IfOk result (λ lits. lits ≡ first ∷ second ∷ []) }
+    ensures narrow { IsErrOf result WideStop.Wide → ⊥ }
 {
-    let mut lits = Items::new(alloc);
-    lits.push(first)?;
-    lits.push(second)?;
-    Ok(lits)
+    let lits = Vec::from_array(alloc, [first, second]).map_err(Memory::from)?;
+    Ok(Items::from_vec(lits))
 }
 
 /// 1 more than the form.
@@ -55,20 +54,22 @@ pub fn denied(alloc: Global, lit: &Lit) -> Result<Items<Lit>, WideStop>
     match lit {
         Lit::Le(lin) => {
             let above = one_less(alloc, lin)?;
-            Ok(one(alloc, Lit::Le(above))?)
+            one(alloc, Lit::Le(above))
         }
         Lit::Eq(lin) => {
             let below = one_more(alloc, lin)?;
             let above = one_less(alloc, lin)?;
-            Ok(two(alloc, Lit::Le(below), Lit::Le(above))?)
+            two(alloc, Lit::Le(below), Lit::Le(above))
         }
         Lit::Div(d, lin) => {
             let _constant = lin.constant();
-            Ok(one(alloc, Lit::NDiv(*d, lin.copy(alloc)?))?)
+            let kept = lin.copy(alloc)?;
+            one(alloc, Lit::NDiv(*d, kept))
         }
         Lit::NDiv(d, lin) => {
             let _constant = lin.constant();
-            Ok(one(alloc, Lit::Div(*d, lin.copy(alloc)?))?)
+            let kept = lin.copy(alloc)?;
+            one(alloc, Lit::Div(*d, kept))
         }
     }
 }

@@ -11,7 +11,7 @@ returns c =
     let b = c.args.b in
     let a_fits : FitsSigned w64 a = c.ranges.a in
     let b_fits : FitsSigned w128 b = c.ranges.b in
-    let wide_fits : FitsSigned w128 c.from.result = search rules in
+    let wide_fits : FitsSigned w128 c.from.result = record { sfits = c.from.type_inv } in
     let is : c.from.result ≡ a = simp to_z-of_z at c.from.ensures in
     let whole : FitsSigned w128 (c.from.result *ℤ b) = long-product a b c.from.result a_fits c.requires is in
     simp to_z-of_z (ap (λ z. z *ℤ b) is)
@@ -20,6 +20,6 @@ pub overflow_mul-result : goal.overflow_mul-result
 overflow_mul-result c =
     let a_fits : FitsSigned w64 c.args.a = c.ranges.a in
     let b_fits : FitsSigned w128 c.args.b = c.ranges.b in
-    let wide_fits : FitsSigned w128 c.from.result = search rules in
+    let wide_fits : FitsSigned w128 c.from.result = record { sfits = c.from.type_inv } in
     let is : c.from.result ≡ c.args.a = simp to_z-of_z at c.from.ensures in
     simp to_z-of_z (long-product c.args.a c.args.b c.from.result a_fits c.requires is)

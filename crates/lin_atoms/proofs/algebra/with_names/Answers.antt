@@ -1,17 +1,11 @@
-use Rattle.std.proofs.Common.{◌≡◌, ◌<◌, ◌+◌, ℕ, zero, suc, List, [], ◌∷◌, ◌++◌, refl, ap, sym, ◌∙◌, arith, rules, map, take, length, get_or, FitsSigned}
+use Rattle.std.proofs.Common.{ℕ, List, [], ◌∷◌, ◌++◌, ap, sym, ◌∙◌, rules, map, get_or, FitsSigned}
 use Rattle.std.specs.Prelude.{ℤ, pos}
 use Rattle.std.specs.Int.{w64}
 use Rattle.std.proofs.lemmas.Int.{to_z-of_z}
 use Rattle.std.proofs.lemmas.List.{take_all}
 use Rattle.lin_atoms.specs.Algebra.{name_in}
+use Rattle.lin_atoms.proofs.MergeLemmas.{mapped-more}
 use Rattle.lin_atoms.proofs.algebra.with_names.Goals as goal
-
-mapped-more : (f : ℕ × ℤ → ℕ × ℤ) (ts : List (ℕ × ℤ)) (i : ℕ) (d : ℕ × ℤ) → i < length ts → map f (take (i + 1) ts) ≡ map f (take i ts) ++ f (get_or ts i d) ∷ []
-mapped-more f [] i d h = absurd (omega arith)
-mapped-more f (t ∷ ts) zero d h = refl
-mapped-more f (t ∷ ts) (suc i) d h =
-    let more : suc i + 1 ≡ suc (i + 1) = omega arith in
-    ap (λ n. map f (take n (t ∷ ts))) more ∙ ap (λ (us : List (ℕ × ℤ)). f t ∷ us) (mapped-more f ts i d (omega arith))
 
 pub loop-variable-preserved : goal.loop-variable-preserved
 loop-variable-preserved c =

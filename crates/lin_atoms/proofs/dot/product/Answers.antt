@@ -11,8 +11,8 @@ returns c =
     let b = c.args.b in
     let a_fits : FitsSigned w64 a = c.ranges.a in
     let b_fits : FitsSigned w64 b = c.ranges.b in
-    let p_fits : FitsSigned w128 c.from.result = search rules in
-    let q_fits : FitsSigned w128 c.from-2.result = search rules in
+    let p_fits : FitsSigned w128 c.from.result = record { sfits = c.from.type_inv } in
+    let q_fits : FitsSigned w128 c.from-2.result = record { sfits = c.from-2.type_inv } in
     let is : c.from.result ≡ a = simp to_z-of_z at c.from.ensures in
     let same : c.from-2.result ≡ b = simp to_z-of_z at c.from-2.ensures in
     let below : nat_abs b < 2 ^ 64 = omega (arith, ints, b_fits.sfits) in
