@@ -1,7 +1,7 @@
 -- Combinations of rows, entry by entry.
-use Rattle.std.proofs.Common.{◌≡◌, ℕ, suc, zero, List, [], ◌∷◌, ◌++◌, refl, ap, sym, ◌∙◌, arith, ◌<◌, ◌≤◌, ◌+◌, ◌^◌, true, false, Bool, cond, ◌==◌, ◌&&◌, length, get_or, take, drop, set}
+use Rattle.std.proofs.Common.{◌≡◌, ℕ, suc, zero, List, [], ◌∷◌, ◌++◌, refl, ap, sym, ◌∙◌, arith, ◌<◌, ◌≤◌, ◌+◌, ◌^◌, true, false, Bool, cond, ◌==◌, ◌&&◌, length, get_or, take, drop, set, subst, FitsSigned}
 use Rattle.std.specs.Prelude.{ℤ, pos, nat_abs, ◌-ℤ◌, ◌*ℤ◌}
-use Rattle.std.specs.Int.{int_div_euclid}
+use Rattle.std.specs.Int.{int_div_euclid, w128}
 use Rattle.std.proofs.lemmas.Bool.{eqb-true, ltb-true}
 use Rattle.std.proofs.lemmas.Int.{ints}
 use Rattle.std.proofs.lemmas.List.{append-nil, append_assoc, drop_more, drop_all, get_or_at, length-map, length-take-le, set_at, take_all, take_more}
@@ -78,3 +78,14 @@ eliminated-some column other row p q g some p_is q_is g_is =
     let same : combined p q row other ≡ crossed column row other = ap (λ p. combined p q row other) p_is ∙ ap (λ q. combined (pos (nat_abs (entry other column))) q row other) q_is in
     let divisor : g ≡ pos (content (crossed column row other)) = g_is ∙ ap (λ z. pos (content z)) same in
     ap (λ g. reduced g (combined p q row other)) divisor ∙ ap (reduced (pos (content (crossed column row other)))) same ∙ sym (otherwise (entry row column) row (reduced (pos (content (crossed column row other))) (crossed column row other)) some)
+
+-- a difference of two numbers below 2^126
+pub difference-small : (a b : ℤ) → nat_abs a < 2 ^ 126 → nat_abs b < 2 ^ 126 → nat_abs (a -ℤ b) < 2 ^ 127
+difference-small a b h g = omega (arith, ints, h, g)
+
+pub difference-fits : (a b : ℤ) → nat_abs a < 2 ^ 126 → nat_abs b < 2 ^ 126 → FitsSigned w128 (a -ℤ b)
+difference-fits a b h g = omega (arith, ints, h, g)
+
+-- an entry of the other row
+pub other-small : (xs ys : List ℤ) (i : ℕ) (d : ℤ) → i < length xs → length xs ≡ length ys → are_short ys ≡ true → nat_abs (get_or ys i d) < 2 ^ 63
+other-small xs ys i d h same is = small-at ys i d (subst (λ n. i < n) same h) is

@@ -4,6 +4,7 @@ pub mod ContentLemmas
 pub mod EquationLemmas
 pub mod FirstPushLemmas
 pub mod FollowLemmas
+pub mod MadeLemmas
 pub mod PivotLemmas
 pub mod PivotedLemmas
 pub mod Public
@@ -12,4 +13,5 @@ pub mod PushedLemmas
 pub mod QuotientLemmas
 pub mod ReadyLemmas
 pub mod SpaceLemmas
+pub mod TableLemmas
 pub mod WritingLemmas

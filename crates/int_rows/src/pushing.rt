@@ -47,11 +47,7 @@ fn with_row(mut rows: Vec<Vec<i64>>, row: Vec<i64>) -> Result<Vec<Vec<i64>>, Mem
 }
 
 /// The numbers, and one more.
-pub(crate) fn pushed_numbers(
-    alloc: Global,
-    numbers: &[usize],
-    last: usize,
-) -> Result<Vec<usize>, Memory>
+fn pushed_numbers(alloc: Global, numbers: &[usize], last: usize) -> Result<Vec<usize>, Memory>
     ensures { IfOk result (λ made. made.items ≡ numbers.now ++ last ∷ []) }
 {
     let mut made = Vec::with_capacity(alloc, numbers.len() + 1)?;
@@ -61,16 +57,31 @@ pub(crate) fn pushed_numbers(
 }
 
 /// The bounds, and none for one variable more.
-pub(crate) fn pushed_bounds(
-    alloc: Global,
-    bounds: &[Option<i128>],
-) -> Result<Vec<Option<i128>>, Memory>
+fn pushed_bounds(alloc: Global, bounds: &[Option<i128>]) -> Result<Vec<Option<i128>>, Memory>
     ensures { IfOk result (λ made. made.items ≡ bounds.now ++ None ∷ []) }
 {
     let mut made = Vec::with_capacity(alloc, bounds.len() + 1)?;
     made.extend_from_slice(bounds)?;
     made.push(None)?;
     Ok(made)
+}
+
+/// The basic variables, and one more, which has no bounds.
+pub(crate) fn pushed_columns(
+    alloc: Global,
+    basic: &[usize],
+    last: usize,
+    lower: &[Option<i128>],
+    upper: &[Option<i128>],
+) -> Result<(Vec<usize>, Vec<Option<i128>>, Vec<Option<i128>>), Memory>
+    ensures basic { IfOk result (λ made. made.0.items ≡ basic.now ++ last ∷ []) }
+    ensures lower { IfOk result (λ made. made.1.items ≡ lower.now ++ None ∷ []) }
+    ensures upper { IfOk result (λ made. made.2.items ≡ upper.now ++ None ∷ []) }
+{
+    let basic = pushed_numbers(alloc, basic, last)?;
+    let lower = pushed_bounds(alloc, lower)?;
+    let upper = pushed_bounds(alloc, upper)?;
+    Ok((basic, lower, upper))
 }
 
 /// Frees the row of the column, unless it would then have an entry without room: it answers that.

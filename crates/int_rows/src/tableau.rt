@@ -12,7 +12,7 @@ ghost use Rattle.int_rows.specs.Table.{HasWide, IsTable, basic_at, first_table, 
 use crate::copies::{copy_bounds, copy_numbers, copy_rows};
 use crate::equation::{equations, no_bounds, numbers};
 use crate::pivoting::{first_wide, pivot_rows};
-use crate::pushing::{pushed_bounds, pushed_numbers, pushed_rows};
+use crate::pushing::{pushed_columns, pushed_rows};
 use crate::stop::{PushStop, RowStop, RowWide};
 use base::{MOST_ROWS, Memory};
 use lin_atoms::Lin;
@@ -200,9 +200,13 @@ impl Tableau {
             Ok(rows) => rows,
             Err(stop) => return Err(stop),
         };
-        let basic = pushed_numbers(alloc, self.basic.as_slice(), slack)?;
-        let lower = pushed_bounds(alloc, self.lower.as_slice())?;
-        let upper = pushed_bounds(alloc, self.upper.as_slice())?;
+        let (basic, lower, upper) = pushed_columns(
+            alloc,
+            self.basic.as_slice(),
+            slack,
+            self.lower.as_slice(),
+            self.upper.as_slice(),
+        )?;
         self.rows = rows;
         self.basic = basic;
         self.lower = lower;

@@ -3,9 +3,16 @@ use Rattle.std.specs.Prelude.{pos, ◌-ℤ◌, ◌*ℤ◌}
 use Rattle.std.specs.Int.{w64, w128, IsGcd}
 use Rattle.std.proofs.lemmas.Int.{to_z-of_z}
 use Rattle.int_rows.specs.Pivot.{combined}
-use Rattle.int_rows.proofs.CombineLemmas.{combined-at, length-combined}
+use Rattle.int_rows.proofs.CombineLemmas.{combined-at, length-combined, other-small, small-at}
 use Rattle.int_rows.proofs.ContentLemmas.{common-end, common-more, common-one}
+use Rattle.int_rows.proofs.MadeLemmas.{read-small}
 use Rattle.int_rows.proofs.combine.combined_content.Goals as goal
+
+pub with_entry-divisor-requires-clause-x : goal.with_entry-divisor-requires-clause-x
+with_entry-divisor-requires-clause-x c = read-small (get_or c.args.row.now c.loop-i.i (pos 0)) (small-at c.args.row.now c.loop-i.i (pos 0) c.loop-i-test.true c.requires.row)
+
+pub with_entry-divisor-requires-clause-y : goal.with_entry-divisor-requires-clause-y
+with_entry-divisor-requires-clause-y c = read-small (get_or c.args.other.now c.loop-i.i (pos 0)) (other-small c.args.row.now c.args.other.now c.loop-i.i (pos 0) c.loop-i-test.true c.requires.same c.requires.other)
 
 pub loop-i-preserved : goal.loop-i-preserved
 loop-i-preserved c =

@@ -3,8 +3,14 @@ use Rattle.std.specs.Prelude.{pos, ◌-ℤ◌, ◌*ℤ◌}
 use Rattle.std.specs.Int.{w64, int_div_euclid}
 use Rattle.std.proofs.lemmas.Int.{to_z-of_z}
 use Rattle.int_rows.specs.Pivot.{combined, reduced}
-use Rattle.int_rows.proofs.CombineLemmas.{length-reduced, reduced-at, rest-read, rest-written, small-at, written-all}
+use Rattle.int_rows.proofs.CombineLemmas.{length-reduced, other-small, reduced-at, rest-read, rest-written, small-at, written-all}
+use Rattle.int_rows.proofs.MadeLemmas.{read-small}
 use Rattle.int_rows.proofs.combine.put_differences.Goals as goal
+
+pub put_difference-requires-clause-y : goal.put_difference-requires-clause-y
+put_difference-requires-clause-y c =
+    let here : c.loop-i.i < length c.args.row.now = omega (arith, c.loop-i-test.true, c.loop-i.auto.row) in
+    read-small (get_or c.args.other.now c.loop-i.i (pos 0)) (other-small c.args.row.now c.args.other.now c.loop-i.i (pos 0) here c.requires.same c.requires.other)
 
 pub put_difference-requires-clause-x : goal.put_difference-requires-clause-x
 put_difference-requires-clause-x c =

@@ -3,8 +3,29 @@ use Rattle.std.specs.Prelude.{pos, ◌-ℤ◌, ◌*ℤ◌}
 use Rattle.std.specs.Int.{w64, w128, int_div_euclid}
 use Rattle.std.proofs.lemmas.Int.{to_z-of_z}
 use Rattle.int_rows.specs.Pivot.{combined, reduced}
-use Rattle.int_rows.proofs.CombineLemmas.{length-reduced, reduced-at, rest-read, rest-written, small-at, written-all}
+use Rattle.int_rows.proofs.CombineLemmas.{length-reduced, other-small, reduced-at, rest-read, rest-written, small-at, written-all}
+use Rattle.int_rows.proofs.MadeLemmas.{read-small}
 use Rattle.int_rows.proofs.combine.put_quotients.Goals as goal
+
+pub quotient-entry-requires-clause-x : goal.quotient-entry-requires-clause-x
+quotient-entry-requires-clause-x c =
+    let p_fits : FitsSigned w64 c.args.p = c.ranges.p in
+    let q_fits : FitsSigned w64 c.args.q = c.ranges.q in
+    let d_fits : FitsSigned w128 c.args.divisor = c.ranges.divisor in
+    let xs : List ℤ = c.args.row.now in
+    let ys : List ℤ = c.args.other.now in
+    let whole = reduced c.args.divisor (combined c.args.p c.args.q xs ys) in
+    let i = c.loop-i.i in
+    let here : i < length xs = omega (arith, c.loop-i-test.true, c.loop-i.auto.row) in
+    let long = length-reduced c.args.divisor c.args.p c.args.q xs ys c.requires.same in
+    let before = simp to_z-of_z at c.loop-i.invariant in
+    let old : get_or c.loop-i.row i (pos 0) ≡ get_or xs i (pos 0) = ap (λ (row : List ℤ). get_or row i (pos 0)) before ∙ rest-read whole xs i (pos 0) here long in
+    read-small (get_or c.loop-i.row i (pos 0)) (subst (λ z. nat_abs z < 2 ^ 63) (sym old) (small-at xs i (pos 0) here c.requires.row))
+
+pub quotient-entry-requires-clause-y : goal.quotient-entry-requires-clause-y
+quotient-entry-requires-clause-y c =
+    let here : c.loop-i.i < length c.args.row.now = omega (arith, c.loop-i-test.true, c.loop-i.auto.row) in
+    read-small (get_or c.args.other.now c.loop-i.i (pos 0)) (other-small c.args.row.now c.args.other.now c.loop-i.i (pos 0) here c.requires.same c.requires.other)
 
 pub narrow-requires : goal.narrow-requires
 narrow-requires c =

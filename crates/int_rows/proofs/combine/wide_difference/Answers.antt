@@ -6,8 +6,15 @@ use Rattle.std.proofs.lemmas.List.{get_or_default}
 use Rattle.lin_atoms.specs.Linear.{is_short}
 use Rattle.int_rows.specs.Pivot.{combined, reduced}
 use Rattle.int_rows.specs.Rows.{are_short}
-use Rattle.int_rows.proofs.CombineLemmas.{length-reduced, reduced-at, small-end, small-more, small-test}
+use Rattle.int_rows.proofs.CombineLemmas.{length-reduced, other-small, reduced-at, small-at, small-end, small-more, small-test}
+use Rattle.int_rows.proofs.MadeLemmas.{read-small}
 use Rattle.int_rows.proofs.combine.wide_difference.Goals as goal
+
+pub wide_at-requires-clause-x : goal.wide_at-requires-clause-x
+wide_at-requires-clause-x c = read-small (get_or c.args.row.now c.loop-i.i (pos 0)) (small-at c.args.row.now c.loop-i.i (pos 0) c.loop-i-test.true c.requires.row)
+
+pub wide_at-requires-clause-y : goal.wide_at-requires-clause-y
+wide_at-requires-clause-y c = read-small (get_or c.args.other.now c.loop-i.i (pos 0)) (other-small c.args.row.now c.args.other.now c.loop-i.i (pos 0) c.loop-i-test.true c.requires.same c.requires.other)
 
 pub returns-in-Some-clause-some : goal.returns-in-Some-clause-some
 returns-in-Some-clause-some c =

@@ -2,9 +2,9 @@ use Rattle.std.specs.List.{list_all}
 use Rattle.std.proofs.Common.{◌++◌, ◌∷◌, [], ◌+◌, ap, sym, ◌∙◌, map, take, List}
 use Rattle.std.specs.Prelude.{ℤ}
 use Rattle.std.proofs.lemmas.List.{map-append, take_all}
-use Rattle.lin_atoms.specs.Linear.{Linear, is_linear}
+use Rattle.lin_atoms.specs.Linear.{Linear, is_linear, lin_is_below}
 use Rattle.int_rows.specs.Node.{equation, equations}
-use Rattle.int_rows.proofs.EquationLemmas.{all-more, equations-more}
+use Rattle.int_rows.proofs.EquationLemmas.{all-at, all-more, equations-more}
 use Rattle.int_rows.proofs.equation.equations.Goals as goal
 
 pub loop-i-preserved : goal.loop-i-preserved
@@ -27,3 +27,6 @@ returns-clause-is c = c.loop-i.invariant.made ∙ ap (equations c.args.columns c
 
 pub returns-clause-legal : goal.returns-clause-legal
 returns-clause-legal c = ap (list_all is_linear) (sym (take_all c.loop-i.i c.args.lins.now c.loop-i-test.false)) ∙ c.loop-i.invariant.legal
+
+pub equation-requires-clause-below : goal.equation-requires-clause-below
+equation-requires-clause-below c = ap (lin_is_below c.args.columns) c.index-lins-i.is ∙ all-at (lin_is_below c.args.columns) c.args.lins.now c.loop-i.i c.index-lins-i.result c.loop-i-test.true c.requires.below

@@ -1,8 +1,9 @@
-use Rattle.std.proofs.Common.{◌≡◌, ℕ, ◌<◌, ◌+◌, ◌++◌, ◌∷◌, [], arith, ap, sym, ◌∙◌, List, ℤ, get_or, length, map, set, Vec, Global}
+use Rattle.std.proofs.Common.{◌≡◌, ℕ, ◌<◌, ◌+◌, ◌++◌, ◌∷◌, [], arith, ap, sym, subst, ◌∙◌, List, ℤ, get_or, length, map, set, Vec, Global}
 use Rattle.std.specs.List.{SameBelow, TailFrom}
 use Rattle.std.specs.Vec.{with_items}
 use Rattle.std.proofs.lemmas.List.{get_or-map, get_or_default, length-map, map-append}
 use Rattle.int_rows.specs.Pivot.{eliminated}
+use Rattle.int_rows.specs.Rows.{are_short}
 use Rattle.int_rows.specs.Table.{facing, pivoted, row_at}
 use Rattle.int_rows.proofs.PivotedLemmas.{cross-at, facing-length, one-item, pivoted-split, refilled, room-at}
 use Rattle.int_rows.proofs.pivoting.pivot_rows.Goals as goal
@@ -60,6 +61,30 @@ eliminate_each-requires-2-clause-room c = λ k d h.
     let inside : i + (1 + k) < length (lines rows) = omega (arith, h, length-map rows (λ r. r.items), c.split_at_mut-before.ensures.back_len, c.split_at_mut-own.ensures.back_len) in
     let own = c.as_slice-2.ensures.value ∙ own-is rows c.split_at_mut-before.result.1.now c.split_at_mut-own.result.0.now i c.index-own-0-2.result c.requires.can.within c.split_at_mut-own.ensures.by_index.0 c.split_at_mut-before.ensures.by_index.1 in
     room-at i c.args.column (i + (1 + k)) (lines rows) c.as_slice-2.result.now _ c.requires.room inside (λ e. absurd (omega (arith, e))) own (back-is rows c.split_at_mut-before.result.1.now c.split_at_mut-own.result.1.now i k d inside c.split_at_mut-before.ensures.by_index.1 c.split_at_mut-own.ensures.by_index.1)
+
+pub face-requires-clause-short : goal.face-requires-clause-short
+face-requires-clause-short c =
+    let rows : List (Vec ℤ Global) = c.args.rows.now in
+    let own = c.as_mut_slice.ensures.value ∙ own-is rows c.split_at_mut-before.result.1.now c.split_at_mut-own.result.0.now c.args.pivot c.index-own-0-3.result c.requires.can.within c.split_at_mut-own.ensures.by_index.0 c.split_at_mut-before.ensures.by_index.1 in
+    ap are_short own ∙ c.requires.can.short
+
+pub face-requires-clause-there : goal.face-requires-clause-there
+face-requires-clause-there c =
+    let rows : List (Vec ℤ Global) = c.args.rows.now in
+    let own = c.as_mut_slice.ensures.value ∙ own-is rows c.split_at_mut-before.result.1.now c.split_at_mut-own.result.0.now c.args.pivot c.index-own-0-3.result c.requires.can.within c.split_at_mut-own.ensures.by_index.0 c.split_at_mut-before.ensures.by_index.1 in
+    subst (λ (row : List ℤ). c.args.column < length row) (sym own) c.requires.can.there
+
+pub eliminate_each-requires-clause-short : goal.eliminate_each-requires-clause-short
+eliminate_each-requires-clause-short c =
+    let rows : List (Vec ℤ Global) = c.args.rows.now in
+    let own = c.as_slice.ensures.value ∙ own-is rows c.split_at_mut-before.result.1.now c.split_at_mut-own.result.0.now c.args.pivot c.index-own-0.result c.requires.can.within c.split_at_mut-own.ensures.by_index.0 c.split_at_mut-before.ensures.by_index.1 in
+    ap are_short own ∙ c.requires.can.short
+
+pub eliminate_each-requires-2-clause-short : goal.eliminate_each-requires-2-clause-short
+eliminate_each-requires-2-clause-short c =
+    let rows : List (Vec ℤ Global) = c.args.rows.now in
+    let own = c.as_slice-2.ensures.value ∙ own-is rows c.split_at_mut-before.result.1.now c.split_at_mut-own.result.0.now c.args.pivot c.index-own-0-2.result c.requires.can.within c.split_at_mut-own.ensures.by_index.0 c.split_at_mut-before.ensures.by_index.1 in
+    ap are_short own ∙ c.requires.can.short
 
 -- a row of the same length in place of the only one
 one-written : (own : List (Vec ℤ Global)) (d : Vec ℤ Global) (row : List ℤ) → length own ≡ 1 → length row ≡ length (get_or own 0 d).items → lines (set own 0 (with_items (get_or own 0 d) row)) ≡ row ∷ []

@@ -62,3 +62,6 @@ returns-clause-some c = subst (λ (r : List ℤ). IfSome c.wide_elimination.resu
 
 pub returns-clause-none : goal.returns-clause-none
 returns-clause-none c = subst (λ (r : List ℤ). IsNone c.wide_elimination.result → are_short r ≡ true) (after-is c) c.wide_elimination.ensures.none
+
+pub bounds-rows-pivot : goal.bounds-rows-pivot
+bounds-rows-pivot c = subst (λ n. c.args.pivot < n) (length-map c.args.rows.now (λ r. r.items)) c.requires.can.within

@@ -57,11 +57,20 @@ invariant_of-self c =
     let rows = c.pivot_rows.ensures ∙ ap (λ (rs : List (Vec ℤ Global)). pivoted c.args.row c.args.column (lines rs)) c.as_mut_slice.ensures.value in
     made c.self.inside c.args.self.now c.args.row c.args.column c.pivot_rows.new.rows c.self.view_is c.self.invariant c.requires.row c.requires.column c.requires.entry room rows
 
+-- the wide entry that was found
+wide-found : (t : Inside) (self : Table) (row column : ℕ) (rows : List (Vec ℤ Global)) (i : ℕ) (wide : ℤ) → table t ≡ self → rows ≡ t.rows.items → HasWide (pivoted row column (lines rows)) i wide → HasWide (pivoted row column self.rows) i wide
+wide-found t self row column rows i wide is read has =
+    let same : lines rows ≡ self.rows = ap lines read ∙ ap (λ (s : Table). s.rows) is in
+    subst (λ (rs : List (List ℤ)). HasWide (pivoted row column rs) i wide) same has
+
+pub returns-in-Some-clause-wide : goal.returns-in-Some-clause-wide
+returns-in-Some-clause-wide c = wide-found c.self.inside c.args.self.now c.args.row c.args.column c.as_slice.result.now c.in-Some.wide.row c.in-Some.wide.entry c.self.view_is c.as_slice.ensures.value c.in-Some.ensures.some
+
 pub returns-in-Some-clause-evidence : goal.returns-in-Some-clause-evidence
 returns-in-Some-clause-evidence c =
     let self : Table = c.args.self.now in
-    let rows : lines c.as_slice.result.now ≡ self.rows = ap lines c.as_slice.ensures.value ∙ ap (λ (t : Table). t.rows) c.self.view_is in
-    let has : HasWide (pivoted c.args.row c.args.column self.rows) c.in-Some.wide.row c.in-Some.wide.entry = subst (λ (rs : List (List ℤ)). HasWide (pivoted c.args.row c.args.column rs) c.in-Some.wide.row c.in-Some.wide.entry) rows c.in-Some.ensures.some in
+    let has : HasWide (pivoted c.args.row c.args.column self.rows) c.in-Some.wide.row c.in-Some.wide.entry =
+    wide-found c.self.inside self c.args.row c.args.column c.as_slice.result.now c.in-Some.wide.row c.in-Some.wide.entry c.self.view_is c.as_slice.ensures.value c.in-Some.ensures.some in
     pivoted-wide self (subst IsTable c.self.view_is c.self.invariant) c.args.row c.args.column c.in-Some.wide.row c.in-Some.wide.entry c.requires.row c.requires.column c.requires.entry has
 
 pub returns-in-Some-clause-space : goal.returns-in-Some-clause-space
