@@ -3,10 +3,10 @@
 /// A combination of unknowns, which takes the place of one of them.
 #[derive(Drop)]
 pub(crate) struct Column {
-    /// How often each equation has it.
+    /// How often each equation has it, and behind that how often each of the first unknowns has it.
     pub(crate) entries: Vec<i128>,
-    /// How often each of the first unknowns has it.
-    pub(crate) parts: Vec<i128>,
+    /// How many equations there are.
+    pub(crate) rows: usize,
     /// About what it is, scaled.
     pub(crate) near: i128,
 }
@@ -17,10 +17,15 @@ impl Column {
         number_at(self.entries.as_slice(), row)
     }
 
+    /// How often each of the first unknowns has it.
+    pub(crate) fn parts(&self) -> &[i128] {
+        let entries = self.entries.as_slice();
+        &entries[self.rows.min(entries.len())..]
+    }
+
     /// Another column is taken away `times` times. It then stands for `times` times this one more.
     pub(crate) fn take_away(&mut self, times: i128, other: &mut Column) -> Option<()> {
         subtract(self.entries.as_mut_slice(), times, other.entries.as_slice())?;
-        subtract(self.parts.as_mut_slice(), times, other.parts.as_slice())?;
         other.near = more(other.near, times, self.near)?;
         Some(())
     }
@@ -39,18 +44,15 @@ pub(crate) fn more(own: i128, times: i128, part: i128) -> Option<i128> {
     own.checked_add(times.checked_mul(part)?)
 }
 
-/// The difference of a number and a multiple of another one, where there is one.
-pub(crate) fn less(from: i128, times: i128, other: Option<&i128>) -> Option<i128> {
-    match other {
-        Some(other) => from.checked_sub(times.checked_mul(*other)?),
-        None => None,
-    }
+/// A number less `times` times another one.
+pub(crate) fn less(from: i128, times: i128, other: i128) -> Option<i128> {
+    from.checked_sub(times.checked_mul(other)?)
 }
 
 /// A multiple of a list of numbers is taken away from another list.
 fn subtract(from: &mut [i128], times: i128, other: &[i128]) -> Option<()> {
     for (at, own) in from.iter_mut().enumerate() {
-        match less(*own, times, other.get(at)) {
+        match less(*own, times, number_at(other, at)) {
             Some(value) => *own = value,
             None => return None,
         }

@@ -10,10 +10,10 @@ use std::alloc::Global;
 
 /// A form, and what it is at least and at most.
 #[derive(Drop)]
-struct Range {
-    terms: Vec<(u32, i128)>,
-    lower: Option<i128>,
-    upper: Option<i128>,
+pub(crate) struct Range {
+    pub(crate) terms: Vec<(u32, i128)>,
+    pub(crate) lower: Option<i128>,
+    pub(crate) upper: Option<i128>,
 }
 
 /// Whether the tableau has a column of this number.
@@ -27,7 +27,7 @@ pub fn has_column(tableau: &Tableau, column: usize) -> bool
 }
 
 /// What the column is at least and at most.
-pub(crate) fn sides(tableau: &Tableau, column: usize) -> (Option<i128>, Option<i128>) {
+fn sides(tableau: &Tableau, column: usize) -> (Option<i128>, Option<i128>) {
     if has_column(tableau, column) {
         return (tableau.lower(column), tableau.upper(column));
     }
@@ -52,18 +52,44 @@ fn put_term(terms: &mut Vec<(u32, i128)>, variable: usize, entry: i64) -> Result
     Ok(())
 }
 
-/// The form whose slack is the basic variable of a row before the first pivot.
-pub(crate) fn form(
-    alloc: Global,
+/// The terms of the form whose slack is the basic variable of a row before the first pivot.
+fn put_terms(
+    terms: &mut Vec<(u32, i128)>,
     entries: &[i64],
     variables: usize,
-) -> Result<Vec<(u32, i128)>, Memory> {
-    let mut terms = Vec::new(alloc);
+) -> Result<(), Memory> {
     let own = &entries[..variables.min(entries.len())];
     for (variable, entry) in own.iter().enumerate() {
-        put_term(&mut terms, variable, *entry)?;
+        put_term(terms, variable, *entry)?;
     }
-    Ok(terms)
+    Ok(())
+}
+
+/// The terms of a column before the first pivot, in variables.
+fn put_form(terms: &mut Vec<(u32, i128)>, tableau: &Tableau, column: usize) -> Result<(), Memory> {
+    let variables = tableau.columns();
+    match column.checked_sub(variables) {
+        Some(row) => {
+            if row < tableau.rows() {
+                put_terms(terms, tableau.row(row), variables)
+            } else {
+                Ok(())
+            }
+        }
+        None => put_term(terms, column, -1),
+    }
+}
+
+/// The form of a column before the first pivot, with its bounds.
+pub(crate) fn form_of(alloc: Global, tableau: &Tableau, column: usize) -> Result<Range, Memory> {
+    let (lower, upper) = sides(tableau, column);
+    let mut terms = Vec::new(alloc);
+    put_form(&mut terms, tableau, column)?;
+    Ok(Range {
+        terms,
+        lower,
+        upper,
+    })
 }
 
 /// Whether the other term is there and the same, or, where it is to be turned, with the sign turned.
@@ -128,68 +154,22 @@ impl Range {
         }
     }
 
-    /// The bounds of all forms that are the same or turned.
+    /// The bounds of all forms that are the same or turned, where its own leave more than one value.
     fn meet_all(&mut self, others: &[Range]) {
+        if one_value(self.lower, self.upper).is_some() {
+            return;
+        }
         for other in others {
             self.meet(other);
         }
     }
 }
 
-/// The equation that a variable with one value stands in.
-fn put_value(
-    alloc: Global,
-    equations: &mut Vec<Equation>,
-    variable: usize,
-    value: i128,
-) -> Result<(), Memory> {
-    if let Ok(variable) = u32::try_from(variable) {
-        let terms = vec![in alloc; (variable, 1)]?;
-        equations.push(Equation { terms, value })?;
-    }
-    Ok(())
-}
-
-/// The equations that single variables stand in.
-fn put_variables(
-    alloc: Global,
-    tableau: &Tableau,
-    equations: &mut Vec<Equation>,
-) -> Result<(), Memory> {
-    for variable in 0..tableau.columns() {
-        let (lower, upper) = sides(tableau, variable);
-        if let Some(value) = one_value(lower, upper) {
-            put_value(alloc, equations, variable, value)?;
-        }
-    }
-    Ok(())
-}
-
-/// The form of a row, with its bounds and those of the forms before it.
-fn range_of(
-    alloc: Global,
-    tableau: &Tableau,
-    row: usize,
-    entries: &[i64],
-    others: &[Range],
-) -> Result<Range, Memory> {
-    let variables = tableau.columns();
-    let (lower, upper) = sides(tableau, variables.saturating_add(row));
-    let terms = form(alloc, entries, variables)?;
-    let mut range = Range {
-        terms,
-        lower,
-        upper,
-    };
-    if one_value(lower, upper).is_none() {
-        range.meet_all(others);
-    }
-    Ok(range)
-}
-
+/// The forms of the rows, each with the bounds of those before it.
 fn put_ranges(alloc: Global, tableau: &Tableau, ranges: &mut Vec<Range>) -> Result<(), Memory> {
-    'rows: for row in 0..tableau.rows() {
-        let own = range_of(alloc, tableau, row, tableau.row(row), ranges.as_slice())?;
+    for row in 0..tableau.rows() {
+        let mut own = form_of(alloc, tableau, tableau.columns().saturating_add(row))?;
+        own.meet_all(ranges.as_slice());
         ranges.push(own)?;
     }
     Ok(())
@@ -204,6 +184,18 @@ fn put_range(equations: &mut Vec<Equation>, range: Range) -> Result<(), Memory> 
     } = range;
     if let Some(value) = one_value(lower, upper) {
         equations.push(Equation { terms, value })?;
+    }
+    Ok(())
+}
+
+/// The equations that single variables stand in.
+fn put_variables(
+    alloc: Global,
+    tableau: &Tableau,
+    equations: &mut Vec<Equation>,
+) -> Result<(), Memory> {
+    for variable in 0..tableau.columns() {
+        put_range(equations, form_of(alloc, tableau, variable)?)?;
     }
     Ok(())
 }

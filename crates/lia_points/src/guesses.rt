@@ -12,7 +12,6 @@ use crate::moves::{are_many, meets, moves};
 use crate::near::{Way, scaled};
 use crate::short::shorten;
 use crate::solving::{Met, Solving, solved};
-use crate::unknowns::unknowns;
 use base::Memory;
 use int_rows::{RowStop, Tableau};
 use lin_atoms::{Lit, Ratio};
@@ -33,15 +32,14 @@ fn all_scaled(alloc: Global, ratios: &[Ratio]) -> Result<Option<Vec<i128>>, Memo
 }
 
 /// Each value rounded by itself.
-fn rounded(alloc: Global, near: &[i128], way: Way) -> Result<Option<Vec<i128>>, Memory> {
-    let mut made = Vec::with_capacity(alloc, near.len())?;
-    for value in near {
-        match way.round(*value) {
-            Some(value) => made.push(value)?,
-            None => return Ok(None),
+fn put_rounded(made: &mut [i128], near: &[i128], way: Way) -> Option<()> {
+    for (at, own) in made.iter_mut().enumerate() {
+        match way.round(number_at(near, at)) {
+            Some(value) => *own = value,
+            None => return None,
         }
     }
-    Ok(Some(made))
+    Some(())
 }
 
 /// The unknown of that number has no value yet.
@@ -61,10 +59,15 @@ fn put_part(made: &mut [i128], unknown: u32, times: i128, part: i128) -> Option<
 }
 
 /// The unknowns get their parts of a column that has that value.
-fn put_column(made: &mut [i128], unknowns: &[u32], column: &Column, value: i128) -> Option<()> {
+fn put_column(
+    made: &mut [i128],
+    unknowns: &[u32],
+    column: &Column,
+    value: Option<i128>,
+) -> Option<()> {
+    let value = value?;
     for (at, unknown) in unknowns.iter().enumerate() {
-        let part = number_at(column.parts.as_slice(), at);
-        if part != 0 && put_part(made, *unknown, value, part).is_none() {
+        if put_part(made, *unknown, value, number_at(column.parts(), at)).is_none() {
             return None;
         }
     }
@@ -72,10 +75,16 @@ fn put_column(made: &mut [i128], unknowns: &[u32], column: &Column, value: i128)
 }
 
 /// The unknowns get their parts of the columns that have a value.
-fn put_done(made: &mut [i128], unknowns: &[u32], solving: &Solving) -> Option<()> {
-    for (at, column) in solving.done.iter().enumerate() {
-        let value = number_at(solving.values.as_slice(), at);
-        if put_column(made, unknowns, column, value).is_none() {
+fn put_done(made: &mut [i128], solving: &Solving) -> Option<()> {
+    for own in solving.done.iter() {
+        if put_column(
+            made,
+            solving.unknowns.as_slice(),
+            &own.column,
+            Some(own.value),
+        )
+        .is_none()
+        {
             return None;
         }
     }
@@ -83,23 +92,14 @@ fn put_done(made: &mut [i128], unknowns: &[u32], solving: &Solving) -> Option<()
 }
 
 /// The unknowns get their parts of the columns that are free, each rounded.
-fn put_free(made: &mut [i128], unknowns: &[u32], free: &[Column], way: Way) -> Option<()> {
-    for column in free {
+fn put_free(made: &mut [i128], solving: &Solving, way: Way) -> Option<()> {
+    for column in solving.free.iter() {
         let value = way.round(column.near);
-        if put_rounded(made, unknowns, column, value).is_none() {
+        if put_column(made, solving.unknowns.as_slice(), column, value).is_none() {
             return None;
         }
     }
     Some(())
-}
-
-fn put_rounded(
-    made: &mut [i128],
-    unknowns: &[u32],
-    column: &Column,
-    value: Option<i128>,
-) -> Option<()> {
-    put_column(made, unknowns, column, value?)
 }
 
 /// The numbers, where they are below 2^63 in magnitude.
@@ -114,25 +114,23 @@ fn narrowed(alloc: Global, made: &[i128]) -> Result<Option<Vec<i64>>, Memory> {
     Ok(Some(point))
 }
 
-/// All unknowns get their values.
-fn put_unknowns(made: &mut [i128], unknowns: &[u32], solving: &Solving, way: Way) -> Option<()> {
-    clear(made, unknowns);
-    put_done(made, unknowns, solving)?;
-    put_free(made, unknowns, solving.free.as_slice(), way)
+/// All variables and quotients get their values.
+fn put_values(made: &mut [i128], near: &[i128], solving: &Solving, way: Way) -> Option<()> {
+    put_rounded(made, near, way)?;
+    clear(made, solving.unknowns.as_slice());
+    put_done(made, solving)?;
+    put_free(made, solving, way)
 }
 
 /// The point that one way of rounding gives.
 fn guess(
     alloc: Global,
     near: &[i128],
-    unknowns: &[u32],
     solving: &Solving,
     way: Way,
 ) -> Result<Option<Vec<i64>>, Memory> {
-    let Some(mut made) = rounded(alloc, near, way)? else {
-        return Ok(None);
-    };
-    match put_unknowns(made.as_mut_slice(), unknowns, solving, way) {
+    let mut made = vec![in alloc; 0; near.len()]?;
+    match put_values(made.as_mut_slice(), near, solving, way) {
         Some(()) => narrowed(alloc, made.as_slice()),
         None => Ok(None),
     }
@@ -142,11 +140,10 @@ fn put_guess(
     alloc: Global,
     guesses: &mut Vec<Vec<i64>>,
     near: &[i128],
-    unknowns: &[u32],
     solving: &Solving,
     way: Way,
 ) -> Result<(), Memory> {
-    if let Some(point) = guess(alloc, near, unknowns, solving, way)? {
+    if let Some(point) = guess(alloc, near, solving, way)? {
         guesses.push(point)?;
     }
     Ok(())
@@ -157,17 +154,16 @@ fn put_moved(
     alloc: Global,
     guesses: &mut Vec<Vec<i64>>,
     near: &[i128],
-    unknowns: &[u32],
     solving: &Solving,
     limits: &mut [Limit],
 ) -> Result<(), Memory> {
     if are_many(limits, near.len()) {
         return Ok(());
     }
-    let Some(mut point) = guess(alloc, near, unknowns, solving, Way::Near)? else {
+    let Some(mut point) = guess(alloc, near, solving, Way::Near)? else {
         return Ok(());
     };
-    let moves = moves(alloc, limits, unknowns, solving.free.as_slice(), near.len())?;
+    let moves = moves(alloc, limits, solving, near.len())?;
     if meets(point.as_mut_slice(), limits, moves.as_slice()) {
         guesses.push(point)?;
     }
@@ -179,48 +175,29 @@ fn put_solved(
     alloc: Global,
     guesses: &mut Vec<Vec<i64>>,
     near: &[i128],
-    unknowns: &[u32],
     solving: &mut Solving,
     limits: &mut [Limit],
 ) -> Result<(), Memory> {
-    shorten(alloc, &mut solving.free)?;
-    put_moved(alloc, guesses, near, unknowns, solving, limits)?;
-    put_guess(alloc, guesses, near, unknowns, solving, Way::Down)?;
-    put_guess(alloc, guesses, near, unknowns, solving, Way::Up)?;
-    put_guess(alloc, guesses, near, unknowns, solving, Way::Near)
+    shorten(solving.free.as_mut_slice());
+    put_moved(alloc, guesses, near, solving, limits)?;
+    put_guess(alloc, guesses, near, solving, Way::Down)?;
+    put_guess(alloc, guesses, near, solving, Way::Up)?;
+    put_guess(alloc, guesses, near, solving, Way::Near)
 }
 
-/// The points near a vertex at which the equations of these unknowns hold.
+/// The points near a vertex at which the equations hold.
 fn put_points(
     alloc: Global,
     guesses: &mut Vec<Vec<i64>>,
     near: &[i128],
     equations: &[Equation],
-    unknowns: &[u32],
     limits: &mut [Limit],
 ) -> Result<(), Memory> {
-    let (mut solving, met) = solved(alloc, equations, equations.len(), unknowns, Some(near))?;
+    let (mut solving, met) = solved(alloc, equations, equations.len(), near)?;
     match met {
-        Met::Solved => put_solved(alloc, guesses, near, unknowns, &mut solving, limits),
+        Met::Solved => put_solved(alloc, guesses, near, &mut solving, limits),
         Met::Unsolvable => Ok(()),
         Met::Lost => Ok(()),
-    }
-}
-
-/// The points near a vertex at which the equations hold.
-fn put_near(
-    alloc: Global,
-    guesses: &mut Vec<Vec<i64>>,
-    near: &[i128],
-    equations: &[Equation],
-    limits: &mut [Limit],
-) -> Result<(), Memory> {
-    match unknowns(alloc, equations)? {
-        Some(unknowns) => {
-            let unknowns = unknowns.as_slice();
-            put_points(alloc, guesses, near, equations, unknowns, limits)
-        }
-        None => Ok(()),
     }
 }
 
@@ -235,7 +212,7 @@ fn from_vertex(
     match vertex(alloc, tableau)? {
         Some(near) => {
             let (near, equations) = (near.as_slice(), equations.as_slice());
-            put_near(alloc, guesses, near, equations, limits.as_mut_slice())
+            put_points(alloc, guesses, near, equations, limits.as_mut_slice())
         }
         None => Ok(()),
     }

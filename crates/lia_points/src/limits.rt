@@ -1,6 +1,6 @@
 //! The bounds of a tableau that leave more than one value, and how a point is moved until it meets them.
 
-use crate::forms::{form, one_value, sides};
+use crate::forms::{Range, form_of, one_value};
 use base::Memory;
 use int_rows::Tableau;
 use std::alloc::Global;
@@ -65,12 +65,12 @@ fn product(times: i128, other: Option<&i64>) -> i64 {
 }
 
 /// The bounds of a form, unless they leave one value.
-fn put(
-    limits: &mut Vec<Limit>,
-    terms: Vec<(u32, i128)>,
-    lower: Option<i128>,
-    upper: Option<i128>,
-) -> Result<(), Memory> {
+fn put(limits: &mut Vec<Limit>, range: Range) -> Result<(), Memory> {
+    let Range {
+        terms,
+        lower,
+        upper,
+    } = range;
     let is_open = lower.is_none() && upper.is_none();
     if !is_open && one_value(lower, upper).is_none() {
         limits.push(Limit {
@@ -84,32 +84,6 @@ fn put(
     Ok(())
 }
 
-fn put_variable(
-    alloc: Global,
-    tableau: &Tableau,
-    limits: &mut Vec<Limit>,
-    variable: usize,
-) -> Result<(), Memory> {
-    let (lower, upper) = sides(tableau, variable);
-    if let Ok(number) = u32::try_from(variable) {
-        put(limits, vec![in alloc; (number, 1)]?, lower, upper)?;
-    }
-    Ok(())
-}
-
-fn put_row(
-    alloc: Global,
-    tableau: &Tableau,
-    limits: &mut Vec<Limit>,
-    row: usize,
-    entries: &[i64],
-) -> Result<(), Memory> {
-    let variables = tableau.columns();
-    let (lower, upper) = sides(tableau, variables.saturating_add(row));
-    let terms = form(alloc, entries, variables)?;
-    put(limits, terms, lower, upper)
-}
-
 /// The bounds of a tableau before its first pivot that leave more than one value.
 pub(crate) fn limits(alloc: Global, tableau: &Tableau) -> Result<Vec<Limit>, Memory> {
     let mut limits = Vec::new(alloc);
@@ -118,11 +92,8 @@ pub(crate) fn limits(alloc: Global, tableau: &Tableau) -> Result<Vec<Limit>, Mem
 }
 
 fn put_all(alloc: Global, tableau: &Tableau, limits: &mut Vec<Limit>) -> Result<(), Memory> {
-    for variable in 0..tableau.columns() {
-        put_variable(alloc, tableau, limits, variable)?;
-    }
-    'rows: for row in 0..tableau.rows() {
-        put_row(alloc, tableau, limits, row, tableau.row(row))?;
+    for column in 0..tableau.columns().saturating_add(tableau.rows()) {
+        put(limits, form_of(alloc, tableau, column)?)?;
     }
     Ok(())
 }

@@ -2,9 +2,9 @@
 //! bound that is broken is met, by the move after which all bounds together lack least, or counts more where
 //! no move makes that less (P. Morris, The Breakout Method for Escaping from Local Minima, 1993).
 
-use crate::column::Column;
 use crate::entries::{entry, set, zeros};
 use crate::limits::Limit;
+use crate::solving::Solving;
 use base::Memory;
 use std::alloc::Global;
 
@@ -41,17 +41,6 @@ fn effects_of(alloc: Global, limits: &[Limit], parts: &[i64]) -> Result<Vec<i64>
     Ok(effects)
 }
 
-fn put_move(
-    alloc: Global,
-    moves: &mut Vec<Move>,
-    limits: &[Limit],
-    parts: Vec<i64>,
-) -> Result<(), Memory> {
-    let effects = effects_of(alloc, limits, parts.as_slice())?;
-    moves.push(Move { parts, effects })?;
-    Ok(())
-}
-
 /// The part becomes the value, where that has room.
 fn set_part(parts: &mut [i64], at: usize, value: i128) {
     if let Ok(value) = i64::try_from(value) {
@@ -59,27 +48,29 @@ fn set_part(parts: &mut [i64], at: usize, value: i128) {
     }
 }
 
-/// The parts that a column has of the unknowns.
-fn set_parts(parts: &mut [i64], unknowns: &[u32], column: &Column) {
-    for (at, part) in column.parts.iter().enumerate() {
+/// The parts of the unknowns.
+fn set_parts(parts: &mut [i64], unknowns: &[u32], own: &[i128]) {
+    for (at, part) in own.iter().enumerate() {
         if let Some(unknown) = unknowns.get(at) {
             set_part(parts, *unknown as usize, *part);
         }
     }
 }
 
-/// The move of a column that is free.
-fn put_column(
+/// The move by which the unknowns rise by these parts.
+fn put_move(
     alloc: Global,
     moves: &mut Vec<Move>,
     limits: &[Limit],
     unknowns: &[u32],
-    column: &Column,
+    own: &[i128],
     variables: usize,
 ) -> Result<(), Memory> {
     let mut parts = zeros(alloc, variables)?;
-    set_parts(parts.as_mut_slice(), unknowns, column);
-    put_move(alloc, moves, limits, parts)
+    set_parts(parts.as_mut_slice(), unknowns, own);
+    let effects = effects_of(alloc, limits, parts.as_slice())?;
+    moves.push(Move { parts, effects })?;
+    Ok(())
 }
 
 /// The move of one variable, where no equation has it.
@@ -91,22 +82,12 @@ fn put_single(
     variable: usize,
     variables: usize,
 ) -> Result<(), Memory> {
-    if is_unknown(unknowns, variable) {
-        return Ok(());
-    }
-    let mut parts = zeros(alloc, variables)?;
-    set(parts.as_mut_slice(), variable, 1);
-    put_move(alloc, moves, limits, parts)
-}
-
-/// Whether the variable is among the unknowns.
-fn is_unknown(unknowns: &[u32], variable: usize) -> bool {
-    for unknown in unknowns {
-        if *unknown as usize == variable {
-            return true;
+    if let Ok(own) = u32::try_from(variable) {
+        if !unknowns.contains(&own) {
+            put_move(alloc, moves, limits, &[own], &[1], variables)?;
         }
     }
-    false
+    Ok(())
 }
 
 /// Whether there are too many effects of moves.
@@ -118,12 +99,11 @@ pub(crate) fn are_many(limits: &[Limit], variables: usize) -> bool {
 pub(crate) fn moves(
     alloc: Global,
     limits: &[Limit],
-    unknowns: &[u32],
-    free: &[Column],
+    solving: &Solving,
     variables: usize,
 ) -> Result<Vec<Move>, Memory> {
     let mut moves = Vec::new(alloc);
-    put_all(alloc, &mut moves, limits, unknowns, free, variables)?;
+    put_all(alloc, &mut moves, limits, solving, variables)?;
     Ok(moves)
 }
 
@@ -131,12 +111,12 @@ fn put_all(
     alloc: Global,
     moves: &mut Vec<Move>,
     limits: &[Limit],
-    unknowns: &[u32],
-    free: &[Column],
+    solving: &Solving,
     variables: usize,
 ) -> Result<(), Memory> {
-    for column in free {
-        put_column(alloc, moves, limits, unknowns, column, variables)?;
+    let unknowns = solving.unknowns.as_slice();
+    for column in solving.free.iter() {
+        put_move(alloc, moves, limits, unknowns, column.parts(), variables)?;
     }
     for variable in 0..variables {
         put_single(alloc, moves, limits, unknowns, variable, variables)?;

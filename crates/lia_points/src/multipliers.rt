@@ -2,7 +2,7 @@
 
 use crate::column::{Column, less};
 use crate::entries::{set, zeros};
-use crate::solving::Solving;
+use crate::solving::Done;
 use base::Memory;
 use lin_atoms::gcd;
 use std::alloc::Global;
@@ -16,17 +16,25 @@ pub struct Unsolvable {
     pub divisor: i64,
 }
 
+/// A form so many times, and multiples of equations: the divisor divides each coefficient of their sum.
+#[derive(Drop)]
+pub(crate) struct Combined {
+    pub(crate) times: i64,
+    pub(crate) multipliers: Vec<i64>,
+    pub(crate) divisor: i64,
+}
+
 /// Fractions with one denominator, the last ones of a list.
 #[derive(Drop)]
-pub(crate) struct Fractions {
+struct Fractions {
     /// The numerators, the last of the list first.
     nums: Vec<i128>,
     den: i128,
 }
 
-fn entry_at(column: &Column, pivots: &[usize], at: usize) -> i128 {
-    match pivots.get(at) {
-        Some(row) => column.entry(*row),
+fn entry_at(column: &Column, done: &[Done], at: usize) -> i128 {
+    match done.get(at) {
+        Some(own) => column.entry(own.row),
         None => 0,
     }
 }
@@ -63,28 +71,17 @@ fn quotient(rest: i128, divisor: i128, is_turned: bool) -> Option<i128> {
 
 impl Fractions {
     /// What the column has, less what the fractions that are there have of it.
-    fn rest(&self, column: &Column, pivots: &[usize], from: Option<i128>) -> Option<i128> {
-        let mut rest = from?;
-        let mut at = pivots.len();
+    fn rest(&self, column: &Column, done: &[Done], from: i128) -> Option<i128> {
+        let mut rest = from;
+        let mut at = done.len();
         for num in self.nums.iter() {
             at = at.saturating_sub(1);
-            match less(rest, entry_at(column, pivots, at), Some(num)) {
+            match less(rest, entry_at(column, done, at), *num) {
                 Some(value) => rest = value,
                 None => return None,
             }
         }
         Some(rest)
-    }
-
-    /// One fraction more: a number over the denominator, divided by an entry.
-    fn put(&mut self, rest: i128, entry: i128) -> Result<Option<()>, Memory> {
-        match self.scaled(rest, entry) {
-            Some(num) => {
-                self.nums.push(num)?;
-                Ok(Some(()))
-            }
-            None => Ok(None),
-        }
     }
 
     /// All are written with a denominator that is so many times as large.
@@ -101,45 +98,40 @@ impl Fractions {
         quotient(rest, divisor, entry < 0)
     }
 
-    /// The fraction of the equation that gave the column its value, where that of the column is `share`.
-    fn put_next(
-        &mut self,
-        column: &Column,
-        pivots: &[usize],
-        at: usize,
-        share: i128,
-    ) -> Result<Option<()>, Memory> {
-        let from = share.checked_mul(self.den);
-        match (self.rest(column, pivots, from), pivots.get(at)) {
-            (Some(rest), Some(own)) => self.put(rest, column.entry(*own)),
-            _ => Ok(None),
-        }
+    /// The numerator of the equation that gave the column its value, where that of the column is `share`.
+    fn next(&mut self, done: &[Done], own: &Done, share: i128) -> Option<i128> {
+        let rest = self.rest(&own.column, done, share.checked_mul(self.den)?)?;
+        self.scaled(rest, own.column.entry(own.row))
     }
 
-    /// The fractions of all equations, from the last one to the first.
-    fn put_all(&mut self, solving: &Solving, row: Option<usize>) -> Result<Option<()>, Memory> {
-        let pivots = solving.pivots.as_slice();
-        let mut at = pivots.len();
-        let mut is_last = true;
-        for column in solving.done.iter().rev() {
-            at = at.saturating_sub(1);
-            let share = share(column, row, is_last);
-            if self.put_next(column, pivots, at, share)?.is_none() {
-                return Ok(None);
+    /// The fractions of all equations, from the last one to the first. Whether they have room.
+    fn put_all(&mut self, done: &[Done], row: Option<usize>) -> Result<bool, Memory> {
+        for own in done.iter().rev() {
+            let share = share(&own.column, row, self.nums.is_empty());
+            match self.next(done, own, share) {
+                Some(num) => self.nums.push(num)?,
+                None => return Ok(false),
             }
-            is_last = false;
         }
-        Ok(Some(()))
+        Ok(true)
     }
 
-    /// What the denominator has in common with all numerators, and the denominator divided by it.
-    pub(crate) fn divisor(&self) -> Option<(i128, i128)> {
+    /// What the denominator has in common with all numerators.
+    fn common(&self) -> u128 {
         let mut divisor = self.den.unsigned_abs();
         for num in self.nums.iter() {
             divisor = gcd(divisor, num.unsigned_abs());
         }
-        let divisor = i128::try_from(divisor).ok()?;
-        Some((divisor, self.den.checked_div(divisor)?))
+        divisor
+    }
+
+    /// What the denominator has in common with all numerators, the denominator divided by it, and that
+    /// times a number.
+    fn divisors(&self, factor: i128) -> Option<(i128, i64, i64)> {
+        let common = i128::try_from(self.common()).ok()?;
+        let times = self.den.checked_div(common)?;
+        let divisor = i64::try_from(times.checked_mul(factor)?).ok()?;
+        Some((common, i64::try_from(times).ok()?, divisor))
     }
 }
 
@@ -151,88 +143,78 @@ fn share(column: &Column, row: Option<usize>, is_last: bool) -> i128 {
     }
 }
 
-/// The fraction of each equation, from the last one that was met to the first, with which they add up to
-/// what the row of that number has of the columns with a value, or to the last of these columns.
-pub(crate) fn fractions_of(
+/// The multiplier of a fraction: its numerator over the divisor, modulo it, with the other sign where it is to
+/// be turned.
+fn multiplier(num: i128, common: i128, divisor: i128, is_turned: bool) -> Option<i64> {
+    let own = quotient(num, common, is_turned)?.checked_rem_euclid(divisor)?;
+    i64::try_from(own).ok()
+}
+
+/// Each equation that was met gets its multiplier, with the other sign where they are to be turned. Whether
+/// they have room.
+fn put_all(
+    made: &mut [i64],
+    nums: &[i128],
+    done: &[Done],
+    common: i128,
+    divisor: i64,
+    is_turned: bool,
+) -> bool {
+    let mut at = done.len();
+    for num in nums {
+        at = at.saturating_sub(1);
+        match (
+            done.get(at),
+            multiplier(*num, common, i128::from(divisor), is_turned),
+        ) {
+            (Some(own), Some(value)) => set(made, own.row, value),
+            _ => return false,
+        }
+    }
+    true
+}
+
+/// The multipliers of fractions.
+fn of_fractions(
     alloc: Global,
-    solving: &Solving,
+    fractions: &Fractions,
+    done: &[Done],
+    count: usize,
+    factor: i128,
+    is_turned: bool,
+) -> Result<Option<Combined>, Memory> {
+    let Some((common, times, divisor)) = fractions.divisors(factor) else {
+        return Ok(None);
+    };
+    let mut multipliers = zeros(alloc, count)?;
+    let (made, nums) = (multipliers.as_mut_slice(), fractions.nums.as_slice());
+    if put_all(made, nums, done, common, divisor, is_turned) {
+        Ok(Some(Combined {
+            times,
+            multipliers,
+            divisor,
+        }))
+    } else {
+        Ok(None)
+    }
+}
+
+/// The multiples of equations that add up to what the row of that number has of the columns with a value, or
+/// to the last of these columns, by a divisor that is a multiple of `factor`.
+pub(crate) fn combine(
+    alloc: Global,
+    done: &[Done],
     row: Option<usize>,
-) -> Result<Option<Fractions>, Memory> {
+    count: usize,
+    factor: i128,
+) -> Result<Option<Combined>, Memory> {
     let mut fractions = Fractions {
         nums: Vec::new(alloc),
         den: 1,
     };
-    match fractions.put_all(solving, row)? {
-        Some(()) => Ok(Some(fractions)),
-        None => Ok(None),
-    }
-}
-
-/// The multiplier of a fraction: its numerator over the divisor, modulo it, with the other sign where it is to
-/// be turned.
-fn multiplier(num: i128, common: i128, divisor: i128, is_turned: bool) -> Option<i64> {
-    let num = if is_turned { num.checked_neg()? } else { num };
-    let own = num.checked_div(common)?.checked_rem_euclid(divisor)?;
-    i64::try_from(own).ok()
-}
-
-/// Each equation that was met gets its multiplier, with the other sign where they are to be turned.
-pub(crate) fn put_all(
-    made: &mut [i64],
-    fractions: &Fractions,
-    pivots: &[usize],
-    common: i128,
-    divisor: i128,
-    is_turned: bool,
-) -> Option<()> {
-    let mut at = pivots.len();
-    for num in fractions.nums.iter() {
-        at = at.saturating_sub(1);
-        match (pivots.get(at), multiplier(*num, common, divisor, is_turned)) {
-            (Some(row), Some(own)) => set(made, *row, own),
-            _ => return None,
-        }
-    }
-    Some(())
-}
-
-/// The multipliers of the equations up to the one that has no solution.
-pub(crate) fn of_solving(
-    alloc: Global,
-    solving: &Solving,
-    count: usize,
-) -> Result<Option<Unsolvable>, Memory> {
-    match fractions_of(alloc, solving, None)? {
-        Some(fractions) => of_fractions(alloc, &fractions, solving.pivots.as_slice(), count),
-        None => Ok(None),
-    }
-}
-
-fn of_fractions(
-    alloc: Global,
-    fractions: &Fractions,
-    pivots: &[usize],
-    count: usize,
-) -> Result<Option<Unsolvable>, Memory> {
-    let Some((common, divisor)) = fractions.divisor() else {
-        return Ok(None);
-    };
-    let Ok(short) = i64::try_from(divisor) else {
-        return Ok(None);
-    };
-    let mut multipliers = zeros(alloc, count)?;
-    match put_all(
-        multipliers.as_mut_slice(),
-        fractions,
-        pivots,
-        common,
-        divisor,
-        false,
-    ) {
-        Some(()) => Ok(Some(Unsolvable {
-            multipliers,
-            divisor: short,
-        })),
-        None => Ok(None),
+    if fractions.put_all(done, row)? {
+        of_fractions(alloc, &fractions, done, count, factor, row.is_some())
+    } else {
+        Ok(None)
     }
 }

@@ -1,11 +1,9 @@
 //! What forms leave by a number, where equations of integers hold.
 
 use crate::column::Column;
-use crate::entries::zeros;
 use crate::equation::Equation;
-use crate::multipliers::{Fractions, Unsolvable, fractions_of, of_solving, put_all};
+use crate::multipliers::{Unsolvable, combine};
 use crate::solving::{Met, Solving, solved};
-use crate::unknowns::unknowns;
 use base::Memory;
 use lin_atoms::gcd;
 use std::alloc::Global;
@@ -41,71 +39,31 @@ fn common(free: &[Column], row: usize) -> u128 {
     divisor
 }
 
-/// The number times what the free columns have in common, where both have room.
-fn divisor_of(times: i128, common: i128) -> Option<(i64, i64)> {
-    let divisor = times.checked_mul(common)?;
-    Some((i64::try_from(times).ok()?, i64::try_from(divisor).ok()?))
-}
-
-/// What a form leaves by a number above how far its bounds are apart.
-fn left_by(
+/// Puts what a form leaves by a number above how far its bounds are apart behind the others.
+fn put_residue(
     alloc: Global,
+    made: &mut Vec<Residue>,
     solving: &Solving,
     count: usize,
     form: usize,
     apart: i128,
-) -> Result<Option<Residue>, Memory> {
-    let Some(row) = count.checked_add(form) else {
-        return Ok(None);
-    };
-    let common = common(solving.free.as_slice(), row);
-    let Ok(common) = i128::try_from(common) else {
-        return Ok(None);
+) -> Result<(), Memory> {
+    let row = count.saturating_add(form);
+    let Ok(common) = i128::try_from(common(solving.free.as_slice(), row)) else {
+        return Ok(());
     };
     if common <= apart {
-        return Ok(None);
+        return Ok(());
     }
-    match fractions_of(alloc, solving, Some(row))? {
-        Some(fractions) => {
-            let pivots = solving.pivots.as_slice();
-            of_fractions(alloc, &fractions, pivots, count, form, common)
-        }
-        None => Ok(None),
-    }
-}
-
-/// The residue of the form with these fractions, where the free columns have that in common.
-fn of_fractions(
-    alloc: Global,
-    fractions: &Fractions,
-    pivots: &[usize],
-    count: usize,
-    form: usize,
-    common: i128,
-) -> Result<Option<Residue>, Memory> {
-    let Some((shared, den)) = fractions.divisor() else {
-        return Ok(None);
-    };
-    let Some((times, divisor)) = divisor_of(den, common) else {
-        return Ok(None);
-    };
-    let mut multipliers = zeros(alloc, count)?;
-    match put_all(
-        multipliers.as_mut_slice(),
-        fractions,
-        pivots,
-        shared,
-        i128::from(divisor),
-        true,
-    ) {
-        Some(()) => Ok(Some(Residue {
+    if let Some(found) = combine(alloc, solving.done.as_slice(), Some(row), count, common)? {
+        made.push(Residue {
             form,
-            times,
-            multipliers,
-            divisor,
-        })),
-        None => Ok(None),
+            times: found.times,
+            multipliers: found.multipliers,
+            divisor: found.divisor,
+        })?;
     }
+    Ok(())
 }
 
 /// Puts the residues of the forms that may have none of what their bounds leave behind the others.
@@ -117,9 +75,7 @@ fn put_residues(
     count: usize,
 ) -> Result<(), Memory> {
     for (form, row) in forms.iter().enumerate() {
-        if let Some(found) = left_by(alloc, solving, count, form, row.value)? {
-            made.push(found)?;
-        }
+        put_residue(alloc, made, solving, count, form, row.value)?;
     }
     Ok(())
 }
@@ -137,30 +93,24 @@ fn all_residues(
     Ok(made)
 }
 
-/// What is told where the first `count` rows come to that.
-fn of_met(
-    alloc: Global,
-    solving: &Solving,
-    met: Met,
-    rows: &[Equation],
-    count: usize,
-) -> Result<Told, Memory> {
-    match met {
-        Met::Unsolvable => match of_solving(alloc, solving, count)? {
-            Some(found) => Ok(Told::Unsolvable(found)),
-            None => Ok(Told::Nothing),
-        },
-        Met::Solved => Ok(Told::Residues(all_residues(alloc, solving, rows, count)?)),
-        Met::Lost => Ok(Told::Nothing),
+/// What the columns with a value tell, the last of which has none that is an integer.
+fn unsolvable(alloc: Global, solving: &Solving, count: usize) -> Result<Told, Memory> {
+    match combine(alloc, solving.done.as_slice(), None, count, 1)? {
+        Some(found) => Ok(Told::Unsolvable(Unsolvable {
+            multipliers: found.multipliers,
+            divisor: found.divisor,
+        })),
+        None => Ok(Told::Nothing),
     }
 }
 
 /// What the first `count` rows tell, as equations of integers, of the others, which are forms that have as
 /// their values how far their bounds are apart. Nothing is promised of it.
 pub fn equations_tell(alloc: Global, rows: &[Equation], count: usize) -> Result<Told, Memory> {
-    let Some(unknowns) = unknowns(alloc, rows)? else {
-        return Ok(Told::Nothing);
-    };
-    let (solving, met) = solved(alloc, rows, count, unknowns.as_slice(), None)?;
-    of_met(alloc, &solving, met, rows, count)
+    let (solving, met) = solved(alloc, rows, count, &[])?;
+    match met {
+        Met::Unsolvable => unsolvable(alloc, &solving, count),
+        Met::Solved => Ok(Told::Residues(all_residues(alloc, &solving, rows, count)?)),
+        Met::Lost => Ok(Told::Nothing),
+    }
 }

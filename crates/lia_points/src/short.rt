@@ -1,8 +1,6 @@
 //! Columns that are free are made shorter: each is less by the multiple of another one that leaves least of it.
 
 use crate::column::{Column, more, number_at};
-use base::Memory;
-use std::alloc::Global;
 
 /// So often all columns are made shorter at the most.
 const MOST_PASSES: u32 = 6;
@@ -14,12 +12,9 @@ const MOST_COLUMNS: usize = 30;
 fn product(one: &[i128], other: &[i128]) -> Option<i128> {
     let mut sum: i128 = 0;
     for (at, a) in one.iter().enumerate() {
-        let b = number_at(other, at);
-        if *a != 0 && b != 0 {
-            match more(sum, *a, b) {
-                Some(value) => sum = value,
-                None => return None,
-            }
+        match more(sum, *a, number_at(other, at)) {
+            Some(value) => sum = value,
+            None => return None,
         }
     }
     Some(sum)
@@ -27,11 +22,11 @@ fn product(one: &[i128], other: &[i128]) -> Option<i128> {
 
 /// How often the other column is to be taken away: the quotient of both, rounded to the nearest integer.
 fn times(own: &Column, other: &Column) -> Option<i128> {
-    let both = product(own.parts.as_slice(), other.parts.as_slice())?;
+    let both = product(own.parts(), other.parts())?;
     if both == 0 {
         return Some(0);
     }
-    let size = product(other.parts.as_slice(), other.parts.as_slice())?;
+    let size = product(other.parts(), other.parts())?;
     let twice = both.unsigned_abs().checked_mul(2)?;
     if twice <= size.unsigned_abs() {
         return Some(0);
@@ -61,29 +56,40 @@ fn less_all(own: &mut Column, others: &mut [Column]) -> Option<bool> {
     Some(is_changed)
 }
 
-/// Each column is made shorter once. Whether that changes anything.
-fn pass(alloc: Global, free: &mut Vec<Column>) -> Result<bool, Memory> {
-    let mut done = Vec::with_capacity(alloc, free.len())?;
-    let mut is_changed = false;
-    'columns: while let Some(mut own) = free.pop() {
-        let before = less_all(&mut own, free.as_mut_slice());
-        let after = less_all(&mut own, done.as_mut_slice());
-        is_changed = is_changed || before == Some(true) || after == Some(true);
-        done.push(own)?;
+/// The last column is moved to where those that are done end, and the others are taken away from it. Whether
+/// that changes anything.
+fn next(free: &mut [Column], done: usize) -> bool {
+    let (done, rest) = free.split_at_mut(done.min(free.len()));
+    let moved = rest.len().min(1);
+    rest.rotate_right(moved);
+    match rest.split_first_mut() {
+        Some((own, others)) => {
+            let before = less_all(own, others);
+            let after = less_all(own, done);
+            before == Some(true) || after == Some(true)
+        }
+        None => false,
     }
-    *free = done;
-    Ok(is_changed)
+}
+
+/// Each column is made shorter once, the last one first. Whether that changes anything.
+fn pass(free: &mut [Column]) -> bool {
+    let mut is_changed = false;
+    for done in 0..free.len() {
+        let is_new = next(free, done);
+        is_changed = is_changed || is_new;
+    }
+    is_changed
 }
 
 /// The columns are made shorter, as long as that changes them.
-pub(crate) fn shorten(alloc: Global, free: &mut Vec<Column>) -> Result<(), Memory> {
+pub(crate) fn shorten(free: &mut [Column]) {
     if free.len() > MOST_COLUMNS {
-        return Ok(());
+        return;
     }
-    'passes: for _ in 0..MOST_PASSES {
-        if !pass(alloc, free)? {
-            return Ok(());
+    for _ in 0..MOST_PASSES {
+        if !pass(free) {
+            return;
         }
     }
-    Ok(())
 }

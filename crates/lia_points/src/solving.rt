@@ -2,22 +2,30 @@
 
 use crate::column::{Column, less};
 use crate::equation::Equation;
-use crate::unknowns::columns;
+use crate::unknowns::{put_columns, put_unknowns};
 use base::Memory;
 use std::alloc::Global;
+use std::mem;
 
 /// So often the columns of an equation are reduced at the most.
 const MOST_PASSES: u32 = 300;
 
+/// A column that has its value, by an equation that no later one occurs in.
+#[derive(Drop)]
+pub(crate) struct Done {
+    pub(crate) column: Column,
+    /// The equation.
+    pub(crate) row: usize,
+    pub(crate) value: i128,
+}
+
 /// How far equations are solved.
 #[derive(Drop)]
 pub(crate) struct Solving {
-    /// The columns that have their value, each by an equation that no later one occurs in.
-    pub(crate) done: Vec<Column>,
-    /// For each of them its equation.
-    pub(crate) pivots: Vec<usize>,
-    /// Their values.
-    pub(crate) values: Vec<i128>,
+    /// The unknowns that occur.
+    pub(crate) unknowns: Vec<u32>,
+    /// The columns that have their value.
+    pub(crate) done: Vec<Done>,
     /// The columns that no equation met so far has.
     pub(crate) free: Vec<Column>,
 }
@@ -28,15 +36,17 @@ pub(crate) enum Met {
     Solved,
     /// The value of the last column isn't an integer.
     Unsolvable,
-    /// A number had no room, or the equations contradict.
+    /// A number had no room, the equations contradict, or they or their unknowns are many.
     Lost,
 }
 
-/// The column that an equation determines.
-#[derive(Drop)]
-enum Taken {
-    Pivot(Column),
-    Dependent,
+/// What columns are once they are reduced in an equation.
+#[derive(Clone, Copy)]
+enum Left {
+    /// The last one alone is left in it.
+    Last,
+    Several,
+    Nothing,
     Lost,
 }
 
@@ -77,31 +87,50 @@ fn all_reduced(free: &mut [Column], row: usize, pivot: &mut Column) -> Option<bo
     Some(is_done)
 }
 
-/// The one column that the equation is left with.
-fn take(free: &mut Vec<Column>, row: usize) -> Result<Taken, Memory> {
-    'passes: for _ in 0..MOST_PASSES {
-        let Some(at) = least(free.as_slice(), row) else {
-            return Ok(Taken::Dependent);
-        };
-        if at >= free.len() {
-            return Ok(Taken::Lost);
-        }
-        let mut pivot = free.swap_remove(at);
-        match all_reduced(free.as_mut_slice(), row, &mut pivot) {
-            Some(true) => return Ok(Taken::Pivot(pivot)),
-            Some(false) => free.push(pivot)?,
-            None => return Ok(Taken::Lost),
+/// The column that the equation has least often becomes the last, and the others are reduced by it.
+fn pass(free: &mut [Column], row: usize) -> Left {
+    let Some(at) = least(free, row) else {
+        return Left::Nothing;
+    };
+    let Some((pivot, others)) = free.split_last_mut() else {
+        return Left::Lost;
+    };
+    if let Some(own) = others.get_mut(at) {
+        mem::swap(own, pivot);
+    }
+    match all_reduced(others, row, pivot) {
+        Some(true) => Left::Last,
+        Some(false) => Left::Several,
+        None => Left::Lost,
+    }
+}
+
+/// Columns are reduced until the equation is left with one of them, the last.
+fn reduce(free: &mut [Column], row: usize) -> Left {
+    for _ in 0..MOST_PASSES {
+        match pass(free, row) {
+            Left::Several => {}
+            reduced => return reduced,
         }
     }
-    Ok(Taken::Lost)
+    Left::Lost
+}
+
+/// The value of a column that an equation has so often, and whether that is an integer.
+fn value_of(rest: i128, entry: i128) -> (i128, Met) {
+    match (rest.checked_rem(entry), rest.checked_div(entry)) {
+        (Some(0), Some(value)) => (value, Met::Solved),
+        (Some(_), Some(value)) => (value, Met::Unsolvable),
+        _ => (0, Met::Lost),
+    }
 }
 
 impl Solving {
     /// What is left of the value, less what the columns with a value have of the equation.
     fn rest(&self, row: usize, value: i128) -> Option<i128> {
         let mut rest = value;
-        for (at, column) in self.done.iter().enumerate() {
-            match less(rest, column.entry(row), self.values.get(at)) {
+        for own in self.done.iter() {
+            match less(rest, own.column.entry(row), own.value) {
                 Some(value) => rest = value,
                 None => return None,
             }
@@ -109,19 +138,14 @@ impl Solving {
         Some(rest)
     }
 
-    /// The column has its value from the equation, where that is an integer.
-    fn determine(&mut self, row: usize, rest: i128, pivot: Column) -> Result<Met, Memory> {
-        let entry = pivot.entry(row);
-        self.done.push(pivot)?;
-        self.pivots.push(row)?;
-        match (rest.checked_rem(entry), rest.checked_div(entry)) {
-            (Some(0), Some(value)) => {
-                self.values.push(value)?;
-                Ok(Met::Solved)
-            }
-            (Some(_), Some(_)) => Ok(Met::Unsolvable),
-            _ => Ok(Met::Lost),
-        }
+    /// The last column has its value from the equation, where that is an integer.
+    fn determine(&mut self, row: usize, rest: i128) -> Result<Met, Memory> {
+        let Some(column) = self.free.pop() else {
+            return Ok(Met::Lost);
+        };
+        let (value, met) = value_of(rest, column.entry(row));
+        self.done.push(Done { column, row, value })?;
+        Ok(met)
     }
 
     /// One equation more.
@@ -129,16 +153,16 @@ impl Solving {
         let Some(rest) = self.rest(row, value) else {
             return Ok(Met::Lost);
         };
-        match take(&mut self.free, row)? {
-            Taken::Pivot(pivot) => self.determine(row, rest, pivot),
-            Taken::Dependent => {
+        match reduce(self.free.as_mut_slice(), row) {
+            Left::Last => self.determine(row, rest),
+            Left::Nothing => {
                 if rest == 0 {
                     Ok(Met::Solved)
                 } else {
                     Ok(Met::Lost)
                 }
             }
-            Taken::Lost => Ok(Met::Lost),
+            _ => Ok(Met::Lost),
         }
     }
 
@@ -147,30 +171,42 @@ impl Solving {
         for (row, equation) in equations.iter().enumerate() {
             match self.meet(row, equation.value)? {
                 Met::Solved => {}
-                Met::Unsolvable => return Ok(Met::Unsolvable),
-                Met::Lost => return Ok(Met::Lost),
+                met => return Ok(met),
             }
         }
         Ok(Met::Solved)
     }
+
+    /// The first `count` equations are met, where neither they nor the unknowns are many.
+    fn solve(
+        &mut self,
+        alloc: Global,
+        equations: &[Equation],
+        count: usize,
+        near: &[i128],
+    ) -> Result<Met, Memory> {
+        if !put_unknowns(&mut self.unknowns, equations)? {
+            return Ok(Met::Lost);
+        }
+        let unknowns = self.unknowns.as_slice();
+        put_columns(alloc, &mut self.free, equations, unknowns, near)?;
+        self.meet_all(&equations[..count.min(equations.len())])
+    }
 }
 
 /// The first `count` equations are met one after the other, until one can't be solved. What comes after
-/// them are forms, which the columns keep their entries of.
+/// them are forms, which the columns keep their entries of. What unknowns are near to is told, or nothing.
 pub(crate) fn solved(
     alloc: Global,
     equations: &[Equation],
     count: usize,
-    unknowns: &[u32],
-    near: Option<&[i128]>,
+    near: &[i128],
 ) -> Result<(Solving, Met), Memory> {
-    let free = columns(alloc, equations, unknowns, near)?;
     let mut solving = Solving {
+        unknowns: Vec::new(alloc),
         done: Vec::new(alloc),
-        pivots: Vec::new(alloc),
-        values: Vec::new(alloc),
-        free,
+        free: Vec::new(alloc),
     };
-    let met = solving.meet_all(&equations[..count.min(equations.len())])?;
+    let met = solving.solve(alloc, equations, count, near)?;
     Ok((solving, met))
 }
