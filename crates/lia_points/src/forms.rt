@@ -206,7 +206,7 @@ fn put_forms(
     tableau: &Tableau,
     equations: &mut Vec<Equation>,
 ) -> Result<(), Memory> {
-    let mut ranges = Vec::with_capacity(alloc, tableau.rows())?;
+    let mut ranges = Vec::new(alloc);
     put_ranges(alloc, tableau, &mut ranges)?;
     'ranges: while let Some(range) = ranges.pop() {
         put_range(equations, range)?;
@@ -214,10 +214,12 @@ fn put_forms(
     Ok(())
 }
 
-/// The equations of a tableau before its first pivot.
-pub(crate) fn equations(alloc: Global, tableau: &Tableau) -> Result<Vec<Equation>, Memory> {
-    let mut equations = Vec::new(alloc);
-    put_variables(alloc, tableau, &mut equations)?;
-    put_forms(alloc, tableau, &mut equations)?;
-    Ok(equations)
+/// The equations of a tableau before its first pivot join the others.
+pub(crate) fn put_equations(
+    alloc: Global,
+    tableau: &Tableau,
+    equations: &mut Vec<Equation>,
+) -> Result<(), Memory> {
+    put_variables(alloc, tableau, equations)?;
+    put_forms(alloc, tableau, equations)
 }

@@ -6,9 +6,9 @@ ghost use Rattle.node_rows.specs.Known.{are_known, has_short_constant};
 
 use crate::column::{Column, more, number_at};
 use crate::equation::Equation;
-use crate::forms::equations;
-use crate::limits::{Limit, limits};
-use crate::moves::{are_many, meets, moves};
+use crate::forms::put_equations;
+use crate::limits::{Limit, put_limits};
+use crate::moves::{are_many, meets, put_moves};
 use crate::near::{Way, scaled};
 use crate::short::shorten;
 use crate::solving::{Met, Solving, solved};
@@ -19,16 +19,15 @@ use node_rows::node_tableau;
 use simplex_core::{Feasible, feasible};
 use std::alloc::Global;
 
-/// The values, scaled.
-fn all_scaled(alloc: Global, ratios: &[Ratio]) -> Result<Option<Vec<i128>>, Memory> {
-    let mut near = Vec::with_capacity(alloc, ratios.len())?;
+/// The values, scaled. Whether they have room.
+fn put_scaled(near: &mut Vec<i128>, ratios: &[Ratio]) -> Result<bool, Memory> {
     for ratio in ratios {
         match scaled(ratio) {
             Some(value) => near.push(value)?,
-            None => return Ok(None),
+            None => return Ok(false),
         }
     }
-    Ok(Some(near))
+    Ok(true)
 }
 
 /// Each value rounded by itself.
@@ -104,7 +103,7 @@ fn put_free(made: &mut [i128], solving: &Solving, way: Way) -> Option<()> {
 
 /// The numbers, where they are below 2^63 in magnitude.
 fn narrowed(alloc: Global, made: &[i128]) -> Result<Option<Vec<i64>>, Memory> {
-    let mut point = Vec::with_capacity(alloc, made.len())?;
+    let mut point = Vec::new(alloc);
     for value in made {
         match i64::try_from(*value) {
             Ok(value) => point.push(value)?,
@@ -163,7 +162,8 @@ fn put_moved(
     let Some(mut point) = guess(alloc, near, solving, Way::Near)? else {
         return Ok(());
     };
-    let moves = moves(alloc, limits, solving, near.len())?;
+    let mut moves = Vec::new(alloc);
+    put_moves(alloc, &mut moves, limits, solving, near.len())?;
     if meets(point.as_mut_slice(), limits, moves.as_slice()) {
         guesses.push(point)?;
     }
@@ -201,32 +201,43 @@ fn put_points(
     }
 }
 
+/// The equations and limits of a tableau before its first pivot.
+fn put_rows(
+    alloc: Global,
+    tableau: &Tableau,
+    equations: &mut Vec<Equation>,
+    limits: &mut Vec<Limit>,
+) -> Result<(), Memory> {
+    put_equations(alloc, tableau, equations)?;
+    put_limits(alloc, tableau, limits)
+}
+
 /// The points near a vertex, the last the nearest.
 fn from_vertex(
     alloc: Global,
     tableau: &mut Tableau,
     guesses: &mut Vec<Vec<i64>>,
 ) -> Result<(), Memory> {
-    let equations = equations(alloc, tableau)?;
-    let mut limits = limits(alloc, tableau)?;
-    match vertex(alloc, tableau)? {
-        Some(near) => {
-            let (near, equations) = (near.as_slice(), equations.as_slice());
-            put_points(alloc, guesses, near, equations, limits.as_mut_slice())
-        }
-        None => Ok(()),
+    let mut equations = Vec::new(alloc);
+    let mut limits = Vec::new(alloc);
+    put_rows(alloc, tableau, &mut equations, &mut limits)?;
+    let mut near = Vec::new(alloc);
+    if put_vertex(alloc, tableau, &mut near)? {
+        let (near, equations) = (near.as_slice(), equations.as_slice());
+        put_points(alloc, guesses, near, equations, limits.as_mut_slice())?;
     }
+    Ok(())
 }
 
-/// The values of the variables and quotients at a vertex, scaled.
-fn vertex(alloc: Global, tableau: &mut Tableau) -> Result<Option<Vec<i128>>, Memory> {
+/// The values of the variables and quotients at a vertex, scaled. Whether there is one.
+fn put_vertex(alloc: Global, tableau: &mut Tableau, near: &mut Vec<i128>) -> Result<bool, Memory> {
     match feasible(alloc, tableau)? {
         Feasible::Vertex(ratios) => match ratios.as_slice().get(..tableau.columns()) {
-            Some(own) => all_scaled(alloc, own),
-            None => Ok(None),
+            Some(own) => put_scaled(near, own),
+            None => Ok(false),
         },
-        Feasible::Conflict(_) => Ok(None),
-        Feasible::Wide(_) => Ok(None),
+        Feasible::Conflict(_) => Ok(false),
+        Feasible::Wide(_) => Ok(false),
     }
 }
 

@@ -84,14 +84,12 @@ fn put(limits: &mut Vec<Limit>, range: Range) -> Result<(), Memory> {
     Ok(())
 }
 
-/// The bounds of a tableau before its first pivot that leave more than one value.
-pub(crate) fn limits(alloc: Global, tableau: &Tableau) -> Result<Vec<Limit>, Memory> {
-    let mut limits = Vec::new(alloc);
-    put_all(alloc, tableau, &mut limits)?;
-    Ok(limits)
-}
-
-fn put_all(alloc: Global, tableau: &Tableau, limits: &mut Vec<Limit>) -> Result<(), Memory> {
+/// The bounds of a tableau before its first pivot that leave more than one value join the others.
+pub(crate) fn put_limits(
+    alloc: Global,
+    tableau: &Tableau,
+    limits: &mut Vec<Limit>,
+) -> Result<(), Memory> {
     for column in 0..tableau.columns().saturating_add(tableau.rows()) {
         put(limits, form_of(alloc, tableau, column)?)?;
     }

@@ -34,7 +34,7 @@ struct Choice {
 
 /// What the limits' forms rise by.
 fn effects_of(alloc: Global, limits: &[Limit], parts: &[i64]) -> Result<Vec<i64>, Memory> {
-    let mut effects = Vec::with_capacity(alloc, limits.len())?;
+    let mut effects = Vec::new(alloc);
     for limit in limits {
         effects.push(limit.value_at(parts))?;
     }
@@ -96,18 +96,7 @@ pub(crate) fn are_many(limits: &[Limit], variables: usize) -> bool {
 }
 
 /// The moves that keep the equations: the columns that are free, and the variables that no equation has.
-pub(crate) fn moves(
-    alloc: Global,
-    limits: &[Limit],
-    solving: &Solving,
-    variables: usize,
-) -> Result<Vec<Move>, Memory> {
-    let mut moves = Vec::new(alloc);
-    put_all(alloc, &mut moves, limits, solving, variables)?;
-    Ok(moves)
-}
-
-fn put_all(
+pub(crate) fn put_moves(
     alloc: Global,
     moves: &mut Vec<Move>,
     limits: &[Limit],
@@ -126,9 +115,9 @@ fn put_all(
 
 /// How often a change by `each` is made until it is at least `lack`, or at most a `lack` below 0.
 fn times_for(lack: i64, each: i64) -> Option<i64> {
-    let times = lack.unsigned_abs().checked_add(each.unsigned_abs())?;
-    let times = times.checked_sub(1)?.checked_div(each.unsigned_abs())?;
-    let times = i64::try_from(times).ok()?;
+    let size = each.unsigned_abs();
+    let sum = lack.unsigned_abs().checked_add(size)?;
+    let times = i64::try_from(sum.saturating_sub(1).checked_div(size)?).ok()?;
     if (lack < 0) == (each < 0) {
         Some(times)
     } else {
@@ -183,10 +172,8 @@ fn better(one: Option<Choice>, other: Option<Choice>) -> Option<Choice> {
 /// The move as often as the limit of that number wants it.
 fn offered(limits: &[Limit], own: &Move, at: usize, wanted: usize) -> Option<Choice> {
     let limit = limits.get(wanted)?;
-    let times = times_for(
-        limit.lack(limit.value),
-        *own.effects.as_slice().get(wanted)?,
-    )?;
+    let effect = entry(own.effects.as_slice(), wanted);
+    let times = times_for(limit.lack(limit.value), effect)?;
     let cost = cost(limits, own, times);
     Some(Choice { at, times, cost })
 }

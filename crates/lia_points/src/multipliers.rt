@@ -98,17 +98,19 @@ impl Fractions {
         quotient(rest, divisor, entry < 0)
     }
 
-    /// The numerator of the equation that gave the column its value, where that of the column is `share`.
-    fn next(&mut self, done: &[Done], own: &Done, share: i128) -> Option<i128> {
+    /// The numerator of the next equation, from the last one on.
+    fn next(&mut self, done: &[Done], row: Option<usize>) -> Option<i128> {
+        let at = done.len().saturating_sub(self.nums.len()).saturating_sub(1);
+        let own = done.get(at)?;
+        let share = share(&own.column, row, self.nums.is_empty());
         let rest = self.rest(&own.column, done, share.checked_mul(self.den)?)?;
         self.scaled(rest, own.column.entry(own.row))
     }
 
     /// The fractions of all equations, from the last one to the first. Whether they have room.
     fn put_all(&mut self, done: &[Done], row: Option<usize>) -> Result<bool, Memory> {
-        for own in done.iter().rev() {
-            let share = share(&own.column, row, self.nums.is_empty());
-            match self.next(done, own, share) {
+        for _ in 0..done.len() {
+            match self.next(done, row) {
                 Some(num) => self.nums.push(num)?,
                 None => return Ok(false),
             }
@@ -146,7 +148,8 @@ fn share(column: &Column, row: Option<usize>, is_last: bool) -> i128 {
 /// The multiplier of a fraction: its numerator over the divisor, modulo it, with the other sign where it is to
 /// be turned.
 fn multiplier(num: i128, common: i128, divisor: i128, is_turned: bool) -> Option<i64> {
-    let own = quotient(num, common, is_turned)?.checked_rem_euclid(divisor)?;
+    let num = if is_turned { num.checked_neg()? } else { num };
+    let own = num.checked_div(common)?.checked_rem_euclid(divisor)?;
     i64::try_from(own).ok()
 }
 

@@ -81,16 +81,16 @@ fn put_residues(
 }
 
 /// The residues of the forms that stand behind the first `count` rows.
-fn all_residues(
+fn residues(
     alloc: Global,
     solving: &Solving,
     rows: &[Equation],
     count: usize,
-) -> Result<Vec<Residue>, Memory> {
+) -> Result<Told, Memory> {
     let mut made = Vec::new(alloc);
     let forms = &rows[count.min(rows.len())..];
     put_residues(alloc, &mut made, solving, forms, count)?;
-    Ok(made)
+    Ok(Told::Residues(made))
 }
 
 /// What the columns with a value tell, the last of which has none that is an integer.
@@ -110,7 +110,7 @@ pub fn equations_tell(alloc: Global, rows: &[Equation], count: usize) -> Result<
     let (solving, met) = solved(alloc, rows, count, &[])?;
     match met {
         Met::Unsolvable => unsolvable(alloc, &solving, count),
-        Met::Solved => Ok(Told::Residues(all_residues(alloc, &solving, rows, count)?)),
+        Met::Solved => residues(alloc, &solving, rows, count),
         Met::Lost => Ok(Told::Nothing),
     }
 }
