@@ -44,6 +44,17 @@ impl Chain {
         })?;
         numbered(number)
     }
+
+    /// One rounding more, and what it derives joins the leaf.
+    pub(crate) fn close(
+        &mut self,
+        multipliers: Vec<(u32, i64)>,
+        divisor: i64,
+    ) -> Result<(), Memory> {
+        let number = self.round(multipliers, divisor)?;
+        self.multipliers.push((number, 1))?;
+        Ok(())
+    }
 }
 
 /// The number as a refutation writes it, where it has room there.

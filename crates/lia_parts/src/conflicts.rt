@@ -1,7 +1,7 @@
 //! Bounds of columns that contradict, as a leaf.
 
 use crate::chain::Chain;
-use crate::rows::take;
+use crate::rows::taken;
 use crate::sides::{Bound, Sides};
 use base::Memory;
 use std::alloc::Global;
@@ -13,33 +13,21 @@ fn bound_at(sides: &[Sides], at: usize) -> Option<Bound> {
     if at % 2 == 0 { own.lower } else { own.upper }
 }
 
-/// The bounds, each times its multiplier.
+/// The bounds, each times its multiplier, below the roundings of the chain. Whether all are there.
 pub(crate) fn of_conflict(
     alloc: Global,
+    chain: &mut Chain,
     multipliers: &[i64],
     sides: &[Sides],
-    known: usize,
-) -> Result<Option<Chain>, Memory> {
-    of_conflict_under(alloc, Chain::new(alloc, known), multipliers, sides)
-}
-
-/// The same, below the roundings of a chain.
-pub(crate) fn of_conflict_under(
-    alloc: Global,
-    chain: Chain,
-    multipliers: &[i64],
-    sides: &[Sides],
-) -> Result<Option<Chain>, Memory> {
-    let mut chain = chain;
-    let mut sum = Vec::new(alloc);
+) -> Result<bool, Memory> {
     for (at, times) in multipliers.iter().enumerate() {
         if *times != 0 {
             let Some(bound) = bound_at(sides, at) else {
-                return Ok(None);
+                return Ok(false);
             };
-            take(alloc, &mut chain, &mut sum, bound, *times)?;
+            let own = taken(alloc, chain, bound, *times)?;
+            chain.multipliers.push(own)?;
         }
     }
-    chain.multipliers = sum;
-    Ok(Some(chain))
+    Ok(true)
 }

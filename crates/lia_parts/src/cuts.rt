@@ -2,13 +2,13 @@
 //! fraction, and rounded.
 
 use crate::chain::Chain;
-use crate::conflicts::of_conflict_under;
+use crate::conflicts::of_conflict;
 use crate::joining::join_all;
 use crate::parts::set_sides;
-use crate::rows::take;
+use crate::rows::taken;
 use crate::said::Said;
-use crate::sides::{Bound, Sides, all_sides};
-use base::{Copied, Memory};
+use crate::sides::{Bound, Sides, all_sides, meet_all};
+use base::Memory;
 use int_rows::Tableau;
 use lin_atoms::{Lin, Lit, Ratio};
 use simplex_core::{Feasible, feasible};
@@ -17,10 +17,10 @@ use std::alloc::Global;
 /// A bound on how many cuts are added at once.
 const MOST_CUTS: usize = 4;
 
-/// What is known at a node and cuts, and how these are derived.
+/// Cuts, and how these are derived.
 #[derive(Drop)]
 struct Cuts {
-    said: Vec<Said>,
+    found: Vec<Said>,
     chain: Chain,
 }
 
@@ -61,28 +61,19 @@ struct Sum {
     multipliers: Vec<(u32, i64)>,
 }
 
-fn add_to(coefficients: &mut [i128], variable: u32, more: i128) -> Option<()> {
+fn add_to(coefficients: &mut [i128], variable: u32, coefficient: i128, times: i128) -> Option<()> {
     let own = coefficients.get_mut(variable as usize)?;
-    *own = own.checked_add(more)?;
+    *own = own.checked_add(coefficient.checked_mul(times)?)?;
     Some(())
 }
 
 fn add_terms(coefficients: &mut [i128], terms: &[(u32, i128)], times: i128) -> Option<()> {
     for (variable, coefficient) in terms {
-        if add_product(coefficients, *variable, *coefficient, times).is_none() {
+        if add_to(coefficients, *variable, *coefficient, times).is_none() {
             return None;
         }
     }
     Some(())
-}
-
-fn add_product(
-    coefficients: &mut [i128],
-    variable: u32,
-    coefficient: i128,
-    times: i128,
-) -> Option<()> {
-    add_to(coefficients, variable, coefficient.checked_mul(times)?)
 }
 
 impl Sum {
@@ -93,6 +84,7 @@ impl Sum {
             return add_to(
                 self.coefficients.as_mut_slice(),
                 u32::try_from(column).ok()?,
+                1,
                 times,
             );
         }
@@ -116,12 +108,6 @@ impl Sum {
     }
 }
 
-/// `count` zeros.
-fn zeros(alloc: Global, count: usize) -> Result<Vec<i128>, Memory> {
-    let made = vec![in alloc; 0; count]?;
-    Ok(made)
-}
-
 /// What is known of the columns at a vertex.
 #[derive(Drop)]
 struct Vertex<'a> {
@@ -130,7 +116,7 @@ struct Vertex<'a> {
     ratios: &'a [Ratio],
 }
 
-/// A column of the row joins the sum, where it has to. None where it is at no bound.
+/// A column of the row joins the sum, where it has to. Not where it is at no bound.
 fn add_column(
     alloc: Global,
     chain: &mut Chain,
@@ -139,46 +125,42 @@ fn add_column(
     column: usize,
     entry: i64,
     divisor: i64,
-) -> Result<Option<()>, Memory> {
+) -> Result<bool, Memory> {
     if entry.checked_rem(divisor) == Some(0) {
-        return Ok(Some(()));
+        return Ok(true);
     }
     let (Some(own), Some(ratio)) = (vertex.sides.get(column), vertex.ratios.get(column)) else {
-        return Ok(None);
+        return Ok(false);
     };
     let Some((met, times)) = bound_met(own, ratio, i128::from(entry), i128::from(divisor)) else {
-        return Ok(None);
+        return Ok(false);
     };
     let (Some(()), Ok(short)) = (
         sum.add_bound(vertex.forms, column, met, times),
         i64::try_from(times),
     ) else {
-        return Ok(None);
+        return Ok(false);
     };
-    take(alloc, chain, &mut sum.multipliers, met.bound, short)?;
-    Ok(Some(()))
+    let own = taken(alloc, chain, met.bound, short)?;
+    sum.multipliers.push(own)?;
+    Ok(true)
 }
 
-/// The sum that a row asks for.
-fn sum_of(
+/// The columns of the row join the sum. Whether all can.
+fn add_columns(
     alloc: Global,
     chain: &mut Chain,
+    sum: &mut Sum,
     vertex: &Vertex,
-    variables: usize,
     entries: &[i64],
     divisor: i64,
-) -> Result<Option<Sum>, Memory> {
-    let mut sum = Sum {
-        coefficients: zeros(alloc, variables)?,
-        constant: 0,
-        multipliers: Vec::new(alloc),
-    };
+) -> Result<bool, Memory> {
     for (column, entry) in entries.iter().enumerate() {
-        if add_column(alloc, chain, &mut sum, vertex, column, *entry, divisor)?.is_none() {
-            return Ok(None);
+        if !add_column(alloc, chain, sum, vertex, column, *entry, divisor)? {
+            return Ok(false);
         }
     }
-    Ok(Some(sum))
+    Ok(true)
 }
 
 /// A coefficient divided by the number, where that divides it.
@@ -189,34 +171,43 @@ fn divided(coefficient: i128, divisor: i128) -> Option<i64> {
     i64::try_from(coefficient.checked_div(divisor)?).ok()
 }
 
-/// The term of a variable that occurs, divided.
+/// The term of a variable that occurs, divided, where that has room. Whether it has.
 fn put_divided(
     terms: &mut Vec<(u32, i64)>,
     variable: usize,
     coefficient: i128,
     divisor: i128,
-) -> Result<Option<()>, Memory> {
+) -> Result<bool, Memory> {
     if coefficient == 0 {
-        return Ok(Some(()));
+        return Ok(true);
     }
     match (u32::try_from(variable), divided(coefficient, divisor)) {
         (Ok(variable), Some(coefficient)) => {
             terms.push((variable, coefficient))?;
-            Ok(Some(()))
+            Ok(true)
         }
-        _ => Ok(None),
+        _ => Ok(false),
     }
+}
+
+/// The terms of the variables that occur, divided. Whether there are any, and all have room.
+fn put_terms(
+    terms: &mut Vec<(u32, i64)>,
+    coefficients: &[i128],
+    divisor: i128,
+) -> Result<bool, Memory> {
+    for (variable, coefficient) in coefficients.iter().enumerate() {
+        if !put_divided(terms, variable, *coefficient, divisor)? {
+            return Ok(false);
+        }
+    }
+    Ok(!terms.is_empty())
 }
 
 /// The sum divided and rounded, where a variable is left.
 fn rounded(alloc: Global, sum: &Sum, divisor: i128) -> Result<Option<Lin>, Memory> {
     let mut terms = Vec::new(alloc);
-    for (variable, coefficient) in sum.coefficients.iter().enumerate() {
-        if put_divided(&mut terms, variable, *coefficient, divisor)?.is_none() {
-            return Ok(None);
-        }
-    }
-    if terms.is_empty() {
+    if !put_terms(&mut terms, sum.coefficients.as_slice(), divisor)? {
         return Ok(None);
     }
     match ceiling(sum.constant, divisor) {
@@ -243,14 +234,19 @@ impl Cuts {
         entries: &[i64],
         divisor: i64,
     ) -> Result<bool, Memory> {
-        let Some(sum) = sum_of(alloc, &mut self.chain, vertex, variables, entries, divisor)? else {
-            return Ok(false);
+        let mut sum = Sum {
+            coefficients: vec![in alloc; 0; variables]?,
+            constant: 0,
+            multipliers: Vec::new(alloc),
         };
+        if !add_columns(alloc, &mut self.chain, &mut sum, vertex, entries, divisor)? {
+            return Ok(false);
+        }
         let Some(lin) = rounded(alloc, &sum, i128::from(divisor))? else {
             return Ok(false);
         };
         let number = self.chain.round(sum.multipliers, divisor)?;
-        self.said.push(Said {
+        self.found.push(Said {
             number,
             lit: Lit::Le(lin),
         })?;
@@ -296,83 +292,93 @@ impl Cuts {
         Ok(count > 0)
     }
 
+    /// Cuts of the vertex join the tableau and its forms. Whether there are any, and room for all of them.
+    fn join(
+        &mut self,
+        alloc: Global,
+        tableau: &mut Tableau,
+        forms: &mut Vec<Vec<(u32, i128)>>,
+        sides: &[Sides],
+        ratios: &[Ratio],
+    ) -> Result<bool, Memory> {
+        let before = self.found.len();
+        let vertex = Vertex {
+            forms: forms.as_slice(),
+            sides,
+            ratios,
+        };
+        if !self.put_rows(alloc, tableau, &vertex)? {
+            return Ok(false);
+        }
+        match self.found.as_slice().get(before..) {
+            Some(cuts) => join_all(alloc, tableau, forms, cuts),
+            None => Ok(false),
+        }
+    }
+
     /// One round: the bounds contradict, or cuts of the vertex join the tableau and its forms.
     fn round(
         &mut self,
         alloc: Global,
         tableau: &mut Tableau,
         forms: &mut Vec<Vec<(u32, i128)>>,
+        said: &[Said],
     ) -> Result<Told, Memory> {
-        let known = self.said.len();
-        let (said, variables) = (self.said.as_slice(), tableau.columns());
-        let sides = all_sides(alloc, said, forms.as_slice(), variables)?;
-        set_sides(tableau, sides.as_slice());
-        let ratios = match feasible(alloc, tableau)? {
-            Feasible::Vertex(ratios) => ratios,
-            Feasible::Conflict(multipliers) => return Ok(Told::Conflict(multipliers, sides)),
-            Feasible::Wide(_) => return Ok(Told::Nothing),
-        };
-        let vertex = Vertex {
-            forms: forms.as_slice(),
-            sides: sides.as_slice(),
-            ratios: ratios.as_slice(),
-        };
-        if !self.put_rows(alloc, tableau, &vertex)? {
-            return Ok(Told::Nothing);
-        }
-        match self.said.as_slice().get(known..) {
-            Some(cuts) => Ok(after_joining(join_all(alloc, tableau, forms, cuts)?)),
-            None => Ok(Told::Nothing),
+        let variables = tableau.columns();
+        let mut sides = all_sides(alloc, said, forms.as_slice(), variables)?;
+        let sides = sides.as_mut_slice();
+        meet_all(sides, self.found.as_slice(), forms.as_slice(), variables);
+        set_sides(tableau, sides);
+        match feasible(alloc, tableau)? {
+            Feasible::Vertex(ratios) => {
+                let have_joined = self.join(alloc, tableau, forms, sides, ratios.as_slice())?;
+                Ok(if_told(have_joined, Told::More))
+            }
+            Feasible::Conflict(multipliers) => {
+                let chain = &mut self.chain;
+                let is_closed = of_conflict(alloc, chain, multipliers.as_slice(), sides)?;
+                Ok(if_told(is_closed, Told::Closed))
+            }
+            Feasible::Wide(_) => Ok(Told::Nothing),
         }
     }
 }
 
 /// What a round comes to.
-#[derive(Drop)]
+#[derive(Clone, Copy)]
 enum Told {
     More,
-    Conflict(Vec<i64>, Vec<Sides>),
+    /// The chain is closed.
+    Closed,
     Nothing,
 }
 
-/// What cuts come to, where there may have been no room for them.
-fn after_joining(have_room: bool) -> Told {
-    if have_room { Told::More } else { Told::Nothing }
-}
-
-fn copies_of(alloc: Global, said: &[Said]) -> Result<Vec<Said>, Memory> {
-    let mut made = Vec::with_capacity(alloc, said.len())?;
-    for one in said {
-        made.push(Said {
-            number: one.number,
-            lit: one.lit.copy(alloc)?,
-        })?;
-    }
-    Ok(made)
+/// What a round comes to, where it comes to anything.
+fn if_told(is_told: bool, told: Told) -> Told {
+    if is_told { told } else { Told::Nothing }
 }
 
 /// Cuts and bounds that contradict, where so many rounds of cuts at most lead to them. The tableau has rows of the
-/// forms, and may have been pivoted.
+/// forms, and may have been pivoted. Forms of cuts join both.
 pub(crate) fn of_cuts(
     alloc: Global,
     tableau: &mut Tableau,
-    forms: Vec<Vec<(u32, i128)>>,
+    forms: &mut Vec<Vec<(u32, i128)>>,
     said: &[Said],
     known: usize,
     rounds: u32,
 ) -> Result<Option<Chain>, Memory> {
-    let mut forms = forms;
     let mut cuts = Cuts {
-        said: copies_of(alloc, said)?,
+        found: Vec::new(alloc),
         chain: Chain::new(alloc, known),
     };
     'rounds: for _ in 0..rounds {
-        match cuts.round(alloc, tableau, &mut forms)? {
+        match cuts.round(alloc, tableau, forms, said)? {
             Told::More => {}
             Told::Nothing => return Ok(None),
-            Told::Conflict(multipliers, sides) => {
+            Told::Closed => {
                 let Cuts { chain, .. } = cuts;
-                return of_conflict_under(alloc, chain, multipliers.as_slice(), sides.as_slice());
+                return Ok(Some(chain));
             }
         }
     }

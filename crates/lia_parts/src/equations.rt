@@ -1,10 +1,10 @@
 //! Columns with one value, as equations of integers, and what these leave of columns between two bounds.
 
 use crate::chain::{Chain, numbered};
-use crate::rows::{both, chain_of, is_refuted};
+use crate::rows::{both, is_refuted, put_row};
 use crate::sides::Sides;
 use base::Memory;
-use lia_points::{Equation, Residue, Told, equations_tell, set, zeros};
+use lia_points::{Equation, Residue, Told, Unsolvable, equations_tell, set, zeros};
 use std::alloc::Global;
 
 /// Columns whose bounds are farther apart aren't looked at.
@@ -23,69 +23,80 @@ fn one_value(sides: &[Sides], column: usize) -> Option<i128> {
     }
 }
 
-fn copied(alloc: Global, terms: &[(u32, i128)]) -> Result<Vec<(u32, i128)>, Memory> {
-    let mut made = Vec::with_capacity(alloc, terms.len())?;
-    for term in terms {
-        made.push(*term)?;
-    }
-    Ok(made)
-}
-
-/// What a column stands for: itself, or a form.
-fn terms_of(
-    alloc: Global,
+/// Puts what a column stands for, itself or a form.
+fn put_terms(
+    terms: &mut Vec<(u32, i128)>,
     forms: &[Vec<(u32, i128)>],
     variables: usize,
     column: usize,
-) -> Result<Vec<(u32, i128)>, Memory> {
-    if column < variables {
-        return Ok(vec![in alloc; (numbered(column)?, 1)]?);
-    }
-    match forms.get(column - variables) {
-        Some(terms) => copied(alloc, terms.as_slice()),
-        None => Ok(Vec::new(alloc)),
-    }
-}
-
-/// The columns with one value, and their equations.
-fn equations(
-    alloc: Global,
-    forms: &[Vec<(u32, i128)>],
-    variables: usize,
-    sides: &[Sides],
-) -> Result<(Vec<usize>, Vec<Equation>), Memory> {
-    let mut columns = Vec::new(alloc);
-    let mut equations = Vec::new(alloc);
-    for column in 0..sides.len() {
-        if let Some(value) = one_value(sides, column) {
-            let terms = terms_of(alloc, forms, variables, column)?;
-            columns.push(column)?;
-            equations.push(Equation { terms, value })?;
-        }
-    }
-    Ok((columns, equations))
-}
-
-/// The columns between two bounds that aren't far apart, after the others. Each has as its value how far.
-fn put_boxes(
-    alloc: Global,
-    forms: &[Vec<(u32, i128)>],
-    variables: usize,
-    sides: &[Sides],
-    columns: &mut Vec<usize>,
-    rows: &mut Vec<Equation>,
 ) -> Result<(), Memory> {
-    for column in 0..sides.len() {
-        if rows.len() >= MOST_COLUMNS {
-            return Ok(());
-        }
-        if let Some(value) = apart(sides, column) {
-            let terms = terms_of(alloc, forms, variables, column)?;
-            columns.push(column)?;
-            rows.push(Equation { terms, value })?;
-        }
+    if column < variables {
+        terms.push((numbered(column)?, 1))?;
+    } else if let Some(own) = forms.get(column - variables) {
+        terms.extend_from_slice(own.as_slice())?;
     }
     Ok(())
+}
+
+/// Columns, and an equation for each.
+#[derive(Drop)]
+struct Rows {
+    columns: Vec<usize>,
+    equations: Vec<Equation>,
+}
+
+impl Rows {
+    /// One column more, and its equation.
+    fn put(
+        &mut self,
+        alloc: Global,
+        forms: &[Vec<(u32, i128)>],
+        variables: usize,
+        column: usize,
+        value: i128,
+    ) -> Result<(), Memory> {
+        let mut terms = Vec::new(alloc);
+        put_terms(&mut terms, forms, variables, column)?;
+        self.equations.push(Equation { terms, value })?;
+        self.columns.push(column)?;
+        Ok(())
+    }
+
+    /// The columns with one value.
+    fn put_values(
+        &mut self,
+        alloc: Global,
+        forms: &[Vec<(u32, i128)>],
+        variables: usize,
+        sides: &[Sides],
+    ) -> Result<(), Memory> {
+        for column in 0..sides.len() {
+            if let Some(value) = one_value(sides, column) {
+                self.put(alloc, forms, variables, column, value)?;
+            }
+        }
+        Ok(())
+    }
+
+    /// The columns between two bounds that aren't far apart, after the others. Each has as its value how
+    /// far.
+    fn put_boxes(
+        &mut self,
+        alloc: Global,
+        forms: &[Vec<(u32, i128)>],
+        variables: usize,
+        sides: &[Sides],
+    ) -> Result<(), Memory> {
+        for column in 0..sides.len() {
+            if self.equations.len() >= MOST_COLUMNS {
+                return Ok(());
+            }
+            if let Some(value) = apart(sides, column) {
+                self.put(alloc, forms, variables, column, value)?;
+            }
+        }
+        Ok(())
+    }
 }
 
 /// How far the bounds of a column are apart, where that isn't far.
@@ -130,69 +141,93 @@ fn column_of(columns: &[usize], count: usize, form: usize) -> Option<usize> {
     Some(*column)
 }
 
-/// The residue as a row, where it leaves nothing between the bounds of its column.
+/// The residue as a row, where it leaves nothing between the bounds of its column. Whether it does.
 fn of_residue(
     alloc: Global,
+    chain: &mut Chain,
     sides: &[Sides],
     columns: &[usize],
     count: usize,
     own: &Residue,
-    known: usize,
-) -> Result<Option<Chain>, Memory> {
+) -> Result<bool, Memory> {
     let Some(column) = column_of(columns, count, own.form) else {
-        return Ok(None);
+        return Ok(false);
     };
     let more = Some((column, own.times));
     let multipliers = own.multipliers.as_slice();
     let entries = entries(alloc, sides.len(), columns, multipliers, more)?;
-    if !is_refuted(entries.as_slice(), sides, own.divisor) {
-        return Ok(None);
+    let is_refuted = is_refuted(entries.as_slice(), sides, own.divisor);
+    if is_refuted {
+        put_row(alloc, chain, entries.as_slice(), sides, own.divisor)?;
     }
-    let chain = chain_of(alloc, entries.as_slice(), sides, own.divisor, known)?;
-    Ok(Some(chain))
+    Ok(is_refuted)
 }
 
-/// The first of the residues that leaves nothing between the bounds of its column.
+/// The first of the residues that leaves nothing between the bounds of its column. Whether there is one.
 fn of_residues(
     alloc: Global,
+    chain: &mut Chain,
     sides: &[Sides],
     columns: &[usize],
     count: usize,
     residues: &[Residue],
-    known: usize,
-) -> Result<Option<Chain>, Memory> {
+) -> Result<bool, Memory> {
     for own in residues {
-        if let Some(chain) = of_residue(alloc, sides, columns, count, own, known)? {
-            return Ok(Some(chain));
+        if of_residue(alloc, chain, sides, columns, count, own)? {
+            return Ok(true);
         }
     }
-    Ok(None)
+    Ok(false)
+}
+
+/// The multiples of columns with one value, as a row.
+fn of_values(
+    alloc: Global,
+    chain: &mut Chain,
+    sides: &[Sides],
+    columns: &[usize],
+    found: &Unsolvable,
+) -> Result<bool, Memory> {
+    let multipliers = found.multipliers.as_slice();
+    let entries = entries(alloc, sides.len(), columns, multipliers, None)?;
+    put_row(alloc, chain, entries.as_slice(), sides, found.divisor)?;
+    Ok(true)
+}
+
+/// What the first `count` rows tell of the others.
+fn of_rows(
+    alloc: Global,
+    chain: &mut Chain,
+    sides: &[Sides],
+    rows: &Rows,
+    count: usize,
+) -> Result<bool, Memory> {
+    let columns = rows.columns.as_slice();
+    match equations_tell(alloc, rows.equations.as_slice(), count)? {
+        Told::Unsolvable(found) => of_values(alloc, chain, sides, columns, &found),
+        Told::Residues(found) => of_residues(alloc, chain, sides, columns, count, found.as_slice()),
+        Told::Nothing => Ok(false),
+    }
 }
 
 /// Multiples of columns with one value, which add up to what a number divides, but for their values; or
-/// which leave by a number nothing of what another column may be.
+/// which leave by a number nothing of what another column may be. Whether there are any.
 pub(crate) fn of_equations(
     alloc: Global,
+    chain: &mut Chain,
     forms: &[Vec<(u32, i128)>],
     variables: usize,
     sides: &[Sides],
-    known: usize,
-) -> Result<Option<Chain>, Memory> {
-    let (mut columns, mut rows) = equations(alloc, forms, variables, sides)?;
-    let count = rows.len();
+) -> Result<bool, Memory> {
+    let mut rows = Rows {
+        columns: Vec::new(alloc),
+        equations: Vec::new(alloc),
+    };
+    rows.put_values(alloc, forms, variables, sides)?;
+    let count = rows.equations.len();
     if count == 0 {
-        return Ok(None);
+        return Ok(false);
     }
-    put_boxes(alloc, forms, variables, sides, &mut columns, &mut rows)?;
-    let columns = columns.as_slice();
-    match equations_tell(alloc, rows.as_slice(), count)? {
-        Told::Unsolvable(found) => {
-            let multipliers = found.multipliers.as_slice();
-            let entries = entries(alloc, sides.len(), columns, multipliers, None)?;
-            let chain = chain_of(alloc, entries.as_slice(), sides, found.divisor, known)?;
-            Ok(Some(chain))
-        }
-        Told::Residues(found) => of_residues(alloc, sides, columns, count, found.as_slice(), known),
-        Told::Nothing => Ok(None),
-    }
+    rows.put_boxes(alloc, forms, variables, sides)?;
+    of_rows(alloc, chain, sides, &rows, count)
 }

@@ -15,7 +15,7 @@ use crate::equations::of_equations;
 use crate::rows::of_rows;
 use crate::said::{Move, Said};
 use crate::sides::{Bound, Sides, all_sides};
-use crate::splits::{Part, Place, above, below, form_of, narrowest};
+use crate::splits::{Part, Place, form_of, narrowest, put_parts};
 use crate::values::{are_whole, first_fraction};
 use base::Memory;
 use int_rows::{RowStop, Tableau};
@@ -34,9 +34,19 @@ const FEW_ROUNDS: u32 = 3;
 /// What a part comes to.
 #[derive(Drop)]
 enum Told {
-    Closed(Chain),
+    /// The chain closes it.
+    Closed,
     Split(Lin, Place),
     Nothing,
+}
+
+/// What a part comes to that the chain closes, or that isn't closed.
+fn if_closed(is_closed: bool) -> Told {
+    if is_closed {
+        Told::Closed
+    } else {
+        Told::Nothing
+    }
 }
 
 /// Whether the number is below 2^64 in magnitude.
@@ -91,20 +101,19 @@ fn place(sides: &[Sides], ratios: &[Ratio]) -> Option<Place> {
 /// A part with a vertex. Where that is whole, no tree closes the part.
 fn at_vertex(
     alloc: Global,
+    chain: &mut Chain,
     tableau: &Tableau,
     forms: &[Vec<(u32, i128)>],
-    part: &Part,
+    sides: &[Sides],
     ratios: &[Ratio],
 ) -> Result<Told, Memory> {
     if are_whole(ratios) {
         return Ok(Told::Nothing);
     }
-    let sides = part.sides.as_slice();
-    if let Some(chain) = of_rows(alloc, tableau, sides, part.known)? {
-        return Ok(Told::Closed(chain));
-    }
-    if let Some(chain) = of_equations(alloc, forms, tableau.columns(), sides, part.known)? {
-        return Ok(Told::Closed(chain));
+    if of_rows(alloc, chain, tableau, sides)?
+        || of_equations(alloc, chain, forms, tableau.columns(), sides)?
+    {
+        return Ok(Told::Closed);
     }
     let Some(place) = place(sides, ratios) else {
         return Ok(Told::Nothing);
@@ -115,76 +124,98 @@ fn at_vertex(
     }
 }
 
-/// A part is examined.
+/// A part with these bounds is examined.
 fn met(
     alloc: Global,
+    chain: &mut Chain,
     tableau: &mut Tableau,
     forms: &[Vec<(u32, i128)>],
-    part: &Part,
+    sides: &[Sides],
 ) -> Result<Told, Memory> {
-    set_sides(tableau, part.sides.as_slice());
+    set_sides(tableau, sides);
     match feasible(alloc, tableau)? {
         Feasible::Vertex(ratios) => match ratios.as_slice().get(..tableau.columns()) {
-            Some(own) => at_vertex(alloc, tableau, forms, part, own),
+            Some(own) => at_vertex(alloc, chain, tableau, forms, sides, own),
             None => Ok(Told::Nothing),
         },
         Feasible::Conflict(multipliers) => {
-            let sides = part.sides.as_slice();
-            match of_conflict(alloc, multipliers.as_slice(), sides, part.known)? {
-                Some(chain) => Ok(Told::Closed(chain)),
-                None => Ok(Told::Nothing),
-            }
+            let is_closed = of_conflict(alloc, chain, multipliers.as_slice(), sides)?;
+            Ok(if_closed(is_closed))
         }
         Feasible::Wide(_) => Ok(Told::Nothing),
     }
 }
 
-/// A part that is closed leaves none, and one that is split leaves two. Whether it is one of these.
-fn put_told(
-    alloc: Global,
-    stack: &mut Vec<Part>,
-    moves: &mut Vec<Move>,
-    part: &Part,
-    told: Told,
-) -> Result<bool, Memory> {
-    match told {
-        Told::Closed(chain) => {
-            moves.push(Move::Closed(chain))?;
-            Ok(true)
+/// A tree of parts, as far as it has come.
+#[derive(Drop)]
+struct Tree {
+    /// The parts to be met, the next one last.
+    parts: Vec<Part>,
+    moves: Vec<Move>,
+}
+
+impl Tree {
+    /// A part that is closed leaves none, and one that is split leaves two. Whether it is one of these.
+    fn meet(
+        &mut self,
+        alloc: Global,
+        tableau: &mut Tableau,
+        forms: &[Vec<(u32, i128)>],
+        part: Part,
+    ) -> Result<bool, Memory> {
+        let mut chain = Chain::new(alloc, part.known);
+        match met(alloc, &mut chain, tableau, forms, part.sides.as_slice())? {
+            Told::Closed => {
+                self.moves.push(Move::Closed(chain))?;
+                Ok(true)
+            }
+            Told::Split(lin, place) => {
+                self.moves.push(Move::Split(lin))?;
+                put_parts(alloc, &mut self.parts, part, place)?;
+                Ok(true)
+            }
+            Told::Nothing => Ok(false),
         }
-        Told::Split(lin, place) => {
-            moves.push(Move::Split(lin))?;
-            stack.push(above(alloc, part, place)?)?;
-            stack.push(below(alloc, part, place)?)?;
-            Ok(true)
+    }
+
+    /// The parts are met one after the other, at most `most` of them. Whether all are closed.
+    fn meet_all(
+        &mut self,
+        alloc: Global,
+        tableau: &mut Tableau,
+        forms: &[Vec<(u32, i128)>],
+        most: u32,
+    ) -> Result<bool, Memory> {
+        'parts: for _ in 0..most {
+            let Some(part) = self.parts.pop() else {
+                return Ok(true);
+            };
+            if !self.meet(alloc, tableau, forms, part)? {
+                return Ok(false);
+            }
         }
-        Told::Nothing => Ok(false),
+        Ok(self.parts.is_empty())
     }
 }
 
-/// The parts are met one after the other, at most `most` of them.
-fn all_met(
+/// The nodes of a tree with at most `most` parts, where one is found.
+fn of_parts(
     alloc: Global,
     tableau: &mut Tableau,
     forms: &[Vec<(u32, i128)>],
     first: Part,
     most: u32,
 ) -> Result<Option<Vec<Move>>, Memory> {
-    let mut stack = vec![in alloc; first]?;
-    let mut moves = Vec::new(alloc);
-    'parts: for _ in 0..most {
-        let Some(part) = stack.pop() else {
-            return Ok(Some(moves));
-        };
-        let told = met(alloc, tableau, forms, &part)?;
-        if !put_told(alloc, &mut stack, &mut moves, &part, told)? {
-            return Ok(None);
-        }
+    let mut tree = Tree {
+        parts: vec![in alloc; first]?,
+        moves: Vec::new(alloc),
+    };
+    if tree.meet_all(alloc, tableau, forms, most)? {
+        let Tree { moves, .. } = tree;
+        Ok(Some(moves))
+    } else {
+        Ok(None)
     }
-    if stack.is_empty() {
-        return Ok(Some(moves));
-    }
-    Ok(None)
 }
 
 /// How often cuts are added, where the node may be split into so many parts.
@@ -200,13 +231,13 @@ fn from_tableau(
     known: usize,
     most: u32,
 ) -> Result<Option<Vec<Move>>, Memory> {
-    let forms = forms(alloc, tableau)?;
+    let mut forms = forms(alloc, tableau)?;
     let sides = all_sides(alloc, said, forms.as_slice(), tableau.columns())?;
     let first = Part { sides, known };
-    if let Some(moves) = all_met(alloc, tableau, forms.as_slice(), first, most)? {
+    if let Some(moves) = of_parts(alloc, tableau, forms.as_slice(), first, most)? {
         return Ok(Some(moves));
     }
-    match of_cuts(alloc, tableau, forms, said, known, rounds(most))? {
+    match of_cuts(alloc, tableau, &mut forms, said, known, rounds(most))? {
         Some(chain) => Ok(Some(vec![in alloc; Move::Closed(chain)]?)),
         None => Ok(None),
     }

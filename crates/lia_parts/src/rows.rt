@@ -144,22 +144,18 @@ fn refuting(entries: &[i64], sides: &[Sides]) -> Option<i64> {
     }
 }
 
-/// A bound is taken `times` times, rounded by itself first where it has to be.
-pub(crate) fn take(
+/// A bound that is taken `times` times, rounded by itself first where it has to be.
+pub(crate) fn taken(
     alloc: Global,
     chain: &mut Chain,
-    sum: &mut Vec<(u32, i64)>,
     bound: Bound,
     times: i64,
-) -> Result<(), Memory> {
+) -> Result<(u32, i64), Memory> {
     if bound.divisor == 1 {
-        sum.push((bound.number, bound.sign.wrapping_mul(times)))?;
-        return Ok(());
+        return Ok((bound.number, bound.sign.wrapping_mul(times)));
     }
     let single = vec![in alloc; (bound.number, bound.sign)]?;
-    let number = chain.round(single, bound.divisor)?;
-    sum.push((number, times))?;
-    Ok(())
+    Ok((chain.round(single, bound.divisor)?, times))
 }
 
 /// What a row's columns are at most, added up, and with the other sign what they are at least.
@@ -169,67 +165,78 @@ struct Sums {
     least: Vec<(u32, i64)>,
 }
 
-/// Both bounds of a column are taken, where the number doesn't divide its entry.
-fn take_column(
-    alloc: Global,
-    chain: &mut Chain,
-    sums: &mut Sums,
-    entry: i64,
-    found: Option<(Bound, Bound)>,
-) -> Result<(), Memory> {
-    let Some((lower, upper)) = found else {
-        return Ok(());
-    };
-    let times = entry.wrapping_abs();
-    if entry > 0 {
-        take(alloc, chain, &mut sums.most, upper, times)?;
-        take(alloc, chain, &mut sums.least, lower, times)?;
-    } else {
-        take(alloc, chain, &mut sums.most, lower, times)?;
-        take(alloc, chain, &mut sums.least, upper, times)?;
+impl Sums {
+    /// Both bounds of a column are taken.
+    fn take(
+        &mut self,
+        alloc: Global,
+        chain: &mut Chain,
+        entry: i64,
+        bounds: (Bound, Bound),
+    ) -> Result<(), Memory> {
+        let times = entry.wrapping_abs();
+        let (lower, upper) = bounds;
+        let (most, least) = if entry > 0 {
+            (upper, lower)
+        } else {
+            (lower, upper)
+        };
+        self.most.push(taken(alloc, chain, most, times)?)?;
+        self.least.push(taken(alloc, chain, least, times)?)?;
+        Ok(())
     }
-    Ok(())
+
+    /// The bounds of the columns are taken whose entries the number doesn't divide.
+    fn take_all(
+        &mut self,
+        alloc: Global,
+        chain: &mut Chain,
+        entries: &[i64],
+        sides: &[Sides],
+        divisor: i64,
+    ) -> Result<(), Memory> {
+        for (column, entry) in entries.iter().enumerate() {
+            if !divides(divisor, *entry) {
+                if let Some(bounds) = both(sides, column) {
+                    self.take(alloc, chain, *entry, bounds)?;
+                }
+            }
+        }
+        Ok(())
+    }
 }
 
 /// The row divided by the number, rounded from above and from below.
-pub(crate) fn chain_of(
+pub(crate) fn put_row(
     alloc: Global,
+    chain: &mut Chain,
     entries: &[i64],
     sides: &[Sides],
     divisor: i64,
-    known: usize,
-) -> Result<Chain, Memory> {
-    let mut chain = Chain::new(alloc, known);
+) -> Result<(), Memory> {
     let mut sums = Sums {
         most: Vec::new(alloc),
         least: Vec::new(alloc),
     };
-    for (column, entry) in entries.iter().enumerate() {
-        if !divides(divisor, *entry) {
-            take_column(alloc, &mut chain, &mut sums, *entry, both(sides, column))?;
-        }
-    }
+    sums.take_all(alloc, chain, entries, sides, divisor)?;
     let Sums { most, least } = sums;
-    let first = chain.round(most, divisor)?;
-    let second = chain.round(least, divisor)?;
-    chain.multipliers.push((first, 1))?;
-    chain.multipliers.push((second, 1))?;
-    Ok(chain)
+    chain.close(most, divisor)?;
+    chain.close(least, divisor)
 }
 
-/// The first row that a number refutes.
+/// The first row that a number refutes. Whether there is one.
 pub(crate) fn of_rows(
     alloc: Global,
+    chain: &mut Chain,
     tableau: &Tableau,
     sides: &[Sides],
-    known: usize,
-) -> Result<Option<Chain>, Memory> {
+) -> Result<bool, Memory> {
     'rows: for row in 0..tableau.rows() {
         let entries = tableau.row(row);
         if let Some(divisor) = refuting(entries, sides) {
-            let chain = chain_of(alloc, entries, sides, divisor, known)?;
-            return Ok(Some(chain));
+            put_row(alloc, chain, entries, sides, divisor)?;
+            return Ok(true);
         }
     }
-    Ok(None)
+    Ok(false)
 }

@@ -147,16 +147,16 @@ fn meet_one(sides: &mut [Sides], one: &Said, forms: &[Vec<(u32, i128)>], variabl
     }
 }
 
-/// No bounds, for each of `columns` columns.
-fn no_sides(alloc: Global, columns: usize) -> Result<Vec<Sides>, Memory> {
-    let mut sides = Vec::new(alloc);
-    for _ in 0..columns {
-        sides.push(Sides {
-            lower: None,
-            upper: None,
-        })?;
+/// What the literals say of the columns.
+pub(crate) fn meet_all(
+    sides: &mut [Sides],
+    said: &[Said],
+    forms: &[Vec<(u32, i128)>],
+    variables: usize,
+) {
+    for one in said {
+        meet_one(sides, one, forms, variables);
     }
-    Ok(sides)
 }
 
 /// The tightest bounds of the variables, and of the slacks of the forms, that the literals give, each
@@ -167,10 +167,11 @@ pub(crate) fn all_sides(
     forms: &[Vec<(u32, i128)>],
     variables: usize,
 ) -> Result<Vec<Sides>, Memory> {
-    let columns = variables.saturating_add(forms.len());
-    let mut sides = no_sides(alloc, columns)?;
-    for one in said {
-        meet_one(sides.as_mut_slice(), one, forms, variables);
-    }
+    let none = Sides {
+        lower: None,
+        upper: None,
+    };
+    let mut sides = vec![in alloc; none; variables.saturating_add(forms.len())]?;
+    meet_all(sides.as_mut_slice(), said, forms, variables);
     Ok(sides)
 }

@@ -81,38 +81,6 @@ pub(crate) fn form_of(
     }
 }
 
-fn copies(alloc: Global, sides: &[Sides]) -> Result<Vec<Sides>, Memory> {
-    let mut made = Vec::new(alloc);
-    for own in sides {
-        made.push(*own)?;
-    }
-    Ok(made)
-}
-
-/// The part with one literal more, which gives the column a bound.
-fn with_bound(
-    alloc: Global,
-    part: &Part,
-    column: usize,
-    lower: Option<i128>,
-    upper: Option<i128>,
-) -> Result<Part, Memory> {
-    let mut sides = copies(alloc, part.sides.as_slice())?;
-    let number = numbered(part.known)?;
-    if let Some(own) = sides.as_mut_slice().get_mut(column) {
-        if let Some(value) = lower {
-            own.lower = Some(given(value, number));
-        }
-        if let Some(value) = upper {
-            own.upper = Some(given(value, number));
-        }
-    }
-    Ok(Part {
-        sides,
-        known: part.known.saturating_add(1),
-    })
-}
-
 /// A bound that the literal of this number gives as it stands.
 fn given(value: i128, number: u32) -> Bound {
     Bound {
@@ -123,13 +91,27 @@ fn given(value: i128, number: u32) -> Bound {
     }
 }
 
-/// The part in which the column is at most the number.
-pub(crate) fn below(alloc: Global, part: &Part, place: Place) -> Result<Part, Memory> {
-    with_bound(alloc, part, place.column, None, Some(place.most))
-}
-
-/// The part in which it is greater.
-pub(crate) fn above(alloc: Global, part: &Part, place: Place) -> Result<Part, Memory> {
-    let least = place.most.saturating_add(1);
-    with_bound(alloc, part, place.column, Some(least), None)
+/// A part is split: above the number and, to be met first, at most the number. Each has one literal more,
+/// which gives the column a bound.
+pub(crate) fn put_parts(
+    alloc: Global,
+    stack: &mut Vec<Part>,
+    part: Part,
+    place: Place,
+) -> Result<(), Memory> {
+    let mut below = part;
+    let number = numbered(below.known)?;
+    let known = below.known.saturating_add(1);
+    let mut sides = Vec::new(alloc);
+    sides.extend_from_slice(below.sides.as_slice())?;
+    if let Some(own) = sides.as_mut_slice().get_mut(place.column) {
+        own.lower = Some(given(place.most.saturating_add(1), number));
+    }
+    stack.push(Part { sides, known })?;
+    if let Some(own) = below.sides.as_mut_slice().get_mut(place.column) {
+        own.upper = Some(given(place.most, number));
+    }
+    below.known = known;
+    stack.push(below)?;
+    Ok(())
 }
