@@ -1,4 +1,5 @@
 pub mod FlatLemmas
 pub mod NameLemmas
 pub mod TreeLemmas
+pub mod UsedLemmas
 pub mod WayLemmas
