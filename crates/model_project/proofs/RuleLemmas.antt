@@ -58,9 +58,13 @@ by_solving model q v d lits new e mv found t h =
 found_first : (v : ℕ) (e : Linear) (lits : List Lit) → lin_has v e ≡ true → equation_in v (Eq e ∷ lits) ≡ Some e
 found_first v e lits has = ap (λ b. cond b (Some e) (equation_in v lits)) has
 
+-- what is given under a test is given
+taken : (b : Bool) (o : Option (List Lit)) (new : List Lit) → cond b o None ≡ Some new → o ≡ Some new
+taken true o new h = h
+taken false o new h = absurd (cc)
+
 put_here : (v : ℕ) (e : Linear) (lits new : List Lit) (b : Bool) → cond b (tidied (solved v (Eq e ∷ lits))) None ≡ Some new → tidied (solved v (Eq e ∷ lits)) ≡ Some new
-put_here v e lits new true h = h
-put_here v e lits new false h = absurd (cc)
+put_here v e lits new b h = taken b (tidied (solved v (Eq e ∷ lits))) new h
 
 by_putting : (model q : List ℤ) (v : ℕ) (d : ℤ) (lits new : List Lit) (e : Linear) → Moves v d model q → lin_has v e ≡ true → value_at q e ≡ pos 0 → are_true q lits ≡ true → ((u : ℕ) → (u ≡ v → ⊥) → lacks u lits ≡ true → coefficient u e ≡ pos 0)
     → put_before v e lits ≡ Some new → Step model v lits new
@@ -165,8 +169,7 @@ nearest_lacks p below u v (lit ∷ lits) lin lack h =
 
 -- rules 3 and 4
 bound_here : (model : List ℤ) (v : ℕ) (lits new : List Lit) (d : ℕ) (lin : Linear) (b : Bool) → cond b (put_before v (plus lin (pos (gap model lin % (nat_abs (coefficient v lin) * d)))) lits) None ≡ Some new → put_before v (plus lin (pos (gap model lin % (nat_abs (coefficient v lin) * d)))) lits ≡ Some new
-bound_here model v lits new d lin true h = h
-bound_here model v lits new d lin false h = absurd (cc)
+bound_here model v lits new d lin b h = taken b (put_before v (plus lin (pos (gap model lin % (nat_abs (coefficient v lin) * d)))) lits) new h
 
 some-has : (c : ℤ) → 0 < nat_abs c → nat_lt 0 (nat_abs c) ≡ true
 some-has c h = grind (arith, nat_tests)
@@ -232,8 +235,7 @@ all_unbound v d p (lit ∷ lits) t low high =
 
 rest_here : (model : List ℤ) (v : ℕ) (lits new : List Lit) (b : Bool) → cond b (put_before v (rest_equation v (int_rem_euclid (variable_at model v) (pos (period v lits)))) lits) None ≡ Some new
     → put_before v (rest_equation v (int_rem_euclid (variable_at model v) (pos (period v lits)))) lits ≡ Some new
-rest_here model v lits new true h = h
-rest_here model v lits new false h = absurd (cc)
+rest_here model v lits new b h = taken b (put_before v (rest_equation v (int_rem_euclid (variable_at model v) (pos (period v lits)))) lits) new h
 
 rest_value : (v : ℕ) (r : ℤ) (q : List ℤ) → variable_at q v ≡ r → value_at q (rest_equation v r) ≡ pos 0
 rest_value v r q h =

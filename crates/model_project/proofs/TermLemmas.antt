@@ -1,14 +1,14 @@
 -- Terms one by one: coefficients, and multiples of terms whose variables rise.
-use Rattle.std.proofs.Common.{◌≡◌, ◌<◌, ◌≤◌, ◌+◌, ◌*◌, ◌^◌, ℕ, suc, zero, List, [], ◌∷◌, ◌++◌, refl, ap, sym, ◌∙◌, arith, true, false, Bool, ◌==◌, cond, length, drop, get_or, append_assoc, not, ◌⊎◌, inl, inr, FitsSigned}
+use Rattle.std.proofs.Common.{◌≡◌, ◌<◌, ◌≤◌, ◌+◌, ◌*◌, ◌^◌, ℕ, suc, zero, List, [], ◌∷◌, ◌++◌, refl, ap, sym, ◌∙◌, arith, true, false, Bool, ◌==◌, cond, length, drop, get_or, append_assoc, not, ◌⊎◌, inl, inr, subst, to_z, of_z, FitsSigned}
 use Rattle.std.specs.Prelude.{ℤ, pos, ◌+ℤ◌, ◌*ℤ◌, nat_abs, nat_lt}
-use Rattle.std.proofs.Math.Nat.{mul-le-mul_right}
-use Rattle.std.proofs.lemmas.Int.{unsigned_abs-mul}
+use Rattle.std.proofs.Math.Nat.{mul-le-mul, mul-le-mul_right}
+use Rattle.std.proofs.lemmas.Int.{ints, to_z-of_z, unsigned_abs-mul}
 use Rattle.std.specs.List.{filter}
 use Rattle.std.proofs.lemmas.Bool.Decides.{nat_tests}
 use Rattle.std.proofs.lemmas.List.{append-nil, drop_more, drop_all}
 use Rattle.lin_atoms.specs.Linear.{Linear, are_ordered, are_short, is_linear, is_short}
 use Rattle.lin_atoms.specs.Algebra.{collected, scaled_terms, term_on}
-use Rattle.std.specs.Int.{w128}
+use Rattle.std.specs.Int.{w64, w128}
 use Rattle.lin_atoms.proofs.Public.{both_true, ordered, ordered-at, ordered-cons, ordered-drop, ordered-weaker, scaled-ordered, term_on-whole, wide_where}
 use Rattle.lin_atoms.proofs.MergeLemmas.{both-first, ours-ended, ours-first, theirs-ended, theirs-first}
 use Rattle.model_project.specs.Substitution.{coefficient_in}
@@ -45,6 +45,58 @@ product-some k a h g =
     let size = unsigned_abs-mul k a in
     let le : 1 * nat_abs a ≤ nat_abs k * nat_abs a = mul-le-mul_right (nat_abs a) h in
     omega (arith, size, le)
+
+-- products of a number below 2^63 and one of 64 bits are below 2^126, and have room, as their sums have
+long-abs : (a : ℤ) → FitsSigned w64 a → nat_abs a ≤ 2 ^ 63
+long-abs a f = omega (arith, ints, f.sfits)
+
+pub short-product : (k a : ℤ) → nat_abs k < 2 ^ 63 → FitsSigned w64 a → nat_abs (k *ℤ a) < 2 ^ 126
+short-product k a h f =
+    let p : nat_abs k ≤ 9223372036854775807 = omega (arith, h) in
+    omega (arith, unsigned_abs-mul k a, mul-le-mul p (long-abs a f))
+
+pub product-fits : (a : ℤ) → nat_abs a < 2 ^ 126 → FitsSigned w128 a
+product-fits a h = omega (arith, ints)
+
+sum-fits : (a b : ℤ) → nat_abs a < 2 ^ 126 → nat_abs b < 2 ^ 126 → FitsSigned w128 (a +ℤ b)
+sum-fits a b h g = omega (arith, ints)
+
+long-fits : (a : ℤ) → FitsSigned w64 a → FitsSigned w128 a
+long-fits a f = omega (arith, ints, f.sfits)
+
+below-long : (a : ℤ) → FitsSigned w64 a → nat_abs a < 2 ^ 64
+below-long a f = omega (arith, ints, f.sfits)
+
+-- numbers and products that were handed on with other widths
+pub widened : (a r : ℤ) → FitsSigned w64 a → r ≡ to_z w64 (of_z w64 a) → to_z w128 (of_z w128 r) ≡ a
+widened a r f e =
+    let is : r ≡ a = e ∙ to_z-of_z _ _ f in
+    to_z-of_z _ _ (subst (FitsSigned w128) (sym is) (long-fits a f)) ∙ is
+
+pub widened-long : (a r : ℤ) → FitsSigned w64 a → r ≡ to_z w64 (of_z w64 a) → nat_abs (to_z w128 (of_z w128 r)) < 2 ^ 64
+widened-long a r f e = subst (λ (z : ℤ). nat_abs z < 2 ^ 64) (sym (widened a r f e)) (below-long a f)
+
+pub exact-product : (k a x y : ℤ) → nat_abs k < 2 ^ 63 → FitsSigned w64 a → x ≡ k → y ≡ a → to_z w128 (of_z w128 (x *ℤ y)) ≡ k *ℤ a
+exact-product k a x y h f e g =
+    ap (λ (z : ℤ). to_z w128 (of_z w128 (z *ℤ y))) e ∙ ap (λ (z : ℤ). to_z w128 (of_z w128 (k *ℤ z))) g ∙ to_z-of_z _ _ (product-fits (k *ℤ a) (short-product k a h f))
+
+pub read-product : (k a r : ℤ) → FitsSigned w64 k → FitsSigned w64 a → r ≡ to_z w64 (of_z w64 k) *ℤ to_z w64 (of_z w64 a) → r ≡ k *ℤ a
+read-product k a r f g e = e ∙ ap (λ (z : ℤ). z *ℤ to_z w64 (of_z w64 a)) (to_z-of_z _ _ f) ∙ ap (λ (z : ℤ). k *ℤ z) (to_z-of_z _ _ g)
+
+pub back-fits : (a b : ℤ) → nat_abs a < 2 ^ 126 → nat_abs b < 2 ^ 126 → FitsSigned w128 (to_z w128 (of_z w128 a) +ℤ to_z w128 (of_z w128 b))
+back-fits a b h g =
+    subst (λ (z : ℤ). FitsSigned w128 (z +ℤ to_z w128 (of_z w128 b))) (sym (to_z-of_z _ _ (product-fits a h)))
+    (subst (λ (z : ℤ). FitsSigned w128 (a +ℤ z)) (sym (to_z-of_z _ _ (product-fits b g))) (sum-fits a b h g))
+
+pub exact-sum : (a b : ℤ) → nat_abs a < 2 ^ 126 → nat_abs b < 2 ^ 126 → to_z w128 (of_z w128 (to_z w128 (of_z w128 a) +ℤ to_z w128 (of_z w128 b))) ≡ a +ℤ b
+exact-sum a b h g =
+    to_z-of_z _ _ (back-fits a b h g) ∙ ap (λ (z : ℤ). z +ℤ to_z w128 (of_z w128 b)) (to_z-of_z _ _ (product-fits a h)) ∙ ap (λ (z : ℤ). a +ℤ z) (to_z-of_z _ _ (product-fits b g))
+
+zero-plus : (z : ℤ) → pos 0 +ℤ z ≡ z
+zero-plus z = omega (arith, ints)
+
+pub total-is : (n p q x y : ℤ) → n ≡ pos 0 → p ≡ n +ℤ x → q ≡ p +ℤ y → q ≡ x +ℤ y
+total-is n p q x y e f g = g ∙ ap (λ (z : ℤ). z +ℤ y) (f ∙ ap (λ (z : ℤ). z +ℤ x) e ∙ zero-plus x)
 
 -- each term of a multiple stands at its index
 pub scaled-length : (k : ℤ) (from : ℕ) (ts : List (ℕ × ℤ)) → 0 < nat_abs k → are_ordered from ts ≡ true → length (scaled_terms k ts) ≡ length ts

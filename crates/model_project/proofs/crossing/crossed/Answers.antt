@@ -5,6 +5,7 @@ use Rattle.std.proofs.lemmas.Int.{ints, to_z-of_z}
 use Rattle.lin_atoms.specs.Linear.{are_short, is_short}
 use Rattle.model_project.specs.Substitution.{crossed}
 use Rattle.model_project.proofs.CrossLemmas.{both_small, crossed_constant, crossed_terms, first_wide, second_wide, some_terms, true_not_false}
+use Rattle.model_project.proofs.TermLemmas.{widened-long}
 use Rattle.model_project.proofs.crossing.crossed.Goals as goal
 
 pub returns-in-Some-clause-some : goal.returns-in-Some-clause-some
@@ -12,9 +13,9 @@ returns-in-Some-clause-some c =
     let v = c.args.variable in
     let l = c.args.equation.now in
     let lin = c.args.lin.now in
-    let k_fits : FitsSigned w64 c.coefficient-k.result = search rules in
-    let m_fits : FitsSigned w64 c.minus-m.result = search rules in
-    let c_fits : FitsSigned w64 c.coefficient.result = search rules in
+    let k_fits : FitsSigned w64 c.coefficient-k.result = record { sfits = c.coefficient-k.type_inv } in
+    let m_fits : FitsSigned w64 c.minus-m.result = record { sfits = c.minus-m.type_inv } in
+    let c_fits : FitsSigned w64 c.coefficient.result = record { sfits = c.coefficient.type_inv } in
     let made = simp to_z-of_z at c.in_ok-terms.ensures.made in
     let minus : c.minus-m.result ≡ neg_ℤ c.coefficient.result = omega (arith, ints, c.minus-m.ensures) in
     let terms = crossed_terms v l lin c.coefficient-k.result c.minus-m.result c.coefficient.result c.terms.result.now c.terms-2.result.now c.in_ok-terms.terms.items c.coefficient-k.ensures.is minus c.coefficient.ensures.is c.terms.ensures.is c.terms-2.ensures.is made in
@@ -26,11 +27,11 @@ returns-in-Some-clause-narrow c =
     let v = c.args.variable in
     let l = c.args.equation.now in
     let lin = c.args.lin.now in
-    let k_fits : FitsSigned w64 c.coefficient-k.result = search rules in
-    let m_fits : FitsSigned w64 c.minus-m.result = search rules in
-    let c_fits : FitsSigned w64 c.coefficient.result = search rules in
-    let a_fits : FitsSigned w128 c.constant.result = search rules in
-    let b_fits : FitsSigned w128 c.constant-in-Ok.result = search rules in
+    let k_fits : FitsSigned w64 c.coefficient-k.result = record { sfits = c.coefficient-k.type_inv } in
+    let m_fits : FitsSigned w64 c.minus-m.result = record { sfits = c.minus-m.type_inv } in
+    let c_fits : FitsSigned w64 c.coefficient.result = record { sfits = c.coefficient.type_inv } in
+    let a_fits : FitsSigned w128 c.constant.result = record { sfits = c.constant.type_inv } in
+    let b_fits : FitsSigned w128 c.constant-in-Ok.result = record { sfits = c.constant-in-Ok.type_inv } in
     let made = simp to_z-of_z at c.in_ok-terms.ensures.made in
     let minus : c.minus-m.result ≡ neg_ℤ c.coefficient.result = omega (arith, ints, c.minus-m.ensures) in
     let terms = crossed_terms v l lin c.coefficient-k.result c.minus-m.result c.coefficient.result c.terms.result.now c.terms-2.result.now c.in_ok-terms.terms.items c.coefficient-k.ensures.is minus c.coefficient.ensures.is c.terms.ensures.is c.terms-2.ensures.is made in
@@ -45,9 +46,9 @@ returns-in-Ok-clause-wide c = λ _.
     let v = c.args.variable in
     let l = c.args.equation.now in
     let lin = c.args.lin.now in
-    let k_fits : FitsSigned w64 c.coefficient-k.result = search rules in
-    let m_fits : FitsSigned w64 c.minus-m.result = search rules in
-    let c_fits : FitsSigned w64 c.coefficient.result = search rules in
+    let k_fits : FitsSigned w64 c.coefficient-k.result = record { sfits = c.coefficient-k.type_inv } in
+    let m_fits : FitsSigned w64 c.minus-m.result = record { sfits = c.minus-m.type_inv } in
+    let c_fits : FitsSigned w64 c.coefficient.result = record { sfits = c.coefficient.type_inv } in
     let made = simp to_z-of_z at c.in_ok-terms.ensures.made in
     let minus : c.minus-m.result ≡ neg_ℤ c.coefficient.result = omega (arith, ints, c.minus-m.ensures) in
     let terms = crossed_terms v l lin c.coefficient-k.result c.minus-m.result c.coefficient.result c.terms.result.now c.terms-2.result.now c.in_ok-terms.terms.items c.coefficient-k.ensures.is minus c.coefficient.ensures.is c.terms.ensures.is c.terms-2.ensures.is made in
@@ -59,11 +60,11 @@ returns-in-Ok-clause-wide_number c = λ _.
     let v = c.args.variable in
     let l = c.args.equation.now in
     let lin = c.args.lin.now in
-    let k_fits : FitsSigned w64 c.coefficient-k.result = search rules in
-    let m_fits : FitsSigned w64 c.minus-m.result = search rules in
-    let c_fits : FitsSigned w64 c.coefficient.result = search rules in
-    let a_fits : FitsSigned w128 c.constant.result = search rules in
-    let b_fits : FitsSigned w128 c.constant-in-Ok.result = search rules in
+    let k_fits : FitsSigned w64 c.coefficient-k.result = record { sfits = c.coefficient-k.type_inv } in
+    let m_fits : FitsSigned w64 c.minus-m.result = record { sfits = c.minus-m.type_inv } in
+    let c_fits : FitsSigned w64 c.coefficient.result = record { sfits = c.coefficient.type_inv } in
+    let a_fits : FitsSigned w128 c.constant.result = record { sfits = c.constant.type_inv } in
+    let b_fits : FitsSigned w128 c.constant-in-Ok.result = record { sfits = c.constant-in-Ok.type_inv } in
     let minus : c.minus-m.result ≡ neg_ℤ c.coefficient.result = omega (arith, ints, c.minus-m.ensures) in
     let constant = crossed_constant v l lin c.coefficient-k.result c.minus-m.result c.coefficient.result c.constant.result c.constant-in-Ok.result c.coefficient-k.ensures.is minus c.coefficient.ensures.is c.constant.ensures.is c.constant-in-Ok.ensures.is in
     let none = simp to_z-of_z at c.in-None.ensures.none in
@@ -74,9 +75,9 @@ returns-in-Err-Wide-clause-wide c = λ _.
     let v = c.args.variable in
     let l = c.args.equation.now in
     let lin = c.args.lin.now in
-    let k_fits : FitsSigned w64 c.coefficient-k.result = search rules in
-    let m_fits : FitsSigned w64 c.minus-m.result = search rules in
-    let c_fits : FitsSigned w64 c.coefficient.result = search rules in
+    let k_fits : FitsSigned w64 c.coefficient-k.result = record { sfits = c.coefficient-k.type_inv } in
+    let m_fits : FitsSigned w64 c.minus-m.result = record { sfits = c.minus-m.type_inv } in
+    let c_fits : FitsSigned w64 c.coefficient.result = record { sfits = c.coefficient.type_inv } in
     let made = simp to_z-of_z at c.in_ok-terms.ensures.made in
     let minus : c.minus-m.result ≡ neg_ℤ c.coefficient.result = omega (arith, ints, c.minus-m.ensures) in
     let terms = crossed_terms v l lin c.coefficient-k.result c.minus-m.result c.coefficient.result c.terms.result.now c.terms-2.result.now c.in_ok-terms.terms.items c.coefficient-k.ensures.is minus c.coefficient.ensures.is c.terms.ensures.is c.terms-2.ensures.is made in
@@ -88,11 +89,16 @@ returns-in-Err-Wide-clause-wide_number c = λ _.
     let v = c.args.variable in
     let l = c.args.equation.now in
     let lin = c.args.lin.now in
-    let k_fits : FitsSigned w64 c.coefficient-k.result = search rules in
-    let m_fits : FitsSigned w64 c.minus-m.result = search rules in
-    let c_fits : FitsSigned w64 c.coefficient.result = search rules in
+    let k_fits : FitsSigned w64 c.coefficient-k.result = record { sfits = c.coefficient-k.type_inv } in
+    let m_fits : FitsSigned w64 c.minus-m.result = record { sfits = c.minus-m.type_inv } in
+    let c_fits : FitsSigned w64 c.coefficient.result = record { sfits = c.coefficient.type_inv } in
     let made = simp to_z-of_z at c.in_ok-terms.ensures.made in
     let minus : c.minus-m.result ≡ neg_ℤ c.coefficient.result = omega (arith, ints, c.minus-m.ensures) in
     let terms = crossed_terms v l lin c.coefficient-k.result c.minus-m.result c.coefficient.result c.terms.result.now c.terms-2.result.now c.in_ok-terms.terms.items c.coefficient-k.ensures.is minus c.coefficient.ensures.is c.terms.ensures.is c.terms-2.ensures.is made in
     let small : are_short c.as_slice.result.now ≡ false = first_of (search (rules, c.in-Err-Wide.ensures.wide), grind (arith, c.in-Err-Wide.ensures.wide)) in
     first_wide (are_short (crossed v l lin).terms) (is_short (crossed v l lin).constant) (ap are_short (sym terms ∙ sym c.as_slice.ensures.value) ∙ small)
+
+pub form_of-made-requires-clause-long : goal.form_of-made-requires-clause-long
+form_of-made-requires-clause-long c =
+    let n_fits : FitsSigned w64 c.in-Some.constant = search rules in
+    widened-long c.in-Some.constant c.from.result n_fits c.from.ensures
