@@ -4,12 +4,14 @@ use Rattle.std.proofs.Math.Bool.{or-true}
 use Rattle.std.proofs.lemmas.List.{take_more, map-append}
 use Rattle.std.proofs.lemmas.Bool.{cases_eq}
 use Rattle.std.proofs.lemmas.Bool.Decides.{nat_tests}
-use Rattle.std.specs.Prelude.{slice_get, Option, Some, None, not}
+use Rattle.std.specs.Prelude.{slice_get, Option, Some, None, not, Err, IsErrOf}
 use Rattle.std.specs.BTreeMap.{BTreeMap}
 use Rattle.term_tree.specs.declared.node.TermId.{TermId}
 use Rattle.term_tree.specs.declared.node.OpKind.{OpKind}
 use Rattle.term_tree.specs.declared.node.Node.{Node}
 use Rattle.term_tree.specs.declared.node.Node.TheVariants.{Num, True, False, Var, LetVar, Pred, Op, Divisible, Let, Forall, Exists}
+use Rattle.term_tree.specs.declared.evaluation.ValueStop.{ValueStop}
+use Rattle.term_tree.specs.declared.evaluation.ValueStop.TheVariants.{ValueWide}
 use Rattle.term_tree.specs.declared.scalar.Value.{Value}
 use Rattle.term_tree.specs.declared.scalar.Value.TheVariants.{Bool as Truth}
 use Rattle.term_tree.specs.Arena.{has_parts_below}
@@ -174,3 +176,7 @@ pub mapped_more : (f : TermId → Value) (ids : List TermId) (i : ℕ) (d : Term
 mapped_more f ids i d values more v h is here pushed =
     pushed ∙ ap (λ (vs : List Value). vs ++ v ∷ []) is ∙ ap (λ (x : Value). map f (take i ids) ++ x ∷ []) here
     ∙ sym (ap (map f) (take_more ids i d h) ∙ map-append f (take i ids) (get_or ids i d ∷ []))
+
+-- the term that is wide is the one that is told
+pub told_wide : {T : Type 0} (id term : TermId) → IsErrOf {T = T} {E = ValueStop} (Err (ValueWide id)) (ValueWide term) → id ≡ term
+told_wide id term h = cc

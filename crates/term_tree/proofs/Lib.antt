@@ -1,3 +1,4 @@
+pub mod CheckedLemmas
 pub mod CompareLemmas
 pub mod DivisionLemmas
 pub mod EachLemmas

@@ -5,7 +5,7 @@ use Rattle.term_tree.specs.Value.{environment_of}
 use Rattle.term_tree.specs.machinery.Known.{AreKnown, known_worth, fitting_worth}
 use Rattle.term_tree.specs.machinery.Walk.{has_number}
 use Rattle.term_tree.specs.Width.{IsWideTerm}
-use Rattle.term_tree.proofs.EvaluationLemmas.{known_more, fitting_more, wide_here, has_at}
+use Rattle.term_tree.proofs.EvaluationLemmas.{known_more, fitting_more, told_wide, wide_here, has_at}
 use Rattle.term_tree.proofs.evaluation.values.Goals as goal
 
 pub loop-at-preserved : goal.loop-at-preserved
@@ -38,7 +38,7 @@ returns-in_default-clause-wide c = λ term h.
     subst (λ (k : ℕ). AreKnown c.args.terms.now.nodes (environment_of c.args.env.now) c.loop-at.known (drop k c.args.ids.now)) (sym step) c.loop-at.invariant.known in
     let none : None ≡ fitting_worth (λ q e. known_worth c.loop-at.known q) c.node.result.now (environment_of c.args.env.now) = sym c.in_default.is ∙ c.in_ok-value.ensures in
     let id : TermId = record { 0 = get_or c.args.ids.now (c.loop-at.at - 1) 0 } in
-    let same : id ≡ term = cc h in
+    let same : id ≡ term = told_wide id term h in
     let number : get_or c.args.ids.now (c.loop-at.at - 1) 0 ≡ term.0 = ap (λ (t : TermId). t.0) same in
     subst (λ (k : ℕ). (has_number k c.args.ids.now ≡ true) × IsWideTerm c.args.terms.now.nodes k (environment_of c.args.env.now)) number
     (wide_here c.args.terms.now.nodes (environment_of c.args.env.now) c.loop-at.known c.args.ids.now (c.loop-at.at - 1) (get_or c.args.ids.now (c.loop-at.at - 1) 0)
