@@ -1,5 +1,5 @@
 -- Terms that end in a predicate are true where that predicate is true everywhere.
-use Rattle.std.proofs.Common.{◌≡◌, ℕ, zero, suc, ◌<◌, List, [], ◌∷◌, ◌++◌, map, Bool, true, refl, ap, sym, ◌∙◌, arith}
+use Rattle.std.proofs.Common.{◌≡◌, ℕ, zero, suc, ◌<◌, List, [], ◌∷◌, ◌++◌, map, Bool, true, false, refl, ap, sym, ◌∙◌, arith}
 use Rattle.std.proofs.Math.Bool.{or-true}
 use Rattle.std.specs.Prelude.{slice_get, Option, Some, None, not, ◌||◌}
 use Rattle.term_tree.specs.declared.node.TermId.{TermId}
@@ -80,6 +80,9 @@ ends n nodes (id ∷ next ∷ ids) h =
     let rest = ends n nodes (next ∷ ids) h in
     record { parts = id ∷ rest.parts; head = rest.head; pred = rest.pred; args = rest.args; whole = ap (λ (xs : List TermId). id ∷ xs) rest.whole; node = rest.node; below = rest.below }
 
+false_not_true : false ≡ true → ⊥
+false_not_true h = absurd (cc)
+
 module _ (I : Interpretation) (n : ℕ) (nodes : List Node) (arena : IsArena nodes) (all : IsTrueBelow n I) where
   -- the application of a predicate below n
   pub application : (id pred : ℕ) (args : List TermId) (env : Environment) → slice_get nodes id ≡ Some (Pred pred args) → pred < n → HasValue I nodes id env (Truth true)
@@ -104,7 +107,7 @@ module _ (I : Interpretation) (n : ℕ) (nodes : List Node) (arena : IsArena nod
   headed_node id (Forall first sorts body) env is h parts =
       (has_value_at I nodes id (Forall first sorts body) env (Truth true) is (arena_below nodes id (Forall first sorts body) arena is)).back
       (λ values have. parts body.0 (bound_from first values env) (eqb_self body.0) h)
-  headed_node id _ env is h parts = absurd (cc)
+  headed_node id _ env is h parts = absurd (false_not_true h)
 
   headed_below : (bound id : ℕ) (env : Environment) → id < bound → has_head n nodes id ≡ true → HasValue I nodes id env (Truth true)
   headed_below zero id env less h = absurd (omega arith)

@@ -26,6 +26,9 @@ use Rattle.term_tree.proofs.MeaningLemmas.{Both, both_true, below_from, for_all,
 use Rattle.term_tree.proofs.PlainLemmas.{arena_below, eqb_self, same_number, there_is}
 use Rattle.term_tree.proofs.ValueLemmas.{value_at}
 
+false_not_true : false ≡ true → ⊥
+false_not_true h = absurd (cc)
+
 same_integer : (m n : ℤ) → int_eq m n ≡ true → m ≡ n
 same_integer m n h = grind (arith, ints)
 
@@ -61,7 +64,7 @@ op_is Le Le h = refl
 op_is Lt Lt h = refl
 op_is Ge Ge h = refl
 op_is Gt Gt h = refl
-op_is _ _ h = absurd (cc)
+op_is _ _ h = absurd (false_not_true h)
 
 first_is : (v w : Value) (vs ws : List Value) → v ∷ vs ≡ w ∷ ws → v ≡ w
 first_is v w vs ws e = cc
@@ -84,7 +87,7 @@ same_worth p q (Let bound body) (Let ids id) env h e =
     first_is (p body.0 env) (q id.0 env) (map (λ (x : TermId). p x.0 env) bound) (map (λ (x : TermId). q x.0 env) ids) e
 same_worth p q (Forall first sorts body) (Forall other types id) env h e = refl
 same_worth p q (Exists first sorts body) (Exists other types id) env h e = refl
-same_worth p q _ _ env h e = absurd (cc)
+same_worth p q _ _ env h e = absurd (false_not_true h)
 
 -- each of the terms gives what its partner gives
 abbrev Give : (ℕ → Meaning) → (ℕ → Meaning) → List TermId → List TermId → Type 0
@@ -130,7 +133,7 @@ gives_node I p q (Exists first sorts body) (Exists other types id) env v h give 
     let both = both_true (first == other) (same_sorts sorts types) h in
     subst (λ (i : ℕ). node_meaning I q (Exists i types id) env v) (same_number first other both.0)
     (subst (λ (ts : List Sort). node_meaning I q (Exists first ts id) env v) (sorts_are sorts types both.1) (for_some (p body.0) (q id.0) first sorts env v give.0 k))
-gives_node I p q _ _ env v h give k = absurd (cc)
+gives_node I p q _ _ env v h give k = absurd (false_not_true h)
 
 own_integer : (n : ℤ) → int_eq n n ≡ true
 own_integer n = grind (arith, ints)
@@ -198,7 +201,7 @@ alike_turns (Divisible by arg) (Divisible other id) h = subst (λ (k : ℤ). int
 alike_turns (Let bound body) (Let ids id) h = refl
 alike_turns (Forall first sorts body) (Forall other types id) h = binders_turn first other sorts types h
 alike_turns (Exists first sorts body) (Exists other types id) h = binders_turn first other sorts types h
-alike_turns _ _ h = absurd (cc)
+alike_turns _ _ h = absurd (false_not_true h)
 
 -- two nodes of terms that are equal as trees
 pub record AreSame (nodes others : List Node) (id other : ℕ) : Type 0 where
