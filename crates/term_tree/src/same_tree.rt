@@ -1,4 +1,4 @@
-ghost use Rattle.std.specs.Prelude.{◌≡◌, ◌==◌, ◌&&◌, ◌∷◌, ℕ, Bool, length, slice_get, Some, None, true, IfOk, IfSome, IfNone, IsTrue};
+ghost use Rattle.std.specs.Prelude.{◌≡◌, ◌==◌, ◌&&◌, ◌∷◌, [], ℕ, Bool, length, slice_get, Some, None, true, IfOk, IfSome, IfNone, IsTrue};
 ghost use Rattle.std.specs.List.{list_all};
 ghost use Rattle.std.specs.BTreeSet.{keys};
 ghost use Rattle.term_tree.specs.Arena.{has_parts_below};
@@ -69,23 +69,34 @@ fn put_parts(
 fn parts_of(alloc: Global, node: &Node) -> Result<Vec<TermId>, Memory>
     ensures { IfOk result (λ parts. parts.items ≡ parts_of node.now) }
 {
-    let parts = match node {
-        Node::Num(_) | Node::True | Node::False | Node::Var { .. } => Vec::new(alloc),
-        Node::LetVar { bound } => Vec::from_array(alloc, [*bound])?,
-        Node::Pred { args, .. } => Vec::from_slice(alloc, args.as_slice())?,
-        Node::Op { args, .. } => Vec::from_slice(alloc, args.as_slice())?,
-        Node::Divisible { arg, .. } => Vec::from_array(alloc, [*arg])?,
-        Node::Let { bound, body } => body_and_bound(alloc, *body, bound.as_slice())?,
-        Node::Forall { body, .. } => Vec::from_array(alloc, [*body])?,
-        Node::Exists { body, .. } => Vec::from_array(alloc, [*body])?,
-    };
-    Ok(parts)
+    match node {
+        Node::Num(_) | Node::True | Node::False | Node::Var { .. } => Ok(Vec::new(alloc)),
+        Node::LetVar { bound } => one(alloc, *bound),
+        Node::Pred { args, .. } => copies(alloc, args.as_slice()),
+        Node::Op { args, .. } => copies(alloc, args.as_slice()),
+        Node::Divisible { arg, .. } => one(alloc, *arg),
+        Node::Let { bound, body } => body_and_bound(alloc, *body, bound.as_slice()),
+        Node::Forall { body, .. } => one(alloc, *body),
+        Node::Exists { body, .. } => one(alloc, *body),
+    }
+}
+
+fn one(alloc: Global, part: TermId) -> Result<Vec<TermId>, Memory>
+    ensures { IfOk result (λ parts. parts.items ≡ part ∷ []) }
+{
+    Ok(Vec::from_array(alloc, [part])?)
+}
+
+fn copies(alloc: Global, parts: &[TermId]) -> Result<Vec<TermId>, Memory>
+    ensures { IfOk result (λ copied. copied.items ≡ parts.now) }
+{
+    Ok(Vec::from_slice(alloc, parts)?)
 }
 
 fn body_and_bound(alloc: Global, body: TermId, bound: &[TermId]) -> Result<Vec<TermId>, Memory>
     ensures { IfOk result (λ parts. parts.items ≡ body ∷ bound.now) }
 {
-    let mut parts = Vec::from_array(alloc, [body])?;
+    let mut parts = one(alloc, body)?;
     parts.extend_from_slice(bound)?;
     Ok(parts)
 }
