@@ -112,7 +112,7 @@ pub struct Refusal {
 }
 
 /// The legal commands of a text up to its refusal, or all of them.
-#[derive(Debug, Drop)]
+#[derive(Drop)]
 pub struct Checked {
     pub script: Script,
     pub stop: Option<Refusal>,

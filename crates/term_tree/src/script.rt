@@ -38,7 +38,6 @@ pub struct Assertion {
 }
 
 /// What the commands of a text declare and assert, in their order.
-#[derive(Debug)]
 pub struct Script {
     pub preds: Items<Pred>,
     pub asserts: Items<Assertion>,
