@@ -8,7 +8,7 @@ use denote.Hole.Carrier.{roll}
 use Rattle.lin_atoms.specs.Truth.{lit_truth, truth, truth_step}
 use Rattle.lin_atoms.specs.declared.form.Form.{Form, map-Form}
 use Rattle.lin_atoms.specs.declared.form.Form.TheOpen.{Form-F}
-use Rattle.lin_atoms.specs.declared.form.Form.TheViews.{And, Or, roll-Form}
+use Rattle.lin_atoms.specs.declared.form.Form.TheViews.{roll-Form}
 use Rattle.lin_atoms.specs.declared.form.Form.TheVariants.{rolls-And, rolls-Or}
 use Rattle.lin_atoms.specs.declared.form.Form.TheFolds.{fold-roll-Form, ind-Form}
 use Rattle.lin_atoms.specs.declared.lit.Lit.{Lit}
@@ -30,10 +30,13 @@ parts-cover point (y ∷ ys) h t =
     let cases = all-apart (list_any (truth point)) (disjunctions y.0) (flat_map disjunctions (map (λ y. y.0) ys)) t in
     and_from _ _ (y.1 lits.0 cases.0) (parts-cover point ys lits.1 cases.1)
 
+no-truth : false ≡ true → ⊥
+no-truth e = absurd (cc)
+
 node-covers : (point : List ℤ) (y : Form-F ((form : Form) × Covers point form)) → Covers point (roll-Form (map-Form ((form : Form) × Covers point form) Form (λ e. e.0) y))
 unfolding roll-Form roll
 node-covers point Form-F.True h t = fold-roll-Form Bool (truth_step point) Form-F.True
-node-covers point Form-F.False h t = let here : list_all (lit_truth point) (literals_step Form-F.False) ≡ true = ap (list_all (lit_truth point)) (sym (fold-roll-Form (List Lit) literals_step Form-F.False)) ∙ h in absurd (cc)
+node-covers point Form-F.False h t = let here : list_all (lit_truth point) (literals_step Form-F.False) ≡ true = ap (list_all (lit_truth point)) (sym (fold-roll-Form (List Lit) literals_step Form-F.False)) ∙ h in absurd (no-truth here)
 node-covers point (Form-F.Lit lit) h t =
     let here : list_all (lit_truth point) (lit ∷ []) ≡ true = ap (list_all (lit_truth point)) (sym (fold-roll-Form (List Lit) literals_step (Form-F.Lit lit))) ∙ h in
     fold-roll-Form Bool (truth_step point) (Form-F.Lit lit) ∙ (both_true (lit_truth point lit) _ here).0

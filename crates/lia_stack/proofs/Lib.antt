@@ -10,4 +10,5 @@ pub mod PartLemmas
 pub mod Public
 pub mod SearchLemmas
 pub mod StateLemmas
+pub mod StepLemmas
 pub mod TurnLemmas

@@ -1,17 +1,14 @@
 -- What the steps of the code owe, from what is known of the node on top.
-use Rattle.std.proofs.Common.{◌≡◌, ℕ, Result, Ok, Err, zero, suc, ◌+◌, ◌-◌, ◌<◌, ◌≤◌, List, [], ◌∷◌, ◌++◌, length, map, take, reverse, refl, ap, sym, ◌∙◌, subst, append-nil, arith, get_or, true, false, Bool, not, Option, None, Some}
+use Rattle.std.proofs.Common.{◌≡◌, ℕ, zero, suc, ◌+◌, ◌<◌, ◌≤◌, List, [], ◌∷◌, ◌++◌, length, map, take, reverse, refl, ap, sym, ◌∙◌, subst, arith, get_or, true, false, Bool, not, Option, None, Some}
 use Rattle.std.specs.Prelude.{◌^◌, ℤ, pos, neg_ℤ, nat_abs, ◌+ℤ◌, slice_get, slice_index_or}
 use Rattle.std.proofs.lemmas.Option.{slice_get-get_or}
 use Rattle.std.specs.List.{list_all, list_any}
 use Rattle.std.specs.Option.{is_some, option_map_or}
 use Rattle.std.proofs.lemmas.Bool.{false≢true}
 use Rattle.std.proofs.Math.Seq.{take-length}
-use Rattle.std.proofs.lemmas.List.Sums.{sum_by_push}
 use Rattle.base.specs.Limits.{most_rows}
-use Rattle.base.specs.declared.memory.Memory.{Memory}
 use Rattle.lin_atoms.specs.Denial.{lit_fits}
 use Rattle.lin_atoms.specs.Truth.{lit_truth, truth}
-use Rattle.lin_atoms.specs.declared.form.Form.{Form}
 use Rattle.lin_atoms.specs.declared.lit.Lit.{Lit}
 use Rattle.lin_atoms.proofs.Public.{both_true}
 use Rattle.int_rows.specs.Node.{end_of_quotients, system}
@@ -30,21 +27,17 @@ use Rattle.lia_close.specs.Written.{assembled}
 use Rattle.lia_close.specs.declared.written.Step.{Step}
 use Rattle.lia_close.specs.declared.written.Step.TheVariants.{Cases, Closed, Split}
 use Rattle.lia_close.proofs.Public.{one-tree, root-tree}
-use Rattle.lia_node.specs.Tells.{IsEvidenceAt, Tells, has_tableau, is_of_node}
-use Rattle.lia_node.specs.declared.examined.Examined.{Examined}
+use Rattle.lia_node.specs.Tells.{IsEvidenceAt, is_of_node}
 use Rattle.lia_stack.specs.Counted.{CountsTo}
 use Rattle.lia_stack.specs.Short.{has_short_multiples}
 use Rattle.lia_stack.specs.declared.waiting.Open.{Open}
-use Rattle.lia_stack.specs.declared.state.End.{End}
 use Rattle.lia_stack.specs.declared.state.Search.{Search}
-use Rattle.lia_stack.specs.declared.state.Turn.{Turn}
-use Rattle.lia_stack.specs.declared.state.Turn.TheVariants as turn
 use Rattle.lia_stack.specs.machinery.Opened.{AreOpen, first_open, left_at, left_lits, node_of, opened_part, with_left_out, with_lit}
-use Rattle.lia_stack.specs.machinery.Searched.{Closes, Ends, Goes, IsSame, IsSearch, IsSearchOn, Named, Splits, Turns, Waits, weight, weight_of}
+use Rattle.lia_stack.specs.machinery.Searched.{Closes, Goes, IsSame, IsSearch, IsSearchOn, Named, Splits, Waits}
 use Rattle.lia_stack.proofs.FirstLemmas.{first-open, first-trees}
 use Rattle.lia_stack.proofs.NodeLemmas.{nodes_of}
 use Rattle.lia_stack.proofs.SearchLemmas.{open-evidence}
-use Rattle.lia_stack.proofs.TurnLemmas.{IsTop, branched, closed, counted, joined, parted, refuted, top}
+use Rattle.lia_stack.proofs.TurnLemmas.{IsTop, branched, closed, joined, parted, refuted, top}
 
 -- whether a node was examined yet, and what else is on the stack, is no part of what is known
 pub moved : (s new : Search) (stack : List Open) → new ≡ record s { is_first = new.is_first; stack = new.stack } → IsSearchOn s stack → IsSearchOn new stack
