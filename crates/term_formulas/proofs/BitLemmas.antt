@@ -1,7 +1,8 @@
 -- The bit of a Bool term, by its node.
-use Rattle.std.proofs.Common.{◌≡◌, ℕ, zero, suc, ◌<◌, ◌+◌, List, [], ◌∷◌, length, map, true, inl, inr, refl, ap, sym, ◌∙◌, subst, arith}
+use Rattle.std.proofs.Common.{◌≡◌, ℕ, zero, suc, ◌<◌, ◌+◌, List, [], ◌∷◌, ◌++◌, length, map, take, drop, get_or, true, inl, inr, refl, ap, sym, ◌∙◌, subst, arith}
 use Rattle.std.specs.Prelude.{slice_get, Option, Some, None, nat_lt}
 use Rattle.std.specs.List.{list_all}
+use Rattle.std.proofs.lemmas.List.{drop_more, map-append, take_more}
 use Rattle.term_tree.specs.declared.sort.Sort.{Sort}
 use Rattle.term_tree.specs.declared.node.TermId.{TermId}
 use Rattle.term_tree.specs.declared.node.Node.{Node}
@@ -70,3 +71,14 @@ bare_zero naming part True a b c = absurd (a refl)
 bare_zero naming part (Var binder sort) a b c = absurd (b binder sort refl)
 bare_zero naming part (LetVar bound) a b c = absurd (c bound refl)
 bare_zero naming part _ a b c = refl
+
+-- the bit of the next term, and the terms behind it
+pub bits_next : (f : TermId → Linear) (ids : List TermId) (i : ℕ) (d : TermId) (bit : Linear) (now new : List Linear) → i < length ids → bit ≡ f (get_or ids i d) → now ≡ map f (take i ids) → new ≡ now ++ bit ∷ [] → new ≡ map f (take (i + 1) ids)
+bits_next f ids i d bit now new within made so pushed =
+    pushed ∙ ap (λ (bits : List Linear). bits ++ bit ∷ []) so ∙ ap (λ (b : Linear). map f (take i ids) ++ b ∷ []) made
+    ∙ sym (map-append f (take i ids) (get_or ids i d ∷ [])) ∙ ap (map f) (sym (take_more ids i d within))
+
+pub ids_next : (n : ℕ) (ids : List TermId) (i : ℕ) (d : TermId) → i < length ids → list_all (is_below n) (drop i ids) ≡ true → ((get_or ids i d).0 < n) × (list_all (is_below n) (drop (i + 1) ids) ≡ true)
+ids_next n ids i d within there =
+    let both = both_true (nat_lt (get_or ids i d).0 n) (list_all (is_below n) (drop (i + 1) ids)) (sym (ap (list_all (is_below n)) (drop_more ids i d within)) ∙ there) in
+    (below_from (get_or ids i d).0 n both.0, both.1)

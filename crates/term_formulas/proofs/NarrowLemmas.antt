@@ -182,12 +182,21 @@ each_short k v lin xs ys rise short apart one others u = elim (cases_eq u v) [
 sign_free : (a b : ℤ) → a ≡ neg_ℤ b → nat_abs a ≡ nat_abs b
 sign_free a b h = omega (arith, ints)
 
+less_none : (a b : ℤ) → nat_abs a ≡ 0 → nat_abs (a +ℤ neg_ℤ b) ≡ nat_abs b
+less_none a b none = omega (arith, ints)
+
+none_less : (a b : ℤ) → nat_abs a ≡ 0 → nat_abs (b +ℤ neg_ℤ a) ≡ nat_abs b
+none_less a b none = omega (arith, ints)
+
+none_more : (a b : ℤ) → nat_abs a ≡ 0 → nat_abs (a +ℤ b) ≡ nat_abs b
+none_more a b none = omega (arith, ints)
+
 short_constant : (a b : ℤ) → nat_abs a ≡ 0 → is_short b ≡ true → (is_short (a +ℤ neg_ℤ b) ≡ true) × (is_short (b +ℤ neg_ℤ a) ≡ true) × (is_long (a +ℤ b) ≡ true)
 short_constant a b zero_a h =
     let less : nat_abs b < 2 ^ 63 = ltb-true _ _ h in
-    let x : nat_abs (a +ℤ neg_ℤ b) ≡ nat_abs b = omega (arith, ints) in
-    let y : nat_abs (b +ℤ neg_ℤ a) ≡ nat_abs b = omega (arith, ints) in
-    let z : nat_abs (a +ℤ b) ≡ nat_abs b = omega (arith, ints) in
+    let x = less_none a b zero_a in
+    let y = none_less a b zero_a in
+    let z = none_more a b zero_a in
     (lt-ltb _ _ (omega (arith, less, x)), lt-ltb _ _ (omega (arith, less, y)), lt-ltb _ _ (omega (arith, less, z)))
 
 no_constant : (k : ℤ) → nat_abs (k *ℤ pos 0) ≡ 0

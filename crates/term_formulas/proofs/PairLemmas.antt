@@ -1,7 +1,7 @@
 -- Relations of pairs and of neighbours, from a place on.
-use Rattle.std.proofs.Common.{◌≡◌, ℕ, ◌+◌, ◌-◌, ◌<◌, ◌≤◌, List, [], ◌∷◌, ◌++◌, length, map, drop, get_or, Bool, true, false, not, ◌||◌, refl, ap, sym, ◌∙◌, subst, append_assoc, arith}
+use Rattle.std.proofs.Common.{◌≡◌, ℕ, ◌+◌, ◌-◌, ◌<◌, ◌≤◌, List, [], ◌∷◌, ◌++◌, length, map, take, drop, get_or, Bool, true, false, not, ◌||◌, refl, ap, sym, ◌∙◌, subst, append_assoc, arith}
 use Rattle.std.specs.List.{list_any}
-use Rattle.std.proofs.lemmas.List.{append-nil, drop_more, length-drop, map-append}
+use Rattle.std.proofs.lemmas.List.{append-nil, drop_more, length-drop, map-append, take_more}
 use Rattle.lin_atoms.specs.Linear.{Linear}
 use Rattle.lin_atoms.specs.declared.form.Form.{Form}
 use Rattle.term_tree.specs.declared.node.OpKind.{OpKind}
@@ -107,6 +107,26 @@ room_turn forms i d from within none =
     let place : (i - 1) + 1 ≡ i = last_place i from in
     ap (λ (k : ℕ). list_any is_wide_pair (neighbours (drop k forms))) (next_place i ∙ sym place)
     ∙ (neighbours_room forms (i - 1) d d (omega (arith, place, within)) none).1
+
+-- one more relation with the first
+pub others_turn : (f : Linear → Form) (xs : List Linear) (i : ℕ) (x : Linear) (old before new : List Form) (form : Form) → i < length xs → x ≡ get_or xs i x → before ≡ old ++ map f (take i xs) → form ≡ f x → new ≡ before ++ form ∷ [] → new ≡ old ++ map f (take (i + 1) xs)
+others_turn f xs i x old before new form within is so_far made pushed =
+    pushed ∙ ap (λ (forms : List Form). forms ++ form ∷ []) so_far ∙ append_assoc old (map f (take i xs)) (form ∷ [])
+    ∙ ap (λ (y : Form). old ++ (map f (take i xs) ++ y ∷ [])) (made ∙ ap f is)
+    ∙ ap (λ (forms : List Form). old ++ forms) (sym (ap (map f) (take_more xs i x within) ∙ map-append f (take i xs) (get_or xs i x ∷ [])))
+
+-- both neighbours are bits, and the next one and those behind it
+pub bits_here : (bits : List Linear) (i : ℕ) (a b : Linear) → 1 ≤ i → i < length bits → a ≡ get_or bits (i - 1) a → b ≡ get_or bits i b → AreBits (drop (i - 1) bits) → IsBit a × IsBit b
+bits_here bits i a b from within is_a is_b are =
+    let place : (i - 1) + 1 ≡ i = last_place i from in
+    let first = bits_more bits (i - 1) a (omega (arith, place, within)) are in
+    let second = bits_more bits i b within (subst (λ (k : ℕ). AreBits (drop k bits)) place first.1) in
+    (subst (λ (x : Linear). IsBit x) (sym is_a) first.0, subst (λ (x : Linear). IsBit x) (sym is_b) second.0)
+
+pub bits_behind : (bits others : List Linear) (i : ℕ) (a : Linear) → i < length bits → a ≡ get_or bits i a → others ≡ drop (i + 1) bits → AreBits (drop i bits) → IsBit a × AreBits others
+bits_behind bits others i a within is_a is are =
+    let here = bits_more bits i a within are in
+    (subst (λ (x : Linear). IsBit x) (sym is_a) here.0, subst (λ (xs : List Linear). AreBits xs) (sym is) here.1)
 
 -- at the end no neighbours are left
 one_left : (f : Linear × Linear → Form) (xs : List Linear) → length xs ≤ 1 → map f (neighbours xs) ≡ []
