@@ -218,6 +218,39 @@ under_variables_told known self start next first all items body sorts found mid 
     ∙ ap (λ ss. quantified (quantifier all start next ss) start s) (sym same_sorts) in
     subst (λ (r : Result Spelled Fault). Tells known.lets r new result) (sym outcome) (added known.lets s found_there.2 found_there.3 found_there.4)
 
+-- a term below names that isn't read
+
+pub under_lets_stop : (known self : Known) (start next : ℕ) (items : List Tree) (body : Tree) (ids ids' : List TermId) (parts parts' : List Part) (old mid : Arena) (stop : TermStop)
+    → self ≡ below_let known items parts' ids' → parts' ≡ parts → ids' ≡ ids → lets_in known.scope.names ≡ length known.lets → let_names_fault known.text [] items ≡ None
+    → Tells self.lets (spelled self.text self.scope next body) mid (Err stop)
+    → (g : Gathered) → IsGathered known.lets old g ids parts next → Tells known.lets (under_lets known.text known.scope start items body g) mid (Err stop)
+under_lets_stop known self start next items body ids ids' parts parts' old mid OutOfMemory is same_parts same_ids numbered none told g h = tt
+under_lets_stop known self start next items body ids ids' parts parts' old mid (Broken f) is same_parts same_ids numbered none told g h =
+    let there = ap (λ (ps : List Part). below_let known items ps ids') same_parts ∙ ap (λ (xs : List TermId). below_let known items parts xs) same_ids in
+    let stopped_there = subst (λ (k : Known). spelled k.text k.scope next body ≡ Err f) (is ∙ there) told in
+    let scope : with_lets known.text known.scope items g.parts ≡ (below_let known items parts ids).scope =
+    ap (λ (ps : List Part). with_lets known.text known.scope items ps) h.parts_are ∙ ap (λ n. record known.scope { names = known.scope.names ++ lets_from known.text n items parts }) numbered in
+    ap (λ (o : Option Fault). unless o (spelled known.text (with_lets known.text known.scope items g.parts) g.next body >>= λ s. Ok (let_spelled start g s))) none
+    ∙ ap (λ (k : SpellingScope). spelled known.text k g.next body >>= λ s. Ok (let_spelled start g s)) scope
+    ∙ ap (λ n. spelled known.text ((below_let known items parts ids).scope) n body >>= λ s. Ok (let_spelled start g s)) h.next_is
+    ∙ ap (λ (r : Result Spelled Fault). r >>= λ s. Ok (let_spelled start g s)) stopped_there
+
+pub under_variables_stop : (known self : Known) (start next : ℕ) (all : Bool) (items : List Tree) (body : Tree) (mid : Arena) (stop : TermStop)
+    → self ≡ below_quantifier known next items → Tells self.lets (spelled self.text self.scope (next + length items) body) mid (Err stop)
+    → Tells known.lets (under_variables known.text known.scope next start all items body) mid (Err stop)
+under_variables_stop known self start next all items body mid OutOfMemory is told = tt
+under_variables_stop known self start next all items body mid (Broken f) is told =
+    let stopped_there = subst (λ (k : Known). spelled k.text k.scope (next + length items) body ≡ Err f) is told in
+    ap (λ (r : Result Spelled Fault). r >>= λ s. quantified (quantifier all start next (sorts_bound known.text items)) start s) stopped_there
+
+pub quantifier_repeated : (text : List ℕ) (scope : SpellingScope) (next start : ℕ) (all : Bool) (binder body : Tree) (rest : List Tree) (f : Fault) → scope.quantifies ≡ true → rest ≡ binder ∷ body ∷ []
+    → binder_fault text binder ≡ None → variables_fault text [] (items_of binder) ≡ Some f → unless (quantifier_fault scope.quantifies start) (quantifier_list text scope next start all rest) ≡ Err f
+quantifier_repeated text scope next start all binder body rest f q is none repeated =
+    ap (λ b. unless (quantifier_fault b start) (quantifier_list text scope next start all rest)) q
+    ∙ ap (quantifier_list text scope next start all) is
+    ∙ ap (λ (o : Option Fault). unless o (unless (variables_fault text [] (items_of binder)) (under_variables text scope next start all (items_of binder) body))) none
+    ∙ ap (λ (o : Option Fault). unless o (under_variables text scope next start all (items_of binder) body)) repeated
+
 pub quantifier_told : (text : List ℕ) (scope : SpellingScope) (next start : ℕ) (all : Bool) (binder body : Tree) (rest : List Tree) → scope.quantifies ≡ true → rest ≡ binder ∷ body ∷ []
     → binder_fault text binder ≡ None → variables_fault text [] (items_of binder) ≡ None
     → unless (quantifier_fault scope.quantifies start) (quantifier_list text scope next start all rest) ≡ under_variables text scope next start all (items_of binder) body

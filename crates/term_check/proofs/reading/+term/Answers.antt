@@ -1,6 +1,6 @@
-use Rattle.std.proofs.Common.{◌≡◌, ◌≤◌, ◌+◌, [], ◌∷◌, length, length-append, refl, sym, ap, ◌∙◌, subst, arith, true, false, List}
+use Rattle.std.proofs.Common.{◌≡◌, ◌≤◌, ◌+◌, ◌-◌, [], ◌∷◌, length, take, drop, length-append, refl, sym, ap, ◌∙◌, subst, arith, true, false, List}
 use Rattle.std.proofs.lemmas.List.{drop_all}
-use Rattle.std.specs.Prelude.{None, Ok, Err, Result, codes}
+use Rattle.std.specs.Prelude.{None, Some, Ok, Err, Result, codes}
 use Rattle.sexp_read.specs.declared.tree.Tree.{Tree}
 use Rattle.sexp_read.specs.Leaves.{word_bytes}
 use Rattle.term_tree.specs.declared.node.TermId.{TermId}
@@ -11,7 +11,7 @@ use Rattle.term_check.specs.machinery.Known.{Known, IsReady, below_let}
 use Rattle.term_check.specs.machinery.Reading.{Tells, TellsMore, IsGathered, each_spelled, all_bound, next_spelled, item_bound, under_variables, any_list}
 use Rattle.term_check.specs.Spelling.{Gathered, Spelled, nothing_yet, items_of, spelled, binder_fault, variables_fault, let_names_fault, sorts_bound, is_word}
 use Rattle.term_check.specs.Weight.{weight, weights}
-use Rattle.term_check.proofs.CycleLemmas.{if_ok_then, rest_of, two_of, second_weighs, weigh_drop, weigh_next, none_gathered, next_told, turned, stopped, let_told, word_test, any_let, any_forall, any_exists, ready_below_let, ready_below_quantifier, under_lets_told, under_variables_told, quantifier_told}
+use Rattle.term_check.proofs.CycleLemmas.{if_ok_then, rest_of, two_of, second_weighs, weigh_drop, weigh_next, none_gathered, next_told, turned, stopped, let_told, word_test, any_let, any_forall, any_exists, ready_below_let, ready_below_quantifier, under_lets_told, under_variables_told, quantifier_told, under_lets_stop, under_variables_stop, quantifier_repeated}
 use Rattle.term_check.proofs.ReadingLemmas.{keeps_all, keeps_then, ready_then, all_below, within, keeps_length, below_more}
 use Rattle.term_check.proofs.SpellingLemmas.{spelled-List, weight-List, weight_of_items, weighs, weigh_all}
 use Rattle.term_check.proofs.reading.+term.Goals as goal
@@ -252,6 +252,71 @@ read_list-returns-in-Some-3-clause-told t c =
     let is_forall : is_word context.text c.head-item.result (codes "forall") ≡ false = word_test context.text c.head-item.result c.word_bytes.result c.in-Some.word (codes "forall") false copied c.in-Some.is c.if-are_same-2.ensures in
     let is_exists : is_word context.text c.head-item.result (codes "exists") ≡ true = word_test context.text c.head-item.result c.word_bytes.result c.in-Some.word (codes "exists") true copied c.in-Some.is c.if-are_same-3.ensures in
     subst (λ (r : Result Spelled Fault). Tells context.lets r c.read_quantifier-in-Some-3.new.terms c.read_quantifier-in-Some-3.result) (sym (any_exists context.text context.scope c.args.next c.args.start c.args.items.now c.head-item.result _ rest is_let is_forall is_exists)) c.read_quantifier-in-Some-3.ensures.told
+
+pub read_under_lets-add_binding-requires-clause-aligned : goal.read_under_lets-add_binding-requires-clause-aligned
+read_under_lets-add_binding-requires-clause-aligned t c = c.in-Ok.ensures.keeps.aligned c.requires.ready.aligned
+
+pub read_under_variables-add_quantifier-requires-clause-aligned : goal.read_under_variables-add_quantifier-requires-clause-aligned
+read_under_variables-add_quantifier-requires-clause-aligned t c = c.in-Ok.ensures.keeps.aligned c.requires.ready.aligned
+
+pub read_application-apply-made-requires-clause-aligned : goal.read_application-apply-made-requires-clause-aligned
+read_application-apply-made-requires-clause-aligned t c = c.in-Ok-read_arguments.ensures.keeps.aligned c.requires.ready.aligned
+
+pub read_list-returns-in-Some-clause-next : goal.read_list-returns-in-Some-clause-next
+read_list-returns-in-Some-clause-next t c =
+    let all = ap weights (rest_of c.args.items.now c.head-item.result c.in-len1-up.len_at_least c.head-item.is) in
+    if_ok_then (λ (found : Found). found.next ≤ c.args.next + weights (take (length c.args.items.now - 1) (drop 1 c.args.items.now))) (λ (found : Found). found.next ≤ c.args.next + weights c.args.items.now) c.read_let.result (λ found h. omega (arith, all, h)) c.read_let.ensures.next
+
+pub read_list-returns-in-Some-2-clause-next : goal.read_list-returns-in-Some-2-clause-next
+read_list-returns-in-Some-2-clause-next t c =
+    let all = ap weights (rest_of c.args.items.now c.head-item.result c.in-len1-up.len_at_least c.head-item.is) in
+    if_ok_then (λ (found : Found). found.next ≤ c.args.next + weights (take (length c.args.items.now - 1) (drop 1 c.args.items.now))) (λ (found : Found). found.next ≤ c.args.next + weights c.args.items.now) c.read_quantifier.result (λ found h. omega (arith, all, h)) c.read_quantifier.ensures.next
+
+pub read_list-returns-in-Some-3-clause-next : goal.read_list-returns-in-Some-3-clause-next
+read_list-returns-in-Some-3-clause-next t c =
+    let all = ap weights (rest_of c.args.items.now c.head-item.result c.in-len1-up.len_at_least c.head-item.is) in
+    if_ok_then (λ (found : Found). found.next ≤ c.args.next + weights (take (length c.args.items.now - 1) (drop 1 c.args.items.now))) (λ (found : Found). found.next ≤ c.args.next + weights c.args.items.now) c.read_quantifier-in-Some-3.result (λ found h. omega (arith, all, h)) c.read_quantifier-in-Some-3.ensures.next
+
+pub read_list-returns-in_default-clause-next : goal.read_list-returns-in_default-clause-next
+read_list-returns-in_default-clause-next t c =
+    let all = ap weights (rest_of c.args.items.now c.head-item.result c.in-len1-up.len_at_least c.head-item.is) in
+    if_ok_then (λ (found : Found). found.next ≤ c.args.next + weights (take (length c.args.items.now - 1) (drop 1 c.args.items.now))) (λ (found : Found). found.next ≤ c.args.next + weights c.args.items.now) c.read_application.result (λ found h. omega (arith, all, h)) c.read_application.ensures.next
+
+pub read_under_lets-returns-in-Ok-clause-next : goal.read_under_lets-returns-in-Ok-clause-next
+read_under_lets-returns-in-Ok-clause-next t c =
+    let next = c.in-Ok.ensures.next in
+    if_ok_then (λ (made : Found). made.next ≡ c.in-Ok.found.next) (λ (made : Found). made.next ≤ c.args.all.next + weight c.args.body.now) c.add_binding.result (λ made h. omega (arith, next, h)) c.add_binding.ensures.next
+
+pub read_under_variables-returns-in-Ok-clause-next : goal.read_under_variables-returns-in-Ok-clause-next
+read_under_variables-returns-in-Ok-clause-next t c =
+    let next = c.in-Ok.ensures.next in
+    if_ok_then (λ (made : Found). made.next ≡ c.in-Ok.found.next) (λ (made : Found). made.next ≤ c.args.next + length c.args.items.now + weight c.args.body.now) c.add_quantifier.result (λ made h. omega (arith, next, h)) c.add_quantifier.ensures.next
+
+pub read_application-returns-in_ok-give_back-in-Ok-read_arguments-clause-next : goal.read_application-returns-in_ok-give_back-in-Ok-read_arguments-clause-next
+read_application-returns-in_ok-give_back-in-Ok-read_arguments-clause-next t c =
+    let next = c.in-Ok-read_arguments.ensures.next in
+    if_ok_then (λ (made : Found). made.next ≡ c.in-Ok-read_arguments.all.next) (λ (made : Found). made.next ≤ c.args.next + weights c.args.args.now) c.apply-made.result (λ made h. omega (arith, next, h)) c.apply-made.ensures.next
+
+pub read_under_lets-returns-in-Err-clause-told : goal.read_under_lets-returns-in-Err-clause-told
+read_under_lets-returns-in-Err-clause-told t c =
+    let context = c.args.context.now in
+    let none : let_names_fault context.text [] c.args.items.now ≡ None = ap (λ x. let_names_fault x [] c.args.items.now) (sym c.text.ensures) ∙ sym c.in_ok-fault.ensures ∙ c.in_default.is in
+    under_lets_stop context c.bind_lets.new.self c.args.start c.args.all.next c.args.items.now c.args.body.now c.args.all.ids.items c.deref-2.result.now c.args.all.parts.items c.deref.result.now c.args.terms.now c.read_term.new.terms c.in-Err.stop
+    c.in_ok-bind_lets.ensures c.deref.ensures.value c.deref-2.ensures.value c.requires.ready.numbered none c.in-Err.ensures.told
+
+pub read_under_variables-returns-in-Err-clause-told : goal.read_under_variables-returns-in-Err-clause-told
+read_under_variables-returns-in-Err-clause-told t c =
+    under_variables_stop c.args.context.now c.bind_variables.new.self c.args.start c.args.next c.args.is_universal c.args.items.now c.args.body.now c.read_term.new.terms c.in-Err.stop c.in_ok-bind_variables.ensures c.in-Err.ensures.told
+
+pub read_quantifier-returns-in-Some-2-clause-told : goal.read_quantifier-returns-in-Some-2-clause-told
+read_quantifier-returns-in-Some-2-clause-told t c =
+    let context = c.args.context.now in
+    let two = two_of c.args.rest.now c.binder-item.result c.body-item.result c.in-len2.len_at_least c.in-len2.len_below c.binder-item.is c.body-item.is in
+    let quantifies : context.scope.quantifies ≡ true = sym c.if-not-quantifies.ensures in
+    let none : binder_fault context.text c.binder-item.result ≡ None = ap (λ x. binder_fault x c.binder-item.result) (sym c.text.ensures) ∙ sym c.binder_fault.ensures ∙ c.in_default-binder_fault.is in
+    let repeated : variables_fault context.text [] (items_of c.binder-item.result) ≡ Some c.in-Some-2.fault =
+    ap (λ x. variables_fault x [] (items_of c.binder-item.result)) (sym c.text-in-len2.ensures) ∙ ap (λ (xs : List Tree). variables_fault c.text-in-len2.result.now [] xs) (sym c.items_of-items.ensures) ∙ sym c.in_ok-fault-in-len2.ensures ∙ c.in-Some-2.is in
+    quantifier_repeated context.text context.scope c.args.next c.args.start c.args.is_universal c.binder-item.result c.body-item.result c.args.rest.now c.in-Some-2.fault quantifies two none repeated
 
 pub read_next-read_term-requires : goal.read_next-read_term-requires
 read_next-read_term-requires t c = (let d = c.decreases in omega (arith, d), c.requires.ready)
