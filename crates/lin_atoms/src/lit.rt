@@ -44,12 +44,13 @@ impl Same for Lit {
 
 impl Copied for Lit {
     fn copy(&self, alloc: Global) -> Result<Lit, Memory> {
-        match self {
-            Lit::Le(lin) => Ok(Lit::Le(lin.copy(alloc)?)),
-            Lit::Eq(lin) => Ok(Lit::Eq(lin.copy(alloc)?)),
-            Lit::Div(d, lin) => Ok(Lit::Div(*d, lin.copy(alloc)?)),
-            Lit::NDiv(d, lin) => Ok(Lit::NDiv(*d, lin.copy(alloc)?)),
-        }
+        let lin = self.linear().copy(alloc)?;
+        Ok(match self {
+            Lit::Le(_) => Lit::Le(lin),
+            Lit::Eq(_) => Lit::Eq(lin),
+            Lit::Div(d, _) => Lit::Div(*d, lin),
+            Lit::NDiv(d, _) => Lit::NDiv(*d, lin),
+        })
     }
 }
 
@@ -76,6 +77,17 @@ impl Lit {
             Lit::Eq(lin) => lin.is_below(n),
             Lit::Div(_, lin) => lin.is_below(n),
             Lit::NDiv(_, lin) => lin.is_below(n),
+        }
+    }
+
+    fn linear(&self) -> &Lin
+        ensures { result.now ≡ linear_of self.now }
+    {
+        match self {
+            Lit::Le(lin) => lin,
+            Lit::Eq(lin) => lin,
+            Lit::Div(_, lin) => lin,
+            Lit::NDiv(_, lin) => lin,
         }
     }
 
