@@ -1,4 +1,4 @@
--- Rows that are made one by one, entries that are read, and results that are no refusals.
+-- Rows and terms that are made one by one, entries that are read, and results that are no refusals.
 use Rattle.std.proofs.Common.{◌≡◌, ◌≤◌, ◌<◌, ◌+◌, ◌^◌, ◌++◌, ◌∷◌, [], ℕ, List, Bool, true, false, Result, Ok, Err, Vec, Global, arith, ap, sym, subst, ◌∙◌, get_or, length, map, take, FitsSigned}
 use Rattle.std.specs.Prelude.{ℤ, pos, nat_abs, ◌-ℤ◌}
 use Rattle.std.specs.Int.{cast_signed, cast_unsigned, w64}
@@ -46,3 +46,7 @@ is_refusal (Err e) = true
 
 pub no-refusal : {T : Type 0} (t : T) (e : PushStop) → (let r : Result T PushStop = Ok t in r) ≡ Err e → ⊥
 no-refusal t e is = false≢true (ap is_refusal is)
+
+-- one more term is mapped
+pub mapped-more : (f : ℕ × ℤ → ℕ × ℤ) (ts : List (ℕ × ℤ)) (i : ℕ) (d : ℕ × ℤ) → i < length ts → map f (take (i + 1) ts) ≡ map f (take i ts) ++ f (get_or ts i d) ∷ []
+mapped-more f ts i d h = ap (map f) (take_more ts i d h) ∙ map-append f (take i ts) (get_or ts i d ∷ [])
