@@ -2,6 +2,7 @@ pub mod AddedLemmas
 pub mod AmongLemmas
 pub mod DefinitionLemmas
 pub mod FineLemmas
+pub mod FullLemmas
 pub mod KeptLemmas
 pub mod LawLemmas
 pub mod LoopLemmas

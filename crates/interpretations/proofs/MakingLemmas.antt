@@ -199,3 +199,10 @@ pub scaled-product : (sorts : List Sort) (term : ℕ × ℤ) (sort : Sort) (s t 
 scaled-product sorts term sort s t id there other added =
     added-as (λ nodes k. IsScaled nodes term.0 sort term.1 k) (λ nodes k. IsProduct nodes sorts term k) 7 7 s t id (omega arith)
     (λ nodes h. inr (other, (h.0, h.1, h.2, subst (λ (found : Option Sort). IsArgument nodes term.0 found h.1) (sym there) h.3, h.4))) added
+
+-- a product that is the argument itself
+pub plain-product : (sorts : List Sort) (term : ℕ × ℤ) (sort : Sort) (s t : List Node) (id : TermId) → slice_get sorts term.0 ≡ Some sort → term.1 ≡ pos 1
+    → IsAdded (λ nodes k. IsArgument nodes term.0 (Some sort) k) 4 s t id → IsAdded (λ nodes k. IsProduct nodes sorts term k) 7 s t id
+plain-product sorts term sort s t id there one added =
+    added-as (λ nodes k. IsArgument nodes term.0 (Some sort) k) (λ nodes k. IsProduct nodes sorts term k) 4 7 s t id (omega arith)
+    (λ nodes h. inl (one, subst (λ (found : Option Sort). IsArgument nodes term.0 found id) (sym there) h)) added

@@ -1,10 +1,13 @@
-use Rattle.std.proofs.Common.{rules, ◌+◌, take, arith}
+use Rattle.std.proofs.Common.{rules, ◌+◌, length, take, sym, arith}
 use Rattle.std.specs.List.{sum_by}
 use Rattle.std.specs.Prelude.{IsErrOf}
 use Rattle.std.proofs.lemmas.List.Sums.{sum_by-take-le}
+use Rattle.lin_atoms.specs.Truth.{lit_is_below}
+use Rattle.cube_forms.specs.Cubes.{lit_is_short}
 use Rattle.interpretations.specs.Size.{literal_size}
 use Rattle.interpretations.specs.declared.stop.DefinitionStop.TheVariants.{Full}
 use Rattle.interpretations.specs.Terms.{Each, IsLiteralOf}
+use Rattle.interpretations.proofs.KeptLemmas.{at-all}
 use Rattle.interpretations.proofs.LoopLemmas.{all-added, full-size, more-added, size-more}
 use Rattle.interpretations.proofs.conjunctions.literal_terms.Goals as goal
 
@@ -26,3 +29,9 @@ pub returns-clause-added : goal.returns-clause-added
 returns-clause-added c =
     all-added (λ nodes lit k. IsLiteralOf nodes c.args.sorts.now lit k) (sum_by literal_size (take c.loop-lit.lit-index c.args.cube.now)) (sum_by literal_size c.args.cube.now) c.args.terms.now.nodes
     c.loop-lit.terms.nodes c.args.cube.now c.loop-lit.lit-index c.loop-lit.parts.items c.loop-lit-test.false (sum_by-take-le literal_size c.args.cube.now c.loop-lit.lit-index) c.loop-lit.invariant
+
+pub literal-requires-clause-below : goal.literal-requires-clause-below
+literal-requires-clause-below c = at-all (lit_is_below (length c.args.sorts.now)) c.args.cube.now c.loop-lit.lit-index c.lit-item.result c.loop-lit-test.true (sym c.lit-item.is) c.requires.below
+
+pub literal-requires-clause-short : goal.literal-requires-clause-short
+literal-requires-clause-short c = at-all lit_is_short c.args.cube.now c.loop-lit.lit-index c.lit-item.result c.loop-lit-test.true (sym c.lit-item.is) c.requires.short

@@ -1,4 +1,4 @@
-use Rattle.std.proofs.Common.{rules, ◌≡◌, ◌*◌, ◌∙◌, List, length, sym, subst, true, arith, FitsSigned}
+use Rattle.std.proofs.Common.{rules, ◌≡◌, ◌*◌, ◌∙◌, List, length, ap, sym, subst, true, arith, FitsSigned}
 use Rattle.std.specs.Int.{w128}
 use Rattle.std.proofs.lemmas.Int.{ints, to_z-of_z}
 use Rattle.std.specs.Prelude.{ℤ, pos}
@@ -8,7 +8,8 @@ use Rattle.term_tree.specs.Arena.{is_below}
 use Rattle.answer_text.specs.Lemmas.{IsNumber, IsProduct}
 use Rattle.interpretations.specs.Terms.{Each}
 use Rattle.interpretations.specs.machinery.Added.{IsAdded}
-use Rattle.interpretations.proofs.AddedLemmas.{are-there-then, below-push}
+use Rattle.interpretations.proofs.AddedLemmas.{are-there-then, below-push, grown-most}
+use Rattle.interpretations.proofs.FullLemmas.{full-of}
 use Rattle.interpretations.proofs.MakingLemmas.{plain-added, products-as, shifted-added}
 use Rattle.interpretations.proofs.sums.shifted.Goals as goal
 
@@ -41,3 +42,22 @@ returns-then-constant-eq0-clause-added c =
     (sym c.constant-constant.ensures.is ∙ nought)
     (products-as c.args.sorts.now c.terms.result.now c.args.lin.now.terms c.args.terms.now.nodes c.products.new.terms.nodes items c.terms.ensures.is c.in_ok-items.ensures.added)
     c.in_ok-id.ensures.added
+
+pub returns-in_err-id-clause-full : goal.returns-in_err-id-clause-full
+returns-in_err-id-clause-full c = λ h.
+    let made = grown-most (7 * length c.terms.result.now) c.args.terms.now.nodes c.products.new.terms.nodes c.in_ok-items.ensures.added.grown in
+    let full = full-of {A = TermId} c.from_residual-in_err-id.result c.in_err-id.field-0.0 _ c.from_residual-in_err-id.ensures.1 h c.in_err-id.ensures.full in
+    omega (arith, made, full, ap length c.terms.ensures.is)
+
+pub returns-in_err-last-clause-full : goal.returns-in_err-last-clause-full
+returns-in_err-last-clause-full c = λ h.
+    let made = grown-most (7 * length c.terms.result.now) c.args.terms.now.nodes c.products.new.terms.nodes c.in_ok-items.ensures.added.grown in
+    let full = full-of {A = TermId} c.from_residual-in_err-last.result c.in_err-last.field-0.0 _ c.from_residual-in_err-last.ensures.1 h c.in_err-last.ensures.full in
+    omega (arith, made, full, ap length c.terms.ensures.is)
+
+pub returns-in_err-id-2-clause-full : goal.returns-in_err-id-2-clause-full
+returns-in_err-id-2-clause-full c = λ h.
+    let made = grown-most (7 * length c.terms.result.now) c.args.terms.now.nodes c.products.new.terms.nodes c.in_ok-items.ensures.added.grown in
+    let more = grown-most 2 c.products.new.terms.nodes c.number.new.terms.nodes c.in_ok-last.ensures.added.grown in
+    let full = full-of {A = TermId} c.from_residual-in_err-id-2.result c.in_err-id-2.field-0.0 _ c.from_residual-in_err-id-2.ensures.1 h c.in_err-id-2.ensures.full in
+    omega (arith, made, more, full, ap length c.terms.ensures.is)
