@@ -190,24 +190,15 @@ fn put_divided(
     }
 }
 
-/// The terms of the variables that occur, divided. Whether there are any, and all have room.
-fn put_terms(
-    terms: &mut Vec<(u32, i64)>,
-    coefficients: &[i128],
-    divisor: i128,
-) -> Result<bool, Memory> {
-    for (variable, coefficient) in coefficients.iter().enumerate() {
-        if !put_divided(terms, variable, *coefficient, divisor)? {
-            return Ok(false);
-        }
-    }
-    Ok(!terms.is_empty())
-}
-
 /// The sum divided and rounded, where a variable is left.
 fn rounded(alloc: Global, sum: &Sum, divisor: i128) -> Result<Option<Lin>, Memory> {
     let mut terms = Vec::new(alloc);
-    if !put_terms(&mut terms, sum.coefficients.as_slice(), divisor)? {
+    for (variable, coefficient) in sum.coefficients.iter().enumerate() {
+        if !put_divided(&mut terms, variable, *coefficient, divisor)? {
+            return Ok(None);
+        }
+    }
+    if terms.is_empty() {
         return Ok(None);
     }
     match ceiling(sum.constant, divisor) {
