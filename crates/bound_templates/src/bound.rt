@@ -4,7 +4,7 @@ ghost use Rattle.std.specs.Prelude.{◌≡◌, ◌+◌, ◌-◌, ◌^◌, ◌<�
 ghost use Rattle.lin_atoms.specs.declared.lit.Lit.TheVariants.{Le};
 ghost use Rattle.cube_forms.specs.Cubes.{cube_holds};
 ghost use Rattle.bound_templates.specs.declared.bound.Limit.TheVariants.{At};
-ghost use Rattle.bound_templates.specs.Bounds.{cube_if_short, excluded, excludes, is_needless, passing, stands};
+ghost use Rattle.bound_templates.specs.Bounds.{cube_if_short, excluded, excludes, is_as_low, is_needless, passing, stands};
 
 use crate::forms::{copied, push_copies, value_at};
 use base::Memory;
@@ -257,20 +257,31 @@ pub fn first_of(bounds: &[Bound], pred: u32) -> usize
     low
 }
 
+/// Whether the first of two limits that are known is as low as the second.
+fn is_as_low(one: Limit, other: Limit) -> bool
+    ensures { result ≡ is_as_low one other }
+{
+    match one {
+        Limit::Nothing => false,
+        Limit::At(least) => match other {
+            Limit::Nothing => false,
+            Limit::At(limit) => least <= limit,
+            Limit::Top => false,
+        },
+        Limit::Top => false,
+    }
+}
+
 /// Whether a bound without the condition says as much.
 fn is_needless(bounds: &[Bound], bound: &Bound) -> bool
     ensures { result ≡ is_needless bounds.now bound.now }
 {
-    let plain = match bound.plain {
-        Some(plain) => plain,
-        None => return false,
-    };
-    match (bounds.get(plain), bound.limit) {
-        (Some(other), Limit::At(limit)) => match other.limit {
-            Limit::At(least) => least <= limit,
-            _ => false,
+    match bound.plain {
+        Some(plain) => match bounds.get(plain) {
+            Some(other) => is_as_low(other.limit, bound.limit),
+            None => false,
         },
-        _ => false,
+        None => false,
     }
 }
 
