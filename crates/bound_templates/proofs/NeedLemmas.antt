@@ -20,11 +20,11 @@ or-assoc : (x y z : Bool) → ((x || y) || z) ≡ (x || (y || z))
 or-assoc true y z = refl
 or-assoc false y z = refl
 
-one-more : (changed : Bool) (flags : List Bool) (one : Use) (left : List Use) (old : List Bool) (uses : List Use) → IsFound changed flags (one ∷ left) old uses → IsFound (changed || is_new flags one) (set flags one.bound true) left old uses
+pub one-more : (changed : Bool) (flags : List Bool) (one : Use) (left : List Use) (old : List Bool) (uses : List Use) → IsFound changed flags (one ∷ left) old uses → IsFound (changed || is_new flags one) (set flags one.bound true) left old uses
 one-more changed flags one left old uses found =
     (or-assoc changed (is_new flags one) (has_new (set flags one.bound true) left) ∙ ap (λ (x : Bool). changed || x) (either flags one.bound left (get_or flags one.bound true) refl) ∙ found.0, found.1)
 
-or-false : (x : Bool) → (x || false) ≡ x
+pub or-false : (x : Bool) → (x || false) ≡ x
 or-false true = refl
 or-false false = refl
 
