@@ -1,8 +1,8 @@
-use Rattle.std.proofs.Common.{◌<◌, ◌+◌, ◌∙◌, ◌||◌, ◌∷◌, Bool, List, ap, drop, length, subst, sym}
-use Rattle.std.proofs.lemmas.List.{drop_more}
+use Rattle.std.proofs.Common.{◌<◌, ◌+◌, ◌∙◌, ◌||◌, [], ◌∷◌, Bool, List, ap, drop, length, subst, sym}
+use Rattle.std.proofs.lemmas.List.{drop_all, drop_more}
 use Rattle.bound_templates.specs.declared.bound.Memo.{Memo}
 use Rattle.bound_templates.specs.Needs.{has_new, marked, uses_in}
-use Rattle.bound_templates.proofs.NeedLemmas.{IsFound, more}
+use Rattle.bound_templates.proofs.NeedLemmas.{IsFound, more, or-false}
 use Rattle.bound_templates.proofs.needs.mark_memos.Goals as goal
 
 pub loop-memo-preserved : goal.loop-memo-preserved
@@ -22,3 +22,23 @@ loop-memo-preserved c =
     let new = c.mark_uses-changed.ensures.marked ∙ ap (marked flags) c.as_slice.ensures.value in
     subst (λ (fs : List Bool). IsFound (changed || c.mark_uses-changed.result) fs left old (uses_in memos)) (sym new)
     (subst (λ (x : Bool). IsFound (changed || x) (marked flags memo.uses.items) left old (uses_in memos)) (sym is) found)
+
+pub returns-clause-is_new : goal.returns-clause-is_new
+returns-clause-is_new c =
+    let memos : List Memo = c.args.memos.now in
+    let changed = c.loop-memo.changed in
+    let flags = c.loop-memo.needed.items in
+    let old = c.args.needed.now.items in
+    let kept : IsFound changed flags (uses_in []) old (uses_in memos) =
+    subst (λ (ms : List Memo). IsFound changed flags (uses_in ms) old (uses_in memos)) (drop_all c.loop-memo.memo-index memos c.loop-memo-test.false) c.loop-memo.invariant in
+    sym (or-false c.loop-memo.changed) ∙ kept.0
+
+pub returns-clause-marked : goal.returns-clause-marked
+returns-clause-marked c =
+    let memos : List Memo = c.args.memos.now in
+    let changed = c.loop-memo.changed in
+    let flags = c.loop-memo.needed.items in
+    let old = c.args.needed.now.items in
+    let kept : IsFound changed flags (uses_in []) old (uses_in memos) =
+    subst (λ (ms : List Memo). IsFound changed flags (uses_in ms) old (uses_in memos)) (drop_all c.loop-memo.memo-index memos c.loop-memo-test.false) c.loop-memo.invariant in
+    kept.1

@@ -1,4 +1,4 @@
-use Rattle.std.proofs.Common.{◌+◌, ◌∙◌, ◌||◌, [], ◌∷◌, Bool, List, drop, get_or, length, set, subst, sym, true}
+use Rattle.std.proofs.Common.{◌+◌, ◌∙◌, ◌||◌, [], ◌∷◌, Bool, List, drop, get_or, set, subst, sym, true}
 use Rattle.std.proofs.lemmas.List.{drop_all, drop_more}
 use Rattle.bound_templates.specs.declared.bound.Use.{Use}
 use Rattle.bound_templates.proofs.NeedLemmas.{IsFound, one-more, or-false}
