@@ -96,12 +96,10 @@ impl Known {
     }
 
     /// More literals.
-    pub(crate) fn push_all(&mut self, lits: Vec<Lit>) -> Result<(), Memory>
+    pub(crate) fn push_all(&mut self, mut lits: Vec<Lit>) -> Result<(), Memory>
         ensures { OnOk result (self.new ≡ self.old ++ lits.items) }
     {
-        for lit in lits {
-            self.push(lit)?;
-        }
+        self.lits.append(&mut lits)?;
         Ok(())
     }
 

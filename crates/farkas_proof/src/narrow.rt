@@ -94,12 +94,7 @@ fn push_rest(made: &mut Vec<(u32, i64)>, terms: &[(u32, i64)], from: usize) -> b
     requires { from ≤ length terms.now }
     ensures { IsTrue result → made.new.items ≡ made.old.items ++ drop from terms.now }
 {
-    for i in from..terms.len() {
-        if made.push(terms[i]).is_err() {
-            return false;
-        }
-    }
-    true
+    made.extend_from_slice(&terms[from..]).is_ok()
 }
 
 /// The first term of the sum of what is left of a multiple and of other terms, from `i` and `j` on,

@@ -21,10 +21,7 @@ use std::alloc::Global;
 fn with_last(alloc: Global, terms: &[(u32, i64)], q: u32, n: i64) -> Result<Vec<(u32, i64)>, Memory>
     ensures { IfOk result (λ made. made.items ≡ terms.now ++ (q, n) ∷ []) }
 {
-    let mut made = Vec::with_capacity(alloc, terms.len())?;
-    for (variable, coefficient) in terms {
-        made.push((*variable, *coefficient))?;
-    }
+    let mut made = Vec::from_slice(alloc, terms)?;
     made.push((q, n))?;
     Ok(made)
 }
