@@ -1,8 +1,8 @@
 -- What is found in what waits in a walk.
 use Rattle.std.proofs.Common.{◌≡◌, ◌<◌, ◌≤◌, ◌+◌, ◌-◌, min, append_assoc, Err, Some, ℕ, zero, suc, List, [], ◌∷◌, ◌++◌, map, take, drop, length, get_or, refl, ap, sym, ◌∙◌, arith, true, Bool, Bor, Vec, Global, append-nil}
 use Rattle.std.proofs.Math.Seq.{take-append_seam, take-length}
-use Rattle.std.proofs.lemmas.List.{drop_min, drop_more, length-drop, take-append-le, take_min}
-use Rattle.std.specs.Prelude.{slice_get}
+use Rattle.std.proofs.lemmas.List.{drop_min, drop_more, length-drop, length-map, take-append-le, take_min}
+use Rattle.std.specs.Prelude.{slice_get, slice_index_or}
 use Rattle.std.proofs.lemmas.List.Sums.{sum_by_push}
 use Rattle.lin_atoms.specs.Denial.{lit_fits}
 use Rattle.lin_atoms.specs.Linear.{Linear}
@@ -11,13 +11,16 @@ use Rattle.lin_atoms.specs.declared.lit.Lit.TheVariants.{Le}
 use Rattle.lin_atoms.specs.declared.form.Form.{Form}
 use Rattle.refutation_trees.specs.Combination.{one_minus}
 use Rattle.refutation_trees.specs.Flatten.{disjunctions, literals}
-use Rattle.refutation_trees.specs.Refutation.{Finding, Sound, Illegal, Wide, Judge, checked, each_part, followed_by, form_end, judged, judged_at}
+use Rattle.refutation_trees.specs.Refutation.{Finding, Sound, Illegal, Wide, Judge, checked, each_part, followed_by, form_end, has_parts, judge_step, judged, judged_at}
 use Rattle.farkas_proof.specs.machinery.Tells.{Tells}
 use Rattle.farkas_proof.specs.declared.stop.CheckStop.{CheckStop}
 use Rattle.farkas_proof.specs.declared.stop.CheckStop.TheVariants.{Memory as OutOfMemory, NoProof, SumWide}
 use Rattle.refutation_trees.specs.machinery.Sizes.{size, sizes}
 use Rattle.farkas_proof.specs.machinery.Walk.{Leads, left_over, left_to, nothing_left, opened, replaced, weights, weight_of, work_step}
 use Rattle.refutation_trees.specs.declared.tree.Refutation.{Refutation}
+use Rattle.refutation_trees.specs.declared.tree.Refutation.TheFolds.{fold-roll-Refutation}
+use Rattle.refutation_trees.specs.declared.tree.Refutation.TheOpen.{Refutation-F}
+use Rattle.refutation_trees.specs.declared.tree.Refutation.TheVariants.{Cases, rolls-Cases}
 use Rattle.farkas_proof.specs.declared.walk.Work.{Work}
 use Rattle.farkas_proof.specs.declared.walk.Work.TheVariants.{Tree, Part, Forget}
 
@@ -193,3 +196,12 @@ round-leads end tree lits ls cases at rest legal derived lit same h f is =
     ap (λ b. followed_by (checked b (lit_fits (derived lits)) at below) rest) (ap legal (sym same) ∙ h)
     ∙ ap (λ b. followed_by (checked true b at below) rest) (ap (λ (l : List Lit). lit_fits (derived l)) (sym same) ∙ f)
     ∙ ap (λ (x : Lit). followed_by (judged_at lit_fits end tree (lits ++ x ∷ []) cases (at + 1)) rest) (ap derived (sym same) ∙ sym is)
+
+-- a node that splits a disjunction
+pub judged-Cases : (end which : ℕ) (subs : List Refutation) (lits : List Lit) (cases : List (List Form)) (at : ℕ)
+    → judged_at lit_fits end (Cases which subs) lits cases at ≡ checked (has_parts cases which (length subs)) true at (each_part (map (judged_at lit_fits end) subs) (slice_index_or cases which []) which lits cases (at + 1))
+judged-Cases end which subs lits cases at =
+    let found : List Judge = map (judged_at lit_fits end) subs in
+    ap (λ (t : Refutation). judged_at lit_fits end t lits cases at) (sym (rolls-Cases which subs))
+    ∙ ap (λ (j : Judge). j lits cases at) (fold-roll-Refutation Judge (judge_step lit_fits end) (Refutation-F.Cases which subs))
+    ∙ ap (λ (n : ℕ). checked (has_parts cases which n) true at (each_part found (slice_index_or cases which []) which lits cases (at + 1))) (length-map subs (judged_at lit_fits end))
