@@ -1,5 +1,5 @@
-use Rattle.std.proofs.Common.{◌≡◌, ◌<◌, ap, sym, ◌∙◌, arith, rules, true, false, refl, length, FitsSigned}
-use Rattle.std.specs.Prelude.{neg_ℤ}
+use Rattle.std.proofs.Common.{◌≡◌, ◌<◌, ap, sym, ◌∙◌, arith, rules, true, false, refl, length, subst, ◌^◌, FitsSigned}
+use Rattle.std.specs.Prelude.{ℤ, nat_abs, neg_ℤ}
 use Rattle.std.specs.Int.{w64, w128}
 use Rattle.std.proofs.lemmas.Int.{ints, to_z-of_z}
 use Rattle.lin_atoms.specs.Linear.{are_short, is_short}
@@ -102,3 +102,13 @@ pub form_of-made-requires-clause-long : goal.form_of-made-requires-clause-long
 form_of-made-requires-clause-long c =
     let n_fits : FitsSigned w64 c.in-Some.constant = search rules in
     widened-long c.in-Some.constant c.from.result n_fits c.from.ensures
+
+pub constant-requires-in-Ok-2-clause-a : goal.constant-requires-in-Ok-2-clause-a
+constant-requires-in-Ok-2-clause-a c =
+    let a_fits : FitsSigned w128 c.constant.result = record { sfits = c.constant.type_inv } in
+    subst (λ (z : ℤ). nat_abs z < 2 ^ 64) (sym (to_z-of_z _ _ a_fits ∙ c.constant.ensures.is)) c.constant.ensures.long
+
+pub constant-requires-in-Ok-2-clause-b : goal.constant-requires-in-Ok-2-clause-b
+constant-requires-in-Ok-2-clause-b c =
+    let b_fits : FitsSigned w128 c.constant-in-Ok.result = record { sfits = c.constant-in-Ok.type_inv } in
+    subst (λ (z : ℤ). nat_abs z < 2 ^ 64) (sym (to_z-of_z _ _ b_fits ∙ c.constant-in-Ok.ensures.is)) c.constant-in-Ok.ensures.long
