@@ -1,5 +1,5 @@
 -- What stands over its predicate has its places in a clause of that predicate.
-use Rattle.std.proofs.Common.{◌≡◌, ◌≤◌, ℕ, List, [], ◌∷◌, length, true, ◌&&◌, Some, None, refl, ap, sym, ◌∙◌, subst}
+use Rattle.std.proofs.Common.{◌≡◌, ◌≤◌, ℕ, List, [], ◌∷◌, length, true, false, ◌&&◌, Some, None, refl, ap, sym, ◌∙◌, subst}
 use Rattle.std.specs.Prelude.{Option, is_some, option_map, slice_get, ◌==◌}
 use Rattle.std.specs.List.{list_all}
 use Rattle.std.proofs.lemmas.Bool.{eqb-true}
@@ -22,6 +22,9 @@ use Rattle.step_rules.specs.Tokens.{all_used, used_of}
 use Rattle.step_rules.specs.machinery.Claims.{goal_for}
 use Rattle.cube_rules.proofs.Public.{all_at, both_true, from_both}
 
+no-truth : false ≡ true → ⊥
+no-truth e = absurd (cc)
+
 -- of an atom's predicate, with a length for each place
 over-atom : (preds : List (List Sort)) (n : ℕ) (atom : Atom) (cube : List Lit) → is_atom preds n atom ≡ true → is_over preds atom.pred cube ≡ true → cube_is_below (length atom.args) cube ≡ true
 over-atom preds n atom cube legal over =
@@ -38,7 +41,7 @@ pub goal-there : (preds : List (List Sort)) (clause : Clause) (pred : Option ℕ
 goal-there preds clause None cube long legal head fits = refl
 goal-there preds clause (Some p) cube long legal head fits = by clause.head (keeps preds clause legal).head head where
   by : (found : Option Atom) → is_legal_head preds (length clause.sorts) found ≡ true → is_head (Some p) found ≡ true → has_places found cube ≡ true
-  by None legal' head' = absurd (cc)
+  by None legal' head' = absurd (no-truth head')
   by (Some atom) legal' head' = over-atom preds (length clause.sorts) atom cube legal' (subst (λ q. is_over preds q cube ≡ true) (eqb-true p atom.pred head') (loosened (places_of preds (Some p)) cube long fits))
 
 pub used-there : (sys : Clauses) (number : ℕ) (clause : Clause) (used : List UsedLemma) → slice_get sys.clauses number ≡ Some clause → is_clause sys.preds clause ≡ true
@@ -50,7 +53,7 @@ used-there sys number clause (u ∷ used) there legal places atoms =
     let over : is_over_atom sys.preds (slice_get clause.atoms u.atom) u.lemma ≡ true = sym (ap (λ (found : Option Clause). is_over_atom sys.preds (on found (λ (c : Clause). slice_get c.atoms u.atom)) u.lemma) there) ∙ place.0 in
     from_both (has_places (slice_get clause.atoms u.atom) u.lemma) (has_used clause.atoms used) (by (slice_get clause.atoms u.atom) refl atom.0 over) (used-there sys number clause used there legal place.1 atom.1) where
       by : (found : Option Atom) → slice_get clause.atoms u.atom ≡ found → is_some found ≡ true → is_over_atom sys.preds found u.lemma ≡ true → has_places found u.lemma ≡ true
-      by None is some over = absurd (cc)
+      by None is some over = absurd (no-truth some)
       by (Some atom) is some over = over-atom sys.preds (length clause.sorts) atom u.lemma (all_at (is_atom sys.preds (length clause.sorts)) clause.atoms u.atom atom is (keeps sys.preds clause legal).atoms) over
 
 -- the goal's cube is the obligation's
