@@ -1,15 +1,22 @@
 //! Cubes that bounds exclude, in a lemma's place.
 
-ghost use Rattle.std.specs.Prelude.{◌<◌, OnOk};
+ghost use Rattle.std.specs.Prelude.{◌<◌, IfOk, OnOk};
 ghost use Rattle.obligation_turn.specs.Turns.{GoesOn};
+ghost use Rattle.lemma_general.specs.Generals.{IsLearnt};
 ghost use Rattle.lemma_general.specs.Tries.{IsTrying};
+ghost use Rattle.lemma_candidates.specs.Candidates.{IsInPlaceOf};
 
-use crate::proposing::try_each;
-use base::Memory;
+use crate::moving::push_all;
+use crate::proposing::{try_each, with_one_of};
+use base::{Copied, Memory};
 use bound_hints::Bounds;
+use bound_templates::has_lit;
 use cube_forms::Cube;
+use cube_guesses::cube_of;
 use lemma_general::Tries;
 use lemma_hints::Hints;
+use lin_atoms::Lit;
+use std::alloc::Global;
 use step_rules::{LemmaPart, Lent};
 
 /// Whether bounds are tried now: those that don't refute each query at every third unit alone, as they
@@ -66,4 +73,47 @@ pub fn try_paces(lent: &Lent, tries: &mut Tries, hints: &Hints, nodes: u32) -> R
     let cubes = paced_for(lent, tries.part(), hints)?;
     let taken = try_each(lent, tries, cubes.as_slice(), nodes)?;
     Ok(taken)
+}
+
+/// The cube of these literals, with those of another one behind them, each once.
+fn joined(alloc: Global, lits: &[Lit], last: &[Lit]) -> Result<Option<Cube>, Memory> {
+    let mut made = Vec::new(alloc);
+    for lit in lits {
+        if !has_lit(last, lit) {
+            made.push(lit.copy(alloc)?)?;
+        }
+    }
+    push_all(alloc, &mut made, last)?;
+    cube_of(alloc, made)
+}
+
+/// The lemma's cube, narrowed to what the first of the bounds excludes that the obligation's point breaks,
+/// where they refute each query.
+fn narrowed_for(lent: &Lent, part: &LemmaPart, hints: &Hints) -> Result<Vec<Cube>, Memory> {
+    let mut made = Vec::new(lent.alloc);
+    if !hints.bounds().are_safe() {
+        return Ok(made);
+    }
+    let cubes = cubes_for(lent, part, hints)?;
+    if let Some(cube) = cubes.as_slice().first() {
+        let own = part.lemma.cube().lits();
+        if let Some(cube) = joined(lent.alloc, own, cube.lits())? {
+            made.push(cube)?;
+        }
+    }
+    Ok(made)
+}
+
+/// A lemma in the lemma's place whose cube has the literals of a bound behind its own, if bounds were found
+/// that refute each query and the obligation's point breaks one; else the lemma as it is. It excludes less,
+/// but what is left of it when it is made more general is the bound, and of its own literals those without
+/// which it doesn't hold yet.
+pub fn narrow(lent: &Lent, part: LemmaPart, hints: &Hints, nodes: u32) -> Result<LemmaPart, Memory>
+    requires goes_on { GoesOn lent.now }
+    requires learnt { IsLearnt lent.now part }
+    requires some { 0 < nodes }
+    ensures { IfOk result (IsInPlaceOf lent.now part) }
+{
+    let cubes = narrowed_for(lent, &part, hints)?;
+    with_one_of(lent, part, cubes.as_slice(), nodes)
 }

@@ -9,7 +9,7 @@ mod shrinking;
 mod tidying;
 mod widening;
 
-pub use excluding::{try_bounds, try_paces};
+pub use excluding::{narrow, try_bounds, try_paces};
 pub use proposing::{propose, propose_alike, propose_hulls};
 pub use tidying::tidy;
 pub use widening::widen;

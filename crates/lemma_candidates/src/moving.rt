@@ -37,7 +37,7 @@ fn moved(alloc: Global, lit: &Lit, by: u64) -> Result<Option<Lit>, Memory>
 }
 
 /// Adds copies of literals.
-fn push_all(alloc: Global, made: &mut Vec<Lit>, lits: &[Lit]) -> Result<(), Memory>
+pub(crate) fn push_all(alloc: Global, made: &mut Vec<Lit>, lits: &[Lit]) -> Result<(), Memory>
     ensures { OnOk result (made.new.items ≡ made.old.items ++ lits.now) }
 {
     for lit in lits {

@@ -97,7 +97,7 @@ fn shut_out_alike(lent: &Lent, part: &LemmaPart, hints: &Hints) -> Result<Vec<Cu
 }
 
 /// The lemma with the first of the cubes that is taken, else as it is.
-fn with_one_of(
+pub(crate) fn with_one_of(
     lent: &Lent,
     part: LemmaPart,
     cubes: &[Cube],

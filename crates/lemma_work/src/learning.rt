@@ -7,7 +7,9 @@ ghost use Rattle.lemma_general.specs.Tries.{IsTrying};
 ghost use Rattle.search_parts.specs.machinery.Steps.{IsTaken};
 
 use base::Memory;
-use lemma_candidates::{propose, propose_alike, propose_hulls, tidy, try_bounds, try_paces, widen};
+use lemma_candidates::{
+    narrow, propose, propose_alike, propose_hulls, tidy, try_bounds, try_paces, widen,
+};
 use lemma_general::{Tries, generalise, raise};
 use lemma_hints::Hints;
 use search_parts::{Means, excluding, few, with_core, with_turned};
@@ -150,6 +152,36 @@ fn hulled(
     }
 }
 
+/// The lemma with the literals of a bound behind its own, where one may be what is missing.
+fn by_bounds(lent: &Lent, part: LemmaPart, hints: &Hints, nodes: u32) -> Result<LemmaPart, Memory>
+    requires goes_on { GoesOn lent.now }
+    requires some { 0 < nodes }
+    requires learnt { IsLearnt lent.now part }
+    ensures { IfOk result (IsLearnt lent.now) }
+{
+    let narrower = narrow(lent, part, hints, nodes)?;
+    Ok(narrower)
+}
+
+/// The same for a worker that uses bounds.
+fn bounded(
+    lent: &Lent,
+    part: LemmaPart,
+    hints: Option<&Hints>,
+    nodes: u32,
+    means: Means,
+) -> Result<LemmaPart, Memory>
+    requires goes_on { GoesOn lent.now }
+    requires some { 0 < nodes }
+    requires learnt { IsLearnt lent.now part }
+    ensures { IfOk result (IsLearnt lent.now) }
+{
+    match hints {
+        Some(hints) if means.bounds => by_bounds(lent, part, hints, nodes),
+        _ => Ok(part),
+    }
+}
+
 /// A lemma of one of the fewer such cubes that are tried at low levels.
 fn by_hulls_alike(
     lent: &Lent,
@@ -245,7 +277,8 @@ fn guessed(
     let ordered = ordered(lent, part, nodes, means)?;
     let tidied = tidy(lent, ordered, nodes)?;
     let hulled = hulled(lent, tidied, hints, nodes, means)?;
-    let general = generalise(lent, hulled, nodes)?;
+    let bounded = bounded(lent, hulled, hints, nodes, means)?;
+    let general = generalise(lent, bounded, nodes)?;
     let summed = summed(lent, general, nodes, means)?;
     let widened = widened(lent, summed, nodes, means)?;
     Ok(widened)
