@@ -232,7 +232,13 @@ fn summed(lent: &Lent, part: LemmaPart, nodes: u32, means: Means) -> Result<Lemm
 }
 
 /// The lemma with wider bounds.
-fn widened(lent: &Lent, part: LemmaPart, nodes: u32, means: Means) -> Result<LemmaPart, Memory>
+fn widened(
+    lent: &Lent,
+    part: LemmaPart,
+    hints: Option<&Hints>,
+    nodes: u32,
+    means: Means,
+) -> Result<LemmaPart, Memory>
     requires goes_on { GoesOn lent.now }
     requires some { 0 < nodes }
     requires learnt { IsLearnt lent.now part }
@@ -241,7 +247,7 @@ fn widened(lent: &Lent, part: LemmaPart, nodes: u32, means: Means) -> Result<Lem
     if !means.widens {
         return Ok(part);
     }
-    let wider = widen(lent, part, nodes)?;
+    let wider = widen(lent, part, hints, nodes)?;
     Ok(wider)
 }
 
@@ -280,7 +286,7 @@ fn guessed(
     let bounded = bounded(lent, hulled, hints, nodes, means)?;
     let general = generalise(lent, bounded, nodes)?;
     let summed = summed(lent, general, nodes, means)?;
-    let widened = widened(lent, summed, nodes, means)?;
+    let widened = widened(lent, summed, hints, nodes, means)?;
     Ok(widened)
 }
 
