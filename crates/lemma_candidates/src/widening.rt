@@ -10,15 +10,11 @@ ghost use Rattle.lemma_candidates.specs.machinery.Tried.{IsWidenedOn};
 use crate::moving::wider;
 use base::Memory;
 use lemma_general::Tries;
-use lemma_hints::Hints;
 use step_rules::{LemmaPart, Lent};
 
 /// The level of a book from which on bounds are widened. Below, lemmas of loops that are safe would
 /// become too tight.
 const FROM_LEVEL: u32 = 12;
-
-/// The same where a counterexample was met: then each lemma has to do for its level alone.
-const FROM_LEVEL_IF_BROKEN: u32 = 3;
 
 /// How often a bound is moved.
 const MOST_MOVES: u32 = 40;
@@ -82,28 +78,15 @@ fn widen_at(lent: &Lent, tries: &mut Tries, at: usize, nodes: u32) -> Result<(),
     Ok(())
 }
 
-/// From which level on bounds are widened, by what was guessed.
-fn from_level(hints: Option<&Hints>) -> u32 {
-    match hints {
-        Some(hints) if hints.is_broken() => FROM_LEVEL_IF_BROKEN,
-        _ => FROM_LEVEL,
-    }
-}
-
 /// The lemma with each bound of its cube moved outwards, as far as a few tries show that the frame below
 /// implies it so; the lemma as it is in a book of a low level.
-pub fn widen(
-    lent: &Lent,
-    part: LemmaPart,
-    hints: Option<&Hints>,
-    nodes: u32,
-) -> Result<LemmaPart, Memory>
+pub fn widen(lent: &Lent, part: LemmaPart, nodes: u32) -> Result<LemmaPart, Memory>
     requires goes_on { GoesOn lent.now }
     requires learnt { IsLearnt lent.now part }
     requires some { 0 < nodes }
     ensures { IfOk result (IsWidened lent.now part) }
 {
-    if lent.level < from_level(hints) {
+    if lent.level < FROM_LEVEL {
         return Ok(part);
     }
     let count = part.lemma.cube().lits().len();

@@ -142,16 +142,6 @@ impl Hints {
         paced_at(alloc, self.paces.as_slice(), pred, point, steps)
     }
 
-    /// Whether false follows from what running clauses forward met, as far as they were run.
-    pub fn is_broken(&self) -> bool
-        ensures { result ≡ is_broken self.now }
-    {
-        match &self.walk {
-            Some(walk) => walk.is_broken,
-            None => false,
-        }
-    }
-
     /// The bounds that were found so far.
     pub fn bounds(&self) -> &Bounds
         ensures { result.now ≡ self.now.rounds }

@@ -232,13 +232,7 @@ fn summed(lent: &Lent, part: LemmaPart, nodes: u32, means: Means) -> Result<Lemm
 }
 
 /// The lemma with wider bounds.
-fn widened(
-    lent: &Lent,
-    part: LemmaPart,
-    hints: Option<&Hints>,
-    nodes: u32,
-    means: Means,
-) -> Result<LemmaPart, Memory>
+fn widened(lent: &Lent, part: LemmaPart, nodes: u32, means: Means) -> Result<LemmaPart, Memory>
     requires goes_on { GoesOn lent.now }
     requires some { 0 < nodes }
     requires learnt { IsLearnt lent.now part }
@@ -247,7 +241,7 @@ fn widened(
     if !means.widens {
         return Ok(part);
     }
-    let wider = widen(lent, part, hints, nodes)?;
+    let wider = widen(lent, part, nodes)?;
     Ok(wider)
 }
 
@@ -286,7 +280,7 @@ fn guessed(
     let bounded = bounded(lent, hulled, hints, nodes, means)?;
     let general = generalise(lent, bounded, nodes)?;
     let summed = summed(lent, general, nodes, means)?;
-    let widened = widened(lent, summed, hints, nodes, means)?;
+    let widened = widened(lent, summed, nodes, means)?;
     Ok(widened)
 }
 
