@@ -3,8 +3,8 @@
 set -e
 top=$(cd "$(dirname "$0")/.." && pwd)
 kit=$(dirname "$(dirname "$(readlink -f "$(command -v rt)")")")
-(cd "$top/crates/answer_text_c" && rt lib >/dev/null)
+(cd "$top/crates/bench_calls" && rt lib >/dev/null)
 work=$(mktemp -d)
 trap 'rm -rf "$work"' EXIT
-cc -O2 -o "$work/answer_text" "$top/bench/answer_text.c" "$top/crates/answer_text_c/out/libanswer_text_c.a" "$kit/c/liblibc_c.a" "$kit/c/libos_c.a"
+cc -O2 -o "$work/answer_text" "$top/bench/answer_text.c" "$top/crates/bench_calls/out/libbench_calls.a" "$kit/c/liblibc_c.a" "$kit/c/libos_c.a"
 "$work/answer_text"

@@ -3,10 +3,10 @@
 set -e
 top=$(cd "$(dirname "$0")/.." && pwd)
 kit=$(dirname "$(dirname "$(readlink -f "$(command -v rt)")")")
-(cd "$top/crates/model_project_c" && rt lib >/dev/null)
+(cd "$top/crates/bench_calls" && rt lib >/dev/null)
 work=$(mktemp -d)
 trap 'rm -rf "$work"' EXIT
 rustc -O -o "$work/projection" "$top/bench/projection.rs" \
-    -C link-arg="$top/crates/model_project_c/out/libmodel_project_c.a" \
+    -C link-arg="$top/crates/bench_calls/out/libbench_calls.a" \
     -C link-arg="$kit/c/liblibc_c.a" -C link-arg="$kit/c/libos_c.a"
 "$work/projection"

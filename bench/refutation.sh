@@ -3,8 +3,8 @@
 set -e
 top=$(cd "$(dirname "$0")/.." && pwd)
 kit=$(dirname "$(dirname "$(readlink -f "$(command -v rt)")")")
-(cd "$top/crates/farkas_proof_c" && rt lib >/dev/null)
+(cd "$top/crates/bench_calls" && rt lib >/dev/null)
 work=$(mktemp -d)
 trap 'rm -rf "$work"' EXIT
-cc -O2 -o "$work/refutation" "$top/bench/refutation.c" "$top/crates/farkas_proof_c/out/libfarkas_proof_c.a" "$kit/c/liblibc_c.a" "$kit/c/libos_c.a"
+cc -O2 -o "$work/refutation" "$top/bench/refutation.c" "$top/crates/bench_calls/out/libbench_calls.a" "$kit/c/liblibc_c.a" "$kit/c/libos_c.a"
 "$work/refutation"

@@ -3,10 +3,10 @@
 set -e
 top=$(cd "$(dirname "$0")/.." && pwd)
 kit=$(dirname "$(dirname "$(readlink -f "$(command -v rt)")")")
-(cd "$top/crates/sexp_read_c" && rt lib >/dev/null)
+(cd "$top/crates/bench_calls" && rt lib >/dev/null)
 work=$(mktemp -d)
 trap 'rm -rf "$work"' EXIT
-cc -O2 -o "$work/sexp_read" "$top/bench/sexp_read.c" "$top/crates/sexp_read_c/out/libsexp_read_c.a" "$kit/c/liblibc_c.a" "$kit/c/libos_c.a"
+cc -O2 -o "$work/sexp_read" "$top/bench/sexp_read.c" "$top/crates/bench_calls/out/libbench_calls.a" "$kit/c/liblibc_c.a" "$kit/c/libos_c.a"
 for kind in commands comment nested; do
     "$work/sexp_read" "$kind"
 done

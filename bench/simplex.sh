@@ -3,10 +3,10 @@
 set -e
 top=$(cd "$(dirname "$0")/.." && pwd)
 kit=$(dirname "$(dirname "$(readlink -f "$(command -v rt)")")")
-(cd "$top/crates/simplex_core_c" && rt lib >/dev/null)
+(cd "$top/crates/bench_calls" && rt lib >/dev/null)
 work=$(mktemp -d)
 trap 'rm -rf "$work"' EXIT
 rustc -O -o "$work/simplex" "$top/bench/simplex.rs" \
-    -C link-arg="$top/crates/simplex_core_c/out/libsimplex_core_c.a" \
+    -C link-arg="$top/crates/bench_calls/out/libbench_calls.a" \
     -C link-arg="$kit/c/liblibc_c.a" -C link-arg="$kit/c/libos_c.a"
 "$work/simplex"

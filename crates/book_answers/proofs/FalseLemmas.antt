@@ -16,9 +16,9 @@ use Rattle.chc_core.specs.Views.{state_of}
 use Rattle.term_tree.specs.declared.refusal.Checked.{Checked}
 use Rattle.clause_form.specs.System.{Clauses}
 use Rattle.answer_text.specs.declared.answer.Line.{Line}
-use Rattle.derivation_lines.specs.Claims.{DeriveFalse}
-use Rattle.derivation_lines.specs.Lines.{fact_lines}
-use Rattle.derivation_lines.proofs.Public.{derive-false, steps-end}
+use Rattle.cert_derivations.specs.Claims.{DeriveFalse}
+use Rattle.cert_derivations.specs.Lines.{fact_lines}
+use Rattle.cert_derivations.proofs.Public.{derive-false, steps-end}
 use Rattle.book_answers.specs.Answers.{IsBookOf}
 use Rattle.step_rules.specs.Views.{ground_conclusion, facts_of}
 use Rattle.step_rules.proofs.Public.{fact_of-at, length-facts}

@@ -16,8 +16,8 @@ use Rattle.book_rules.specs.Instances.{IsDerivable, instances}
 use Rattle.book_rules.specs.Kept.{AreRecorded as AreKept, IsFalse}
 use Rattle.book_rules.specs.Values.{AreShort}
 use Rattle.step_rules.specs.Views.{facts_of}
-use Rattle.derivation_laws.proofs.Public.{derivable_over_system, system_made}
-use Rattle.derivation_lines.proofs.Public.{facts_printed, steps-end}
+use Rattle.cert_derivations.proofs.Public.{derivable_over_system, system_made}
+use Rattle.cert_derivations.proofs.Public.{facts_printed, steps-end}
 use Rattle.chc_core.specs.Contents.{Contents}
 use Rattle.chc_core.specs.Views.{state_of}
 use Rattle.interpretations.specs.Definitions.{AreDefinitionsOf, HavePlaces}

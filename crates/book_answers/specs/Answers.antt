@@ -16,8 +16,8 @@ use Rattle.book_rules.specs.declared.end.End.TheVariants.{Unsat as UnsatEnd, Sat
 use Rattle.step_rules.specs.Views.{facts_of}
 use Rattle.chc_core.specs.Contents.{Contents}
 use Rattle.chc_core.specs.Views.{standing_of}
-use Rattle.derivation_lines.specs.Claims.{DeriveFalse}
-use Rattle.derivation_lines.specs.Lines.{fact_lines}
+use Rattle.cert_derivations.specs.Claims.{DeriveFalse}
+use Rattle.cert_derivations.specs.Lines.{fact_lines}
 use Rattle.interpretations.specs.Definitions.{AreDefinitionsOf}
 use Rattle.obligation_turn.specs.Turns.{IsThin}
 use Rattle.answer_text.specs.declared.answer.Answer.{Answer}

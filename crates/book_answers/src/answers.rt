@@ -10,10 +10,11 @@ ghost use Rattle.book_answers.specs.Answers.{IsAnswerAt, IsBookOf};
 use answer_text::{Answer, UnknownCause};
 use base::Memory;
 use book_rules::End;
+use cert_derivations::lines;
 use chc_core::Book;
-use derivation_lines::lines;
-use interpretation_laws::{lemmas_of_books_have_places, sat_ends_solve_the_script};
-use interpretations::{DefinitionStop, definitions};
+use interpretations::{
+    DefinitionStop, definitions, lemmas_of_books_have_places, sat_ends_solve_the_script,
+};
 use std::alloc::Global;
 use term_tree::Checked;
 

@@ -9,7 +9,7 @@ ghost use Rattle.book_answers.specs.Answers.{IsOpened};
 use base::Memory;
 use chc_core::Book;
 use clause_normal::{ClauseStop, read_clauses};
-use search_parts::{begin, systems_of_scripts_can_be_run};
+use search_strategy::{begin, systems_of_scripts_can_be_run};
 use std::alloc::Global;
 use term_tree::{Checked, Refusal};
 

@@ -11,7 +11,7 @@ use Rattle.chc_core.specs.Views.{state_of}
 use Rattle.chc_core.specs.declared.entry.Entry.{Entry}
 use Rattle.obligation_turn.specs.Counts.{StepCounts}
 use Rattle.obligation_turn.specs.Turns.{StepIsThin}
-use Rattle.search_parts.proofs.ThinLemmas.{thin-after}
+use Rattle.search_strategy.proofs.ThinLemmas.{thin-after}
 use Rattle.book_loop.specs.Runs.{IsOwn}
 use Rattle.book_loop.specs.machinery.Steps.{IsFurther}
 

@@ -9,7 +9,7 @@ use Rattle.chc_core.specs.Contents.{Contents}
 use Rattle.chc_core.specs.Openings.{opening_of}
 use Rattle.chc_core.specs.Views.{standing_of, state_of, steps_of}
 use Rattle.obligation_turn.specs.Turns.{GoesOn, IsThin}
-use Rattle.search_parts.specs.Runs.{CanRun}
+use Rattle.search_strategy.specs.Runs.{CanRun}
 
 pub goes_on : (b : Contents) → CanRun b.system → IsStanding (standing_of b) → IsOrdered (state_of b) → AreRecorded b.system [] (state_of b).facts → end (state_of b) ≡ None
     → IsThin (standing_of b) → GoesOn (standing_of b)

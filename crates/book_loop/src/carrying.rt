@@ -1,13 +1,13 @@
 //! An older lemma that is lifted in place of a copy of it.
 
 ghost use Rattle.std.specs.Prelude.{◌<◌, length, IfOk};
-ghost use Rattle.search_parts.specs.machinery.Steps.{AreFor, IsOffered};
+ghost use Rattle.search_strategy.specs.machinery.Steps.{AreFor, IsOffered};
 ghost use Rattle.book_loop.specs.machinery.Steps.{HasTaken, IsFurther};
 
 use crate::taking::{WORKER, offer};
 use base::{Copied, Memory};
 use chc_core::Book;
-use search_parts::{equal, means_of};
+use search_strategy::{equal, means_of};
 use step_rules::{LemmaPart, LiftPart, Step};
 
 /// Lifts the lemma from this level to the next with the part's proofs, if the book takes it.

@@ -6,15 +6,15 @@ ghost use Rattle.book_rules.specs.Legal.{end};
 ghost use Rattle.chc_core.specs.Views.{standing_of, state_of};
 ghost use Rattle.obligation_turn.specs.Turns.{IsThin};
 ghost use Rattle.obligation_turn.specs.Workspaces.{IsWorkspaceFor};
-ghost use Rattle.search_parts.specs.Runs.{CanRun};
-ghost use Rattle.search_parts.specs.machinery.Steps.{IsTaken};
+ghost use Rattle.search_strategy.specs.Runs.{CanRun};
+ghost use Rattle.search_strategy.specs.machinery.Steps.{IsTaken};
 ghost use Rattle.book_loop.specs.machinery.Steps.{IsFurther};
 
 use crate::taking::{has_ended, lend, take};
 use base::Memory;
 use chc_core::Book;
 use obligation_turn::Workspace;
-use search_parts::{Pass, lift_of};
+use search_strategy::{Pass, lift_of};
 use step_rules::Step;
 
 /// The Lift of the lemma by one level, if it is of at least a level, below that of the book, and the

@@ -6,8 +6,8 @@ ghost use Rattle.book_rules.specs.Walks.{AllOf};
 ghost use Rattle.chc_core.specs.Views.{standing_of, state_of};
 ghost use Rattle.obligation_turn.specs.Turns.{IsThin};
 ghost use Rattle.obligation_turn.specs.Workspaces.{IsWorkspaceFor};
-ghost use Rattle.search_parts.specs.Runs.{CanRun};
-ghost use Rattle.search_parts.specs.machinery.Steps.{IsTaken};
+ghost use Rattle.search_strategy.specs.Runs.{CanRun};
+ghost use Rattle.search_strategy.specs.machinery.Steps.{IsTaken};
 ghost use Rattle.book_loop.specs.Runs.{IsOwn};
 ghost use Rattle.book_loop.specs.machinery.Steps.{IsFurther};
 
@@ -17,10 +17,10 @@ use crate::lifting::lift_after;
 use crate::taking::{WORKER, has_ended, lend, take};
 use base::Memory;
 use chc_core::Book;
-use lemma_hints::{Hints, hints_of};
-use lemma_work::improved;
+use guess_all::{Hints, hints_of};
 use obligation_turn::{Workspace, turn_in};
-use search_parts::{means_of, pass_of};
+use search_learn::improved;
+use search_strategy::{means_of, pass_of};
 use step_rules::Step;
 
 /// The step of the next turn. A lemma is first made more general and raised.

@@ -5,8 +5,8 @@ ghost use Rattle.std.specs.Bool.{OnFalse, OnTrue};
 ghost use Rattle.book_rules.specs.Legal.{end};
 ghost use Rattle.chc_core.specs.Views.{standing_of, state_of};
 ghost use Rattle.obligation_turn.specs.Turns.{GoesOn, IsThin};
-ghost use Rattle.search_parts.specs.Runs.{CanRun};
-ghost use Rattle.search_parts.specs.machinery.Steps.{IsOffered, IsTaken};
+ghost use Rattle.search_strategy.specs.Runs.{CanRun};
+ghost use Rattle.search_strategy.specs.machinery.Steps.{IsOffered, IsTaken};
 ghost use Rattle.book_loop.specs.machinery.Steps.{HasTaken, IsFurther};
 
 use base::Memory;

@@ -3,9 +3,9 @@ use Rattle.std.proofs.Common.{◌≡◌, ℕ, List, refl, ap}
 use Rattle.term_tree.specs.declared.script.Script.{Script}
 use Rattle.answer_text.specs.declared.answer.Answer.TheVariants.{Unsat}
 use Rattle.answer_text.specs.declared.answer.Line.{Line}
-use Rattle.derivation_lines.specs.Claims.{DeriveFalse}
-use Rattle.derivation_check.specs.Findings.{IsWrongAt}
-use Rattle.derivation_check.proofs.Public.{one_step, right_not_wrong}
+use Rattle.cert_derivations.specs.Claims.{DeriveFalse}
+use Rattle.check_derivation.specs.Findings.{IsWrongAt}
+use Rattle.check_derivation.proofs.Public.{one_step, right_not_wrong}
 use Rattle.chc_checker.specs.declared.verdict.Hidden.TheVariants.{Assertion, Step as AtStep}
 use Rattle.chc_checker.specs.declared.verdict.Place.TheVariants.{Byte, Step, Instance}
 use Rattle.chc_checker.specs.declared.verdict.Unshown.TheVariants.{Query, Variables, Value}

@@ -21,7 +21,7 @@ use Rattle.clause_normal.specs.Normal.{first_without_room, normal_clause}
 use Rattle.clause_laws.specs.Defined.{breaking_form, breaking_variables}
 use Rattle.clause_laws.specs.Point.{IsBreakingPointOver}
 use Rattle.clause_laws.proofs.BreakingLemmas.{broken_extends, point_breaks}
-use Rattle.derivation_check.proofs.Public.{clause_once}
+use Rattle.check_derivation.proofs.Public.{clause_once}
 use Rattle.chc_checker.specs.Verdicts.{IsFalseAt, IsNormalScript, IsAssertionReached}
 
 differs : true ≡ false → ⊥

@@ -9,7 +9,7 @@ use Rattle.lin_atoms.specs.declared.form.Form.{Form}
 use Rattle.lin_atoms.specs.declared.form.Form.TheOpen.{Form-F}
 use Rattle.lin_atoms.specs.declared.form.Form.TheFolds.{fold-Form}
 use Rattle.lin_atoms.specs.Truth.{is_below, lit_is_below}
-use Rattle.node_rows.specs.Known.{has_short_constant}
+use Rattle.lia_node.specs.Known.{has_short_constant}
 use Rattle.lia_search.specs.Decides.{has_short_multiples, short_step}
 use Rattle.clause_form.specs.System.{has_short_in_guard}
 use Rattle.clause_normal.specs.Normal.{conjunction}

@@ -12,7 +12,7 @@ use Rattle.clause_form.specs.System.{Clauses}
 use Rattle.clause_form.specs.declared.clause.Clause.{Clause}
 use Rattle.clause_normal.specs.Normal.{first_without_room}
 use Rattle.clause_normal.specs.Reading.{all_clauses, by_room, by_shape, normal_reading, clause_with, clause_and_others, system_reading}
-use Rattle.derivation_laws.proofs.Public.{IsMadeOf, system_made}
+use Rattle.cert_derivations.proofs.Public.{IsMadeOf, system_made}
 use Rattle.chc_checker.specs.Verdicts.{IsNormalScript}
 
 -- what a clause that is read has

@@ -21,8 +21,8 @@ use Rattle.answer_text.specs.Read.{IsBad, Spells}
 use Rattle.answer_text.specs.declared.answer.Answer.{Answer}
 use Rattle.answer_text.specs.declared.answer.Answer.TheVariants.{Sat, Unsat, Unknown}
 use Rattle.answer_text.specs.declared.answer.Line.{Line}
-use Rattle.derivation_lines.specs.Claims.{DeriveFalse}
-use Rattle.derivation_check.specs.Findings.{IsWideAt, IsWrongAt}
+use Rattle.cert_derivations.specs.Claims.{DeriveFalse}
+use Rattle.check_derivation.specs.Findings.{IsWideAt, IsWrongAt}
 use Rattle.chc_checker.specs.declared.verdict.Hidden.{Hidden}
 use Rattle.chc_checker.specs.declared.verdict.Hidden.TheVariants.{Assertion, Step as AtStep}
 use Rattle.chc_checker.specs.declared.verdict.Place.{Place}

@@ -3,13 +3,13 @@
 ghost use Rattle.std.specs.Prelude.{ℕ, List, IfOk};
 ghost use Rattle.horn_shape.specs.Clause.{IsLegalScript};
 ghost use Rattle.answer_text.specs.declared.answer.Answer.TheVariants.{Unsat};
-ghost use Rattle.derivation_check.specs.Findings.{Finds, IsHornScript};
+ghost use Rattle.check_derivation.specs.Findings.{Finds, IsHornScript};
 ghost use Rattle.chc_checker.specs.Verdicts.{IsNormalScript, Says};
 
 use crate::verdict::{Hidden, Place, Unshown, Verdict};
 use answer_text::Line;
 use base::Memory;
-use derivation_check::{Finding, check_derivation};
+use check_derivation::{Finding, check_derivation};
 use std::alloc::Global;
 use term_tree::Script;
 

@@ -4,8 +4,8 @@ use Rattle.std.specs.Prelude.{Some, None, IfSome, ◌≢◌}
 use Rattle.std.specs.declared.option.Option.{Option}
 use Rattle.term_tree.specs.declared.refusal.Refusal.{Refusal}
 use Rattle.chc_core.specs.Contents.{Contents}
-use Rattle.solve_words.specs.Words.{IsCall, IsCheckCall, IsGenCall}
-use Rattle.solve_words.specs.declared.limits.Limits.{Limits}
+use Rattle.call_words.specs.Words.{IsCall, IsCheckCall, IsGenCall}
+use Rattle.call_words.specs.declared.limits.Limits.{Limits}
 use Rattle.chc_cli.specs.Commands.{ByReader, BySearch}
 
 pub refused_solve : (words : List (List ℕ)) (found : Option Refusal) (solves : Refusal → Limits → Type 0) (checks : Refusal → ℕ → Type 0) (limits : Limits) → IsCall words limits

@@ -2,8 +2,8 @@
 use Rattle.std.specs.Prelude.{◌≡◌, ◌<◌, ℕ, List, [], take, length, ◌⊎◌}
 use Rattle.std.specs.declared.option.Option.{Option}
 use Rattle.outside_io.specs.Bytes.{Appends}
-use Rattle.solve_words.specs.Words.{IsCall, IsCheckCall, IsGenCall, IsNoCall, IsNoCheckCall, IsNoGenCall}
-use Rattle.solve_words.specs.declared.limits.Limits.{Limits}
+use Rattle.call_words.specs.Words.{IsCall, IsCheckCall, IsGenCall, IsNoCall, IsNoCheckCall, IsNoGenCall}
+use Rattle.call_words.specs.declared.limits.Limits.{Limits}
 use Rattle.answer_text.specs.Lines.{memory_text, usage_text}
 
 -- the words are no command

@@ -1,7 +1,7 @@
 -- The command that the words call.
 use Rattle.std.specs.Prelude.{◌<◌, ◌≤◌, ◌^◌, ℕ, List}
-use Rattle.solve_words.specs.Words.{IsCall, IsCheckCall, IsGenCall}
-use Rattle.solve_words.specs.Properties.{IsInRange}
+use Rattle.call_words.specs.Words.{IsCall, IsCheckCall, IsGenCall}
+use Rattle.call_words.specs.Properties.{IsInRange}
 use Rattle.chc_cli.specs.Commands.{IsNoCommand}
 use Rattle.chc_cli.specs.declared.command.Command.{Command}
 use Rattle.chc_cli.specs.declared.command.Command.TheVariants.{Solve, Check, Gen, Usage, Wanting}

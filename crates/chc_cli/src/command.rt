@@ -2,10 +2,10 @@
 
 ghost use Rattle.std.specs.Prelude.{Some, map};
 ghost use Rattle.std.specs.String.{string_bytes};
-ghost use Rattle.solve_words.specs.Properties.{AreWordsOf, IsWithin};
+ghost use Rattle.call_words.specs.Properties.{AreWordsOf, IsWithin};
 ghost use Rattle.chc_cli.specs.Words.{IsCommandOf};
 
-use solve_words::{Limits, Words, words_of};
+use call_words::{Limits, Words, words_of};
 use std::alloc::Global;
 
 /// What the words call.

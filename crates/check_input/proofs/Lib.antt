@@ -1,0 +1,4 @@
+pub mod AppendLemmas
+pub mod PartLemmas
+pub mod PieceLemmas
+pub mod TextLemmas

@@ -2,5 +2,14 @@
 #![tactic(auto)]
 
 mod cut;
+mod laws;
+mod outcome;
+mod parts;
+mod pieces;
+mod text;
+mod whole;
 
 pub use cut::{Cut, cut_at_marker};
+pub use laws::inputs_are_parted_once;
+pub use outcome::Outcome;
+pub use whole::check_whole_input;

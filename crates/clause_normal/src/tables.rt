@@ -1,12 +1,12 @@
 ghost use Rattle.std.specs.Prelude.{IfOk};
 ghost use Rattle.term_tables.specs.machinery.Table.{AreConstants, AreSorts, constant_in};
-ghost use Rattle.term_bounds.specs.machinery.Room.{AreBounds};
+ghost use Rattle.term_widths.specs.machinery.Room.{AreBounds};
 
 use base::Memory;
 use std::alloc::Global;
-use term_bounds::RoomTable;
 use term_tables::{ConstantTable, SortTable};
 use term_tree::{Pred, Terms};
+use term_widths::RoomTable;
 
 /// What is told of every term once: its sort, its value if it is a constant, and whether a bound shows
 /// that the numbers in it have room. It serves every assertion of a script.

@@ -20,7 +20,7 @@ use Rattle.lin_atoms.proofs.Public.{is_below-Or}
 use Rattle.clause_form.specs.System.{has_short_guard, guard_step}
 use Rattle.clause_form.specs.System.{has_short_in_guard}
 use Rattle.cube_forms.specs.Cubes.{cube_at, cube_is_below, cube_is_short, denials, lemma_at, lit_at, lit_is_short, or_of}
-use Rattle.node_rows.specs.Known.{has_short_constant}
+use Rattle.lia_node.specs.Known.{has_short_constant}
 use Rattle.lia_search.specs.Decides.{has_short_multiples, short_step}
 use Rattle.lia_search.proofs.Public.{short-Or}
 use Rattle.book_rules.proofs.ListLemmas.{both_true, from_both}

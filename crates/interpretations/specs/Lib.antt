@@ -1,5 +1,5 @@
-pub mod Kept
-pub mod Terms
-pub mod Size
 pub mod Definitions
+pub mod Kept
+pub mod Size
+pub mod Terms
 pub mod machinery

@@ -10,7 +10,7 @@ use Rattle.lin_atoms.specs.declared.form.Form.TheViews.{roll-Form}
 use Rattle.lin_atoms.specs.declared.form.Form.TheVariants.{Lit as Literal}
 use Rattle.lin_atoms.specs.declared.form.Form.TheFolds.{fold-roll-Form}
 use Rattle.lin_atoms.proofs.Public.{is_below-And}
-use Rattle.node_rows.specs.Known.{has_short_constant}
+use Rattle.lia_node.specs.Known.{has_short_constant}
 use Rattle.lia_search.specs.Decides.{has_short_multiples, short_step}
 use Rattle.lia_search.proofs.Public.{short-And}
 use Rattle.lia_branch.specs.Conjunction.{conjunction}

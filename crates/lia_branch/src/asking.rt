@@ -3,7 +3,7 @@
 ghost use Rattle.std.specs.Prelude.{◌≡◌};
 ghost use Rattle.std.specs.List.{list_all};
 ghost use Rattle.lin_atoms.specs.Truth.{lit_is_below};
-ghost use Rattle.node_rows.specs.Known.{has_short_constant};
+ghost use Rattle.lia_node.specs.Known.{has_short_constant};
 
 use lin_atoms::Lit;
 
@@ -23,5 +23,5 @@ pub fn are_below(lits: &[Lit], vars: u32) -> bool
 pub fn have_short_constants(lits: &[Lit]) -> bool
     ensures { result ≡ list_all has_short_constant lits.now }
 {
-    node_rows::have_short_constants(lits)
+    lia_node::have_short_constants(lits)
 }

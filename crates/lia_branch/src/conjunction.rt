@@ -4,12 +4,12 @@ ghost use Rattle.std.specs.Prelude.{◌≡◌, ◌<◌, ◌≤◌, IfOk, true};
 ghost use Rattle.std.specs.List.{list_all};
 ghost use Rattle.base.specs.Limits.{most_variables};
 ghost use Rattle.lin_atoms.specs.Truth.{lit_is_below};
-ghost use Rattle.node_rows.specs.Known.{has_short_constant};
+ghost use Rattle.lia_node.specs.Known.{has_short_constant};
 ghost use Rattle.lia_search.specs.Decides.{Decides};
 ghost use Rattle.lia_branch.specs.Conjunction.{conjunction};
 
 use base::{Copied, Items, Memory};
-use lia_jumps::decide_form;
+use lia_decide::decide_form;
 use lia_search::Decision;
 use lin_atoms::{Form, Lit};
 use std::alloc::Global;

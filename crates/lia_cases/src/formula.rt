@@ -9,7 +9,7 @@ ghost use Rattle.lia_search.specs.Decides.{Decides, has_short_multiples};
 
 use crate::counting::first_literals;
 use base::{Copied, Items, Memory};
-use lia_jumps::decide_form;
+use lia_decide::decide_form;
 use lia_search::Decision;
 use lin_atoms::Form;
 use std::alloc::Global;

@@ -17,10 +17,10 @@ use Rattle.std.proofs.lemmas.Int.{ints}
 use Rattle.refutation_trees.specs.declared.tree.Refutation.{Refutation}
 use Rattle.refutation_trees.specs.declared.tree.Refutation.TheVariants.{Leaf}
 use Rattle.simplex_core.specs.Meaning.{IsConflict, summed_bounds}
-use Rattle.node_rows.specs.Known.{are_known, is_legal}
-use Rattle.node_rows.specs.Nodes.{node_table}
-use Rattle.node_rows.proofs.ColumnLemmas.{length-system}
-use Rattle.node_rows.proofs.FitLemmas.{linear-parts, some-terms}
+use Rattle.lia_node.specs.Known.{are_known, is_legal}
+use Rattle.lia_node.specs.Nodes.{node_table}
+use Rattle.lia_node.proofs.ColumnLemmas.{length-system}
+use Rattle.lia_node.proofs.FitLemmas.{linear-parts, some-terms}
 use Rattle.lia_close.specs.Placed.{IsSoundAt, Place}
 use Rattle.lia_close.specs.Said.{AreReasons}
 use Rattle.lia_close.specs.declared.leaf.Rounding.{Rounding}

@@ -17,7 +17,7 @@ use Rattle.refutation_trees.specs.Split.{is_no_falsehood}
 use Rattle.refutation_trees.specs.declared.tree.Refutation.{Refutation}
 use Rattle.refutation_trees.specs.declared.tree.Refutation.TheViews.{Quotient}
 use Rattle.refutation_trees.specs.declared.tree.Refutation.TheVariants.{Leaf}
-use Rattle.node_rows.specs.Known.{has_short_constant, is_legal}
+use Rattle.lia_node.specs.Known.{has_short_constant, is_legal}
 use Rattle.lia_close.specs.Placed.{IsSoundAt, Place}
 use Rattle.lia_close.specs.machinery.Falsehood.{sign_of, summed_pair}
 use Rattle.lia_close.proofs.PlacedLemmas.{sound-leaf}

@@ -22,7 +22,7 @@ use Rattle.int_rows.proofs.ReadyLemmas.{true-le}
 use Rattle.refutation_trees.specs.Combination.{are_multipliers, combined, is_divided_by, is_multiplier, linear_at, may_be_multiplied}
 use Rattle.refutation_trees.specs.declared.tree.Refutation.{Refutation}
 use Rattle.refutation_trees.specs.declared.tree.Refutation.TheVariants.{Leaf}
-use Rattle.node_rows.specs.Known.{is_legal}
+use Rattle.lia_node.specs.Known.{is_legal}
 use Rattle.lia_close.specs.Placed.{IsSoundAt, Place, with_known}
 use Rattle.lia_close.specs.Said.{AreAt, said_by}
 use Rattle.lia_close.specs.declared.leaf.Rounding.{Rounding}

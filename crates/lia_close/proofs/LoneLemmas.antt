@@ -9,8 +9,8 @@ use Rattle.lin_atoms.proofs.Public.{both_true, value_at-negated}
 use Rattle.int_rows.specs.Node.{coefficient, is_on}
 use Rattle.int_rows.specs.declared.bounds.Bounded.{Bounded}
 use Rattle.int_rows.specs.declared.bounds.Ready.TheVariants.{Bounds}
-use Rattle.node_rows.specs.machinery.Solved.{is_tidy, is_unit_alone, names_rise}
-use Rattle.node_rows.proofs.HoldLemmas.{none-some, said_of}
+use Rattle.lia_node.specs.machinery.Solved.{is_tidy, is_unit_alone, names_rise}
+use Rattle.lia_node.proofs.HoldLemmas.{none-some, said_of}
 use Rattle.lia_close.specs.declared.side.Side.{Side}
 use Rattle.lia_close.specs.declared.side.Side.TheVariants.{Lower, Upper}
 use Rattle.lia_close.specs.machinery.Taken.{bound_on, said}

@@ -14,10 +14,10 @@ use Rattle.int_rows.specs.Ready.{bounded, has_no_variable, ready}
 use Rattle.int_rows.specs.declared.bounds.Bounded.{Bounded}
 use Rattle.int_rows.specs.declared.bounds.Ready.{Ready}
 use Rattle.int_rows.specs.declared.bounds.Ready.TheVariants.{Truth, Bounds}
-use Rattle.node_rows.specs.Known.{are_known, is_legal}
-use Rattle.node_rows.specs.machinery.Solved.{is_tidy}
-use Rattle.node_rows.proofs.BelowLemmas.{ends-more}
-use Rattle.node_rows.proofs.TidyLemmas.{all-tidy}
+use Rattle.lia_node.specs.Known.{are_known, is_legal}
+use Rattle.lia_node.specs.machinery.Solved.{is_tidy}
+use Rattle.lia_node.proofs.BelowLemmas.{ends-more}
+use Rattle.lia_node.proofs.TidyLemmas.{all-tidy}
 use Rattle.lia_close.specs.Said.{AreAt, AreReasons, said_by}
 use Rattle.lia_close.specs.machinery.Taken.{all_ready}
 

@@ -16,7 +16,7 @@ use Rattle.int_rows.specs.declared.bounds.Ready.TheVariants.{Truth, Bounds}
 use Rattle.int_rows.proofs.ReadyLemmas.{true-zero}
 use Rattle.simplex_core.specs.Meaning.{of_lower, of_upper}
 use Rattle.simplex_core.proofs.SumLemmas.{total}
-use Rattle.node_rows.proofs.HoldLemmas.{no_bounded}
+use Rattle.lia_node.proofs.HoldLemmas.{no_bounded}
 use Rattle.lia_close.specs.declared.side.Side.{Side}
 use Rattle.lia_close.specs.declared.side.Side.TheVariants.{Lower, Upper}
 use Rattle.lia_close.specs.declared.side.Taken.{Taken}

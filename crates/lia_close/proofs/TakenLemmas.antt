@@ -21,15 +21,15 @@ use Rattle.int_rows.specs.declared.bounds.Ready.TheVariants.{Bounds}
 use Rattle.int_rows.proofs.FollowLemmas.{follows-solved}
 use Rattle.simplex_core.specs.Meaning.{IsConflict, of_lower, of_upper, summed, summed_bounds}
 use Rattle.simplex_core.proofs.SumLemmas.{dot-made, dot-total, total, total-minus, total-same}
-use Rattle.node_rows.specs.Known.{are_known, is_legal}
-use Rattle.node_rows.specs.Nodes.{node_table}
-use Rattle.node_rows.specs.machinery.Columns.{is_said_below}
-use Rattle.node_rows.specs.machinery.Solved.{is_tidy}
-use Rattle.node_rows.proofs.BelowLemmas.{all-below}
-use Rattle.node_rows.proofs.ColumnLemmas.{all-at, length-system}
-use Rattle.node_rows.proofs.HoldLemmas.{bound-slack, bound-variable, kept, no_bounded}
-use Rattle.node_rows.proofs.PointLemmas.{slacks-solve, slacks-width, with_slacks}
-use Rattle.node_rows.proofs.TidyLemmas.{all-tidy}
+use Rattle.lia_node.specs.Known.{are_known, is_legal}
+use Rattle.lia_node.specs.Nodes.{node_table}
+use Rattle.lia_node.specs.machinery.Columns.{is_said_below}
+use Rattle.lia_node.specs.machinery.Solved.{is_tidy}
+use Rattle.lia_node.proofs.BelowLemmas.{all-below}
+use Rattle.lia_node.proofs.ColumnLemmas.{all-at, length-system}
+use Rattle.lia_node.proofs.HoldLemmas.{bound-slack, bound-variable, kept, no_bounded}
+use Rattle.lia_node.proofs.PointLemmas.{slacks-solve, slacks-width, with_slacks}
+use Rattle.lia_node.proofs.TidyLemmas.{all-tidy}
 use Rattle.lia_close.specs.declared.side.Side.{Side}
 use Rattle.lia_close.specs.machinery.Taken.{all_ready, all_taken, said_value, slacks_from, taken_by_found, taken_of, taken_value}
 use Rattle.lia_close.specs.machinery.Tightest.{greatest_found, least_found}

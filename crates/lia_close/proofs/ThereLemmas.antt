@@ -17,9 +17,9 @@ use Rattle.int_rows.specs.declared.bounds.Ready.{Ready}
 use Rattle.int_rows.specs.declared.bounds.Ready.TheVariants.{Truth, Bounds}
 use Rattle.int_rows.proofs.ReadyLemmas.{le-true}
 use Rattle.simplex_core.specs.Meaning.{IsConflict, of_lower, of_upper}
-use Rattle.node_rows.specs.Nodes.{node_table}
-use Rattle.node_rows.proofs.ColumnLemmas.{length-system}
-use Rattle.node_rows.proofs.HoldLemmas.{bound-slack, no_bounded}
+use Rattle.lia_node.specs.Nodes.{node_table}
+use Rattle.lia_node.proofs.ColumnLemmas.{length-system}
+use Rattle.lia_node.proofs.HoldLemmas.{bound-slack, no_bounded}
 use Rattle.lia_close.specs.declared.side.Side.{Side}
 use Rattle.lia_close.specs.declared.side.Side.TheVariants.{Lower, Upper}
 use Rattle.lia_close.specs.declared.side.Taken.{Taken}

@@ -3,8 +3,8 @@
 ghost use Rattle.std.specs.Prelude.{◌≡◌, ◌<◌, ◌^◌, length, IfOk, true};
 ghost use Rattle.std.specs.List.{list_all};
 ghost use Rattle.int_rows.specs.Node.{end_of_quotients};
-ghost use Rattle.node_rows.specs.Known.{are_known, has_short_constant};
-ghost use Rattle.node_rows.specs.Nodes.{node_table};
+ghost use Rattle.lia_node.specs.Known.{are_known, has_short_constant};
+ghost use Rattle.lia_node.specs.Nodes.{node_table};
 ghost use Rattle.simplex_core.specs.Meaning.{IsConflict};
 ghost use Rattle.lia_close.specs.Placed.{IsSoundAt, Place};
 ghost use Rattle.lia_close.specs.Said.{AreReasons};
@@ -14,8 +14,8 @@ use crate::leaf::Leaf;
 use crate::side::Taken;
 use crate::taking::{all_ready, all_taken, are_short, variables};
 use base::Memory;
+use lia_node::are_legal;
 use lin_atoms::Lit;
-use node_rows::are_legal;
 use refutation_trees::Refutation;
 use std::alloc::Global;
 

@@ -5,7 +5,7 @@ ghost use Rattle.refutation_trees.specs.Refutation.{new_variable};
 ghost use Rattle.refutation_trees.specs.Split.{is_no_falsehood};
 ghost use Rattle.refutation_trees.specs.declared.tree.Refutation.TheViews.{Round, Quotient};
 ghost use Rattle.refutation_trees.specs.declared.tree.Refutation.TheVariants.{Leaf};
-ghost use Rattle.node_rows.specs.Known.{has_short_constant};
+ghost use Rattle.lia_node.specs.Known.{has_short_constant};
 ghost use Rattle.lia_close.specs.Placed.{IsSoundAt, Place};
 ghost use Rattle.lia_close.specs.machinery.Falsehood.{sign_of, summed_pair};
 

@@ -1,7 +1,7 @@
 //! What is known of a literal of the code.
 
 ghost use Rattle.std.specs.Prelude.{◌≡◌, true};
-ghost use Rattle.node_rows.specs.Known.{is_legal};
+ghost use Rattle.lia_node.specs.Known.{is_legal};
 
 use lin_atoms::Lit;
 

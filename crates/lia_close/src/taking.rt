@@ -6,7 +6,7 @@ ghost use Rattle.lin_atoms.specs.Linear.{is_short};
 ghost use Rattle.lin_atoms.specs.Truth.{lit_is_below};
 ghost use Rattle.int_rows.specs.Node.{end_of_quotients, quotients};
 ghost use Rattle.int_rows.specs.Ready.{ready, ready_fits};
-ghost use Rattle.node_rows.specs.Known.{are_known, has_short_constant};
+ghost use Rattle.lia_node.specs.Known.{are_known, has_short_constant};
 ghost use Rattle.simplex_core.specs.Meaning.{of_lower, of_upper};
 ghost use Rattle.lia_close.specs.declared.side.Side.TheVariants.{Lower, Upper};
 ghost use Rattle.lia_close.specs.machinery.Tightest.{greatest_found, least_found};

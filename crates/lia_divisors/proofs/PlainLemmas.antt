@@ -12,7 +12,7 @@ use Rattle.refutation_trees.specs.declared.tree.Refutation.TheOpen.{Refutation-F
 use Rattle.refutation_trees.specs.declared.tree.Refutation.TheViews.{Round, Split, roll-Refutation}
 use Rattle.refutation_trees.specs.declared.tree.Refutation.TheVariants.{Leaf, rolls-Round, rolls-Split}
 use Rattle.refutation_trees.specs.declared.tree.Refutation.TheFolds.{fold-roll-Refutation}
-use Rattle.lia_parts.specs.declared.chain.Rounding.{Rounding}
+use Rattle.lia_guesses.specs.declared.chain.Rounding.{Rounding}
 use Rattle.lia_divisors.specs.machinery.Chain.{chained}
 use Rattle.lia_divisors.specs.machinery.Plain.{is_plain, plain_step}
 

@@ -20,8 +20,8 @@ use Rattle.refutation_trees.proofs.FlattenLemmas.{literals-And}
 use Rattle.lia_close.specs.Said.{AreAt, AreReasons, said_by}
 use Rattle.refutation_trees.specs.declared.tree.Refutation.{Refutation}
 use Rattle.refutation_trees.specs.declared.tree.Refutation.TheViews.{Round}
-use Rattle.lia_parts.specs.declared.chain.Rounding.{Rounding}
-use Rattle.lia_parts.specs.declared.said.Said.{Said}
+use Rattle.lia_guesses.specs.declared.chain.Rounding.{Rounding}
+use Rattle.lia_guesses.specs.declared.said.Said.{Said}
 use Rattle.lia_divisors.specs.machinery.Chain.{chained}
 use Rattle.lia_divisors.specs.machinery.There.{AreThere, StandsFor, is_blank}
 

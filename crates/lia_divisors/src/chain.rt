@@ -6,7 +6,7 @@ ghost use Rattle.refutation_trees.specs.declared.tree.Refutation.TheViews.{Round
 ghost use Rattle.lia_divisors.specs.machinery.Chain.{chained};
 
 use base::{Boxed, Items, Memory};
-use lia_parts::{Chain, Rounding};
+use lia_guesses::{Chain, Rounding};
 use refutation_trees::Refutation;
 use std::alloc::Global;
 

@@ -3,7 +3,7 @@
 ghost use Rattle.std.specs.Prelude.{◌≡◌, ◌<◌, ◌^◌, ℕ, List, length, IfOk, IfSome, true};
 ghost use Rattle.std.specs.List.{list_all};
 ghost use Rattle.lin_atoms.specs.declared.lit.Lit.{Lit};
-ghost use Rattle.node_rows.specs.Known.{are_known, has_short_constant};
+ghost use Rattle.lia_node.specs.Known.{are_known, has_short_constant};
 ghost use Rattle.lia_close.specs.Placed.{IsSoundAt, Place};
 ghost use Rattle.lia_close.specs.Said.{AreReasons};
 ghost use Rattle.lia_divisors.specs.machinery.There.{AreThere};
@@ -13,7 +13,7 @@ use crate::said::all_said;
 use crate::written::tree_of;
 use base::Memory;
 use farkas_proof::{CheckStop, check};
-use lia_parts::{Move, Said, guessed};
+use lia_guesses::{Move, Said, guessed};
 use lin_atoms::Lit;
 use refutation_trees::Refutation;
 use std::alloc::Global;

@@ -7,7 +7,7 @@ ghost use Rattle.lin_atoms.specs.declared.lit.Lit.{Lit};
 ghost use Rattle.lia_divisors.specs.machinery.There.{AreThere, StandsFor, is_blank};
 
 use base::{Copied, Items, Memory};
-use lia_parts::Said;
+use lia_guesses::Said;
 use lin_atoms::{Divisor, Form, Lin, Lit};
 use std::alloc::Global;
 

@@ -10,8 +10,7 @@ ghost use Rattle.lia_close.specs.Said.{AreAt, AreReasons, said_by};
 ghost use Rattle.lia_divisors.specs.machinery.There.{AreThere};
 
 use base::{Copied, Memory};
-use lia_parts::Said;
-use lia_points::{added, quotients};
+use lia_guesses::{Said, added, quotients};
 use lin_atoms::{Divisor, Lin, Lit};
 use std::alloc::Global;
 

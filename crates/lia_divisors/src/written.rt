@@ -7,7 +7,7 @@ ghost use Rattle.lia_divisors.specs.machinery.Plain.{is_plain};
 
 use crate::chain::chain_tree;
 use base::{Boxed, Memory};
-use lia_parts::{Chain, Move};
+use lia_guesses::{Chain, Move};
 use lin_atoms::Lin;
 use refutation_trees::Refutation;
 use std::alloc::Global;

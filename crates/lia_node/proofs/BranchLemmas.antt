@@ -11,7 +11,7 @@ use Rattle.lin_atoms.proofs.Public.{both_true}
 use Rattle.int_rows.specs.Node.{end_of_quotients, quotients, system}
 use Rattle.int_rows.proofs.ReadyLemmas.{true-le}
 use Rattle.refutation_trees.specs.Split.{HasSolution, HasVertexBetween, IsInner, Node, at_least, at_most, by_branch, with_bound}
-use Rattle.node_rows.specs.Known.{are_known}
+use Rattle.lia_node.specs.Known.{are_known}
 
 pub fraction-splits : (q : ℕ) (node : Node) (x : ℕ) (c : ℤ) → HasSolution q node.lits → HasVertexBetween (system q node.lits) x c → IsInner q node (with_bound node (at_most x c) ∷ with_bound node (at_least x (c +ℤ pos 1)) ∷ [])
 fraction-splits q node x c solution vertex = record { solution = solution; split = by_branch x c vertex refl }

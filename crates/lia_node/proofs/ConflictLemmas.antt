@@ -21,9 +21,9 @@ use Rattle.simplex_core.specs.Meaning.{IsConflict, of_lower, of_upper, summed, s
 use Rattle.simplex_core.proofs.FractionLemmas.{keeps}
 use Rattle.simplex_core.proofs.GapLemmas.{keeps-strict}
 use Rattle.simplex_core.proofs.SumLemmas.{dot-made, dot-total, total, total-below, total-minus, total-same}
-use Rattle.node_rows.specs.Known.{is_legal}
-use Rattle.node_rows.specs.Nodes.{node_table}
-use Rattle.node_rows.proofs.Public.{point-solution}
+use Rattle.lia_node.specs.Known.{is_legal}
+use Rattle.lia_node.specs.Nodes.{node_table}
+use Rattle.lia_node.proofs.Public.{point-solution}
 use Rattle.lia_node.proofs.EvidenceLemmas.{node-width}
 
 natural-at : (ms : List ℤ) (k : ℕ) → list_all (λ k. int_le (pos 0) k) ms ≡ true → pos 0 ≤ℤ entry ms k

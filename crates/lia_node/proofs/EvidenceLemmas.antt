@@ -8,8 +8,8 @@ use Rattle.int_rows.specs.Node.{all_bounds, end_of_quotients, system}
 use Rattle.int_rows.specs.Table.{width}
 use Rattle.simplex_core.specs.Meaning.{system_of}
 use Rattle.refutation_trees.specs.declared.evidence.Evidence.TheVariants.{Row, Coordinate, Rows}
-use Rattle.node_rows.specs.Nodes.{node_table}
-use Rattle.node_rows.proofs.Public.{length-system}
+use Rattle.lia_node.specs.Nodes.{node_table}
+use Rattle.lia_node.proofs.Public.{length-system}
 use Rattle.lia_node.specs.Tells.{IsEvidenceAt}
 
 pub node-width : (q : ℕ) (lits : List Lit) → width (node_table q lits) ≡ (system q lits).columns

@@ -20,16 +20,16 @@ use Rattle.int_rows.specs.Rows.{entry}
 use Rattle.int_rows.specs.Table.{Table}
 use Rattle.simplex_core.specs.Meaning.{IsVertex, system_of}
 use Rattle.refutation_trees.specs.Split.{HasSolution, HasVertexBetween, is_no_falsehood}
-use Rattle.node_rows.specs.Known.{are_known, is_legal}
-use Rattle.node_rows.specs.Whole.{AreWhole, is_met}
+use Rattle.lia_node.specs.Known.{are_known, is_legal}
+use Rattle.lia_node.specs.Whole.{AreWhole, is_met}
 use Rattle.int_rows.proofs.ReadyLemmas.{value-none}
 use Rattle.int_rows.specs.Ready.{has_no_variable}
 use Rattle.lin_atoms.specs.Denial.{linear_of}
 use Rattle.lin_atoms.specs.Multiples.{is_multiple}
 use Rattle.simplex_core.proofs.FractionLemmas.{cancel, keeps}
 use Rattle.simplex_core.proofs.GapLemmas.{keeps-strict}
-use Rattle.node_rows.proofs.Public.{solution-met}
-use Rattle.node_rows.specs.Nodes.{node_table}
+use Rattle.lia_node.proofs.Public.{solution-met}
+use Rattle.lia_node.specs.Nodes.{node_table}
 use Rattle.lia_node.specs.Tells.{Tells}
 use Rattle.lia_node.specs.Vertices.{floored, is_whole}
 use Rattle.lia_node.specs.machinery.Values.{IsOfValues}

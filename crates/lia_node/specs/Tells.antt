@@ -13,7 +13,7 @@ use Rattle.refutation_trees.specs.Refutation.{form_end}
 use Rattle.refutation_trees.specs.Split.{HasSolution, HasVertexBetween, is_no_falsehood}
 use Rattle.refutation_trees.specs.declared.evidence.Evidence.{Evidence}
 use Rattle.refutation_trees.specs.declared.evidence.Evidence.TheVariants.{Row, Coordinate, Rows, Nodes}
-use Rattle.node_rows.specs.Nodes.{node_table}
+use Rattle.lia_node.specs.Nodes.{node_table}
 use Rattle.lia_node.specs.declared.examined.Examined.{Examined}
 use Rattle.lia_node.specs.declared.examined.Examined.TheVariants.{False, Conflict, Model, Fraction, Wide}
 

@@ -1,2 +1,5 @@
 -- What the code keeps for itself: no rule cites it.
+pub mod Columns
+pub mod Gathering
+pub mod Solved
 pub mod Values

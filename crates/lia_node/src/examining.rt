@@ -5,18 +5,19 @@ ghost use Rattle.std.specs.List.{list_all};
 ghost use Rattle.base.specs.Limits.{most_rows};
 ghost use Rattle.int_rows.specs.Node.{end_of_quotients};
 ghost use Rattle.refutation_trees.specs.Split.{is_no_falsehood};
-ghost use Rattle.node_rows.specs.Known.{are_known, has_short_constant};
-ghost use Rattle.node_rows.specs.Nodes.{node_table};
+ghost use Rattle.lia_node.specs.Known.{are_known, has_short_constant};
+ghost use Rattle.lia_node.specs.Nodes.{node_table};
 ghost use Rattle.lia_node.specs.Tells.{Tells, has_tableau};
 
 use crate::constants::first_falsehood;
 use crate::examined::Examined;
+use crate::legal::are_legal;
+use crate::tableau::node_tableau;
 use crate::vertex::of_values;
 use crate::wide::{of_number, of_rows};
 use base::Memory;
 use int_rows::{RowStop, Tableau};
 use lin_atoms::Lit;
-use node_rows::{are_legal, node_tableau};
 use simplex_core::{Feasible, feasible};
 use std::alloc::Global;
 

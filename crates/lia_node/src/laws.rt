@@ -10,8 +10,8 @@ ghost use Rattle.int_rows.specs.Rows.{SolvesAll};
 ghost use Rattle.int_rows.specs.Table.{Table, width};
 ghost use Rattle.simplex_core.specs.Meaning.{IsConflict, system_of};
 ghost use Rattle.refutation_trees.specs.Split.{HasSolution, HasVertexBetween, IsInner, Node, at_least, at_most, with_bound};
-ghost use Rattle.node_rows.specs.Known.{are_known, is_legal};
-ghost use Rattle.node_rows.specs.Nodes.{node_table};
+ghost use Rattle.lia_node.specs.Known.{are_known, is_legal};
+ghost use Rattle.lia_node.specs.Nodes.{node_table};
 
 /// Where multipliers of bounds contradict, the equations have no solution within the bounds.
 pub fn conflicts_have_no_solution()

@@ -3,7 +3,7 @@
 ghost use Rattle.std.specs.Prelude.{◌≡◌, ◌<◌, ℕ, length, IfOk, true};
 ghost use Rattle.base.specs.Limits.{most_rows};
 ghost use Rattle.int_rows.specs.Node.{system};
-ghost use Rattle.node_rows.specs.Nodes.{node_table};
+ghost use Rattle.lia_node.specs.Nodes.{node_table};
 ghost use Rattle.simplex_core.specs.Meaning.{Means};
 ghost use Rattle.simplex_core.specs.declared.answer.Feasible.TheVariants.{Wide as IsWide};
 ghost use Rattle.lia_node.specs.Tells.{IsEvidenceAt, is_of_node};

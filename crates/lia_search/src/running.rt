@@ -9,8 +9,8 @@ ghost use Rattle.lia_stack.specs.machinery.Searched.{Ends, IsSearch, StopsAt, Tu
 use base::Memory;
 use lia_close::Step;
 use lia_divisors::close_by_parts;
+use lia_guesses::point_near;
 use lia_node::{Examined, examine};
-use lia_points::point_near;
 use lia_stack::{End, Open, Search, Turn};
 use refutation_trees::Evidence;
 use std::alloc::Global;

@@ -14,7 +14,7 @@ use Rattle.refutation_trees.specs.Flatten.{disjunctions, literals}
 use Rattle.refutation_trees.specs.Refutation.{form_end}
 use Rattle.refutation_trees.specs.Split.{HaveTrees, IsNode, Node, first, start, taken_in, takes_in}
 use Rattle.refutation_trees.proofs.FormLemmas.{form_below}
-use Rattle.node_rows.specs.Known.{are_known, has_short_constant}
+use Rattle.lia_node.specs.Known.{are_known, has_short_constant}
 use Rattle.lia_close.specs.Placed.{root}
 use Rattle.lia_close.specs.Said.{ArePlaced}
 use Rattle.lia_close.proofs.LeafLemmas.{get-last, get-more}

@@ -17,7 +17,7 @@ use Rattle.lin_atoms.specs.declared.form.Form.TheFolds.{fold-roll-Form, ind-Form
 use Rattle.lin_atoms.proofs.Public.{both_true, is_below-And, is_below-Or}
 use Rattle.refutation_trees.specs.Flatten.{disjunctions, literals, literals_step}
 use Rattle.refutation_trees.proofs.FlattenLemmas.{disjunctions-And, disjunctions-Or, literals-And}
-use Rattle.node_rows.specs.Known.{has_short_constant}
+use Rattle.lia_node.specs.Known.{has_short_constant}
 use Rattle.lia_stack.specs.Short.{has_short_multiples, short_step}
 
 -- a test of forms that looks at every literal

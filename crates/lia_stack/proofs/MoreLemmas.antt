@@ -17,8 +17,8 @@ use Rattle.int_rows.specs.Node.{end_of_quotients, quotients}
 use Rattle.refutation_trees.specs.Combination.{lits_end, terms_end}
 use Rattle.refutation_trees.specs.Refutation.{form_end, new_variable}
 use Rattle.refutation_trees.specs.Split.{IsNode, taken_in}
-use Rattle.node_rows.specs.Known.{are_known, has_short_constant}
-use Rattle.node_rows.proofs.BelowLemmas.{ends-more, terms-weaker}
+use Rattle.lia_node.specs.Known.{are_known, has_short_constant}
+use Rattle.lia_node.proofs.BelowLemmas.{ends-more, terms-weaker}
 use Rattle.lia_close.specs.Placed.{Place, with_known}
 use Rattle.lia_close.specs.Said.{ArePlaced, AreReasons}
 use Rattle.lia_stack.specs.declared.waiting.LeftOut.{LeftOut}

@@ -21,9 +21,9 @@ use Rattle.int_rows.specs.Ready.{has_no_variable}
 use Rattle.refutation_trees.specs.Combination.{is_division, lits_end, quotient, terms_end}
 use Rattle.refutation_trees.specs.Refutation.{form_end, has_quotient, new_variable, quotient_at}
 use Rattle.refutation_trees.specs.declared.tree.Refutation.{Refutation}
-use Rattle.node_rows.specs.Known.{has_short_constant, is_legal}
-use Rattle.node_rows.proofs.BelowLemmas.{ends-more}
-use Rattle.node_rows.proofs.FitLemmas.{linear-parts}
+use Rattle.lia_node.specs.Known.{has_short_constant, is_legal}
+use Rattle.lia_node.proofs.BelowLemmas.{ends-more}
+use Rattle.lia_node.proofs.FitLemmas.{linear-parts}
 use Rattle.lia_close.specs.Placed.{AreSoundAt, Place, with_known}
 use Rattle.lia_close.specs.Said.{AreAt, ArePlaced, AreReasons, named_by, of_division, said_by}
 use Rattle.lia_close.specs.Written.{assembled}

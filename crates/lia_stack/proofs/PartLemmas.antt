@@ -15,7 +15,7 @@ use Rattle.refutation_trees.specs.Combination.{lits_end}
 use Rattle.refutation_trees.specs.Flatten.{disjunctions, literals}
 use Rattle.refutation_trees.specs.Refutation.{form_end, new_variable}
 use Rattle.refutation_trees.specs.Split.{HasSolution, IsInner, IsNode, by_cases, under, with_part}
-use Rattle.node_rows.specs.Known.{are_known, has_short_constant}
+use Rattle.lia_node.specs.Known.{are_known, has_short_constant}
 use Rattle.lia_close.specs.Placed.{Place, in_part}
 use Rattle.lia_close.specs.Said.{ArePlaced, AreReasons}
 use Rattle.lia_stack.specs.Short.{has_short_multiples}

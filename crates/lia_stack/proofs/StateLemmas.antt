@@ -19,8 +19,8 @@ use Rattle.refutation_trees.specs.Split.{HasSolution, HasVertexBetween, HaveTree
 use Rattle.refutation_trees.specs.declared.evidence.Evidence.{Evidence}
 use Rattle.refutation_trees.specs.declared.evidence.Evidence.TheVariants.{Row, Coordinate, Rows, Nodes}
 use Rattle.refutation_trees.specs.declared.tree.Refutation.{Refutation}
-use Rattle.node_rows.specs.Known.{are_known, has_short_constant}
-use Rattle.node_rows.proofs.BelowLemmas.{ends-more}
+use Rattle.lia_node.specs.Known.{are_known, has_short_constant}
+use Rattle.lia_node.proofs.BelowLemmas.{ends-more}
 use Rattle.lia_close.specs.Placed.{AreSoundAt, IsSoundAt, Place, root}
 use Rattle.lia_close.specs.Said.{ArePlaced, AreReasons}
 use Rattle.lia_close.specs.Written.{assembled}

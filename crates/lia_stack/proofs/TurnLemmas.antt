@@ -18,7 +18,7 @@ use Rattle.refutation_trees.specs.Split.{HasSolution, HasVertexBetween, HaveTree
 use Rattle.refutation_trees.specs.declared.evidence.Evidence.{Evidence}
 use Rattle.refutation_trees.specs.declared.tree.Refutation.{Refutation}
 use Rattle.refutation_trees.proofs.ForestLemmas.{all-leaves}
-use Rattle.node_rows.specs.Known.{is_legal}
+use Rattle.lia_node.specs.Known.{is_legal}
 use Rattle.lia_close.specs.Placed.{AreSoundAt, IsSoundAt, Place, in_part, root, with_known}
 use Rattle.lia_close.specs.Said.{named_by}
 use Rattle.lia_close.specs.Written.{assembled, with_step}

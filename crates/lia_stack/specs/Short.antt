@@ -4,7 +4,7 @@ use Rattle.std.specs.List.{list_all}
 use Rattle.lin_atoms.specs.declared.form.Form.{Form}
 use Rattle.lin_atoms.specs.declared.form.Form.TheOpen.{Form-F}
 use Rattle.lin_atoms.specs.declared.form.Form.TheFolds.{fold-Form}
-use Rattle.node_rows.specs.Known.{has_short_constant}
+use Rattle.lia_node.specs.Known.{has_short_constant}
 
 -- the constant of each divisibility is short
 abbrev pub short_step : Form-F Bool → Bool

@@ -3,7 +3,7 @@
 ghost use Rattle.std.specs.Prelude.{◌≡◌, ◌<◌, ◌^◌, ℕ, IfOk, Some, false, length, slice_get, slice_index_or, true};
 ghost use Rattle.refutation_trees.specs.Refutation.{new_variable};
 ghost use Rattle.refutation_trees.specs.Split.{is_no_falsehood};
-ghost use Rattle.node_rows.specs.Known.{has_short_constant};
+ghost use Rattle.lia_node.specs.Known.{has_short_constant};
 ghost use Rattle.lia_close.specs.Placed.{IsSoundAt, Place};
 ghost use Rattle.lia_stack.specs.machinery.Opened.{no_lit};
 

@@ -3,7 +3,7 @@
 ghost use Rattle.std.specs.Prelude.{◌≡◌};
 ghost use Rattle.std.specs.List.{list_all};
 ghost use Rattle.lin_atoms.specs.Linear.{is_short};
-ghost use Rattle.node_rows.specs.Known.{has_short_constant};
+ghost use Rattle.lia_node.specs.Known.{has_short_constant};
 ghost use Rattle.lia_stack.specs.Short.{has_short_multiples};
 
 use lin_atoms::{Form, Lin, Lit};

@@ -9,7 +9,7 @@ ghost use Rattle.lin_atoms.specs.Linear.{is_short};
 ghost use Rattle.lin_atoms.specs.Truth.{lit_truth};
 ghost use Rattle.int_rows.specs.Node.{end_of_quotients, system};
 ghost use Rattle.refutation_trees.specs.Split.{HasSolution, HasVertexBetween, is_no_falsehood};
-ghost use Rattle.node_rows.specs.Nodes.{node_table};
+ghost use Rattle.lia_node.specs.Nodes.{node_table};
 ghost use Rattle.simplex_core.specs.Meaning.{IsConflict};
 ghost use Rattle.lia_node.specs.Tells.{IsEvidenceAt, is_of_node};
 ghost use Rattle.lia_stack.specs.machinery.Opened.{left_lits};
@@ -22,8 +22,8 @@ use crate::parts::{push_parts, push_sides, side};
 use crate::waiting::Open;
 use base::Memory;
 use lia_close::{Step, close, numbered, tree_of};
+use lia_node::are_legal;
 use lin_atoms::Form;
-use node_rows::are_legal;
 use refutation_trees::{Evidence, Refutation};
 use std::alloc::Global;
 

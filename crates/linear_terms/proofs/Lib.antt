@@ -5,9 +5,12 @@ pub mod DivisionLemmas
 pub mod FormulaLemmas
 pub mod JunctionLemmas
 pub mod LinearLemmas
+pub mod MinusLemmas
+pub mod NarrowLemmas
 pub mod PartLemmas
 pub mod PlaceLemmas
 pub mod ProductLemmas
 pub mod Public
 pub mod RelationLemmas
 pub mod SortLemmas
+pub mod SumLemmas

@@ -15,7 +15,7 @@ use Rattle.step_rules.specs.Views.{facts_of}
 use Rattle.chc_core.specs.Contents.{Contents}
 use Rattle.book_rules.specs.declared.end.End.{End}
 use Rattle.book_rules.specs.declared.end.End.TheVariants.{Unsat as UnsatEnd, Sat as SatEnd, Spent, Stalled}
-use Rattle.derivation_lines.specs.Lines.{fact_lines}
+use Rattle.cert_derivations.specs.Lines.{fact_lines}
 use Rattle.answer_text.specs.declared.answer.Line.{Line}
 use Rattle.answer_text.specs.declared.answer.Answer.{Answer}
 use Rattle.answer_text.specs.declared.answer.Answer.TheVariants.{Sat, Unsat, Unknown}
@@ -26,8 +26,8 @@ use Rattle.answer_text.specs.Read.{IsBad, Spells}
 use Rattle.answer_text.specs.ReadBack.{IsSameModel}
 use Rattle.answer_laws.specs.Texts.{IsSatAnswer}
 use Rattle.book_answers.specs.Answers.{IsAnswerAt}
-use Rattle.solve_words.specs.declared.limits.Limits.{Limits}
-use Rattle.solve_call.specs.Headline.{Answers, IsAnswered, IsBookFor}
+use Rattle.call_words.specs.declared.limits.Limits.{Limits}
+use Rattle.call_solve.specs.Headline.{Answers, IsAnswered, IsBookFor}
 use Rattle.printed_laws.specs.Printed.{IsPrinted, Says, IsSolvedBy}
 use Rattle.printed_laws.specs.Printed.Says.{sat, unsat, unknown}
 

@@ -3,8 +3,8 @@
 ghost use Rattle.std.specs.Prelude.{◌≡◌, ℕ, List, ◌++◌, drop, Some};
 ghost use Rattle.std.specs.declared.option.Option.{Option};
 ghost use Rattle.chc_core.specs.Contents.{Contents};
-ghost use Rattle.solve_words.specs.declared.limits.Limits.{Limits};
-ghost use Rattle.solve_call.specs.Headline.{Answers};
+ghost use Rattle.call_words.specs.declared.limits.Limits.{Limits};
+ghost use Rattle.call_solve.specs.Headline.{Answers};
 ghost use Rattle.printed_laws.specs.Printed.{IsPrinted};
 ghost use Rattle.answer_text.specs.Read.{Spells};
 ghost use Rattle.answer_text.specs.declared.answer.Line.{Line};
@@ -13,7 +13,7 @@ ghost use Rattle.chc_checker.specs.Verdicts.{HaveRoom, IsValid, IsWrong};
 ghost use Rattle.chc_checker.specs.declared.verdict.Place.TheVariants.{Step};
 ghost use Rattle.chc_checker.specs.declared.verdict.Verdict.{Verdict};
 ghost use Rattle.chc_checker.specs.declared.verdict.Verdict.TheVariants.{Valid, Wrong};
-ghost use Rattle.answer_check.specs.Inputs.{JudgesInput};
+ghost use Rattle.check_input.specs.Inputs.{JudgesInput};
 
 use answer_laws::{printed_models_are_solutions, unsat_answers_are_read_back};
 use answer_text::no_answer_is_bad;

@@ -10,7 +10,7 @@ use crate::leaves::{auxiliary_form, auxiliary_of, constants_of, name_of, variabl
 use crate::names::Names;
 use base::{Copied, Memory};
 use lin_atoms::{Lin, WideStop};
-use linear_sums::{difference_form, judged, product_form, sum_form};
+use linear_terms::{difference_form, judged, product_form, sum_form};
 use std::alloc::Global;
 use term_tables::ConstantTable;
 use term_tree::{Node, OpKind, TermId};

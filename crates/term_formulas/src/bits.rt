@@ -13,7 +13,7 @@ use crate::kinds::constant_less;
 use crate::literals::{is_one, le};
 use base::Memory;
 use lin_atoms::{Form, Lin, WideStop};
-use linear_sums::sum_form;
+use linear_terms::sum_form;
 use std::alloc::Global;
 use term_forms::{Names, auxiliary_of, name_of, variable_form};
 use term_tree::{Node, TermId, Terms};

@@ -14,7 +14,7 @@ ghost use Rattle.term_formulas.specs.machinery.Parts.{AreBits, IsBit};
 use crate::literals::{eq, equal, joined, le, one_minus, one_more};
 use base::{Copied, Items, Memory};
 use lin_atoms::{Form, Lin, WideStop};
-use linear_sums::less;
+use linear_terms::less;
 use std::alloc::Global;
 use term_tree::OpKind;
 use term_widths::is_relation;

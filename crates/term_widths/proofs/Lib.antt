@@ -1,5 +1,6 @@
 pub mod AlikeSideLemmas
 pub mod ApartLemmas
+pub mod BoundLemmas
 pub mod ConstantLemmas
 pub mod FirstLemmas
 pub mod FormLemmas
@@ -9,5 +10,6 @@ pub mod PositionLemmas
 pub mod RenamingLemmas
 pub mod SeekLemmas
 pub mod SideLemmas
+pub mod SizeLemmas
 pub mod UnitLemmas
 pub mod WorthLemmas

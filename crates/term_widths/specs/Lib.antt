@@ -1,3 +1,3 @@
-pub mod machinery
 pub mod Sides
 pub mod Wide
+pub mod machinery

@@ -3,10 +3,13 @@
 #![tactic(auto)]
 
 mod apart;
+mod bounds;
 mod first;
+mod kept;
 mod laws;
 mod narrow;
 mod relation;
+mod room_table;
 mod seek;
 mod sides;
 
@@ -15,4 +18,5 @@ pub use first::first_wide;
 pub use laws::{alike_names_judge_alike, kept_constants_judge};
 pub use narrow::{narrow_form, narrow_forms};
 pub use relation::is_relation;
+pub use room_table::RoomTable;
 pub use sides::has_wide_difference;

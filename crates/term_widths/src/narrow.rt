@@ -15,7 +15,7 @@ ghost use Rattle.term_widths.specs.machinery.Seen.{AreNarrowTerms, IsNarrowTerm,
 
 use base::{Copied, Memory};
 use lin_atoms::{Lin, WideStop};
-use linear_sums::{difference_form, product_form, sum_form};
+use linear_terms::{difference_form, product_form, sum_form};
 use std::alloc::Global;
 use std::collections::BTreeMap;
 use term_forms::{Names, auxiliary_of, name_of, variable_form};

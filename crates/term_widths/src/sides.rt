@@ -8,7 +8,7 @@ ghost use Rattle.term_widths.specs.Sides.{is_wide_pair, is_wide_with};
 
 use base::Memory;
 use lin_atoms::{Lin, WideStop};
-use linear_sums::less;
+use linear_terms::less;
 use std::alloc::Global;
 use term_tree::OpKind;
 

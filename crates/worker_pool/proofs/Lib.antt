@@ -1,1 +1,4 @@
 pub mod OfferLemmas
+pub mod SeenLemmas
+pub mod SendLemmas
+pub mod ServeLemmas

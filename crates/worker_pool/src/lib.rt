@@ -5,10 +5,13 @@
 
 mod gate;
 mod limits;
+mod offering;
 mod pool;
+mod siblings;
 mod turning;
 mod working;
 
 pub use gate::{FreeGate, Gate};
 pub use limits::Limits;
+pub use offering::offer_turn;
 pub use pool::{Outcome, solve};

@@ -6,7 +6,7 @@ ghost use Rattle.book_rules.specs.Walks.{AllOf};
 ghost use Rattle.chc_core.specs.Views.{standing_of, state_of};
 ghost use Rattle.clause_queries.specs.Answers.{AreFew};
 ghost use Rattle.obligation_turn.specs.Turns.{IsThin};
-ghost use Rattle.search_parts.specs.Runs.{CanRun};
+ghost use Rattle.search_strategy.specs.Runs.{CanRun};
 ghost use Rattle.shared_book.specs.Runs.{IsEntry};
 ghost use Rattle.worker_pool.specs.Allowed.{AreAllowed};
 
@@ -16,7 +16,7 @@ use crate::working::work;
 use base::Memory;
 use chc_core::{Book, End};
 use clause_form::System;
-use search_parts::begin;
+use search_strategy::begin;
 use shared_book::{Run, Share, SharedBook};
 use std::alloc::Global;
 use std::marker::Brand;

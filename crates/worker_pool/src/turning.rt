@@ -4,13 +4,13 @@ ghost use Rattle.std.specs.Prelude.{◌<◌, IfOk, OnOk};
 ghost use Rattle.clause_form.specs.System.{Clauses};
 ghost use Rattle.obligation_turn.specs.Turns.{GoesOn, IsOpenLeaf};
 ghost use Rattle.obligation_turn.specs.Workspaces.{IsWorkspaceFor};
-ghost use Rattle.search_parts.specs.machinery.Steps.{IsTaken};
+ghost use Rattle.search_strategy.specs.machinery.Steps.{IsTaken};
 
 use base::Memory;
-use lemma_hints::{Hints, hints_of};
-use lemma_work::improved;
+use guess_all::{Hints, hints_of};
 use obligation_turn::{Workspace, turn_in};
-use search_parts::{Means, Pass, next_lift, pass_of};
+use search_learn::improved;
+use search_strategy::{Means, Pass, next_lift, pass_of};
 use std::alloc::Global;
 use step_rules::{Lent, Step};
 

@@ -5,14 +5,14 @@ ghost use Rattle.obligation_turn.specs.Workspaces.{IsWorkspaceFor};
 
 use crate::gate::Gate;
 use crate::limits::Limits;
+use crate::offering::offer_turn;
 use crate::turning::{Mind, go_on, next_step, pass_after};
 use base::Memory;
-use search_parts::means_of;
+use search_strategy::means_of;
 use shared_book::{Job, Over, Run, Share, SharedBook};
 use std::alloc::Global;
 use std::sync::Wait;
 use std::sync::atomic::{AtomicBool, Ordering};
-use step_offers::offer_turn;
 
 /// The work of a turn on its job, and the steps that come of it.
 fn serve<R: Run>(

@@ -14,7 +14,7 @@ use Rattle.lin_atoms.specs.declared.form.Form.{Form}
 use Rattle.linear_terms.specs.Text.{Sorting}
 use Rattle.linear_terms.specs.Linear.{Naming}
 use Rattle.term_tables.specs.machinery.Table.{AreConstants, AreSorts, constant_in}
-use Rattle.term_bounds.specs.machinery.Room.{AreBounds}
+use Rattle.term_widths.specs.machinery.Room.{AreBounds}
 use Rattle.term_formulas.specs.Written.{HasRoom, formula_by, place_forms_by}
 use Rattle.term_formulas.specs.machinery.Parts.{ArePlaces}
 use Rattle.clause_form.specs.declared.clause.Clause.{Clause}

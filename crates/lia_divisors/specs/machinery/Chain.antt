@@ -2,7 +2,7 @@
 use Rattle.std.specs.Prelude.{List, [], ◌∷◌}
 use Rattle.refutation_trees.specs.declared.tree.Refutation.{Refutation}
 use Rattle.refutation_trees.specs.declared.tree.Refutation.TheViews as tree
-use Rattle.lia_parts.specs.declared.chain.Rounding.{Rounding}
+use Rattle.lia_guesses.specs.declared.chain.Rounding.{Rounding}
 
 abbrev pub chained : List Rounding → Refutation → Refutation
 chained [] t = t

@@ -3,7 +3,7 @@ use Rattle.std.specs.Prelude.{◌≡◌, ℕ, List, [], ◌∷◌, ℤ, Bool, tr
 use Rattle.lin_atoms.specs.declared.lit.Lit.{Lit}
 use Rattle.lin_atoms.specs.declared.lit.Lit.TheVariants.{Le, Eq, Div, NDiv}
 use Rattle.refutation_trees.specs.Combination.{may_be_multiplied}
-use Rattle.lia_parts.specs.declared.said.Said.{Said}
+use Rattle.lia_guesses.specs.declared.said.Said.{Said}
 
 -- each of them stands there, at its number
 abbrev pub AreThere : List Lit → List Said → Type 0

@@ -11,7 +11,7 @@ use Rattle.int_rows.specs.Node.{end_of_quotients}
 use Rattle.refutation_trees.specs.Flatten.{disjunctions, literals}
 use Rattle.refutation_trees.specs.Refutation.{form_end, new_variable}
 use Rattle.refutation_trees.specs.Split.{IsNode, Node}
-use Rattle.node_rows.specs.Known.{are_known, has_short_constant}
+use Rattle.lia_node.specs.Known.{are_known, has_short_constant}
 use Rattle.lia_close.specs.Placed.{Place}
 use Rattle.lia_close.specs.Said.{ArePlaced, AreReasons, named_by}
 use Rattle.lia_close.specs.declared.written.Step.{Step}

@@ -2,7 +2,7 @@ use Rattle.std.proofs.Common.{◌<◌, length, sym, subst}
 use Rattle.std.specs.Prelude.{IfSome}
 use Rattle.step_rules.specs.Standing.{Standing}
 use Rattle.obligation_turn.specs.Workspaces.{IsWorkspaceFor}
-use Rattle.search_parts.specs.machinery.Steps.{IsTaken}
+use Rattle.search_strategy.specs.machinery.Steps.{IsTaken}
 use Rattle.book_loop.proofs.lifting.lift_from.Goals as goal
 
 pub lift_of-requires-clause-there : goal.lift_of-requires-clause-there

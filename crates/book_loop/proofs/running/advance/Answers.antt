@@ -1,7 +1,7 @@
 use Rattle.std.proofs.Common.{sym, subst, arith}
 use Rattle.clause_form.specs.System.{Clauses}
 use Rattle.obligation_turn.specs.Workspaces.{IsWorkspaceFor}
-use Rattle.search_parts.specs.Runs.{CanRun}
+use Rattle.search_strategy.specs.Runs.{CanRun}
 use Rattle.book_loop.proofs.FurtherLemmas.{further-then}
 use Rattle.book_loop.proofs.StepLemmas.{room}
 use Rattle.book_loop.proofs.running.advance.Goals as goal

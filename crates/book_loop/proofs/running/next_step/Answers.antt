@@ -2,8 +2,8 @@ use Rattle.std.proofs.Common.{sym, subst}
 use Rattle.step_rules.specs.Standing.{Standing}
 use Rattle.obligation_turn.specs.Turns.{IsOpenLeaf}
 use Rattle.obligation_turn.specs.Workspaces.{IsWorkspaceFor}
-use Rattle.search_parts.specs.machinery.Steps.{IsTaken}
-use Rattle.search_parts.proofs.StepLemmas.{taken}
+use Rattle.search_strategy.specs.machinery.Steps.{IsTaken}
+use Rattle.search_strategy.proofs.StepLemmas.{taken}
 use Rattle.book_loop.proofs.running.next_step.Goals as goal
 
 pub turn_in-requires-clause-leaf : goal.turn_in-requires-clause-leaf

@@ -2,9 +2,9 @@ use Rattle.std.proofs.Common.{◌≡◌, None, sym, subst}
 use Rattle.book_rules.specs.Legal.{end}
 use Rattle.chc_core.specs.Contents.{Contents}
 use Rattle.chc_core.specs.Views.{standing_of, state_of}
-use Rattle.search_parts.specs.machinery.Steps.{IsTaken}
+use Rattle.search_strategy.specs.machinery.Steps.{IsTaken}
 use Rattle.book_loop.specs.machinery.Steps.{HasTaken}
-use Rattle.search_parts.proofs.StepLemmas.{offered}
+use Rattle.search_strategy.proofs.StepLemmas.{offered}
 use Rattle.book_loop.proofs.running.serve.Goals as goal
 
 pub lift_older-requires : goal.lift_older-requires

@@ -1,5 +1,5 @@
 use Rattle.horn_shape.proofs.SolutionLemmas.{solution_unbroken}
-use Rattle.derivation_check.proofs.Public.{right_not_wrong}
+use Rattle.check_derivation.proofs.Public.{right_not_wrong}
 use Rattle.chc_checker.proofs.laws.valid_answers_are_not_wrong.Goals as goal
 
 pub returns : goal.returns

@@ -1,4 +1,4 @@
-use Rattle.derivation_lines.proofs.Public.{no_solution}
+use Rattle.cert_derivations.proofs.Public.{no_solution}
 use Rattle.chc_checker.proofs.laws.valid_answers_exclude_each_other.Goals as goal
 
 pub returns : goal.returns

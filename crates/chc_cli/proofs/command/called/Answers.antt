@@ -1,7 +1,7 @@
 use Rattle.std.proofs.Common.{map, arith, subst}
 use Rattle.std.specs.Prelude.{Some}
 use Rattle.std.specs.String.{string_bytes}
-use Rattle.solve_words.specs.Properties.{AreWordsOf, IsWithin}
+use Rattle.call_words.specs.Properties.{AreWordsOf, IsWithin}
 use Rattle.chc_cli.proofs.command.called.Goals as goal
 
 pub returns-in-Solve : goal.returns-in-Solve

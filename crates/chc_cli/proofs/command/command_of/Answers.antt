@@ -1,7 +1,7 @@
 use Rattle.std.proofs.Common.{map, subst}
 use Rattle.std.specs.Prelude.{IfSome}
 use Rattle.std.specs.String.{string_bytes}
-use Rattle.solve_words.specs.Properties.{AreWordsOf, IsWithin}
+use Rattle.call_words.specs.Properties.{AreWordsOf, IsWithin}
 use Rattle.chc_cli.proofs.command.command_of.Goals as goal
 
 pub called-requires-clause-read : goal.called-requires-clause-read

@@ -3,7 +3,7 @@ use Rattle.std.specs.Prelude.{None}
 use Rattle.term_tables.specs.machinery.Table.{constant_in}
 use Rattle.term_forms.proofs.FoundLemmas.{on_ok}
 use Rattle.term_widths.specs.Wide.{first_wide_by}
-use Rattle.term_bounds.proofs.BoundLemmas.{nothing_wide}
+use Rattle.term_widths.proofs.BoundLemmas.{nothing_wide}
 use Rattle.term_formulas.specs.Written.{naming_by}
 use Rattle.clause_normal.specs.Normal.{first_without_room}
 use Rattle.clause_normal.proofs.GivenLemmas.{judged_here, wide_here, within_here}

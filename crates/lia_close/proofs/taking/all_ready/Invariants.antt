@@ -2,7 +2,7 @@ use Rattle.std.proofs.Common.{◌≡◌, ◌++◌, drop, true}
 use Rattle.std.specs.List.{list_all}
 use Rattle.int_rows.specs.Node.{end_of_quotients}
 use Rattle.int_rows.specs.Ready.{ready_fits}
-use Rattle.node_rows.specs.Known.{are_known, has_short_constant}
+use Rattle.lia_node.specs.Known.{are_known, has_short_constant}
 use Rattle.lia_close.specs.machinery.Taken.{all_ready}
 use Rattle.lia_close.proofs.taking.all_ready.Given as goal
 

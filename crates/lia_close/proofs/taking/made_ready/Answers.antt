@@ -1,6 +1,6 @@
 use Rattle.std.proofs.Common.{◌≡◌, true, false, Bool, ap, ◌∙◌, Err}
 use Rattle.int_rows.specs.Ready.{ready, ready_fits}
-use Rattle.node_rows.proofs.FitLemmas.{ready-fits}
+use Rattle.lia_node.proofs.FitLemmas.{ready-fits}
 use Rattle.lia_close.proofs.taking.made_ready.Goals as goal
 
 both : (b : Bool) → b ≡ true → b ≡ false → ⊥

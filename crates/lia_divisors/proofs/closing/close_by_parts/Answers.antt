@@ -1,6 +1,6 @@
 use Rattle.std.proofs.Common.{List, sym, subst}
 use Rattle.std.proofs.lemmas.Option.{IfSome_then}
-use Rattle.lia_parts.specs.declared.said.Said.{Said}
+use Rattle.lia_guesses.specs.declared.said.Said.{Said}
 use Rattle.lia_divisors.specs.machinery.There.{AreThere}
 use Rattle.lia_divisors.proofs.closing.close_by_parts.Goals as goal
 

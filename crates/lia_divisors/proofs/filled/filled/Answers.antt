@@ -1,6 +1,6 @@
 use Rattle.std.proofs.Common.{sym, subst, ◌∙◌, Some}
 use Rattle.std.specs.Prelude.{◌≡◌, slice_get}
-use Rattle.lia_parts.specs.declared.said.Said.{Said}
+use Rattle.lia_guesses.specs.declared.said.Said.{Said}
 use Rattle.lia_divisors.proofs.ThereLemmas.{stands-blank, there-at}
 use Rattle.lia_divisors.proofs.filled.filled.Goals as goal
 

@@ -9,7 +9,7 @@ use Rattle.int_rows.specs.Table.{width}
 use Rattle.simplex_core.specs.Meaning.{Means, system_of}
 use Rattle.simplex_core.specs.declared.answer.Feasible.TheVariants.{Wide as IsWide}
 use Rattle.refutation_trees.specs.declared.evidence.Evidence.TheVariants.{Row, Coordinate}
-use Rattle.node_rows.specs.Nodes.{node_table}
+use Rattle.lia_node.specs.Nodes.{node_table}
 use Rattle.lia_node.specs.Tells.{IsEvidenceAt}
 use Rattle.lia_node.proofs.EvidenceLemmas.{coordinate-evidence, row-evidence}
 use Rattle.lia_node.proofs.wide.of_number.Goals as goal

@@ -7,7 +7,7 @@ use Rattle.lin_atoms.specs.declared.lit.Lit.{Lit}
 use Rattle.int_rows.specs.Node.{system}
 use Rattle.refutation_trees.specs.Split.{HasSolution, HasVertexBetween}
 use Rattle.refutation_trees.specs.declared.tree.Refutation.{Refutation}
-use Rattle.node_rows.specs.Known.{are_known, has_short_constant}
+use Rattle.lia_node.specs.Known.{are_known, has_short_constant}
 use Rattle.lia_close.specs.Placed.{IsSoundAt, Place}
 use Rattle.lia_close.specs.Said.{AreReasons}
 use Rattle.lia_stack.specs.declared.state.Search.{Search}

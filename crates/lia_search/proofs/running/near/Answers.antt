@@ -1,6 +1,6 @@
 use Rattle.std.proofs.Common.{ap, ◌∙◌}
 use Rattle.std.specs.List.{list_all}
-use Rattle.node_rows.specs.Known.{are_known, has_short_constant}
+use Rattle.lia_node.specs.Known.{are_known, has_short_constant}
 use Rattle.lia_stack.proofs.Public.{top, top-known, top-short}
 use Rattle.lia_search.proofs.running.near.Goals as goal
 

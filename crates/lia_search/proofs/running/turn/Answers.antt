@@ -4,8 +4,8 @@ use Rattle.std.specs.Int.{w64}
 use Rattle.std.specs.List.{list_all}
 use Rattle.std.proofs.lemmas.Int.{to_z-of_z}
 use Rattle.simplex_core.specs.Meaning.{IsConflict}
-use Rattle.node_rows.specs.Known.{are_known, has_short_constant}
-use Rattle.node_rows.specs.Nodes.{node_table}
+use Rattle.lia_node.specs.Known.{are_known, has_short_constant}
+use Rattle.lia_node.specs.Nodes.{node_table}
 use Rattle.lia_stack.proofs.Public.{closes-after, moved, top, top-known, top-short}
 use Rattle.lia_search.proofs.RunLemmas.{closes-goes, same-first, told, told-few, turns-after}
 use Rattle.lia_search.proofs.running.turn.Goals as goal

@@ -5,7 +5,7 @@ use mir.Syntax.{named}
 use Rattle.std.proofs.alloc.Global.TheSendSync as global
 use Rattle.std.proofs.sync.atomic.AtomicBool.TheSendSync as atomic
 use Rattle.worker_pool.proofs.limits.Limits.TheSendSync as limits
-use Rattle.step_offers.proofs.SendLemmas.{held-sync, shared-sync}
+use Rattle.worker_pool.proofs.SendLemmas.{held-sync, shared-sync}
 use Rattle.worker_pool.proofs.pool.all_work.Goals as goal
 
 -- what the workers share: the runtime, the allocator, the book behind its lock, the limits, the gate, and whether one wanted memory

@@ -1,4 +1,4 @@
-use Rattle.search_parts.proofs.StepLemmas.{taken}
+use Rattle.search_strategy.proofs.StepLemmas.{taken}
 use Rattle.worker_pool.proofs.turning.serve.Goals as goal
 
 pub improved-requires-clause-taken : goal.improved-requires-clause-taken

@@ -3,7 +3,7 @@ use Rattle.clause_form.specs.System.{Clauses}
 use Rattle.step_rules.specs.Standing.{Standing}
 use Rattle.obligation_turn.specs.Turns.{IsOpenLeaf}
 use Rattle.obligation_turn.specs.Workspaces.{IsWorkspaceFor}
-use Rattle.worker_pool.proofs.OfferLemmas.{offered-run}
+use Rattle.worker_pool.proofs.ServeLemmas.{offered-run}
 use Rattle.worker_pool.proofs.working.serve.Goals as goal
 
 pub next_step-requires-clause-leaf : goal.next_step-requires-clause-leaf

@@ -4,8 +4,8 @@ use Rattle.base.specs.Limits.{most_rows}
 use Rattle.lin_atoms.specs.declared.lit.Lit.{Lit}
 use Rattle.int_rows.specs.Node.{end_of_quotients}
 use Rattle.simplex_core.specs.Meaning.{IsConflict}
-use Rattle.node_rows.specs.Known.{are_known, has_short_constant}
-use Rattle.node_rows.specs.Nodes.{node_table}
+use Rattle.lia_node.specs.Known.{are_known, has_short_constant}
+use Rattle.lia_node.specs.Nodes.{node_table}
 use Rattle.lia_stack.proofs.StateLemmas.{closed-bounds, closes-named, named-keeps, top-few, top-known, top-short}
 use Rattle.lia_stack.proofs.TurnLemmas.{top}
 use Rattle.lia_stack.proofs.state.Search.close_by_bounds.Goals as goal

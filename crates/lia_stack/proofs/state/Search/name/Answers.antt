@@ -1,6 +1,6 @@
 use Rattle.std.proofs.Common.{ap, sym, ◌∙◌, refl}
 use Rattle.std.specs.List.{list_all}
-use Rattle.node_rows.specs.Known.{is_legal}
+use Rattle.lia_node.specs.Known.{is_legal}
 use Rattle.lia_stack.proofs.StateLemmas.{top-numbers}
 use Rattle.lia_stack.proofs.TurnLemmas.{all-named, top}
 use Rattle.lia_stack.proofs.state.Search.name.Goals as goal

@@ -1,4 +1,0 @@
-pub mod AppendLemmas
-pub mod PartLemmas
-pub mod PieceLemmas
-pub mod TextLemmas

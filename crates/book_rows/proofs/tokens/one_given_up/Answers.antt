@@ -1,5 +1,0 @@
-use Rattle.book_rows.proofs.OpenLemmas.{one-given-up}
-use Rattle.book_rows.proofs.tokens.one_given_up.Goals as goal
-
-pub keep-requires : goal.keep-requires
-keep-requires g c = rw (c.both-form.ensures, c.alone-base.ensures, c.either-other.ensures) (∣ one-given-up _ _ ∣₁)

@@ -1,0 +1,117 @@
+//! From a depth and a seed to what is printed.
+
+ghost use Rattle.std.specs.Prelude.{◌≡◌, ◌≤◌, ◌<◌, ◌^◌, [], IfOk, IsSome};
+ghost use Rattle.term_tree.specs.Arena.{IsArena};
+ghost use Rattle.horn_shape.specs.Clause.{IsLegalScript};
+ghost use Rattle.book_answers.specs.Answers.{IsBookOf};
+ghost use Rattle.book_rules.specs.Legal.{end};
+ghost use Rattle.chc_core.specs.Openings.{most_units};
+ghost use Rattle.chc_core.specs.Views.{standing_of, state_of};
+ghost use Rattle.obligation_turn.specs.Turns.{IsThin};
+ghost use Rattle.call_gen.specs.Summaries.{IsSearchedWith, generated};
+ghost use Rattle.call_gen.specs.Answers.{IsMadeOf};
+
+use crate::laws::generated_scripts_have_clauses;
+use crate::script::checked_of;
+use crate::summary::printed;
+use base::Memory;
+use book_answers::{Opened, level_holds, open};
+use book_loop::search;
+use chc_core::Book;
+use search_strategy::systems_of_scripts_can_be_run;
+use std::alloc::Global;
+use term_tree::Checked;
+
+/// What came of a generated script.
+#[derive(Drop)]
+pub enum Generated {
+    /// A book that has ended, and what is printed of it.
+    Answered { book: Book, text: Vec<u8> },
+    /// A book for which memory was wanted before there was anything to print.
+    Unfinished { book: Book },
+}
+
+/// What is printed of a book that has ended.
+fn ended(alloc: Global, checked: &Checked, book: Book, units: u32, nodes: u32) -> Generated
+    requires searched { IsSearchedWith checked.now units nodes book }
+    requires ended { IsSome (end (state_of book)) }
+    ensures { IsMadeOf checked.now units nodes result }
+{
+    let (_units, _nodes) = (units, nodes);
+    match book.end() {
+        Some(end) => match printed(alloc, checked, &book, end) {
+            Ok(text) => Generated::Answered { book, text },
+            Err(_) => Generated::Unfinished { book },
+        },
+        None => unreachable!(),
+    }
+}
+
+/// Searches until the book has ended, and then tells what is printed.
+fn searched(alloc: Global, checked: &Checked, book: Book, units: u32, nodes: u32) -> Generated
+    requires of { IsBookOf checked.now book }
+    requires given { book.given ≡ units }
+    requires thin { IsThin (standing_of book) }
+    requires new { book.journal ≡ [] }
+    requires some { 0 < nodes }
+    ensures { IsMadeOf checked.now units nodes result }
+{
+    // A law, which runs nothing: the book's clauses can be searched.
+    systems_of_scripts_can_be_run();
+    let mut book = book;
+    let found = search(&mut book, nodes);
+    level_holds(checked, &book);
+    match found {
+        Ok(()) => ended(alloc, checked, book, units, nodes),
+        Err(_) => Generated::Unfinished { book },
+    }
+}
+
+/// The book over the clauses of a generated script, in which nothing is written yet.
+fn opened(
+    alloc: Global,
+    checked: &Checked,
+    depth: u32,
+    seed: u32,
+    units: u32,
+) -> Result<Book, Memory>
+    requires is { checked.now ≡ generated depth seed }
+    requires depth { depth ≤ 12 }
+    requires arena { IsArena checked.now.script.terms.nodes }
+    requires legal { IsLegalScript checked.now.script }
+    requires units { units ≤ most_units }
+    ensures of { IfOk result (IsBookOf checked.now) }
+    ensures given { IfOk result (λ book. book.given ≡ units) }
+    ensures new { IfOk result (λ book. book.journal ≡ []) }
+    ensures thin { IfOk result (λ book. IsThin (standing_of book)) }
+{
+    let _seed = seed;
+    // A law, which runs nothing: the script isn't refused.
+    generated_scripts_have_clauses();
+    let found = open(alloc, checked, units)?;
+    match found {
+        Opened::Book(book) => Ok(book),
+        Opened::Refused(_) => unreachable!(),
+    }
+}
+
+/// Opens a book over the clauses of the script that the depth and the seed give, searches it with one
+/// worker until it has ended, and tells what is printed of it.
+pub fn answer_for(
+    alloc: Global,
+    depth: u32,
+    seed: u32,
+    units: u32,
+    nodes: u32,
+) -> Result<Generated, Memory>
+    requires depth { depth ≤ 12 }
+    requires seed { seed < 2 ^ 31 }
+    requires units { units ≤ most_units }
+    requires some { 0 < nodes }
+    ensures { IfOk result (IsMadeOf (generated depth seed) units nodes) }
+{
+    let checked = checked_of(alloc, depth, seed)?;
+    let book = opened(alloc, &checked, depth, seed, units)?;
+    let answer = searched(alloc, &checked, book, units, nodes);
+    Ok(answer)
+}

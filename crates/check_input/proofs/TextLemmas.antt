@@ -1,0 +1,34 @@
+-- The assertion whose instance a verdict tells is there.
+use Rattle.std.proofs.Common.{◌≡◌, ℕ, suc, ◌<◌, List, length, inl, inr, arith}
+use Rattle.std.proofs.lemmas.Option.{slice_get_within}
+use Rattle.std.specs.Prelude.{ℤ, ◌⊎◌}
+use Rattle.term_tree.specs.declared.script.Script.{Script}
+use Rattle.horn_shape.specs.declared.clause.HornClause.{HornClause}
+use Rattle.check_derivation.specs.machinery.Tests.{AreClausesOf}
+use Rattle.answer_text.specs.declared.answer.Answer.{Answer}
+use Rattle.answer_text.specs.declared.answer.Answer.TheVariants.{Sat, Unsat, Unknown}
+use Rattle.chc_checker.specs.declared.verdict.Place.TheVariants.{Byte, Instance}
+use Rattle.chc_checker.specs.declared.verdict.Verdict.{Verdict}
+use Rattle.chc_checker.specs.declared.verdict.Verdict.TheVariants.{Wrong}
+use Rattle.chc_checker.specs.Verdicts.{Judges, Says}
+use Rattle.check_input.specs.Texts.{IsAssertionOf}
+
+differs : (number offset : ℕ) (integers : List ℤ) → Wrong (Instance number integers) ≡ Wrong (Byte offset) → ⊥
+differs number offset integers e = absurd (cc)
+
+said : (nodes : ℕ) (script : Script) (answer : Answer) (number : ℕ) (integers : List ℤ) → Says nodes script answer (Wrong (Instance number integers)) → IsAssertionOf script number
+said nodes script (Sat definitions) number integers says = (says.reached.index, says.clause, says.reached.numbered, says.reached.is)
+said nodes script (Unsat lines) number integers says = absurd says
+said nodes script (Unknown level cause) number integers says = absurd says
+
+pub instance_there : (nodes : ℕ) (script : Script) (bytes : List ℕ) (number : ℕ) (integers : List ℤ) → Judges nodes script bytes (Wrong (Instance number integers)) → IsAssertionOf script number
+instance_there nodes script bytes number integers (inl told) = said nodes script told.0 number integers told.2
+instance_there nodes script bytes number integers (inr bad) = absurd (differs number bad.0 integers bad.2)
+
+-- its clause is among those of the script
+pub index_there : (script : Script) (clauses : List HornClause) (number : ℕ) → AreClausesOf script clauses → (there : IsAssertionOf script number) → there.0 < length clauses
+index_there script clauses number are there =
+    let is = there.3 in
+    let less : there.0 < length script.asserts = slice_get_within script.asserts there.0 is.assertion is.there in
+    let long = are.long in
+    omega (arith, less, long)

@@ -1,6 +1,0 @@
-use Rattle.std.proofs.Common.{◌≡◌, map, take}
-use Rattle.clause_rows.proofs.definitions.names_of.Given as goal
-
--- those so far
-abbrev pub invariant-loop-name : goal.invariant-loop-name
-invariant-loop-name g l = l.names.items ≡ map (λ p. p.0) (take l.name-index l.params)

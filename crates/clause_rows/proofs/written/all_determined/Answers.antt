@@ -1,7 +1,0 @@
-use Rattle.clause_rows.proofs.SampleLemmas.{rows_are_places}
-use Rattle.clause_rows.proofs.written.all_determined.Goals as goal
-
-pub place_forms-put-requires-clause-places : goal.place_forms-put-requires-clause-places
-place_forms-put-requires-clause-places g c =
-    rows_are_places c.args.given.now.constants c.args.given.now.names.own.items c.args.given.now.names.auxiliary c.args.given.now.terms.nodes c.args.other c.requires.given
-    c.judge.ensures.room c.judge-2.ensures.room

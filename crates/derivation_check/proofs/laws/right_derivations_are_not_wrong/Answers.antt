@@ -1,5 +1,0 @@
-use Rattle.derivation_check.proofs.LawLemmas.{right_not_wrong}
-use Rattle.derivation_check.proofs.laws.right_derivations_are_not_wrong.Goals as goal
-
-pub returns : goal.returns
-returns c = right_not_wrong

@@ -1,7 +1,0 @@
-use Rattle.std.proofs.Common.{◌≡◌, drop}
-use Rattle.derivation_check.specs.machinery.Tests.{agree, fits}
-use Rattle.derivation_check.proofs.values.all_fit.Given as goal
-
--- those to come decide
-abbrev pub invariant-loop-i : goal.invariant-loop-i
-invariant-loop-i l = agree fits (drop l.i l.sorts) (drop l.i l.values) ≡ agree fits l.sorts l.values

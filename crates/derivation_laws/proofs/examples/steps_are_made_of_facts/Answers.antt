@@ -1,6 +1,0 @@
-use Rattle.std.proofs.Common.{refl}
-use Rattle.derivation_laws.proofs.ExampleLemmas.{closed_here}
-use Rattle.derivation_laws.proofs.examples.steps_are_made_of_facts.Goals as goal
-
-pub returns : goal.returns
-returns c = record { steps = refl; heights = refl; closed = closed_here }

@@ -1,5 +1,0 @@
-use Rattle.std.proofs.Common.{refl}
-use Rattle.derivation_lines.proofs.examples.lines_are_made_of_facts.Goals as goal
-
-pub returns : goal.returns
-returns c = refl

@@ -1,5 +1,0 @@
-use Rattle.derivation_lines.proofs.BackLemmas.{derived_lines, right_lines}
-use Rattle.derivation_lines.proofs.laws.what_lines_say.Goals as goal
-
-pub returns : goal.returns
-returns c = λ script lines. (derived_lines script lines, right_lines script lines)

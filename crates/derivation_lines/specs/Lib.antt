@@ -1,4 +1,0 @@
-pub mod Lines
-pub mod Claims
-pub mod Examples
-pub mod machinery

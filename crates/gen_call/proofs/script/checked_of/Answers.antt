@@ -1,9 +1,0 @@
-use Rattle.std.proofs.Common.{◌≡◌, sym, subst}
-use Rattle.horn_shape.specs.Clause.{IsLegalScript}
-use Rattle.gen_call.proofs.ReadLemmas.{legal_script}
-use Rattle.gen_call.proofs.script.checked_of.Goals as goal
-
-pub returns-clause-legal : goal.returns-clause-legal
-returns-clause-legal c =
-    subst IsLegalScript (sym c.in_ok-script.ensures.is)
-    (legal_script c.args.depth c.args.seed (c.generated_terms_are_legal.ensures c.args.depth c.args.seed c.requires.depth))

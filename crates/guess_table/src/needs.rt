@@ -1,0 +1,117 @@
+//! Which bounds are needed, and on how many others each one rests.
+
+ghost use Rattle.std.specs.Prelude.{◌≡◌, true, false, length, not, slice_index_or, slice_set, IfOk};
+ghost use Rattle.guess_table.specs.Needs.{has_new, marked, uses_in};
+
+use crate::bound::{Bound, Memo, Use};
+use base::Memory;
+use std::alloc::Global;
+
+/// The rank of what rests on itself.
+const MOST_RANK: u32 = 20;
+
+/// What is needed.
+#[derive(Drop)]
+pub struct Needs {
+    /// Whether the bounds refute each query.
+    pub is_safe: bool,
+    /// Whether each bound is needed for that.
+    pub needed: Vec<bool>,
+    /// How many bounds each one rests on, one on another.
+    pub ranks: Vec<u32>,
+}
+
+/// Marks the bound at a place; whether it is there and wasn't marked.
+pub fn mark(needed: &mut Vec<bool>, at: usize) -> bool
+    ensures marked { needed.new.items ≡ slice_set needed.old.items at true }
+    ensures is_new { result ≡ not (slice_index_or needed.old.items at true) }
+{
+    if at >= needed.len() {
+        return false;
+    }
+    let is_new = !needed[at];
+    needed[at] = true;
+    is_new
+}
+
+/// Marks the bounds in use; whether one is new.
+pub fn mark_uses(needed: &mut Vec<bool>, uses: &[Use]) -> bool
+    ensures marked { needed.new.items ≡ marked needed.old.items uses.now }
+    ensures is_new { result ≡ has_new needed.old.items uses.now }
+{
+    let mut changed = false;
+    for one in uses {
+        changed |= mark(needed, one.bound);
+    }
+    changed
+}
+
+/// Marks what the bound rests on; whether something is new.
+pub fn mark_memos(needed: &mut Vec<bool>, memos: &[Memo]) -> bool
+    ensures marked { needed.new.items ≡ marked needed.old.items (uses_in memos.now) }
+    ensures is_new { result ≡ has_new needed.old.items (uses_in memos.now) }
+{
+    let mut changed = false;
+    for memo in memos {
+        changed |= mark_uses(needed, memo.uses.as_slice());
+    }
+    changed
+}
+
+/// Whether the bound at a place is there and marked.
+pub fn is_marked(needed: &[bool], at: usize) -> bool
+    ensures { result ≡ slice_index_or needed.now at false }
+{
+    match needed.get(at) {
+        Some(true) => true,
+        _ => false,
+    }
+}
+
+fn rank_at(ranks: &[u32], at: usize) -> u32 {
+    match ranks.get(at) {
+        Some(rank) => *rank,
+        None => 0,
+    }
+}
+
+/// One more than the greatest rank of the other bounds in use.
+fn rank_above(ranks: &[u32], own: usize, uses: &[Use]) -> u32 {
+    let mut rank = 0;
+    for one in uses {
+        if one.bound != own {
+            rank = rank_at(ranks, one.bound).saturating_add(1).max(rank);
+        }
+    }
+    rank.min(MOST_RANK)
+}
+
+fn rank_of(ranks: &[u32], own: usize, memos: &[Memo]) -> u32 {
+    let mut rank = 0;
+    for memo in memos {
+        rank = rank_above(ranks, own, memo.uses.as_slice()).max(rank);
+    }
+    rank
+}
+
+/// The ranks, of those before.
+fn next_ranks(alloc: Global, ranks: &[u32], bounds: &[Bound]) -> Result<Vec<u32>, Memory>
+    ensures { IfOk result (λ ranks. length ranks.items ≡ length bounds.now) }
+{
+    let mut made = Vec::new(alloc);
+    for (at, bound) in bounds.iter().enumerate() {
+        made.push(rank_of(ranks, at, bound.memos.as_slice()))?;
+    }
+    Ok(made)
+}
+
+/// The rank of each bound.
+pub fn ranks_of(alloc: Global, bounds: &[Bound]) -> Result<Vec<u32>, Memory>
+    ensures { IfOk result (λ ranks. length ranks.items ≡ length bounds.now) }
+{
+    let mut ranks = Vec::new(alloc);
+    for _ in 0..MOST_RANK {
+        ranks = next_ranks(alloc, ranks.as_slice(), bounds)?;
+    }
+    Ok(ranks)
+}

@@ -1,5 +1,0 @@
-pub mod AnswerLemmas
-pub mod EndLemmas
-pub mod FrameLemmas
-pub mod PlaceLemmas
-pub mod SolutionLemmas

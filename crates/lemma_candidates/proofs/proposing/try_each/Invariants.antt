@@ -1,5 +1,0 @@
-use Rattle.lemma_candidates.specs.machinery.Tried.{IsTriedOn}
-use Rattle.lemma_candidates.proofs.proposing.try_each.Given as goal
-
-abbrev pub invariant-loop-cube : goal.invariant-loop-cube
-invariant-loop-cube l = IsTriedOn l.lent l.fn.tries l.tries

@@ -1,5 +1,0 @@
-use Rattle.lemma_candidates.specs.machinery.Tried.{IsTriedOn}
-use Rattle.lemma_candidates.proofs.shrinking.shrink.Given as goal
-
-abbrev pub invariant-loop : goal.invariant-loop
-invariant-loop l = IsTriedOn l.lent l.fn.tries l.tries

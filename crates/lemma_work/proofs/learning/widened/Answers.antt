@@ -1,4 +1,0 @@
-use Rattle.lemma_work.proofs.learning.widened.Goals as goal
-
-pub returns : goal.returns
-returns c = c.in_ok-wider.ensures.learnt

@@ -1,5 +1,0 @@
-pub mod FlatLemmas
-pub mod NameLemmas
-pub mod TreeLemmas
-pub mod UsedLemmas
-pub mod WayLemmas

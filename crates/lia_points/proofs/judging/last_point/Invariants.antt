@@ -1,5 +1,0 @@
-use Rattle.std.proofs.Common.{length}
-use Rattle.lia_points.proofs.judging.last_point.Given as goal
-
-abbrev pub decreases-guesses : goal.decreases-guesses
-decreases-guesses l = length l.guesses.items

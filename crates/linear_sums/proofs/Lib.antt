@@ -1,3 +1,0 @@
-pub mod MinusLemmas
-pub mod ProductLemmas
-pub mod SumLemmas

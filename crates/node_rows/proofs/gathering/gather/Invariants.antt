@@ -1,7 +1,0 @@
-use Rattle.std.proofs.Common.{drop}
-use Rattle.node_rows.specs.machinery.Gathering.{IsGathered}
-use Rattle.node_rows.proofs.gathering.gather.Given as goal
-
--- how far the literals are made ready
-abbrev pub invariant-loop-lit : goal.invariant-loop-lit
-invariant-loop-lit l = IsGathered l.end l.lits l.bounds.items l.variables l.rows (drop l.lit-index l.lits)

@@ -1,8 +1,0 @@
-use Rattle.std.proofs.Common.{◌≡◌, take, true}
-use Rattle.std.specs.List.{list_all}
-use Rattle.node_rows.specs.Known.{is_legal}
-use Rattle.node_rows.proofs.legal.are_legal.Given as goal
-
--- the literals so far
-abbrev pub invariant-loop-lit : goal.invariant-loop-lit
-invariant-loop-lit l = list_all is_legal (take l.lit-index l.lits) ≡ true

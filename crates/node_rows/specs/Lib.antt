@@ -1,4 +1,0 @@
-pub mod Known
-pub mod Nodes
-pub mod Whole
-pub mod machinery

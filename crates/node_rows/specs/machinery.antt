@@ -1,4 +1,0 @@
--- What the code keeps for itself: no rule cites it.
-pub mod Columns
-pub mod Gathering
-pub mod Solved

@@ -1,0 +1,82 @@
+//! The lemmas that a book has, beside one that is learnt.
+
+ghost use Rattle.std.specs.Prelude.{◌≡◌, ◌<◌, ◌↔◌, length, nat_lt, if◌then◌else◌, IfSome, IsTrue};
+ghost use Rattle.lemma_frames.specs.Frames.{level_of};
+ghost use Rattle.search_strategy.specs.Older.{Excludes, HasCube, IsBest, IsLower, better_of};
+
+use base::Same;
+use lemma_frames::Frames;
+use step_rules::LemmaPart;
+
+/// Whether the lemma of that number is of the part's predicate, and of a lower level.
+fn is_lower(frames: &Frames, part: &LemmaPart, id: u32) -> bool
+    requires { id < length frames.now.lemmas }
+    ensures { IsTrue result ↔ IsLower frames.now.lemmas part.now id }
+{
+    frames.pred_of(id) == part.pred && frames.level_of(id) < part.level
+}
+
+/// Whether it is such a lemma and excludes the tuple.
+fn is_excluding(frames: &Frames, part: &LemmaPart, tuple: &[i64], id: u32) -> bool
+    requires { id < length frames.now.lemmas }
+    ensures { IsTrue result ↔ Excludes frames.now.lemmas part.now tuple.now id }
+{
+    is_lower(frames, part, id) && frames.lemma(id).excludes(tuple)
+}
+
+/// Whether it is such a lemma and has the part's cube.
+fn is_equal(frames: &Frames, part: &LemmaPart, id: u32) -> bool
+    requires { id < length frames.now.lemmas }
+    ensures { IsTrue result ↔ HasCube frames.now.lemmas part.now id }
+{
+    is_lower(frames, part, id) && frames.lemma(id).equals(&part.lemma)
+}
+
+/// The best of those so far and a later one: of the higher level, of two of one level the later.
+fn better(frames: &Frames, best: Option<u32>, id: u32) -> u32
+    requires best { IfSome best (λ n. n < length frames.now.lemmas) }
+    requires there { id < length frames.now.lemmas }
+    ensures there { result < length frames.now.lemmas }
+    ensures is { result ≡ better_of frames.now.lemmas best id }
+{
+    match best {
+        None => id,
+        Some(first) => {
+            if frames.level_of(id) < frames.level_of(first) {
+                first
+            } else {
+                id
+            }
+        }
+    }
+}
+
+/// Of the lemmas of the part's predicate and of a lower level that exclude the tuple, the newest of the
+/// highest level.
+pub fn excluding(frames: &Frames, part: &LemmaPart, tuple: &[i64]) -> Option<u32>
+    ensures there { IfSome result (λ n. n < length frames.now.lemmas) }
+    ensures best { IsBest frames.now.lemmas (Excludes frames.now.lemmas part.now tuple.now) (length frames.now.lemmas) result }
+{
+    let mut best = None;
+    for id in 0..frames.count() {
+        if is_excluding(frames, part, tuple, id) {
+            best = Some(better(frames, best, id));
+        }
+    }
+    best
+}
+
+/// Of the lemmas of the part's predicate and of a lower level that have its cube, the newest of the
+/// highest level.
+pub fn equal(frames: &Frames, part: &LemmaPart) -> Option<u32>
+    ensures there { IfSome result (λ n. n < length frames.now.lemmas) }
+    ensures best { IsBest frames.now.lemmas (HasCube frames.now.lemmas part.now) (length frames.now.lemmas) result }
+{
+    let mut best = None;
+    for id in 0..frames.count() {
+        if is_equal(frames, part, id) {
+            best = Some(better(frames, best, id));
+        }
+    }
+    best
+}

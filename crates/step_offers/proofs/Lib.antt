@@ -1,3 +1,0 @@
-pub mod OfferLemmas
-pub mod SeenLemmas
-pub mod SendLemmas

@@ -1,9 +1,0 @@
-use Rattle.std.specs.Prelude.{◌≡◌, ◌≤◌, true}
-use Rattle.step_offers.proofs.offering.offer_siblings.Given as goal
-
-abbrev pub invariant-loop-number : goal.invariant-loop-number
-invariant-loop-number g l = record {
-  grows : l.fn.share.count ≤ l.share.count;
-  worker : l.share.worker ≡ l.fn.share.worker;
-  offered : l.fn.share.has_offered ≡ true → l.share.has_offered ≡ true;
-}

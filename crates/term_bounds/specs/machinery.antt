@@ -1,3 +1,0 @@
--- What the code keeps for itself: no rule cites it.
-pub mod Room
-pub mod Word
