@@ -3,8 +3,8 @@
 #![tactic(auto)]
 
 mod carrying;
-mod choosing;
-mod lifting;
+mod jobs;
+mod lift_pass;
 mod running;
 mod taking;
 

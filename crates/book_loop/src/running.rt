@@ -12,8 +12,8 @@ ghost use Rattle.book_loop.specs.Runs.{IsOwn};
 ghost use Rattle.book_loop.specs.machinery.Steps.{IsFurther};
 
 use crate::carrying::lift_older;
-use crate::choosing::next_job;
-use crate::lifting::lift_after;
+use crate::jobs::next_job;
+use crate::lift_pass::lift_after;
 use crate::taking::{WORKER, has_ended, lend, take};
 use base::Memory;
 use chc_core::Book;

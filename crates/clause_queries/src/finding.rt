@@ -8,9 +8,9 @@ ghost use Rattle.clause_queries.specs.Uses.{IsAskedAt};
 ghost use Rattle.clause_queries.specs.machinery.Choices.{AreAsked};
 ghost use Rattle.clause_queries.specs.machinery.Asking.{IsAnswerAt, IsNoted, first_lost, found_of};
 
+use crate::asked::asked_clauses;
 use crate::asking::{Asked, ask_by};
 use crate::carrying::{Carried, all_carried, taken, trees_for};
-use crate::choosing::asked_clauses;
 use crate::keeping::{frames_are_kept, goal_is_kept};
 use crate::lost::Lost;
 use crate::using::frame_used;

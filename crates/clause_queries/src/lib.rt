@@ -3,9 +3,9 @@
 //! property directed reachability", section 3).
 #![tactic(auto)]
 
+mod asked;
 mod asking;
 mod carrying;
-mod choosing;
 mod finding;
 mod keeping;
 mod lost;

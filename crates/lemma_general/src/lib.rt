@@ -7,13 +7,13 @@ mod bounds;
 mod breaking;
 mod cubes;
 mod dropping;
-mod lifting;
+mod lemma_lift;
 mod own;
 mod raising;
 mod showing;
 mod trying;
 
 pub use dropping::generalise;
-pub use lifting::{lift, lift_in};
+pub use lemma_lift::{lift, lift_in};
 pub use raising::raise;
 pub use trying::Tries;

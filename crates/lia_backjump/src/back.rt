@@ -4,8 +4,8 @@
 
 use crate::frames::{BRANCHES, Closed, Frame, Way};
 use crate::nodes::Node;
+use crate::nogoods::{Nogoods, Seen};
 use crate::numbering::{Case, Numbered, PER_LITERAL, flat_of, size};
-use crate::past::{Past, Seen};
 use crate::ranges::Ranges;
 use crate::telling::{Told, tell};
 use crate::tree::Tree;
@@ -68,7 +68,7 @@ struct Search<'a> {
     count: u32,
     /// For each disjunction, by its number, how often it was used.
     weights: Vec<u32>,
-    past: Past,
+    nogoods: Nogoods,
 }
 
 /// How many parts a node with a fraction is split into at most, after `count` splits.
@@ -165,7 +165,7 @@ impl<'a> Search<'a> {
                 return Ok(true);
             }
             frame.close(alloc, &mut self.closed)?;
-            self.past.keep(alloc, &self.closed)?;
+            self.nogoods.keep(alloc, &self.closed)?;
         }
         self.frames.truncate(top);
         Ok(false)
@@ -184,7 +184,7 @@ impl<'a> Search<'a> {
     /// The node is closed by the tree.
     fn close_by(&mut self, alloc: Global, tree: Tree) -> Result<Next, Memory> {
         self.closed.put(tree)?;
-        self.past.keep(alloc, &self.closed)?;
+        self.nogoods.keep(alloc, &self.closed)?;
         self.close(alloc)
     }
 
@@ -219,7 +219,7 @@ impl<'a> Search<'a> {
             self.node.cases.as_slice(),
             point.as_slice(),
             &ranges,
-            self.past.seen(),
+            self.nogoods.seen(),
             self.weights.as_slice(),
         );
         let Some(at) = found else {
@@ -245,7 +245,7 @@ impl<'a> Search<'a> {
 
     /// The node is looked at.
     fn turn(&mut self, alloc: Global) -> Result<Next, Memory> {
-        if self.past.look(alloc, &self.node, &mut self.closed)? {
+        if self.nogoods.look(alloc, &self.node, &mut self.closed)? {
             return self.close(alloc);
         }
         match tell(alloc, &self.node, self.end, parts_after(self.count))? {
@@ -290,7 +290,7 @@ fn searched(
         frames: Vec::new(alloc),
         count: 0,
         weights: zeros(alloc, size(form))?,
-        past: Past::new(alloc, size(form))?,
+        nogoods: Nogoods::new(alloc, size(form))?,
     };
     let flat = flat_of(alloc, form, falsehood, 0)?;
     search.node.begin(alloc, &flat, taken)?;

@@ -2,8 +2,8 @@
 
 ghost use Rattle.std.specs.Prelude.{◌≡◌, ◌≤◌, IfOk, length};
 
+use crate::nogoods::Seen;
 use crate::numbering::{Case, size};
-use crate::past::Seen;
 use base::Memory;
 use lin_atoms::{Divisor, Form, Lin, Lit};
 use std::alloc::Global;

@@ -5,9 +5,9 @@
 
 mod finding;
 mod hitting;
-mod lifting;
 mod opening;
 mod premises;
+mod root_steps;
 mod turning;
 mod workspace;
 

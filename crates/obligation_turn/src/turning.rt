@@ -5,9 +5,9 @@ ghost use Rattle.obligation_turn.specs.Turns.{GoesOn, IsOpenLeaf, IsTurn};
 ghost use Rattle.obligation_turn.specs.Workspaces.{IsWorkspaceFor};
 ghost use Rattle.obligation_turn.specs.machinery.Jobs.{AreJobProofs, IsJobHit, goal_for};
 
-use crate::lifting::root_step;
 use crate::opening::opened;
 use crate::premises::{Premises, premises_at};
+use crate::root_steps::root_step;
 use crate::workspace::Workspace;
 use base::{Items, Memory};
 use chc_tokens::{Goal, Seen, Shown};

@@ -4,7 +4,7 @@
 //! of them. A ledger ties what each worker has written to the length of the journal.
 #![tactic(auto)]
 
-mod choosing;
+mod claiming;
 mod job;
 mod locked;
 mod older;

@@ -19,7 +19,7 @@ ghost use Rattle.shared_book.specs.Jobs.{AreHeld, IsFree};
 ghost use Rattle.shared_book.specs.Locks.{AreReleased, IsOlder, claimed_by, released_by, with_claims};
 ghost use Rattle.shared_book.specs.Runs.{IsEntry, IsRunBook};
 
-use crate::choosing::job_of;
+use crate::claiming::job_of;
 use crate::job::Job;
 use crate::older::older;
 use crate::over::Over;

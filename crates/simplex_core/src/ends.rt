@@ -7,7 +7,7 @@ ghost use Rattle.int_rows.specs.Table.{row_at, width};
 ghost use Rattle.simplex_core.specs.Answer.{AreCoordinates, basis, crossing, crossing_at, multipliers, outer, parts};
 ghost use Rattle.simplex_core.specs.Run.{columns, coordinates, is_wide, moment};
 
-use crate::choosing::{is_basic, seen_from};
+use crate::bland::{is_basic, seen_from};
 use crate::coordinate::Coordinate;
 use crate::place::stood_at;
 use crate::standing::Standing;

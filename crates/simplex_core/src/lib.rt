@@ -3,7 +3,7 @@
 #![tactic(auto)]
 
 mod answer;
-mod choosing;
+mod bland;
 mod coordinate;
 mod ends;
 mod following;

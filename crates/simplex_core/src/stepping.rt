@@ -9,7 +9,7 @@ ghost use Rattle.simplex_core.specs.Run.{coordinates, crossed, moment, restood, 
 ghost use Rattle.simplex_core.specs.declared.turn.Turn.TheVariants.{Pivot, Wide};
 
 use crate::answer::{Feasible, WideEvidence};
-use crate::choosing::turn;
+use crate::bland::turn;
 use crate::coordinate::{Coordinate, held};
 use crate::ends::{basis, crossing, multipliers, outer, ratios};
 use crate::place::values;

@@ -26,8 +26,8 @@ use Rattle.step_rules.specs.declared.step.Step.TheVariants.{LiftStep}
 use Rattle.book_rules.specs.Places.{has_places}
 use Rattle.obligation_turn.specs.Turns.{WhyCounts}
 pub use Rattle.obligation_turn.specs.Workspaces.{IsFoundOf, IsHitOf}
-use Rattle.obligation_turn.specs.declared.lifting.Lifted.{Lifted}
-use Rattle.obligation_turn.specs.declared.lifting.Lifted.TheVariants.{Lift, Kept}
+use Rattle.obligation_turn.specs.declared.root_steps.Lifted.{Lifted}
+use Rattle.obligation_turn.specs.declared.root_steps.Lifted.TheVariants.{Lift, Kept}
 
 abbrev pub AreProofsOf : Standing → ℕ → List Shown → Type 0
 AreProofsOf b id proofs = AreProofs b.system b.frames.lemmas (Some (pred_of b.frames.lemmas id)) (Holds (lemma_of b.frames.lemmas id)) (level_of b.frames.lemmas id) proofs

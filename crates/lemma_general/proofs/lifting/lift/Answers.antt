@@ -1,4 +1,0 @@
-use Rattle.lemma_general.proofs.lifting.lift.Goals as goal
-
-pub lift_in-requires-clause-work : goal.lift_in-requires-clause-work
-lift_in-requires-clause-work c = c.new-work.ensures c.args.lent.now.system
