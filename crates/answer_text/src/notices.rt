@@ -1,6 +1,6 @@
 ghost use Rattle.std.specs.Prelude.{◌≡◌, ◌+◌, ◌≤◌, ◌++◌, length, take, decimal};
 ghost use Rattle.term_tree.specs.Kind.{kind_word};
-ghost use Rattle.answer_text.specs.Lines.{usage_text, memory_text, error_text, level_head, level_text};
+ghost use Rattle.answer_text.specs.Lines.{usage_text, memory_text, error_text, level_text};
 
 use crate::answer::UnknownCause;
 use itoa::Buffer;

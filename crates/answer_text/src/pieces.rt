@@ -1,6 +1,6 @@
 //! Numbers, values and lists of them.
 
-ghost use Rattle.std.specs.Prelude.{◌≡◌, ◌++◌, codes, decimal, nat_abs, OnOk};
+ghost use Rattle.std.specs.Prelude.{◌≡◌, ◌++◌, decimal, nat_abs, OnOk};
 ghost use Rattle.answer_text.specs.Names.{number_text, truth_text, value_text, after_spaces, spaced};
 
 use base::Memory;

@@ -1,6 +1,6 @@
 //! The terms of definitions.
 
-ghost use Rattle.std.specs.Prelude.{◌≡◌, ◌<◌, ◌++◌, length, OnOk, IsTrue, codes, decimal};
+ghost use Rattle.std.specs.Prelude.{◌≡◌, ◌<◌, ◌++◌, length, OnOk, IsTrue};
 ghost use Rattle.std.specs.List.{list_all};
 ghost use Rattle.term_tree.specs.Arena.{is_below, has_parts_below};
 ghost use Rattle.answer_text.specs.Names.{number_text, after_spaces};

@@ -1,7 +1,7 @@
 //! Cases by hand, as contracts of functions that do nothing: a legal step of each kind that the short
 //! run doesn't come to, each rule broken once with what breaks it, and the ends.
 
-ghost use Rattle.std.specs.Prelude.{◌≡◌, ℕ, ℤ, pos, negsuc, [], ◌∷◌, Some, None, map, true, false};
+ghost use Rattle.std.specs.Prelude.{◌≡◌, pos, negsuc, [], ◌∷◌, Some, None, map, true, false};
 ghost use Rattle.refutation_trees.specs.declared.evidence.Evidence.{Evidence as Why};
 ghost use Rattle.refutation_trees.specs.declared.evidence.Evidence.TheVariants.{Nodes};
 ghost use Rattle.refutation_trees.specs.GivenUp.{IsGivenUp};
@@ -9,10 +9,9 @@ ghost use Rattle.book_rules.specs.declared.by.By.TheVariants.{Lemma as ByLemma, 
 ghost use Rattle.book_rules.specs.declared.end.End.TheVariants.{Sat, Stalled};
 ghost use Rattle.book_rules.specs.Rules.{broken};
 ghost use Rattle.book_rules.specs.Legal.{IsLegal, end};
-ghost use Rattle.book_rules.specs.Effects.{after};
 ghost use Rattle.book_rules.specs.Steps.{Carries, Opens};
-ghost use Rattle.book_rules.specs.Examples.{counting, after_raise, after_lemma, is_3, is_number, not_3, open_3, raise_by, through_first, through_bad};
-ghost use Rattle.book_rules.specs.Cases.{above_3, after_fact, after_lift, after_stall, all_stalled, asked, asks, at_least_3, at_level, at_most_9, bare_below, both_proofs, bounded, eight_reaches_nine, fact_0_again, fact_1, fact_2, four_others, is_value, kept_9, learn_9, learnt_2, left_over, lift_3, not_2, not_3_used, not_8, not_9, open_7, open_below, open_of, query_2, raise_past, raised_with, reaches, stall_2, stall_at, three_is_reached, through_next};
+ghost use Rattle.book_rules.specs.Examples.{counting, after_raise, after_lemma, not_3, through_first};
+ghost use Rattle.book_rules.specs.Cases.{above_3, after_fact, after_lift, after_stall, all_stalled, asked, asks, at_least_3, at_level, at_most_9, bare_below, both_proofs, bounded, eight_reaches_nine, fact_0_again, fact_1, fact_2, four_others, is_value, kept_9, learn_9, learnt_2, left_over, lift_3, not_3_used, not_8, not_9, open_7, open_below, open_of, query_2, raise_past, raised_with, reaches, stall_2, stall_at, three_is_reached, through_next};
 
 /// A Fact with a premise and a target, a Lift, a Raise past a lemma that stays behind, a Stall
 /// with whatever evidence there is, as with that of one split, and an Open of a child are legal.

@@ -1,7 +1,7 @@
 //! A short run by hand, as contracts of functions that do nothing: which steps are legal, which rule
 //! the others break, and what breaks it.
 
-ghost use Rattle.std.specs.Prelude.{◌≡◌, ℕ, [], ◌∷◌, Some, None, map};
+ghost use Rattle.std.specs.Prelude.{◌≡◌, [], ◌∷◌, Some, None, map};
 ghost use Rattle.book_rules.specs.declared.by.By.TheVariants.{Obligation as ByObligation, Level as ByLevel, Clause as ByClause, Entry as ByEntry, Step as ByStep};
 ghost use Rattle.book_rules.specs.declared.end.End.TheVariants.{Unsat, Spent};
 ghost use Rattle.book_rules.specs.Rules.{broken};

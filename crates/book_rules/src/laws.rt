@@ -9,7 +9,7 @@ ghost use Rattle.cube_forms.specs.Cubes.{cube_holds};
 ghost use Rattle.lin_atoms.specs.declared.lit.Lit.{Lit as Literal};
 ghost use Rattle.lin_atoms.specs.declared.form.Form.{Form};
 ghost use Rattle.book_rules.specs.declared.end.End.TheVariants.{Sat, Unsat};
-ghost use Rattle.book_rules.specs.Instances.{Relation, IsDerivable, instances};
+ghost use Rattle.book_rules.specs.Instances.{IsDerivable, instances};
 ghost use Rattle.book_rules.specs.Frames.{Framed, IsShown, AreRefuted, AreGood, IsSolution};
 ghost use Rattle.book_rules.specs.Kept.{AreDerivable, AreDistinct, AreInRange, ArePlaced, AreRecorded, IsFalse, IsOrdered, IsSound};
 ghost use Rattle.book_rules.specs.Legal.{AreLegal, IsLegal, end, replay};

@@ -1,6 +1,6 @@
 //! Numerals within a range.
 
-ghost use Rattle.std.specs.Prelude.{◌≡◌, ◌≤◌, ◌<◌, ◌^◌};
+ghost use Rattle.std.specs.Prelude.{◌≡◌, ◌<◌};
 ghost use Rattle.std.specs.List.{list_all};
 ghost use Rattle.base.specs.Bytes.{is_digit};
 ghost use Rattle.base.specs.Numeral.{is_numeral, number_of};

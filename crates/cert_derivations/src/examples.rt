@@ -1,6 +1,6 @@
 //! A derivation by hand, as contracts of functions that do nothing.
 
-ghost use Rattle.std.specs.Prelude.{◌≡◌, [], ◌∷◌, Some, None};
+ghost use Rattle.std.specs.Prelude.{◌≡◌, [], ◌∷◌};
 ghost use Rattle.horn_shape.specs.Derivation.{heights_of};
 ghost use Rattle.cert_derivations.specs.Examples.{small, small_facts, small_steps};
 ghost use Rattle.cert_derivations.specs.Steps.{AreClosed, script_steps};

@@ -1,6 +1,6 @@
 //! Laws of derivations over the system of a script, as contracts of functions that do nothing.
 
-ghost use Rattle.std.specs.Prelude.{◌≡◌, ℕ, ℤ, List, [], ◌∷◌, ◌++◌, map, length, slice_get, Option, Some, None, Ok, option_map};
+ghost use Rattle.std.specs.Prelude.{◌≡◌, ℕ, List, [], ◌∷◌, ◌++◌, map, length, slice_get, Option, Some, Ok, option_map};
 ghost use Rattle.term_tree.specs.declared.refusal.Checked.{Checked};
 ghost use Rattle.term_tree.specs.declared.scalar.Value.{Value};
 ghost use Rattle.term_tree.specs.declared.sort.Sort.{Sort};

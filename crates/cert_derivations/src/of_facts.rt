@@ -1,6 +1,6 @@
 //! The lines of facts of a book.
 
-ghost use Rattle.std.specs.Prelude.{◌≡◌, ◌<◌, suc, map, length, IfOk, OnOk};
+ghost use Rattle.std.specs.Prelude.{◌≡◌, ◌<◌, suc, map, IfOk, OnOk};
 ghost use Rattle.std.specs.List.{AllPairs};
 ghost use Rattle.cert_derivations.specs.Steps.{place_among};
 ghost use Rattle.step_rules.specs.Views.{facts_of};

@@ -3,7 +3,7 @@
 ghost use Rattle.std.specs.Prelude.{ℕ, List, IfOk};
 ghost use Rattle.horn_shape.specs.Clause.{IsLegalScript};
 ghost use Rattle.answer_text.specs.declared.answer.Answer.TheVariants.{Unsat};
-ghost use Rattle.check_derivation.specs.Findings.{Finds, IsHornScript};
+ghost use Rattle.check_derivation.specs.Findings.{Finds};
 ghost use Rattle.chc_checker.specs.Verdicts.{IsNormalScript, Says};
 
 use crate::verdict::{Hidden, Place, Unshown, Verdict};

@@ -1,6 +1,6 @@
 //! What is read as an answer can be checked.
 
-ghost use Rattle.std.specs.Prelude.{◌≡◌, ◌<◌, ℕ, ℤ, List, pos, int_lt, true, length, slice_get};
+ghost use Rattle.std.specs.Prelude.{◌≡◌, ℕ, ℤ, List, pos, int_lt, true};
 ghost use Rattle.base.specs.Widths.{short_limit};
 ghost use Rattle.term_tree.specs.declared.node.TermId.{TermId};
 ghost use Rattle.term_tree.specs.declared.node.Node.TheVariants.{Divisible};

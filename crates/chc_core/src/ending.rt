@@ -1,4 +1,4 @@
-ghost use Rattle.std.specs.Prelude.{◌≡◌, if◌then◌else◌, Some, None};
+ghost use Rattle.std.specs.Prelude.{◌≡◌, Some, None};
 ghost use Rattle.book_rules.specs.declared.end.End.TheVariants.{Stalled};
 ghost use Rattle.book_rules.specs.Legal.{all_stalled_from, end, sat};
 ghost use Rattle.chc_core.specs.Views.{state_of};

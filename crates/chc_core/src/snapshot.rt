@@ -1,4 +1,4 @@
-ghost use Rattle.std.specs.Prelude.{◌≡◌, ◌≤◌, ◌+◌, ◌-◌, ℕ, [], length, slice_index_or, None, Some, true};
+ghost use Rattle.std.specs.Prelude.{◌≡◌, ◌≤◌, ◌+◌, ◌-◌, ℕ, [], length, slice_index_or, None, Some};
 ghost use Rattle.book_rules.specs.declared.end.End.TheVariants.{Sat, Unsat};
 ghost use Rattle.book_rules.specs.Frames.{AreGood, IsSolution};
 ghost use Rattle.book_rules.specs.Instances.{IsDerivable, instances};

@@ -1,6 +1,6 @@
 //! The clauses of a script.
 
-ghost use Rattle.std.specs.Prelude.{◌≡◌, ◌<◌, length, IfOk};
+ghost use Rattle.std.specs.Prelude.{◌<◌, length, IfOk};
 ghost use Rattle.horn_shape.specs.Clause.{IsClauseOf, IsLegalScript};
 ghost use Rattle.horn_shape.specs.Flags.{ArePlainFlags};
 ghost use Rattle.check_derivation.specs.Findings.{IsHornScript};

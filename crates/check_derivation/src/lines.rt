@@ -1,6 +1,6 @@
 //! The lines of a derivation, one after another.
 
-ghost use Rattle.std.specs.Prelude.{◌≡◌, ℕ, suc, length, IfOk, slice_get, Some};
+ghost use Rattle.std.specs.Prelude.{◌≡◌, ℕ, suc, length, IfOk, Some};
 ghost use Rattle.horn_shape.specs.Clause.{IsClauseOf, IsLegalScript};
 ghost use Rattle.check_derivation.specs.Findings.{AreRightBefore, Finds, IsHornScript, IsLineReached};
 ghost use Rattle.check_derivation.specs.machinery.Tests.{AreClausesOf, IsJudged, unless_right};

@@ -1,6 +1,6 @@
 //! One step of a derivation, by its assertion's clause.
 
-ghost use Rattle.std.specs.Prelude.{◌≡◌, ◌<◌, ◌≤◌, ℕ, suc, length, slice_get, Some, IfOk, IsErrOf, IsTrue};
+ghost use Rattle.std.specs.Prelude.{◌≡◌, ◌<◌, ◌≤◌, length, Some, IfOk, IsErrOf, IsTrue};
 ghost use Rattle.std.specs.List.{All, Contains, list_all};
 ghost use Rattle.term_tree.specs.Value.{environment_of};
 ghost use Rattle.check_derivation.specs.Findings.{HasWide, IsPartOf};

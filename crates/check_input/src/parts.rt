@@ -1,6 +1,6 @@
 //! The parts of an input.
 
-ghost use Rattle.std.specs.Prelude.{◌≡◌, ◌≤◌, length};
+ghost use Rattle.std.specs.Prelude.{◌≤◌, length};
 ghost use Rattle.check_input.specs.Inputs.{IsParted};
 
 use crate::cut::{Cut, cut_at_marker};

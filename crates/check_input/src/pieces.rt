@@ -1,6 +1,6 @@
 //! Numbers and values, printed.
 
-ghost use Rattle.std.specs.Prelude.{◌≡◌, ◌<◌, ◌+◌, ◌++◌, codes, decimal, length, nat_abs, pos, slice_index_or, IfOk, OnOk};
+ghost use Rattle.std.specs.Prelude.{◌≡◌, ◌<◌, ◌+◌, ◌++◌, decimal, length, nat_abs, pos, slice_index_or, IfOk, OnOk};
 ghost use Rattle.term_tree.specs.Truth.{as_value, as_values};
 ghost use Rattle.answer_text.specs.Names.{after_spaces, number_text, spaced, truth_text, value_text};
 

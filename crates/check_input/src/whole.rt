@@ -1,6 +1,6 @@
 //! Whole inputs.
 
-ghost use Rattle.std.specs.Prelude.{◌≡◌, ◌<◌, ◌≤◌, drop, length, Ok, take, IfOk};
+ghost use Rattle.std.specs.Prelude.{◌≡◌, ◌<◌, ◌≤◌, length, Ok, IfOk};
 ghost use Rattle.base.specs.Limits.{most_bytes};
 ghost use Rattle.term_tree.specs.Arena.{IsArena};
 ghost use Rattle.horn_shape.specs.Clause.{IsLegalScript};

@@ -1,4 +1,4 @@
-ghost use Rattle.std.specs.Prelude.{◌≡◌, slice_get, nat_lt, map};
+ghost use Rattle.std.specs.Prelude.{◌≡◌, slice_get, nat_lt};
 ghost use Rattle.std.specs.List.{list_all};
 ghost use Rattle.clause_form.specs.System.{are_clauses, has_arguments, is_atom, is_clause, is_head};
 

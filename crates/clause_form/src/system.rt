@@ -1,4 +1,4 @@
-ghost use Rattle.std.specs.Prelude.{◌≡◌, ◌<◌, length, slice_get, Some, IfSome, IsNone, IfOk, ◌↔◌, true, false};
+ghost use Rattle.std.specs.Prelude.{◌≡◌, ◌<◌, length, slice_get, Some, IfSome, IsNone, ◌↔◌, true, false};
 ghost use Rattle.clause_form.specs.System.{are_clauses, is_clause, is_system};
 
 use crate::clause::Clause;

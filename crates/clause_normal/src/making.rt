@@ -9,7 +9,7 @@ ghost use Rattle.term_formulas.specs.Written.{naming_by};
 ghost use Rattle.clause_form.specs.System.{most_variables};
 ghost use Rattle.clause_normal.specs.Normal.{auxiliaries, first_without_room, is_too_large, most_atoms, most_own, names_of, normal_clause, top_of};
 ghost use Rattle.clause_normal.specs.Stopping.{IsTooLargeAt, IsWideAt};
-ghost use Rattle.clause_normal.specs.machinery.Making.{AreTablesOf, HasFirst, HasRoomFor, IsGiven, clause_by};
+ghost use Rattle.clause_normal.specs.machinery.Making.{HasFirst, HasRoomFor, IsGiven, clause_by};
 
 use crate::arguments::{normal_atoms, normal_head};
 use crate::guard::guard_of;

@@ -1,6 +1,6 @@
 //! The clauses of a script.
 
-ghost use Rattle.std.specs.Prelude.{◌≡◌, ◌<◌, ◌^◌, ℕ, List, length, map, slice_get, Some, Ok, Err, IfOk, IsErrOf, true};
+ghost use Rattle.std.specs.Prelude.{◌≡◌, ◌<◌, ◌^◌, List, length, map, slice_get, Some, Ok, Err, IfOk, IsErrOf, true};
 ghost use Rattle.term_tree.specs.declared.node.TermId.{TermId};
 ghost use Rattle.term_tree.specs.declared.node.OpKind.{OpKind};
 ghost use Rattle.term_tree.specs.declared.node.Node.TheVariants.{Op};

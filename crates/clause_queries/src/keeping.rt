@@ -4,7 +4,6 @@ ghost use Rattle.std.specs.Prelude.{◌≡◌, true};
 ghost use Rattle.std.specs.List.{list_all};
 ghost use Rattle.lin_atoms.specs.Denial.{linear_of};
 ghost use Rattle.lin_atoms.specs.Linear.{is_linear};
-ghost use Rattle.lemma_frames.specs.declared.framed.Framed.{Framed as KeptLemma};
 ghost use Rattle.chc_tokens.specs.Queries.{goal_cube};
 ghost use Rattle.clause_queries.specs.Kept.{are_linear, is_kept, lemma_is_kept};
 

@@ -1,9 +1,8 @@
 ghost use Rattle.std.specs.Prelude.{◌≡◌, ◌++◌, [], ◌∷◌, pos, map, true, false, IsTrue, IfOk, OnOk, IsErrOf};
-ghost use Rattle.std.specs.List.{list_all};
 ghost use Rattle.base.specs.Widths.{is_short};
-ghost use Rattle.cube_forms.specs.Cubes.{cube_at, cube_is_short, denials, has_room, lit_at, lit_is_short, or_of};
+ghost use Rattle.cube_forms.specs.Cubes.{cube_is_short, denials, has_room, lit_at, or_of};
 ghost use Rattle.lin_atoms.specs.Algebra.{negated, plus};
-ghost use Rattle.lin_atoms.specs.Denial.{denial, linear_of, lit_fits};
+ghost use Rattle.lin_atoms.specs.Denial.{denial, linear_of};
 ghost use Rattle.lin_atoms.specs.declared.form.Form.TheVariants.{Lit as Literal};
 
 use crate::placed::lit_at;

@@ -1,4 +1,4 @@
-ghost use Rattle.std.specs.Prelude.{◌≡◌, length, pos, IfOk};
+ghost use Rattle.std.specs.Prelude.{◌≡◌, IfOk};
 ghost use Rattle.cube_forms.specs.Cubes.{tuple_at};
 ghost use Rattle.lin_atoms.specs.Linear.{variable_at};
 

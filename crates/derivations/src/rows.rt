@@ -1,4 +1,4 @@
-ghost use Rattle.std.specs.Prelude.{◌≡◌, ◌∷◌, ◌++◌, [], ◌<◌, ◌≤◌, ◌+◌, ◌-◌, ◌^◌, ℕ, length, slice_index_or, slice_set, IfOk, OnOk, OnErr};
+ghost use Rattle.std.specs.Prelude.{◌≡◌, ◌∷◌, ◌++◌, [], ◌<◌, ◌+◌, ◌-◌, ◌^◌, ℕ, length, slice_index_or, slice_set, OnOk, OnErr};
 ghost use Rattle.std.specs.List.{All};
 ghost use Rattle.derivations.specs.Facts.{Concludes, IsBare};
 ghost use Rattle.derivations.specs.machinery.Index.{IsIndexed, empty};

@@ -1,6 +1,6 @@
 //! Laws of the definitions, as contracts of functions that do nothing.
 
-ghost use Rattle.std.specs.Prelude.{◌≡◌, true, false, ℕ, List, [], ◌∷◌, ◌++◌, ◌+◌, ◌*◌, ◌-◌, ◌<◌, ◌≤◌, length, ℤ, pos, Some, slice_get};
+ghost use Rattle.std.specs.Prelude.{◌≡◌, true, ℕ, List, [], ◌∷◌, ◌++◌, ◌+◌, ◌*◌, ◌-◌, ◌<◌, ◌≤◌, length, ℤ, pos, Some, slice_get};
 ghost use Rattle.lin_atoms.specs.Truth.{truth};
 ghost use Rattle.lin_atoms.specs.declared.form.Form.{Form};
 ghost use Rattle.refutation_trees.specs.Refutation.{HasNoPoint, is_refutation, form_end};

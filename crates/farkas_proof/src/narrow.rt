@@ -6,7 +6,7 @@ ghost use Rattle.std.specs.Int.{int_div_euclid};
 ghost use Rattle.std.specs.List.{list_all};
 ghost use Rattle.lin_atoms.specs.Multiples.{is_multiple};
 ghost use Rattle.lin_atoms.specs.Algebra.{added, collected, scaled, scaled_terms, term_on};
-ghost use Rattle.lin_atoms.specs.Linear.{are_ordered, fits, of_constant};
+ghost use Rattle.lin_atoms.specs.Linear.{are_ordered, fits};
 ghost use Rattle.refutation_trees.specs.Combination.{are_multipliers, combined, is_above_zero, is_divided_by};
 ghost use Rattle.int_rows.specs.Ready.{rounded};
 ghost use Rattle.farkas_proof.specs.machinery.Narrow.{sum_of};

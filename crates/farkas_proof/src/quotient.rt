@@ -3,12 +3,12 @@
 ghost use Rattle.refutation_trees.specs.Refutation.{has_quotient, new_variable, quotient_at};
 ghost use Rattle.farkas_proof.specs.machinery.Tells.{DerivesAll};
 ghost use Rattle.lin_atoms.specs.declared.lit.Lit.TheVariants.{Eq, Le};
-ghost use Rattle.std.specs.Prelude.{◌&&◌, nat_lt, IsSome, ◌≡◌, ◌<◌, ◌≤◌, ◌^◌, ◌++◌, ◌∷◌, [], IfOk, OnOk, pos, neg_ℤ, ◌-ℤ◌, ℕ, IsErrOf, IfSome, IsNone, true, false};
+ghost use Rattle.std.specs.Prelude.{◌&&◌, nat_lt, IsSome, ◌≡◌, ◌<◌, ◌^◌, ◌++◌, ◌∷◌, [], IfOk, OnOk, pos, neg_ℤ, ◌-ℤ◌, IfSome, IsNone, true, false};
 ghost use Rattle.std.specs.List.{list_all};
 ghost use Rattle.lin_atoms.specs.Algebra.{plus};
-ghost use Rattle.lin_atoms.specs.Denial.{linear_of, lit_fits};
-ghost use Rattle.lin_atoms.specs.Linear.{Linear, fits, is_linear};
-ghost use Rattle.refutation_trees.specs.Combination.{is_division, one_minus, quotient, terms_end};
+ghost use Rattle.lin_atoms.specs.Denial.{lit_fits};
+ghost use Rattle.lin_atoms.specs.Linear.{fits};
+ghost use Rattle.refutation_trees.specs.Combination.{is_division, one_minus, quotient};
 ghost use Rattle.int_rows.specs.Ready.{less_multiple};
 
 use crate::known::Known;

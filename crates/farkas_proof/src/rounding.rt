@@ -1,4 +1,4 @@
-ghost use Rattle.std.specs.Prelude.{◌≡◌, ◌<ℤ◌, ◌<◌, ◌^◌, map, nat_abs, neg_ℤ, true, false, IfOk, IfSome, IsNone, IsSome, pos};
+ghost use Rattle.std.specs.Prelude.{◌≡◌, ◌<ℤ◌, ◌<◌, map, neg_ℤ, true, false, IfOk, IfSome, IsNone, IsSome, pos};
 ghost use Rattle.std.specs.Int.{int_div_euclid};
 ghost use Rattle.lin_atoms.specs.Linear.{are_ordered, are_short, fits, is_long, is_short};
 ghost use Rattle.refutation_trees.specs.Combination.{is_divided_by};

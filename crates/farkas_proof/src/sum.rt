@@ -1,6 +1,5 @@
-ghost use Rattle.std.specs.Prelude.{◌≡◌, ◌+◌, ◌<◌, ◌≤◌, ◌^◌, ◌++◌, [], ◌==◌, ◌+ℤ◌, ◌-ℤ◌, ◌*ℤ◌, ◌<ℤ◌, ℤ, take, drop, length, nat_abs, neg_ℤ, true, false, OnOk, IfOk, IfErr, IfSome, IsSome, IsNone, slice_index_or, pos};
+ghost use Rattle.std.specs.Prelude.{◌≡◌, ◌+◌, ◌<◌, ◌≤◌, ◌^◌, ◌++◌, [], ◌==◌, ◌+ℤ◌, ◌*ℤ◌, ◌<ℤ◌, ℤ, take, drop, length, nat_abs, neg_ℤ, true, false, OnOk, IfOk, IfErr, IfSome, IsSome, IsNone, slice_index_or, pos};
 ghost use Rattle.base.specs.Widths.{long_limit, short_limit};
-ghost use Rattle.lin_atoms.specs.machinery.Accumulator.{Total};
 ghost use Rattle.lin_atoms.specs.Algebra.{added, collected, scaled, scaled_terms, term_on, with_term};
 ghost use Rattle.lin_atoms.specs.Denial.{linear_of};
 ghost use Rattle.lin_atoms.specs.Linear.{are_ordered, of_constant};

@@ -1,4 +1,4 @@
-ghost use Rattle.std.specs.Prelude.{◌≡◌, ◌<◌, ◌≤◌, ◌^◌, ◌*◌, ◌+◌, ◌++◌, IfOk, OnOk, codes, decimal};
+ghost use Rattle.std.specs.Prelude.{◌≡◌, ◌<◌, ◌≤◌, ◌^◌, ◌*◌, ◌+◌, ◌++◌, IfOk, OnOk, decimal};
 ghost use Rattle.clause_gen.specs.Generated.{root_number};
 ghost use Rattle.gen_text.specs.Texts.{generated_text, leaves_text, parents_text, root_text, script_text};
 

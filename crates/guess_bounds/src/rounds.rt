@@ -1,6 +1,6 @@
 //! When bounds are looked for, and what was found.
 
-ghost use Rattle.std.specs.Prelude.{◌≡◌, ◌-◌, ◌^◌, [], true, false, if◌then◌else◌, ◌==◌, None, IfOk, IsOk, OnOk, OnErr};
+ghost use Rattle.std.specs.Prelude.{◌≡◌, ◌-◌, [], true, false, ◌==◌, None, IfOk, IsOk, OnOk, OnErr};
 ghost use Rattle.guess_bounds.specs.Rounds.{IsRenewed, are_due, first_round, is_safe, level_of, work_of};
 
 use crate::fixing::fix;

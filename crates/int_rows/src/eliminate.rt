@@ -1,6 +1,6 @@
 //! A row that becomes 0 in a column by a multiple of another.
 
-ghost use Rattle.std.specs.Prelude.{◌≡◌, ◌<◌, ◌≤◌, ◌^◌, ◌-ℤ◌, ◌*ℤ◌, ◌<ℤ◌, ◌==◌, length, nat_abs, pos, true, false, IfSome, IsNone};
+ghost use Rattle.std.specs.Prelude.{◌≡◌, ◌<◌, ◌≤◌, ◌^◌, ◌==◌, length, nat_abs, pos, true, IfSome, IsNone};
 ghost use Rattle.std.specs.List.{Contains};
 ghost use Rattle.base.specs.Widths.{numerator_limit};
 ghost use Rattle.int_rows.specs.Rows.{are_short, content, entry};

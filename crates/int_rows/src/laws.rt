@@ -1,6 +1,6 @@
 //! Laws of the definitions, as contracts of functions that do nothing.
 
-ghost use Rattle.std.specs.Prelude.{◌≡◌, ◌↔◌, ◌<◌, ◌+◌, ℕ, ◌++◌, ◌∷◌, [], List, ℤ, length, true, false, pos, ◌<ℤ◌, slice_set, take};
+ghost use Rattle.std.specs.Prelude.{◌≡◌, ◌↔◌, ◌<◌, ◌+◌, ℕ, ◌++◌, ◌∷◌, [], List, ℤ, length, true, pos, ◌<ℤ◌, slice_set, take};
 ghost use Rattle.lin_atoms.specs.Linear.{Linear, are_ordered, is_linear, lin_is_below};
 ghost use Rattle.lin_atoms.specs.Truth.{lit_truth};
 ghost use Rattle.lin_atoms.specs.declared.lit.Lit.TheVariants.{Le, Eq, Div, NDiv};

@@ -1,13 +1,12 @@
-ghost use Rattle.std.specs.Prelude.{◌≡◌, ◌<◌, ◌≤◌, ◌<ℤ◌, ◌+◌, ◌++◌, ◌∷◌, [], ◌^◌, ◌-ℤ◌, length, map, nat_abs, neg_ℤ, true, false, IfOk, OnOk, IsErrOf, pos, IsTrue};
+ghost use Rattle.std.specs.Prelude.{◌≡◌, ◌<◌, ◌<ℤ◌, ◌+◌, ◌++◌, ◌∷◌, [], ◌^◌, ◌-ℤ◌, length, map, nat_abs, neg_ℤ, true, false, IfOk, OnOk, IsErrOf, pos};
 ghost use Rattle.std.specs.Int.{int_div_euclid};
 ghost use Rattle.std.specs.Option.{SomeIff};
 ghost use Rattle.lin_atoms.specs.Denial.{linear_of};
 ghost use Rattle.lin_atoms.specs.Linear.{is_long};
-ghost use Rattle.lin_atoms.specs.Algebra.{negated};
-ghost use Rattle.lin_atoms.specs.Truth.{lit_is_below, lit_truth};
+ghost use Rattle.lin_atoms.specs.Truth.{lit_is_below};
 ghost use Rattle.lin_atoms.specs.declared.lit.Lit.TheVariants.{Le, Eq, Div, NDiv};
 ghost use Rattle.int_rows.specs.Rows.{content};
-ghost use Rattle.int_rows.specs.Ready.{between, bounded, bounded_fits, has_no_variable, least, less_multiple, lin_content, most, ready, ready_fits, tightened, without_constant};
+ghost use Rattle.int_rows.specs.Ready.{between, bounded, bounded_fits, least, less_multiple, lin_content, most, ready, ready_fits, tightened, without_constant};
 
 use crate::bounds::{Bounded, Ready};
 use crate::stop::ReadyStop;

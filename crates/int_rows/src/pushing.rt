@@ -1,6 +1,6 @@
 //! One form more: its equation, freed of the basic variables by their rows.
 
-ghost use Rattle.std.specs.Prelude.{◌≡◌, ◌+◌, ◌<◌, ◌≤◌, ◌^◌, [], ◌∷◌, ◌++◌, length, map, nat_abs, pos, true, IfOk, OnOk, IfSome, IsNone, IsErrOf, None};
+ghost use Rattle.std.specs.Prelude.{◌≡◌, ◌+◌, ◌<◌, ◌≤◌, ◌^◌, [], ◌∷◌, ◌++◌, map, nat_abs, pos, true, IfOk, OnOk, IfSome, IsNone, IsErrOf, None};
 ghost use Rattle.std.specs.List.{Contains};
 ghost use Rattle.lin_atoms.specs.Linear.{lin_is_below};
 ghost use Rattle.int_rows.specs.Node.{equation};

@@ -1,4 +1,4 @@
-ghost use Rattle.std.specs.Prelude.{◌≡◌, ◌<◌, ◌^◌, ◌↔◌, length, nat_abs, slice_index_or, pos, true, false, IfSome, IsSome, IsNone};
+ghost use Rattle.std.specs.Prelude.{◌≡◌, ◌<◌, length, true, false, IfSome, IsSome, IsNone};
 ghost use Rattle.int_rows.specs.Rows.{entry, is_row};
 
 use crate::content::{are_short, content};

@@ -1,11 +1,11 @@
-ghost use Rattle.std.specs.Prelude.{◌≡◌, ◌+◌, ◌<◌, ◌≤◌, ◌^◌, ◌↔◌, ◌++◌, ◌∷◌, [], ℕ, List, ℤ, length, nat_abs, pos, take, true, false, slice_set, IfOk, OnOk, IfErr, OnErr, IfSome, IsNone, IsErrOf, Some};
-ghost use Rattle.std.specs.List.{Contains, list_all};
+ghost use Rattle.std.specs.Prelude.{◌≡◌, ◌+◌, ◌<◌, ◌≤◌, ◌^◌, ◌↔◌, ◌++◌, ◌∷◌, [], length, nat_abs, pos, take, true, slice_set, IfOk, OnOk, IfErr, OnErr, IsErrOf, Some};
+ghost use Rattle.std.specs.List.{list_all};
 ghost use Rattle.base.specs.Limits.{most_rows};
 ghost use Rattle.lin_atoms.specs.Linear.{lin_is_below};
 ghost use Rattle.int_rows.specs.Basis.{IsWideRow, bound, in_order};
 ghost use Rattle.int_rows.specs.Pushed.{HasRoom, IsFirstWide, next_equation, pushed, widened};
 ghost use Rattle.int_rows.specs.Ready.{bound_fits};
-ghost use Rattle.int_rows.specs.Rows.{are_short, entry, SolvesAll};
+ghost use Rattle.int_rows.specs.Rows.{are_short, entry};
 ghost use Rattle.int_rows.specs.Space.{SameSpace};
 ghost use Rattle.int_rows.specs.Table.{HasWide, IsTable, basic_at, first_table, pivoted, row_at, width};
 

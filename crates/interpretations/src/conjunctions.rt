@@ -1,6 +1,6 @@
 //! Lemmas as terms, and their conjunction.
 
-ghost use Rattle.std.specs.Prelude.{◌≡◌, ◌+◌, ◌<◌, ◌^◌, ℕ, List, length, map, true, IfOk, IsErrOf};
+ghost use Rattle.std.specs.Prelude.{◌≡◌, ◌+◌, ◌<◌, ◌^◌, length, true, IfOk, IsErrOf};
 ghost use Rattle.std.specs.List.{list_all, sum_by};
 ghost use Rattle.cube_forms.specs.Cubes.{cube_is_below, cube_is_short};
 ghost use Rattle.term_tree.specs.Arena.{is_below};

@@ -1,9 +1,7 @@
 //! The lemmas of a frame on a predicate, each cube once.
 
-ghost use Rattle.std.specs.Prelude.{◌≡◌, ◌<◌, List, length, map, slice_get, Some, true, IfOk, OnOk, if◌then◌else◌, ◌++◌, [], ◌∷◌};
+ghost use Rattle.std.specs.Prelude.{◌≡◌, ◌<◌, true, IfOk, OnOk, if◌then◌else◌, ◌++◌, [], ◌∷◌};
 ghost use Rattle.std.specs.List.{list_any};
-ghost use Rattle.std.specs.Borrow.{Bor};
-ghost use Rattle.lin_atoms.specs.declared.lit.Lit.{Lit};
 ghost use Rattle.book_rules.specs.Same.{same_cube};
 ghost use Rattle.interpretations.specs.Kept.{AreKept};
 ghost use Rattle.interpretations.specs.machinery.Cubes.{cubes_of};

@@ -1,6 +1,6 @@
 //! Sums of coefficients times arguments.
 
-ghost use Rattle.std.specs.Prelude.{◌≡◌, ◌++◌, [], ◌∷◌, ◌+◌, ◌*◌, ◌<◌, ◌^◌, length, nat_abs, nat_lt, pos, slice_get, Some, true, IfOk, IsErrOf};
+ghost use Rattle.std.specs.Prelude.{◌≡◌, ◌+◌, ◌*◌, ◌<◌, ◌^◌, length, nat_abs, nat_lt, Some, true, IfOk, IsErrOf};
 ghost use Rattle.std.specs.List.{list_all};
 ghost use Rattle.base.specs.Widths.{is_short, short_limit};
 ghost use Rattle.lin_atoms.specs.Linear.{are_short, lin_is_below};

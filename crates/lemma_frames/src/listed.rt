@@ -1,4 +1,4 @@
-ghost use Rattle.std.specs.Prelude.{◌≡◌, ◌+◌, ◌<◌, ◌↔◌, IfOk, IsTrue, OnOk, length};
+ghost use Rattle.std.specs.Prelude.{◌+◌, ◌<◌, ◌↔◌, IfOk, IsTrue, OnOk, length};
 ghost use Rattle.lemma_frames.specs.Frames.{IsFrame, IsInFrame};
 ghost use Rattle.lemma_frames.specs.machinery.Listing.{IsListed};
 

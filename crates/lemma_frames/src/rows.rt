@@ -1,6 +1,6 @@
 ghost use Rattle.std.specs.Prelude.{◌≡◌, [], ◌∷◌, ◌++◌, ◌<◌, ◌+◌, ◌-◌, ◌^◌, length, slice_index_or, slice_set, IfOk, OnOk, OnErr};
 ghost use Rattle.std.specs.List.{All, AllPairs, Contains};
-ghost use Rattle.lemma_frames.specs.Frames.{Precedes, level_of, lifted, pred_of};
+ghost use Rattle.lemma_frames.specs.Frames.{Precedes, level_of, lifted};
 ghost use Rattle.lemma_frames.specs.machinery.Index.{IsIndexed};
 ghost use Rattle.lemma_frames.specs.machinery.Rows.{IsPlaced, IsWithout};
 

@@ -1,9 +1,9 @@
 //! Literals that a lemma needn't have.
 
-ghost use Rattle.std.specs.Prelude.{◌≡◌, ◌<◌, ◌-◌, ◌⊎◌, length, true, OnOk, IfOk};
+ghost use Rattle.std.specs.Prelude.{◌≡◌, ◌<◌, ◌-◌, length, true, OnOk, IfOk};
 ghost use Rattle.cube_forms.specs.Cubes.{cube_holds};
 ghost use Rattle.obligation_turn.specs.Turns.{GoesOn};
-ghost use Rattle.lemma_general.specs.Generals.{IsForSame, IsGeneralised, IsLearnt, without};
+ghost use Rattle.lemma_general.specs.Generals.{IsGeneralised, IsLearnt, without};
 ghost use Rattle.lemma_general.specs.Tries.{point_of};
 ghost use Rattle.lemma_general.specs.machinery.Passes.{AreMet, AreShownOf, IsCubeOf, IsPassed, IsReplaced, IsSplit, IsTaken};
 

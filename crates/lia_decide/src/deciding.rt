@@ -3,7 +3,6 @@
 ghost use Rattle.std.specs.Prelude.{◌≡◌, ℕ, IfOk, IfSome, length, true};
 ghost use Rattle.std.specs.List.{list_all};
 ghost use Rattle.lin_atoms.specs.Linear.{is_short};
-ghost use Rattle.farkas_proof.specs.Kept.{form_of};
 ghost use Rattle.lia_search.specs.Decides.{Decides};
 
 use base::Memory;

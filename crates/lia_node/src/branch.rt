@@ -1,6 +1,6 @@
 //! The two sides of a branch.
 
-ghost use Rattle.std.specs.Prelude.{◌≡◌, ◌+ℤ◌, ◌∷◌, [], neg_ℤ, pos, nat_abs, ◌≤◌, IfOk};
+ghost use Rattle.std.specs.Prelude.{◌≡◌, ◌+ℤ◌, ◌∷◌, [], pos, nat_abs, ◌≤◌, IfOk};
 ghost use Rattle.base.specs.Widths.{short_limit};
 ghost use Rattle.lin_atoms.specs.declared.lit.Lit.TheVariants.{Le};
 ghost use Rattle.refutation_trees.specs.Split.{at_least, at_most};

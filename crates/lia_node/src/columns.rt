@@ -1,6 +1,6 @@
 //! The forms of the rows, and the bounds of all columns.
 
-ghost use Rattle.std.specs.Prelude.{◌≡◌, ◌∷◌, [], ◌++◌, ◌+◌, ◌≤◌, ◌<◌, ◌^◌, ◌==◌, ℕ, ℤ, List, length, map, IfOk, IfSome, IsNone, OnOk, true, false};
+ghost use Rattle.std.specs.Prelude.{◌≡◌, ◌∷◌, [], ◌++◌, ◌+◌, ◌<◌, ◌==◌, ℕ, ℤ, List, length, map, IfOk, IfSome, IsNone, OnOk, true, false};
 ghost use Rattle.std.specs.List.{list_all, range_with_len};
 ghost use Rattle.int_rows.specs.Node.{greater, in_rows, lesser, lower_on, upper_on};
 ghost use Rattle.int_rows.specs.Ready.{bounded_fits};

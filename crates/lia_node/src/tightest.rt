@@ -1,6 +1,6 @@
 //! What is said of a variable, and the tighter of two bounds.
 
-ghost use Rattle.std.specs.Prelude.{◌≡◌, ◌^◌, ◌<◌, neg_ℤ, nat_abs, pos, length, true, if◌then◌else◌, ◌==◌};
+ghost use Rattle.std.specs.Prelude.{◌≡◌, ◌<◌, neg_ℤ, pos, length, true, if◌then◌else◌, ◌==◌};
 ghost use Rattle.std.specs.Option.{option_map};
 ghost use Rattle.int_rows.specs.Node.{coefficient, greater, lesser, lower_on, upper_on};
 ghost use Rattle.int_rows.specs.Ready.{bound_fits, bounded_fits};

@@ -1,6 +1,6 @@
 //! What a vertex tells.
 
-ghost use Rattle.std.specs.Prelude.{◌≡◌, ◌<◌, ◌≤◌, ◌^◌, ℕ, length, map, take, IfOk, IfSome, IsNone, true, false, slice_index_or};
+ghost use Rattle.std.specs.Prelude.{◌≡◌, ◌<◌, ◌^◌, length, map, IfOk, IfSome, IsNone, true, false, slice_index_or};
 ghost use Rattle.std.specs.List.{list_all};
 ghost use Rattle.lin_atoms.specs.Linear.{is_short};
 ghost use Rattle.lin_atoms.specs.Ratio.{Fraction};

@@ -1,6 +1,6 @@
 //! The flattened form, whose literals and disjunctions are lent by it.
 
-ghost use Rattle.std.specs.Prelude.{◌≡◌, ◌++◌, ◌∷◌, [], IfOk, OnOk, pos};
+ghost use Rattle.std.specs.Prelude.{◌≡◌, ◌++◌, IfOk, OnOk, pos};
 ghost use Rattle.std.specs.List.{flat_map};
 ghost use Rattle.refutation_trees.specs.Flatten.{disjunctions, literals};
 ghost use Rattle.lin_atoms.specs.Linear.{of_constant};

@@ -1,4 +1,4 @@
-ghost use Rattle.std.specs.Prelude.{◌≡◌, ◌*ℤ◌, ◌≤ℤ◌, ◌<ℤ◌, ℤ, pos};
+ghost use Rattle.std.specs.Prelude.{◌*ℤ◌, ◌≤ℤ◌, ◌<ℤ◌, ℤ, pos};
 
 /// The quotient, rounded down: the greatest integer whose product with the divisor is at most the
 /// number.

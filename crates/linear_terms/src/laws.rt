@@ -5,7 +5,6 @@ ghost use Rattle.std.specs.Ordering.{int_eq};
 ghost use Rattle.term_tree.specs.declared.node.Node.{Node};
 ghost use Rattle.term_tree.specs.declared.node.OpKind.TheVariants.{Div, Mod};
 ghost use Rattle.term_tree.specs.declared.script.Pred.{Pred as Declared};
-ghost use Rattle.term_tree.specs.declared.sort.Sort.{Sort};
 ghost use Rattle.term_tree.specs.declared.sort.Sort.TheVariants.{Int as IntSort, Bool as BoolSort};
 ghost use Rattle.term_tree.specs.Operators.{truth as truth_of, same_truth};
 ghost use Rattle.term_tree.specs.Sorts.{sort_of};

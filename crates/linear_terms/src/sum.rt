@@ -1,6 +1,6 @@
 //! Sums and differences.
 
-ghost use Rattle.std.specs.Prelude.{◌≡◌, ◌∷◌, ◌++◌, ◌+ℤ◌, neg_ℤ, map, IfOk, OnOk, IsErrOf, true, false};
+ghost use Rattle.std.specs.Prelude.{◌≡◌, ◌∷◌, ◌+ℤ◌, neg_ℤ, map, IfOk, OnOk, IsErrOf, true, false};
 ghost use Rattle.lin_atoms.specs.Algebra.{negated};
 ghost use Rattle.linear_terms.specs.Linear.{all_constants, all_terms, difference_form, is_narrow, less, sum_form};
 

@@ -1,6 +1,6 @@
 //! The bounds of a variable, and the one that the model is nearest to.
 
-ghost use Rattle.std.specs.Prelude.{Some, ◌≡◌, ◌<◌, ◌≤◌, ◌*◌, nat_abs, None, true, false, IfOk, IfSome, IsErr, IsNone, IsSome, OnOk};
+ghost use Rattle.std.specs.Prelude.{Some, ◌≡◌, ◌<◌, ◌≤◌, ◌*◌, nat_abs, None, true, false, IfOk, IfSome, IsErr, IsNone, OnOk};
 ghost use Rattle.std.specs.Option.{option_map};
 ghost use Rattle.base.specs.Widths.{short_limit};
 ghost use Rattle.lin_atoms.specs.Linear.{variable_at};

@@ -1,12 +1,12 @@
 //! A literal crossed with an equation, judged by its width.
 
-ghost use Rattle.std.specs.Prelude.{◌≡◌, ◌<◌, ◌≤◌, ◌*◌, ◌∷◌, [], ◌+ℤ◌, ◌*ℤ◌, ◌<ℤ◌, nat_abs, neg_ℤ, pos, Some, None, true, false, IfOk, IfSome, IsErrOf, IsNone, OnOk};
+ghost use Rattle.std.specs.Prelude.{◌≡◌, ◌<◌, ◌≤◌, ◌*◌, ◌∷◌, [], ◌<ℤ◌, nat_abs, neg_ℤ, pos, Some, None, true, false, IfOk, IfSome, IsErrOf, IsNone};
 ghost use Rattle.std.specs.List.{filter};
 ghost use Rattle.base.specs.Widths.{short_limit};
-ghost use Rattle.lin_atoms.specs.Linear.{are_ordered, is_short, of_constant};
+ghost use Rattle.lin_atoms.specs.Linear.{of_constant};
 ghost use Rattle.lin_atoms.specs.declared.lit.Lit.TheVariants.{Eq};
 ghost use Rattle.model_project.specs.Elimination.{has_variable, has_short_numbers, tidied};
-ghost use Rattle.model_project.specs.Substitution.{coefficient, crossed, crossed_lit, left_over, lin_has, occurs, upright};
+ghost use Rattle.model_project.specs.Substitution.{coefficient, crossed, crossed_lit, lin_has, occurs};
 
 use crate::bounds::product;
 use crate::period::short;

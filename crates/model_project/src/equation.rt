@@ -1,11 +1,11 @@
 //! The equation that removes a variable.
 
-ghost use Rattle.std.specs.Prelude.{◌≡◌, ◌<◌, ◌^◌, ◌==◌, ◌∷◌, [], ◌<ℤ◌, nat_abs, not, pos, Some, None, true, false, IfOk, IfSome, IsErrOf, IsNone, OnOk};
-ghost use Rattle.std.specs.List.{filter, list_all};
+ghost use Rattle.std.specs.Prelude.{◌≡◌, ◌<◌, ◌==◌, ◌∷◌, [], ◌<ℤ◌, nat_abs, pos, Some, None, true, IfOk, IfSome, IsErrOf, IsNone};
+ghost use Rattle.std.specs.List.{filter};
 ghost use Rattle.lin_atoms.specs.Linear.{are_ordered, are_short};
 ghost use Rattle.lin_atoms.specs.declared.lit.Lit.TheVariants.{Div};
 ghost use Rattle.model_project.specs.machinery.Steps.{EquationIs};
-ghost use Rattle.model_project.specs.Elimination.{has_variable, has_short_numbers, tidied};
+ghost use Rattle.model_project.specs.Elimination.{has_variable, tidied};
 ghost use Rattle.model_project.specs.Substitution.{coefficient, equation_in, left_over, lin_has, upright, without};
 
 use crate::crossing::ground;

@@ -4,7 +4,7 @@ ghost use Rattle.std.specs.Prelude.{◌≡◌, ◌<◌, ◌^◌, nat_abs, IsTrue
 ghost use Rattle.std.specs.List.{list_any};
 ghost use Rattle.base.specs.Widths.{short_limit};
 ghost use Rattle.lin_atoms.specs.Denial.{linear_of};
-ghost use Rattle.model_project.specs.Elimination.{divisor, has_variable, is_bound, has_short_numbers, on_side};
+ghost use Rattle.model_project.specs.Elimination.{divisor, has_variable, is_bound, on_side};
 ghost use Rattle.model_project.specs.Substitution.{coefficient, is_equation, lin_has, occurs};
 
 use lin_atoms::{Lin, Lit};

@@ -1,14 +1,13 @@
 //! One variable is removed by the first rule that fits. Each rule looks at a literal once or
 //! twice, and computes where the variable occurs alone.
 
-ghost use Rattle.std.specs.Prelude.{◌≡◌, ◌<◌, ◌%◌, ◌*◌, ◌^◌, ◌∷◌, ◌++◌, pos, nat_abs, Some, None, true, false, IfOk, IfSome, IsErrOf, IsNone, OnOk};
+ghost use Rattle.std.specs.Prelude.{◌≡◌, ◌<◌, ◌%◌, ◌*◌, ◌^◌, ◌++◌, pos, nat_abs, Some, None, true, false, IfOk, IsErrOf, OnOk};
 ghost use Rattle.std.specs.Int.{int_rem_euclid};
 ghost use Rattle.base.specs.Widths.{short_limit};
 ghost use Rattle.lin_atoms.specs.Algebra.{plus};
 ghost use Rattle.lin_atoms.specs.Linear.{fits, variable_at};
-ghost use Rattle.lin_atoms.specs.declared.lit.Lit.TheVariants.{Eq};
-ghost use Rattle.model_project.specs.Elimination.{by_bound, by_bounds, by_rest, gap, has_short_numbers, nearest, period, put_before, removed, rest_equation, tidied};
-ghost use Rattle.model_project.specs.Substitution.{coefficient, lin_has, solved};
+ghost use Rattle.model_project.specs.Elimination.{by_bounds, by_rest, gap, nearest, period, put_before, removed, rest_equation};
+ghost use Rattle.model_project.specs.Substitution.{coefficient, lin_has};
 ghost use Rattle.model_project.specs.machinery.Steps.{are_narrow, have_divisors, one};
 
 use crate::bounds::{self, Bound};

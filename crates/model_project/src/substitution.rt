@@ -1,7 +1,7 @@
 //! The substitution in a list of literals. A literal without the variable is looked at and left
 //! as it is.
 
-ghost use Rattle.std.specs.Prelude.{◌≡◌, ◌<◌, ◌<ℤ◌, ◌∷◌, [], List, length, pos, slice_set, Some, None, true, false, IfOk, IsErrOf, OnOk};
+ghost use Rattle.std.specs.Prelude.{◌≡◌, ◌<◌, ◌<ℤ◌, ◌∷◌, List, length, pos, slice_set, Some, None, true, false, IfOk, IsErrOf, OnOk};
 ghost use Rattle.std.specs.List.{filter};
 ghost use Rattle.lin_atoms.specs.declared.lit.Lit.{Lit as Literal};
 ghost use Rattle.model_project.specs.Elimination.{has_variable, tidied};

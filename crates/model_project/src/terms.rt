@@ -1,7 +1,7 @@
 //! Terms of combinations, term by term, exactly: a sum of two products of numbers below 2^63 is
 //! below 2^127.
 
-ghost use Rattle.std.specs.Prelude.{◌≡◌, ℕ, ◌+◌, ◌<◌, ◌≤◌, ◌^◌, ◌+ℤ◌, ◌*ℤ◌, ◌++◌, ◌==◌, ◌∷◌, [], drop, length, nat_abs, not, pos, true, false, IsNone, IfOk, IfSome, OnOk, ◌↔◌};
+ghost use Rattle.std.specs.Prelude.{◌≡◌, ◌+◌, ◌<◌, ◌≤◌, ◌^◌, ◌+ℤ◌, ◌*ℤ◌, ◌++◌, ◌==◌, ◌∷◌, [], drop, length, nat_abs, not, pos, true, false, IsNone, IfOk, IfSome, OnOk, ◌↔◌};
 ghost use Rattle.std.specs.List.{filter};
 ghost use Rattle.base.specs.Widths.{long_limit, short_limit};
 ghost use Rattle.lin_atoms.specs.Linear.{are_ordered, are_short, is_short};

@@ -1,6 +1,6 @@
-ghost use Rattle.std.specs.Prelude.{◌≡◌, ◌<◌, ℕ, List, length, not, filter, false, slice_index, slice_index_or, IfOk, OnOk};
+ghost use Rattle.std.specs.Prelude.{◌≡◌, ◌<◌, ℕ, length, not, filter, false, slice_index, slice_index_or, IfOk, OnOk};
 ghost use Rattle.std.specs.List.{list_any};
-ghost use Rattle.obligation_tree.specs.Nodes.{is_child_of, is_live_at, node_at, parent_at};
+ghost use Rattle.obligation_tree.specs.Nodes.{is_child_of, is_live_at, parent_at};
 ghost use Rattle.obligation_tree.specs.Closing.{after, hits, is_closed_at};
 ghost use Rattle.obligation_tree.specs.machinery.Passes.{IsKept, levelled, settled_all, settled_at};
 

@@ -1,6 +1,6 @@
 //! Whether the body of an instance is recorded.
 
-ghost use Rattle.std.specs.Prelude.{◌≡◌, ◌<◌, ◌^◌, length, IfOk};
+ghost use Rattle.std.specs.Prelude.{◌<◌, ◌^◌, length, IfOk};
 ghost use Rattle.step_rules.specs.Views.{facts_of};
 ghost use Rattle.book_rules.specs.Instances.{atom_at};
 ghost use Rattle.obligation_turn.specs.machinery.Bodies.{ArePremises, IsFactAt};

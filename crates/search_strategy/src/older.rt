@@ -1,6 +1,6 @@
 //! The lemmas that a book has, beside one that is learnt.
 
-ghost use Rattle.std.specs.Prelude.{◌≡◌, ◌<◌, ◌↔◌, length, nat_lt, if◌then◌else◌, IfSome, IsTrue};
+ghost use Rattle.std.specs.Prelude.{◌≡◌, ◌<◌, ◌↔◌, length, IfSome, IsTrue};
 ghost use Rattle.lemma_frames.specs.Frames.{level_of};
 ghost use Rattle.search_strategy.specs.Older.{Excludes, HasCube, IsBest, IsLower, better_of};
 

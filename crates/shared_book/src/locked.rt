@@ -11,7 +11,6 @@ ghost use Rattle.book_rules.specs.Rules.{broken};
 ghost use Rattle.book_rules.specs.State.{opening};
 ghost use Rattle.book_rules.specs.Walks.{AllOf};
 ghost use Rattle.chc_core.specs.Views.{standing_of, state_of, steps_of};
-ghost use Rattle.clause_queries.specs.Answers.{AreFew};
 ghost use Rattle.obligation_turn.specs.Counts.{StepCounts};
 ghost use Rattle.obligation_turn.specs.Turns.{IsThin, StepIsThin};
 ghost use Rattle.step_rules.specs.Taken.{IsMadeFor, step_of};

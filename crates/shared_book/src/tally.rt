@@ -1,6 +1,6 @@
 //! The shares of a run that is over, put together.
 
-ghost use Rattle.std.specs.Prelude.{◌≡◌, ◌+◌, ◌<◌, length, map, sum, vec_len};
+ghost use Rattle.std.specs.Prelude.{◌≡◌, ◌<◌, length, map, sum, vec_len};
 
 use crate::run::Run;
 use crate::share::Share;

@@ -1,11 +1,11 @@
 //! What a moment of the run is: which column leaves, which enters, or which end it is.
 
-ghost use Rattle.std.specs.Prelude.{◌≡◌, ◌<◌, ◌≤◌, ◌-ℤ◌, length, nat_abs, position, take, true, None};
+ghost use Rattle.std.specs.Prelude.{◌≡◌, ◌<◌, ◌≤◌, length, nat_abs, position, take, true, None};
 ghost use Rattle.base.specs.Widths.{short_limit};
 ghost use Rattle.int_rows.specs.Ready.{bound_fits};
-ghost use Rattle.int_rows.specs.Table.{row_at, width};
+ghost use Rattle.int_rows.specs.Table.{width};
 ghost use Rattle.simplex_core.specs.Standings.{AreStandings};
-ghost use Rattle.simplex_core.specs.Run.{are_crossed, are_crossed_at, broken, broken_at, can_rise, can_sink, coordinates, crossed, entering, has_wide_floor, helps, is_above, is_basic, is_below, is_wide, leave, leaving, may_enter, may_leave, moment, seen_from, settle, turn, wide, wide_floor};
+ghost use Rattle.simplex_core.specs.Run.{are_crossed, are_crossed_at, broken_at, can_rise, can_sink, coordinates, crossed, entering, has_wide_floor, helps, is_above, is_basic, is_below, is_wide, leave, leaving, may_enter, may_leave, moment, seen_from, settle, turn, wide, wide_floor};
 
 use crate::coordinate::Coordinate;
 use crate::place::{row_of, stood_at};

@@ -1,4 +1,4 @@
-ghost use Rattle.std.specs.Prelude.{◌≡◌, ◌^◌, ◌<◌, ◌≤◌, ◌+◌, ◌==◌, ◌-ℤ◌, ◌*ℤ◌, ◌<ℤ◌, ℤ, pos, nat_abs, length, true, false, not, IfSome, IsNone, IfOk, ◌++◌, ◌∷◌, [], if◌then◌else◌};
+ghost use Rattle.std.specs.Prelude.{◌≡◌, ◌^◌, ◌<◌, ◌≤◌, ◌+◌, ◌==◌, ◌-ℤ◌, ◌*ℤ◌, ◌<ℤ◌, ℤ, pos, nat_abs, length, true, false, IfSome, IsNone, IfOk, ◌++◌, ◌∷◌, [], if◌then◌else◌};
 ghost use Rattle.std.specs.Int.{IsGcd, int_div_euclid};
 ghost use Rattle.std.specs.List.{list_all};
 ghost use Rattle.std.specs.Ordering.{int_cmp};

@@ -1,9 +1,8 @@
 //! What is answered at the end of a run.
 
-ghost use Rattle.std.specs.Prelude.{◌≡◌, ◌<◌, ◌*◌, ◌^◌, length, nat_abs, map, neg_ℤ, pos, int_lt, true, ◌++◌, ◌∷◌, [], IfOk, position, None, if◌then◌else◌};
+ghost use Rattle.std.specs.Prelude.{◌≡◌, ◌<◌, ◌^◌, length, nat_abs, neg_ℤ, pos, int_lt, ◌++◌, ◌∷◌, [], IfOk, position, None, if◌then◌else◌};
 ghost use Rattle.base.specs.Widths.{short_limit};
-ghost use Rattle.int_rows.specs.Rows.{are_short};
-ghost use Rattle.int_rows.specs.Table.{row_at, width};
+ghost use Rattle.int_rows.specs.Table.{width};
 ghost use Rattle.simplex_core.specs.Answer.{AreCoordinates, basis, crossing, crossing_at, multipliers, outer, parts};
 ghost use Rattle.simplex_core.specs.Run.{columns, coordinates, is_wide, moment};
 

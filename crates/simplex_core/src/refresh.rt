@@ -5,7 +5,7 @@ ghost use Rattle.std.specs.List.{list_all};
 ghost use Rattle.lin_atoms.specs.Linear.{is_long};
 ghost use Rattle.lin_atoms.specs.Ratio.{Fraction};
 ghost use Rattle.int_rows.specs.Rows.{entry};
-ghost use Rattle.int_rows.specs.Table.{Table, row_at, width};
+ghost use Rattle.int_rows.specs.Table.{row_at, width};
 ghost use Rattle.simplex_core.specs.Coordinate.{held};
 ghost use Rattle.simplex_core.specs.Standings.{AreStandings};
 ghost use Rattle.simplex_core.specs.machinery.Refresh.{changes};

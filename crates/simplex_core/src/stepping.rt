@@ -1,8 +1,8 @@
 //! One step of the run.
 
-ghost use Rattle.std.specs.Prelude.{◌≡◌, ◌<◌, ◌^◌, length, true, pos, IfOk};
+ghost use Rattle.std.specs.Prelude.{◌≡◌, ◌<◌, length, true, IfOk};
 ghost use Rattle.int_rows.specs.Rows.{entry};
-ghost use Rattle.int_rows.specs.Table.{basic_at, row_at, width};
+ghost use Rattle.int_rows.specs.Table.{width};
 ghost use Rattle.simplex_core.specs.Answer.{IsEnd, Steps};
 ghost use Rattle.simplex_core.specs.Standings.{AreStandings};
 ghost use Rattle.simplex_core.specs.Run.{coordinates, crossed, moment, restood, settled, turn};

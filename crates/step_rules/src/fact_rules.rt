@@ -1,9 +1,8 @@
 //! The rules of Fact. Each answers what breaks it, if anything.
 
-ghost use Rattle.std.specs.Prelude.{◌≡◌, length, is_none, slice_get, IfOk, if◌then◌else◌, Some, None};
-ghost use Rattle.book_rules.specs.declared.by.By.TheVariants.{Obligation as ByObligation};
+ghost use Rattle.std.specs.Prelude.{◌≡◌, is_none, slice_get, IfOk, Some, None};
 ghost use Rattle.book_rules.specs.FactRules.{are_facts_of, concluded, is_fact_of, rule_20, rule_21, rule_22, rule_23};
-ghost use Rattle.book_rules.specs.State.{holds, holds_of, same_conclusion};
+ghost use Rattle.book_rules.specs.State.{holds, same_conclusion};
 ghost use Rattle.book_rules.specs.Walks.{first_number, on};
 ghost use Rattle.step_rules.specs.machinery.Told.{unholding_told};
 ghost use Rattle.step_rules.specs.Taken.{record_of};

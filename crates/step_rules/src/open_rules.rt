@@ -1,24 +1,24 @@
 //! The rules of Open. Each answers what breaks it, if anything.
 
-ghost use Rattle.std.specs.Prelude.{◌≡◌, ◌&&◌, ◌||◌, ◌<◌, ◌≤◌, ◌-◌, nat_lt, length, slice_get, IfOk, if◌then◌else◌, option_map, Some, None, true};
-ghost use Rattle.book_rules.specs.declared.by.By.TheVariants.{Obligation as ByObligation, Step};
-ghost use Rattle.book_rules.specs.Instances.{body_at, head_at};
+ghost use Rattle.std.specs.Prelude.{◌≡◌, ◌&&◌, ◌||◌, ◌<◌, ◌≤◌, ◌-◌, length, slice_get, IfOk, option_map, Some, None, true};
+ghost use Rattle.book_rules.specs.declared.by.By.TheVariants.{Step};
+ghost use Rattle.book_rules.specs.Instances.{head_at};
 ghost use Rattle.chc_tokens.specs.Kept.{seen_point};
 ghost use Rattle.base.specs.Limits.{most_arguments};
-ghost use Rattle.book_rules.specs.OpenRules.{atom_fits, clause_fits, clause_of, has_fact_in, is_cube, shut_out, rule_1, rule_2, rule_3, rule_4, rule_5, rule_6, rule_9, tuple_of, unknown, atom_of};
-ghost use Rattle.std.specs.List.{find, list_all, list_any};
+ghost use Rattle.book_rules.specs.OpenRules.{atom_fits, clause_fits, has_fact_in, is_cube, rule_1, rule_2, rule_3, rule_4, rule_5, rule_6, rule_9, tuple_of, unknown, atom_of};
+ghost use Rattle.std.specs.List.{list_all, list_any};
 ghost use Rattle.lin_atoms.specs.Denial.{lit_fits};
-ghost use Rattle.book_rules.specs.Walks.{first_number, first_told, has, on};
-ghost use Rattle.step_rules.specs.machinery.Walks.{fails_plainly_at, is_plain, is_unknown, lies_in, lies_in_at};
+ghost use Rattle.book_rules.specs.Walks.{first_told, has};
+ghost use Rattle.step_rules.specs.machinery.Walks.{is_unknown};
 ghost use Rattle.step_rules.specs.machinery.Told.{low_told, misfit_told, shut_told, unheld_told, unknown_told};
 ghost use Rattle.step_rules.specs.Taken.{open_of};
 ghost use Rattle.cube_rules.specs.Views.{framed_at, lemmas_of};
 ghost use Rattle.cube_rules.specs.machinery.Walks.{passes_at};
-ghost use Rattle.step_rules.specs.Views.{ground_conclusion, facts_of, fresh_of};
+ghost use Rattle.step_rules.specs.Views.{facts_of, fresh_of};
 ghost use Rattle.step_rules.specs.Standing.{standing_state};
 ghost use Rattle.cube_forms.specs.Cubes.{cube_holds};
 ghost use Rattle.book_rules.specs.Same.{same_cube};
-ghost use Rattle.book_rules.specs.State.{holds, holds_of};
+ghost use Rattle.book_rules.specs.State.{holds};
 ghost use Rattle.book_rules.specs.Areas.{is_wide, point_cube};
 ghost use Rattle.clause_form.specs.System.{is_clause};
 

@@ -1,4 +1,4 @@
-ghost use Rattle.std.specs.Prelude.{◌≡◌, ◌<◌, ◌^◌, length, slice_get, None, if◌then◌else◌};
+ghost use Rattle.std.specs.Prelude.{◌≡◌, ◌<◌, ◌^◌, length, None};
 ghost use Rattle.std.specs.List.{list_any};
 ghost use Rattle.book_rules.specs.Proofs.{all_may_use, is_proof_of, may_use, misused, needs, unshown};
 ghost use Rattle.step_rules.specs.Tokens.{all_shown, all_used, used_of};

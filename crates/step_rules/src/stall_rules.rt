@@ -1,11 +1,8 @@
 //! The rules of Stall but 51, which looks at live children. Each answers what breaks it, if anything.
 
 ghost use Rattle.std.specs.Prelude.{◌≡◌, ◌==◌, ◌&&◌, ◌||◌, ◌-◌, not, [], slice_get, None, IfOk, if◌then◌else◌, true, Some};
-ghost use Rattle.book_rules.specs.declared.by.By.TheVariants.{Clause as ByClause, Obligation as ByObligation, Step};
+ghost use Rattle.book_rules.specs.declared.by.By.TheVariants.{Obligation as ByObligation, Step};
 ghost use Rattle.book_rules.specs.Proofs.{all_may_use};
-ghost use Rattle.book_rules.specs.Walks.{has};
-ghost use Rattle.cube_rules.specs.Views.{lemmas_of};
-ghost use Rattle.std.specs.List.{list_all};
 ghost use Rattle.refutation_trees.specs.KeptEvidence.{given_form};
 ghost use Rattle.book_rules.specs.Queries.{query};
 ghost use Rattle.book_rules.specs.Same.{same_form};

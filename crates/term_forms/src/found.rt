@@ -1,4 +1,4 @@
-ghost use Rattle.std.specs.Prelude.{◌≡◌, ◌<◌, ℕ, ℤ, List, Option, length, OnOk};
+ghost use Rattle.std.specs.Prelude.{◌<◌, ℕ, ℤ, List, Option, length, OnOk};
 ghost use Rattle.term_tree.specs.declared.node.Node.{Node};
 ghost use Rattle.linear_terms.specs.Linear.{Naming};
 ghost use Rattle.term_tables.specs.machinery.Table.{constant_in};

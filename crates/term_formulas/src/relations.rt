@@ -1,6 +1,6 @@
 //! Relations of sides.
 
-ghost use Rattle.std.specs.Prelude.{◌≡◌, ◌++◌, [], ◌∷◌, map, not, IfOk, OnOk, IsTrue, false, true, if◌then◌else◌};
+ghost use Rattle.std.specs.Prelude.{◌≡◌, ◌++◌, map, not, IfOk, OnOk, IsTrue, false, true, if◌then◌else◌};
 ghost use Rattle.std.specs.List.{list_any};
 ghost use Rattle.term_tree.specs.declared.node.OpKind.TheVariants.{Ge, Gt, Le as AtMost, Lt};
 ghost use Rattle.term_tree.specs.Operators.{is_distinct};

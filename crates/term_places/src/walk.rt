@@ -1,6 +1,6 @@
 //! The walk through a text.
 
-ghost use Rattle.std.specs.Prelude.{◌≡◌, ◌<◌, ◌++◌, ◌∷◌, [], length, slice_get, map, IsTrue, IfOk, OnOk, if◌then◌else◌};
+ghost use Rattle.std.specs.Prelude.{◌≡◌, ◌<◌, ◌++◌, ◌∷◌, [], length, map, IsTrue, IfOk, OnOk, if◌then◌else◌};
 ghost use Rattle.std.specs.List.{list_all};
 ghost use Rattle.term_tree.specs.Arena.{has_parts_below, is_below};
 ghost use Rattle.linear_terms.specs.Text.{chosen, inner_spots, needs_one, operands, places, spot_as};

@@ -1,7 +1,7 @@
 //! The linear forms of terms in which nothing is wide. Only what a form is made of is read: nothing
 //! below a choice or a quotient is, and a term that a name is bound to is read once.
 
-ghost use Rattle.std.specs.Prelude.{◌≡◌, ◌<◌, ◌≤◌, ℕ, ℤ, List, Option, Some, length, map, slice_get, IfOk, OnOk, IsTrue, false, true};
+ghost use Rattle.std.specs.Prelude.{◌≡◌, ◌<◌, ℕ, ℤ, List, Option, Some, length, map, slice_get, IfOk, OnOk, IsTrue, false, true};
 ghost use Rattle.std.specs.List.{list_all};
 ghost use Rattle.std.specs.Ordering.{nat_cmp};
 ghost use Rattle.std.specs.BTreeMap.{get};

@@ -2,7 +2,6 @@
 //! counter gets one fact more, which was asked for just before. Then the query of each counter asks for the
 //! next one far above it, and a lemma denies it: 'below the level'. So a level is made of 501 steps.
 
-ghost use Rattle.std.specs.Prelude.{◌≡◌};
 ghost use Rattle.chc_tokens.specs.Tokens.{IsNoLift, IsShownToken};
 ghost use Rattle.book_rules.specs.Walks.{AllOf};
 ghost use Rattle.step_rules.specs.Taken.{IsMadeFor};

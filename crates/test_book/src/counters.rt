@@ -1,7 +1,6 @@
 //! Ten counters, each a predicate of an integer: it begins at 0 and goes up by one, and no counter may be a
 //! million above the one before it. What the steps of a run on them are made of.
 
-ghost use Rattle.std.specs.Prelude.{◌≡◌, true};
 ghost use Rattle.chc_tokens.specs.Tokens.{IsNoLift, IsShownToken};
 
 use crate::clauses::{book, clause, next, rule, step};

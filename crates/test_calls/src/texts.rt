@@ -1,6 +1,6 @@
 //! The verdict on the text of an answer.
 
-ghost use Rattle.std.specs.Prelude.{◌≡◌, ◌<◌, ◌^◌, length, IfOk};
+ghost use Rattle.std.specs.Prelude.{◌<◌, ◌^◌, length, IfOk};
 ghost use Rattle.horn_shape.specs.Clause.{IsLegalScript};
 
 use base::Memory;

@@ -1,6 +1,6 @@
 //! Literals over three variables as rows of numbers, and the projection of a list of them.
 
-ghost use Rattle.std.specs.Prelude.{◌≡◌, length};
+ghost use Rattle.std.specs.Prelude.{◌≡◌};
 ghost use Rattle.std.specs.List.{list_all};
 ghost use Rattle.lin_atoms.specs.Truth.{lit_is_below};
 ghost use Rattle.model_project.specs.Projection.{are_true};

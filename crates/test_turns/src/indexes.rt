@@ -1,6 +1,6 @@
 //! What a search reads of clauses again and again. Forms and systems aren't let go, since that costs a proof.
 
-ghost use Rattle.std.specs.Prelude.{◌<◌, ◌^◌, length};
+ghost use Rattle.std.specs.Prelude.{◌<◌};
 
 use base::{Items, Same};
 use clause_form::{Atom, Clause, System};

@@ -1,6 +1,6 @@
 //! Books of a few clauses over one predicate of an integer.
 
-ghost use Rattle.std.specs.Prelude.{◌≡◌, [], length, nat_le, true};
+ghost use Rattle.std.specs.Prelude.{◌≡◌, [], length, nat_le};
 ghost use Rattle.std.specs.List.{list_all};
 ghost use Rattle.clause_form.specs.declared.clause.Clause.{Clause};
 ghost use Rattle.chc_core.specs.Views.{standing_of};
