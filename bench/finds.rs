@@ -1,5 +1,5 @@
 //! A hundred thousand facts of ten predicates in plain hashed maps, one for each predicate, and with the word
-//! `found` each of them looked up ten times, in the order of the tests `finds` of the crate `book_rows`.
+//! `found` each of them looked up ten times, in the order of the tests `finds` of the crate `test_book`.
 use std::collections::HashMap;
 use std::env::args;
 use std::hint::black_box;

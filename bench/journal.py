@@ -5,10 +5,10 @@
 
 The run is by hand, on the clauses of ten counters: each begins at 0 and goes up by one, and no counter may be
 a million above the one before it. Level after level there is a Raise, then 240 facts, each with an Open that
-asks for it, and then an Open and a Lemma for each counter: 501 steps (`counted.rt` of `book_rows`). It is cut
+asks for it, and then an Open and a Lemma for each counter: 501 steps (`counted.rt` of `test_book`). It is cut
 off at 2,500 and at 5,000 units, and its journal is committed to a second book.
 
-What is measured are tests of `book_rows`, each run alone by its name, in pairs: one makes the book, the other
+What is measured are tests of `test_book`, each run alone by its name, in pairs: one makes the book, the other
 makes it and goes on. A figure is the difference of the least processor times of both, and for the journals,
 where there is `valgrind`, of their counted instructions, which other work on the machine doesn't change. The
 look-ups are held against plain hashed maps that rustc compiles (`finds.rs`).
@@ -27,7 +27,7 @@ import sys
 import tempfile
 
 TOP = os.path.dirname(os.path.dirname(os.path.abspath(__file__)))
-PROGRAM = f"{TOP}/crates/book_rows/out/book_rows_tests"
+PROGRAM = f"{TOP}/crates/test_book/out/book_rows_tests"
 
 # How often the tests do what they are there for.
 VERSIONS, COPIES, FINDS = 2_000, 8, 1_000_000
@@ -110,12 +110,12 @@ def finds(program, runs):
 
 def main():
     parser = argparse.ArgumentParser(description=__doc__.split("\n\n", 1)[0])
-    parser.add_argument("--program", default=PROGRAM, help="the tests of book_rows, built")
+    parser.add_argument("--program", default=PROGRAM, help="the tests of test_book, built")
     parser.add_argument("--runs", type=int, default=11, help="how often each test is run")
     given = parser.parse_args()
     program = os.path.abspath(given.program)
     if not os.path.isfile(program):
-        print(f"{program} isn't there: `rt test` in crates/book_rows proves and builds it", file=sys.stderr)
+        print(f"{program} isn't there: `rt test` in crates/test_book proves and builds it", file=sys.stderr)
         return 2
     well = [replays(program, given.runs), versions(program, given.runs), finds(program, given.runs)]
     return 0 if all(well) else 1

@@ -2,7 +2,7 @@
 """What each means of the search is worth: how many scripts are solved with it left out.
 
 `copies` writes copies of the repository into a folder, one for each means, in which worker 1 has that
-means alone the other way round than `means_of` says (`crates/search_parts/src/means.rt`): `./chc` of a copy
+means alone the other way round than `means_of` says (`crates/search_strategy/src/means.rt`): `./chc` of a copy
 proves and builds its program. `table` runs built programs on every script of a folder, one worker each,
 and prints a row for each script with their answers and seconds of processor time, and at last how many
 scripts each solves, which of them the first program doesn't solve, and which ones it does and this one
@@ -17,7 +17,7 @@ import sys
 from measure import TOP, launched, run
 from search import answer_of
 
-MEANS = os.path.join("crates", "search_parts", "src", "means.rt")
+MEANS = os.path.join("crates", "search_strategy", "src", "means.rt")
 ENTRY = re.compile(r"^        (\w+): (.+),$", re.MULTILINE)
 OFF_FOR_FIRST = {"cores_first"}
 SOLVED = ("sat", "unsat")

@@ -28,10 +28,10 @@ from measure import chc_program
 PHASES = {
     "reading": ["sort_check::script::check_text"],
     "clauses": ["clause_normal::reading::read_clauses"],
-    "hints": ["lemma_hints::hints::hints_of", "lemma_hints::hints::Hints::renew"],
+    "hints": ["guess_all::hints::hints_of", "guess_all::hints::Hints::renew"],
     "turns": ["obligation_turn::turning::turn_in"],
-    "lemmas": ["lemma_work::learning::improved"],
-    "lifts": ["search_parts::lifts::lift_of"],
+    "lemmas": ["search_learn::learning::improved"],
+    "lifts": ["search_strategy::lifts::lift_of"],
     "commits": ["chc_core::book::Book::commit"],
 }
 QUERY = "lia_cases::formula::decide_owned"
