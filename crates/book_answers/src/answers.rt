@@ -13,7 +13,7 @@ use book_rules::End;
 use cert_derivations::lines;
 use chc_core::Book;
 use interpretations::{
-    DefinitionStop, definitions, lemmas_of_books_have_places, sat_ends_solve_the_script,
+    DefinitionStop, lemmas_of_books_have_places, sat_ends_solve_the_script, solution,
 };
 use std::alloc::Global;
 use term_tree::Checked;
@@ -44,7 +44,7 @@ fn sat(alloc: Global, checked: &Checked, book: &Book, level: u32) -> Result<Answ
     book.is_replayed();
     let preds = checked.script.preds.as_slice();
     let frames = book.frames();
-    match definitions(alloc, preds, frames, level) {
+    match solution(alloc, preds, frames, level) {
         Ok(made) => Ok(Answer::Sat(made)),
         Err(DefinitionStop::Full) => Err(Memory),
         Err(DefinitionStop::Memory) => Err(Memory),

@@ -24,6 +24,7 @@ pub use laws::{
     one_literal_has_no_wide_row, points_go_on_below, quotients_keep_their_numbers,
     refuted_forms_have_no_point, trees_stand_side_by_side,
 };
+pub use refutation_trees::{Evidence, GaveUp, Refutation};
 pub use refuted::Refuted;
 pub use rules::{derived, is_leaf};
 pub use stop::CheckStop;

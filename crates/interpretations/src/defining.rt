@@ -78,7 +78,7 @@ fn add(definitions: &mut Vec<Definition>, one: Definition) -> Result<(), Memory>
 /// so on, and its term is made of the lemmas of this level or more on it, as they are printed. At
 /// the level of a sat end they are a solution. `Full` comes only where the lemmas on some predicate
 /// have some 2^32 nodes.
-pub fn definitions(
+pub fn solution(
     alloc: Global,
     preds: &[Pred],
     frames: &Frames,

@@ -14,7 +14,7 @@ mod stop;
 mod sums;
 
 pub use answers::{definitions_are_answers, definitions_are_read_back};
-pub use defining::definitions;
+pub use defining::solution;
 pub use laws::{
     definitions_are_formulas, definitions_are_printed, definitions_are_true_in_the_frame,
 };

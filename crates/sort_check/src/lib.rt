@@ -13,3 +13,4 @@ pub use laws::{
     script_or_refused, scripts_are_within_limits,
 };
 pub use script::{check_script, check_text};
+pub use term_check::{FormulaStop, check_formula};

@@ -1,7 +1,7 @@
 use Rattle.std.proofs.Common.{List, ◌++◌, drop}
 use Rattle.term_tree.specs.declared.definition.Definition.{Definition}
 use Rattle.interpretations.specs.Definitions.{AreDefinitionsOf}
-use Rattle.interpretations.proofs.defining.definitions.Given as goal
+use Rattle.interpretations.proofs.defining.solution.Given as goal
 
 -- the definitions so far, whatever those to come are
 abbrev pub invariant-loop-number : goal.invariant-loop-number

@@ -3,7 +3,7 @@ use Rattle.std.proofs.lemmas.Option.{slice_get_read}
 use Rattle.term_tree.specs.declared.definition.Definition.{Definition}
 use Rattle.interpretations.specs.Definitions.{AreDefinitionsOf}
 use Rattle.interpretations.proofs.DefinitionLemmas.{definitions-end, definitions-step, has-places}
-use Rattle.interpretations.proofs.defining.definitions.Goals as goal
+use Rattle.interpretations.proofs.defining.solution.Goals as goal
 
 pub definition-requires-clause-places : goal.definition-requires-clause-places
 definition-requires-clause-places c =
