@@ -1,8 +1,8 @@
 #!/usr/bin/env python3
 """Prints the crates from top to bottom, each with those on which it stands directly, as `crates.txt` has them.
 
-Refuses another list in the first block of ARCHITECTURE.md; with the word `write` it puts the list there. Crates of tests
-alone and those for the benchmarks aren't listed. Run it by hand; the proofs don't need it.
+Refuses another list in the first block of ARCHITECTURE.md; with the word `write` it puts the list there. Crates whose
+names say that they are tests alone or for the benchmarks aren't listed. Run it by hand; the proofs don't need it.
 """
 import functools
 import itertools
@@ -12,7 +12,7 @@ from pathlib import Path
 
 TOP = Path(__file__).resolve().parents[1]
 PAGE = TOP / "docs" / "ARCHITECTURE.md"
-LEFT_OUT = ("tests alone", "for the benchmarks")
+LEFT_OUT = ("test_", "bench_")
 
 
 def read():
@@ -40,10 +40,11 @@ def main():
 
     lines = []
     for heading, crates in reversed(layers):
-        if heading.startswith(LEFT_OUT):
+        listed = [crate for crate in crates if not crate.startswith(LEFT_OUT)]
+        if not listed:
             continue
         lines.append(heading)
-        for others, names in itertools.groupby(reversed(crates), directly):
+        for others, names in itertools.groupby(reversed(listed), directly):
             lines.append("    " + ", ".join(reversed(list(names))) + (" -> " + ", ".join(others) if others else ""))
     block = "\n".join(lines) + "\n"
     print(block, end="")
