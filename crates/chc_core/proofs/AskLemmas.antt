@@ -21,8 +21,8 @@ use Rattle.book_rules.proofs.ListLemmas.{unless_none}
 use Rattle.book_rules.proofs.SoundLemmas.{unbroken}
 use Rattle.step_rules.specs.Taken.{open_of, record_of}
 use Rattle.step_rules.specs.Views.{fresh_of, obligation_of, obligations_of}
-use Rattle.step_rules.specs.declared.fact_part.FactPart.{FactPart}
-use Rattle.step_rules.specs.declared.open_part.OpenPart.{OpenPart}
+use Rattle.step_rules.specs.declared.fact_step.part.FactPart.{FactPart}
+use Rattle.step_rules.specs.declared.open_step.part.OpenPart.{OpenPart}
 use Rattle.step_rules.specs.declared.step.Step.TheVariants.{FactStep, OpenStep}
 use Rattle.step_rules.proofs.ViewLemmas.{obligation_of-at}
 use Rattle.chc_core.specs.Contents.{Contents}

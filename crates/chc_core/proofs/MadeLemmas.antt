@@ -33,12 +33,12 @@ use Rattle.book_rules.proofs.ListLemmas.{both_false, from_both, neither, true_no
 use Rattle.book_rules.proofs.SoundLemmas.{unbroken}
 use Rattle.step_rules.specs.Taken.{learn_of, open_of, record_of, step_of}
 use Rattle.step_rules.specs.Views.{ground_conclusion, facts_of, framed_at, framed_of, fresh_of, lemmas_of, obligation_of, obligations_of}
-use Rattle.step_rules.specs.declared.fact_part.FactPart.{FactPart}
-use Rattle.step_rules.specs.declared.lemma_part.LemmaPart.{LemmaPart}
-use Rattle.step_rules.specs.declared.lift_part.LiftPart.{LiftPart}
-use Rattle.step_rules.specs.declared.open_part.OpenPart.{OpenPart}
-use Rattle.step_rules.specs.declared.raise_part.RaisePart.{RaisePart}
-use Rattle.step_rules.specs.declared.stall_part.StallPart.{StallPart}
+use Rattle.step_rules.specs.declared.fact_step.part.FactPart.{FactPart}
+use Rattle.step_rules.specs.declared.lemma_step.part.LemmaPart.{LemmaPart}
+use Rattle.step_rules.specs.declared.lift_step.part.LiftPart.{LiftPart}
+use Rattle.step_rules.specs.declared.open_step.part.OpenPart.{OpenPart}
+use Rattle.step_rules.specs.declared.raise_step.part.RaisePart.{RaisePart}
+use Rattle.step_rules.specs.declared.stall_step.part.StallPart.{StallPart}
 use Rattle.step_rules.specs.declared.step.Step.{Step}
 use Rattle.step_rules.specs.declared.step.Step.TheVariants.{OpenStep, LemmaStep, FactStep, LiftStep, RaiseStep, StallStep}
 use Rattle.step_rules.specs.Falsity.{IsLastFalse}

@@ -31,11 +31,11 @@ use Rattle.chc_core.specs.Contents.{Contents}
 use Rattle.step_rules.specs.Taken.{learn_of, lift_of, open_of, record_of, stall_of}
 use Rattle.chc_core.specs.Views.{state_of}
 use Rattle.step_rules.specs.Views.{framed_at, framed_of, lemmas_of, obligation_of, obligations_of}
-use Rattle.step_rules.specs.declared.open_part.OpenPart.{OpenPart}
-use Rattle.step_rules.specs.declared.lemma_part.LemmaPart.{LemmaPart}
-use Rattle.step_rules.specs.declared.fact_part.FactPart.{FactPart}
-use Rattle.step_rules.specs.declared.lift_part.LiftPart.{LiftPart}
-use Rattle.step_rules.specs.declared.stall_part.StallPart.{StallPart}
+use Rattle.step_rules.specs.declared.open_step.part.OpenPart.{OpenPart}
+use Rattle.step_rules.specs.declared.lemma_step.part.LemmaPart.{LemmaPart}
+use Rattle.step_rules.specs.declared.fact_step.part.FactPart.{FactPart}
+use Rattle.step_rules.specs.declared.lift_step.part.LiftPart.{LiftPart}
+use Rattle.step_rules.specs.declared.stall_step.part.StallPart.{StallPart}
 use Rattle.step_rules.specs.declared.step.Step.{Step}
 use Rattle.step_rules.specs.declared.step.Step.TheVariants.{OpenStep, LemmaStep, FactStep, LiftStep, StallStep}
 use Rattle.chc_core.specs.machinery.Making.{CanTake}

@@ -22,7 +22,7 @@ use Rattle.step_rules.specs.Standing.{Standing, standing_state}
 use Rattle.step_rules.specs.Taken.{learn_of}
 use Rattle.step_rules.specs.Tokens.{all_shown}
 use Rattle.step_rules.specs.Views.{obligation_of, obligations_of}
-use Rattle.step_rules.specs.declared.lemma_part.LemmaPart.{LemmaPart}
+use Rattle.step_rules.specs.declared.lemma_step.part.LemmaPart.{LemmaPart}
 use Rattle.step_rules.proofs.Public.{obligation_of-at}
 use Rattle.obligation_turn.specs.Turns.{GoesOn}
 use Rattle.obligation_turn.proofs.RuleLemmas.{kept, passed, told-of}

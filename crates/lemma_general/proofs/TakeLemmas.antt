@@ -16,7 +16,7 @@ use Rattle.clause_queries.specs.declared.finding.Found.{Found}
 use Rattle.clause_queries.specs.declared.finding.Found.TheVariants.{Refuted, Instance, GivenUp}
 use Rattle.clause_queries.specs.declared.lost.Lost.{Lost}
 use Rattle.step_rules.specs.Standing.{Standing}
-use Rattle.step_rules.specs.declared.lemma_part.LemmaPart.{LemmaPart}
+use Rattle.step_rules.specs.declared.lemma_step.part.LemmaPart.{LemmaPart}
 use Rattle.obligation_turn.specs.Turns.{GoesOn}
 use Rattle.obligation_turn.proofs.LiftLemmas.{lifts}
 use Rattle.lemma_general.specs.Generals.{IsAgainst, IsForSame, IsLearnt, IsLiftOf, bounds_of, without}

@@ -14,8 +14,8 @@ use Rattle.clause_queries.specs.Answers.{IsHit, IsLost}
 use Rattle.clause_queries.specs.declared.lost.Lost.{Lost}
 use Rattle.step_rules.specs.Standing.{Standing, standing_state}
 use Rattle.step_rules.specs.Taken.{IsMadeFor, step_of}
-use Rattle.step_rules.specs.declared.lemma_part.LemmaPart.{LemmaPart}
-use Rattle.step_rules.specs.declared.lift_part.LiftPart.{LiftPart}
+use Rattle.step_rules.specs.declared.lemma_step.part.LemmaPart.{LemmaPart}
+use Rattle.step_rules.specs.declared.lift_step.part.LiftPart.{LiftPart}
 use Rattle.step_rules.specs.declared.step.Step.TheVariants.{LemmaStep, LiftStep}
 
 -- a Lemma that breaks no rule of the book; its tokens were made for the book's system, and its cube is over its predicate, with

@@ -14,7 +14,7 @@ use Rattle.book_rules.specs.Places.{is_over}
 use Rattle.book_rules.specs.Walks.{AllOf}
 use Rattle.clause_queries.specs.Uses.{IsAskedAt, uses}
 use Rattle.step_rules.specs.Standing.{Standing}
-use Rattle.step_rules.specs.declared.lemma_part.LemmaPart.{LemmaPart}
+use Rattle.step_rules.specs.declared.lemma_step.part.LemmaPart.{LemmaPart}
 use Rattle.lemma_general.specs.Generals.{IsAgainst, IsForSame, IsLearnt}
 use Rattle.lemma_general.specs.declared.breaking.Breaking.{Breaking}
 use Rattle.lemma_general.specs.declared.trying.Tries.{Tries}

@@ -20,7 +20,7 @@ use Rattle.book_rules.proofs.ListLemmas.{neither, untold_passes}
 use Rattle.cube_rules.proofs.Public.{both_true}
 use Rattle.step_rules.specs.Standing.{Standing, standing_state}
 use Rattle.step_rules.specs.Taken.{record_of}
-use Rattle.step_rules.specs.declared.fact_part.FactPart.{FactPart}
+use Rattle.step_rules.specs.declared.fact_step.part.FactPart.{FactPart}
 use Rattle.step_rules.specs.declared.step.Step.TheVariants.{FactStep}
 use Rattle.obligation_turn.specs.Turns.{GoesOn, IsOpenLeaf, IsTurn}
 use Rattle.obligation_turn.specs.machinery.Jobs.{IsJobHit, job_of}

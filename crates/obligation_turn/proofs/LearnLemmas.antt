@@ -19,7 +19,7 @@ use Rattle.clause_queries.proofs.Public.{own_number}
 use Rattle.step_rules.specs.Standing.{Standing, standing_state}
 use Rattle.step_rules.specs.Taken.{learn_of}
 use Rattle.step_rules.specs.Tokens.{all_shown}
-use Rattle.step_rules.specs.declared.lemma_part.LemmaPart.{LemmaPart}
+use Rattle.step_rules.specs.declared.lemma_step.part.LemmaPart.{LemmaPart}
 use Rattle.step_rules.specs.declared.step.Step.TheVariants.{LemmaStep}
 use Rattle.obligation_turn.specs.Turns.{GoesOn, IsOpenLeaf, IsTurn}
 use Rattle.obligation_turn.specs.machinery.Jobs.{AreJobProofs, goal_by, job_of}

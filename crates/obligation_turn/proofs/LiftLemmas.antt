@@ -45,7 +45,7 @@ use Rattle.clause_queries.proofs.Public.{number_is, own_number}
 use Rattle.step_rules.specs.Standing.{Standing, standing_state}
 use Rattle.step_rules.specs.Taken.{lift_of}
 use Rattle.step_rules.specs.Tokens.{all_no_lifts, all_used, left_of, no_lift_of, seen_of, why_of}
-use Rattle.step_rules.specs.declared.lift_part.LiftPart.{LiftPart}
+use Rattle.step_rules.specs.declared.lift_step.part.LiftPart.{LiftPart}
 use Rattle.obligation_turn.specs.Turns.{GoesOn, WhyCounts}
 use Rattle.obligation_turn.specs.machinery.Lifts.{AreKept, ArePairs, IsKeptAt, IsLegalLift, IsPair}
 use Rattle.obligation_turn.proofs.BodyLemmas.{body-accepted, body-inside}

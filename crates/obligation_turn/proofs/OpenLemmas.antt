@@ -43,7 +43,7 @@ use Rattle.clause_queries.specs.Uses.{uses}
 use Rattle.clause_queries.proofs.Public.{either_left, either_right, own_number, same_some}
 use Rattle.step_rules.specs.Standing.{Standing, standing_state}
 use Rattle.step_rules.specs.Taken.{open_of}
-use Rattle.step_rules.specs.declared.open_part.OpenPart.{OpenPart}
+use Rattle.step_rules.specs.declared.open_step.part.OpenPart.{OpenPart}
 use Rattle.step_rules.specs.declared.step.Step.TheVariants.{OpenStep}
 use Rattle.obligation_turn.specs.Turns.{GoesOn, IsOpenLeaf, IsTurn}
 use Rattle.obligation_turn.specs.machinery.Bodies.{IsMissing, is_recorded}

@@ -24,8 +24,8 @@ use Rattle.clause_queries.specs.Answers.{AreProofs}
 use Rattle.step_rules.specs.Standing.{Standing, standing_state}
 use Rattle.step_rules.specs.Taken.{raise_of}
 use Rattle.step_rules.specs.Tokens.{all_no_lifts, all_shown}
-use Rattle.step_rules.specs.declared.lift_part.LiftPart.{LiftPart}
-use Rattle.step_rules.specs.declared.raise_part.RaisePart.{RaisePart}
+use Rattle.step_rules.specs.declared.lift_step.part.LiftPart.{LiftPart}
+use Rattle.step_rules.specs.declared.raise_step.part.RaisePart.{RaisePart}
 use Rattle.step_rules.specs.declared.step.Step.TheVariants.{LiftStep, RaiseStep}
 use Rattle.obligation_turn.specs.Turns.{GoesOn, IsOpenLeaf, IsTurn}
 use Rattle.obligation_turn.specs.machinery.Jobs.{AreJobProofs, goal_by, job_of}

@@ -26,7 +26,7 @@ use Rattle.clause_queries.specs.declared.lost.Lost.{Lost}
 use Rattle.step_rules.specs.Standing.{Standing, standing_state}
 use Rattle.step_rules.specs.Taken.{stall_of}
 use Rattle.step_rules.specs.Tokens.{all_used}
-use Rattle.step_rules.specs.declared.stall_part.StallPart.{StallPart}
+use Rattle.step_rules.specs.declared.stall_step.part.StallPart.{StallPart}
 use Rattle.step_rules.specs.declared.step.Step.TheVariants.{StallStep}
 use Rattle.obligation_turn.specs.Turns.{GoesOn, IsOpenLeaf, IsTurn}
 use Rattle.obligation_turn.specs.machinery.Jobs.{goal_by, goal_for, job_of}

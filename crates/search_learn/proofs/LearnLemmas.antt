@@ -8,7 +8,7 @@ use Rattle.book_rules.proofs.SoundLemmas.{unbroken}
 use Rattle.step_rules.specs.Standing.{Standing, standing_state}
 use Rattle.step_rules.specs.Taken.{learn_of}
 use Rattle.step_rules.specs.Views.{obligation_of, obligations_of}
-use Rattle.step_rules.specs.declared.lemma_part.LemmaPart.{LemmaPart}
+use Rattle.step_rules.specs.declared.lemma_step.part.LemmaPart.{LemmaPart}
 use Rattle.step_rules.specs.declared.step.Step.TheVariants.{LemmaStep}
 use Rattle.lemma_general.specs.Generals.{IsLearnt}
 use Rattle.search_strategy.specs.machinery.Steps.{IsTaken}

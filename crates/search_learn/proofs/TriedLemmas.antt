@@ -3,7 +3,7 @@ use Rattle.std.proofs.Common.{◌≡◌, ℕ, List, Bool, true, false, refl, sym
 use Rattle.cube_forms.specs.Cubes.{cube_holds}
 use Rattle.lin_atoms.specs.declared.lit.Lit.{Lit}
 use Rattle.step_rules.specs.Standing.{Standing}
-use Rattle.step_rules.specs.declared.lemma_part.LemmaPart.{LemmaPart}
+use Rattle.step_rules.specs.declared.lemma_step.part.LemmaPart.{LemmaPart}
 use Rattle.lemma_general.specs.Generals.{IsForSame}
 use Rattle.lemma_general.specs.Tries.{IsTried, IsTrying, part_of, IsWiderCube}
 use Rattle.lemma_general.specs.declared.trying.Tries.{Tries}

@@ -3,7 +3,7 @@ use Rattle.std.specs.Prelude.{◌≡◌, ℤ, List, true}
 use Rattle.lin_atoms.specs.Truth.{lit_truth}
 use Rattle.lin_atoms.specs.declared.lit.Lit.{Lit}
 use Rattle.step_rules.specs.Standing.{Standing}
-use Rattle.step_rules.specs.declared.lemma_part.LemmaPart.{LemmaPart}
+use Rattle.step_rules.specs.declared.lemma_step.part.LemmaPart.{LemmaPart}
 use Rattle.lemma_general.specs.Generals.{IsForSame, IsLearnt}
 use Rattle.lemma_general.specs.Tries.{IsWiderCube}
 

@@ -1,7 +1,7 @@
 -- What the steps of turns and lifts have.
 use Rattle.std.proofs.Common.{ℕ}
 use Rattle.step_rules.specs.Standing.{Standing}
-use Rattle.step_rules.specs.declared.lift_part.LiftPart.{LiftPart}
+use Rattle.step_rules.specs.declared.lift_step.part.LiftPart.{LiftPart}
 use Rattle.step_rules.specs.declared.step.Step.{Step}
 use Rattle.step_rules.specs.declared.step.Step.TheVariants.{LiftStep}
 use Rattle.obligation_turn.specs.Turns.{IsTurn}

@@ -3,7 +3,7 @@ use Rattle.std.specs.Prelude.{◌≡◌, ◌<◌, ◌≤◌, ◌⊎◌, ℕ, ℤ
 use Rattle.cube_forms.specs.Cubes.{cube_holds}
 use Rattle.lemma_frames.specs.Frames.{lemma_of, level_of, pred_of}
 use Rattle.lemma_frames.specs.declared.framed.Framed.{Framed}
-use Rattle.step_rules.specs.declared.lemma_part.LemmaPart.{LemmaPart}
+use Rattle.step_rules.specs.declared.lemma_step.part.LemmaPart.{LemmaPart}
 
 -- a lemma on the predicate of the one that is learnt, and at a lower level
 pub record IsLower (lemmas : List Framed) (part : LemmaPart) (n : ℕ) : Type 0 where

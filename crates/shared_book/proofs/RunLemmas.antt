@@ -22,7 +22,7 @@ use Rattle.chc_core.specs.Views.{standing_of, state_of, steps_of}
 use Rattle.chc_core.specs.declared.entry.Entry.{Entry}
 use Rattle.clause_queries.specs.Answers.{AreFew}
 use Rattle.obligation_turn.specs.Turns.{IsThin, StepIsThin}
-use Rattle.step_rules.specs.declared.lemma_part.LemmaPart.{LemmaPart}
+use Rattle.step_rules.specs.declared.lemma_step.part.LemmaPart.{LemmaPart}
 use Rattle.shared_book.specs.Locks.{IsOlder, with_claims}
 use Rattle.shared_book.specs.Runs.{IsEntry, IsOlderInRun, IsRunBook}
 

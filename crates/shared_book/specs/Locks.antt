@@ -3,7 +3,7 @@ use Rattle.std.specs.Prelude.{◌≡◌, ◌<◌, ℕ, List, Option, None, Bool,
 use Rattle.lemma_frames.specs.Frames.{lemma_of, level_of, pred_of}
 use Rattle.lemma_frames.specs.declared.framed.Framed.{Framed}
 use Rattle.obligation_tree.specs.Claims.{claimed, most_workers, released}
-use Rattle.step_rules.specs.declared.lemma_part.LemmaPart.{LemmaPart}
+use Rattle.step_rules.specs.declared.lemma_step.part.LemmaPart.{LemmaPart}
 use Rattle.chc_core.specs.Contents.{Contents}
 
 -- the book with its claims, whether want of memory was noted, and what the shares' counts sum to

@@ -8,7 +8,7 @@ use Rattle.chc_core.specs.declared.entry.Entry.{Entry}
 use Rattle.clause_queries.specs.Answers.{AreFew}
 use Rattle.obligation_turn.specs.Counts.{StepCounts}
 use Rattle.obligation_turn.specs.Turns.{IsThin}
-use Rattle.step_rules.specs.declared.lemma_part.LemmaPart.{LemmaPart}
+use Rattle.step_rules.specs.declared.lemma_step.part.LemmaPart.{LemmaPart}
 use Rattle.shared_book.specs.Locks.{IsOlder}
 
 -- an entry of one of the workers, who are numbered from 1; evidence that counts inner nodes counts those that the run allows

@@ -6,12 +6,12 @@ use Rattle.book_rules.specs.Frames.{Lemma}
 use Rattle.book_rules.specs.Steps.{IsProjected, Opens, Learns, Records, Lifts, Raises, Stalls, FactStep as PlainFact, LemmaStep as PlainLemma, LiftStep as PlainLift, OpenStep as PlainOpen, RaiseStep as PlainRaise, StallStep as PlainStall, Step as PlainStep}
 use Rattle.book_rules.specs.Walks.{AllOf}
 use Rattle.step_rules.specs.Tokens.{all_no_lifts, all_shown, all_used, left_of, seen_of}
-use Rattle.step_rules.specs.declared.fact_part.FactPart.{FactPart}
-use Rattle.step_rules.specs.declared.lemma_part.LemmaPart.{LemmaPart}
-use Rattle.step_rules.specs.declared.lift_part.LiftPart.{LiftPart}
-use Rattle.step_rules.specs.declared.open_part.OpenPart.{OpenPart}
-use Rattle.step_rules.specs.declared.raise_part.RaisePart.{RaisePart}
-use Rattle.step_rules.specs.declared.stall_part.StallPart.{StallPart}
+use Rattle.step_rules.specs.declared.fact_step.part.FactPart.{FactPart}
+use Rattle.step_rules.specs.declared.lemma_step.part.LemmaPart.{LemmaPart}
+use Rattle.step_rules.specs.declared.lift_step.part.LiftPart.{LiftPart}
+use Rattle.step_rules.specs.declared.open_step.part.OpenPart.{OpenPart}
+use Rattle.step_rules.specs.declared.raise_step.part.RaisePart.{RaisePart}
+use Rattle.step_rules.specs.declared.stall_step.part.StallPart.{StallPart}
 use Rattle.step_rules.specs.declared.step.Step.{Step}
 use Rattle.step_rules.specs.declared.step.Step.TheVariants.{OpenStep, LemmaStep, FactStep, LiftStep, RaiseStep, StallStep}
 

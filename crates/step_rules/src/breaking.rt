@@ -9,21 +9,45 @@ ghost use Rattle.step_rules.specs.Standing.{standing_state};
 ghost use Rattle.step_rules.specs.declared.step.Step.TheVariants.{StallStep};
 ghost use Rattle.step_rules.specs.Standing.{IsStanding};
 
-use crate::children::{rule_7, rule_8, rule_51};
-use crate::fact_part::FactPart;
-use crate::fact_rules::{rule_20, rule_21, rule_22, rule_23};
-use crate::lemma_part::LemmaPart;
-use crate::lemma_rules::{
-    rule_10, rule_11, rule_12, rule_13, rule_14, rule_30, rule_31, rule_32, rule_33,
+use crate::fact_step::part::FactPart;
+use crate::fact_step::rules::{
+    fact_rule_20_premises_are_body, fact_rule_21_conclusion_is_new, fact_rule_22_target_is_live,
+    fact_rule_23_target_holds_conclusion,
+};
+use crate::lemma_step::part::LemmaPart;
+use crate::lemma_step::rules::{
+    lemma_rule_10_level_is_in_book, lemma_rule_11_each_clause_has_proof,
+    lemma_rule_12_used_lemmas_are_below, lemma_rule_13_target_is_live,
+    lemma_rule_14_target_point_is_excluded,
 };
 use crate::lent::Lent;
-use crate::lift_part::LiftPart;
-use crate::open_part::OpenPart;
-use crate::open_rules::{rule_1, rule_2, rule_3, rule_4, rule_5, rule_6, rule_9};
-use crate::raise_part::RaisePart;
-use crate::raise_rules::{rule_40, rule_41, rule_42, rule_43, rule_44};
-use crate::stall_part::StallPart;
-use crate::stall_rules::{rule_50, rule_52, rule_53, rule_54};
+use crate::lift_step::part::LiftPart;
+use crate::lift_step::rules::{
+    lift_rule_30_lemma_has_level, lift_rule_31_level_above_is_in_book,
+    lift_rule_32_each_clause_has_proof, lift_rule_33_used_lemmas_are_in_frame,
+};
+use crate::open_step::part::OpenPart;
+use crate::open_step::rivals::{
+    open_rule_7_no_sibling_holds_point, open_rule_8_fewer_than_four_children,
+};
+use crate::open_step::rules::{
+    open_rule_1_parent_is_live, open_rule_2_parent_level_is_at_least_2,
+    open_rule_3_clause_area_and_cube_fit, open_rule_4_parent_holds_head,
+    open_rule_5_no_lemma_shuts_body_out, open_rule_6_no_fact_lies_in_cube,
+    open_rule_9_area_knows_frame_below,
+};
+use crate::raise_step::part::RaisePart;
+use crate::raise_step::rules::{
+    raise_rule_40_each_query_has_proof, raise_rule_41_used_lemmas_are_in_frame,
+    raise_rule_42_each_lower_lemma_has_no_lift, raise_rule_43_no_lemma_shuts_instance_out,
+    raise_rule_44_evidence_uses_frame,
+};
+use crate::stall_step::part::StallPart;
+use crate::stall_step::rules::{
+    stall_rule_50_target_is_live, stall_rule_51_target_has_no_child,
+    stall_rule_52_evidence_fits_target, stall_rule_53_used_lemmas_are_below,
+    stall_rule_54_target_is_not_stalled,
+};
 use crate::step::Step;
 use base::Memory;
 use book_rules::By;
@@ -33,31 +57,31 @@ fn broken_open(parts: &Lent, step: &OpenPart) -> Result<Option<(u8, By)>, Memory
     requires kept { IsStanding parts.now }
     ensures { IfOk result (λ b. b ≡ broken_open parts.now.system (standing_state parts.now) (open_of step.now)) }
 {
-    if let Some(by) = rule_1(parts, step) {
+    if let Some(by) = open_rule_1_parent_is_live(parts, step) {
         return Ok(Some((1, by)));
     }
-    if let Some(by) = rule_2(parts, step) {
+    if let Some(by) = open_rule_2_parent_level_is_at_least_2(parts, step) {
         return Ok(Some((2, by)));
     }
-    if let Some(by) = rule_3(parts, step)? {
+    if let Some(by) = open_rule_3_clause_area_and_cube_fit(parts, step)? {
         return Ok(Some((3, by)));
     }
-    if let Some(by) = rule_4(parts, step)? {
+    if let Some(by) = open_rule_4_parent_holds_head(parts, step)? {
         return Ok(Some((4, by)));
     }
-    if let Some(by) = rule_5(parts, step)? {
+    if let Some(by) = open_rule_5_no_lemma_shuts_body_out(parts, step)? {
         return Ok(Some((5, by)));
     }
-    if let Some(by) = rule_6(parts, step) {
+    if let Some(by) = open_rule_6_no_fact_lies_in_cube(parts, step) {
         return Ok(Some((6, by)));
     }
-    if let Some(by) = rule_7(parts, step)? {
+    if let Some(by) = open_rule_7_no_sibling_holds_point(parts, step)? {
         return Ok(Some((7, by)));
     }
-    if let Some(by) = rule_8(parts, step) {
+    if let Some(by) = open_rule_8_fewer_than_four_children(parts, step) {
         return Ok(Some((8, by)));
     }
-    if let Some(by) = rule_9(parts, step)? {
+    if let Some(by) = open_rule_9_area_knows_frame_below(parts, step)? {
         return Ok(Some((9, by)));
     }
     Ok(None)
@@ -68,19 +92,19 @@ fn broken_lemma(parts: &Lent, step: &LemmaPart) -> Result<Option<(u8, By)>, Memo
     requires kept { IsStanding parts.now }
     ensures { IfOk result (λ b. b ≡ broken_lemma parts.now.system (standing_state parts.now) (learn_of step.now)) }
 {
-    if let Some(by) = rule_10(parts, step) {
+    if let Some(by) = lemma_rule_10_level_is_in_book(parts, step) {
         return Ok(Some((10, by)));
     }
-    if let Some(by) = rule_11(parts, step)? {
+    if let Some(by) = lemma_rule_11_each_clause_has_proof(parts, step)? {
         return Ok(Some((11, by)));
     }
-    if let Some(by) = rule_12(parts, step)? {
+    if let Some(by) = lemma_rule_12_used_lemmas_are_below(parts, step)? {
         return Ok(Some((12, by)));
     }
-    if let Some(by) = rule_13(parts, step) {
+    if let Some(by) = lemma_rule_13_target_is_live(parts, step) {
         return Ok(Some((13, by)));
     }
-    if let Some(by) = rule_14(parts, step) {
+    if let Some(by) = lemma_rule_14_target_point_is_excluded(parts, step) {
         return Ok(Some((14, by)));
     }
     Ok(None)
@@ -91,16 +115,16 @@ fn broken_fact(parts: &Lent, step: &FactPart) -> Result<Option<(u8, By)>, Memory
     requires kept { IsStanding parts.now }
     ensures { IfOk result (λ b. b ≡ broken_fact parts.now.system (standing_state parts.now) (record_of step.now)) }
 {
-    if let Some(by) = rule_20(parts, step)? {
+    if let Some(by) = fact_rule_20_premises_are_body(parts, step)? {
         return Ok(Some((20, by)));
     }
-    if let Some(by) = rule_21(parts, step)? {
+    if let Some(by) = fact_rule_21_conclusion_is_new(parts, step)? {
         return Ok(Some((21, by)));
     }
-    if let Some(by) = rule_22(parts, step)? {
+    if let Some(by) = fact_rule_22_target_is_live(parts, step)? {
         return Ok(Some((22, by)));
     }
-    if let Some(by) = rule_23(parts, step)? {
+    if let Some(by) = fact_rule_23_target_holds_conclusion(parts, step)? {
         return Ok(Some((23, by)));
     }
     Ok(None)
@@ -111,16 +135,16 @@ fn broken_lift(parts: &Lent, step: &LiftPart) -> Result<Option<(u8, By)>, Memory
     requires kept { IsStanding parts.now }
     ensures { IfOk result (λ b. b ≡ broken_lift parts.now.system (standing_state parts.now) (lift_of step.now)) }
 {
-    if let Some(by) = rule_30(parts, step) {
+    if let Some(by) = lift_rule_30_lemma_has_level(parts, step) {
         return Ok(Some((30, by)));
     }
-    if let Some(by) = rule_31(parts, step) {
+    if let Some(by) = lift_rule_31_level_above_is_in_book(parts, step) {
         return Ok(Some((31, by)));
     }
-    if let Some(by) = rule_32(parts, step)? {
+    if let Some(by) = lift_rule_32_each_clause_has_proof(parts, step)? {
         return Ok(Some((32, by)));
     }
-    if let Some(by) = rule_33(parts, step) {
+    if let Some(by) = lift_rule_33_used_lemmas_are_in_frame(parts, step) {
         return Ok(Some((33, by)));
     }
     Ok(None)
@@ -131,19 +155,19 @@ fn broken_raise(parts: &Lent, step: &RaisePart) -> Result<Option<(u8, By)>, Memo
     requires kept { IsStanding parts.now }
     ensures { IfOk result (λ b. b ≡ broken_raise parts.now.system (standing_state parts.now) (raise_of step.now)) }
 {
-    if let Some(by) = rule_40(parts, step) {
+    if let Some(by) = raise_rule_40_each_query_has_proof(parts, step) {
         return Ok(Some((40, by)));
     }
-    if let Some(by) = rule_41(parts, step) {
+    if let Some(by) = raise_rule_41_used_lemmas_are_in_frame(parts, step) {
         return Ok(Some((41, by)));
     }
-    if let Some(by) = rule_42(parts, step) {
+    if let Some(by) = raise_rule_42_each_lower_lemma_has_no_lift(parts, step) {
         return Ok(Some((42, by)));
     }
-    if let Some(by) = rule_43(parts, step)? {
+    if let Some(by) = raise_rule_43_no_lemma_shuts_instance_out(parts, step)? {
         return Ok(Some((43, by)));
     }
-    if let Some(by) = rule_44(parts, step) {
+    if let Some(by) = raise_rule_44_evidence_uses_frame(parts, step) {
         return Ok(Some((44, by)));
     }
     Ok(None)
@@ -155,19 +179,19 @@ fn broken_stall(parts: &Lent, step: &StallPart) -> Result<Option<(u8, By)>, Memo
     requires places { has_places parts.now.system (step_of (StallStep step.now)) ≡ true }
     ensures { IfOk result (λ b. b ≡ broken_stall parts.now.system (standing_state parts.now) (stall_of step.now)) }
 {
-    if let Some(by) = rule_50(parts, step) {
+    if let Some(by) = stall_rule_50_target_is_live(parts, step) {
         return Ok(Some((50, by)));
     }
-    if let Some(by) = rule_51(parts, step) {
+    if let Some(by) = stall_rule_51_target_has_no_child(parts, step) {
         return Ok(Some((51, by)));
     }
-    if let Some(by) = rule_52(parts, step)? {
+    if let Some(by) = stall_rule_52_evidence_fits_target(parts, step)? {
         return Ok(Some((52, by)));
     }
-    if let Some(by) = rule_53(parts, step) {
+    if let Some(by) = stall_rule_53_used_lemmas_are_below(parts, step) {
         return Ok(Some((53, by)));
     }
-    if let Some(by) = rule_54(parts, step) {
+    if let Some(by) = stall_rule_54_target_is_not_stalled(parts, step) {
         return Ok(Some((54, by)));
     }
     Ok(None)

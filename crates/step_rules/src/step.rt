@@ -1,9 +1,9 @@
-use crate::fact_part::FactPart;
-use crate::lemma_part::LemmaPart;
-use crate::lift_part::LiftPart;
-use crate::open_part::OpenPart;
-use crate::raise_part::RaisePart;
-use crate::stall_part::StallPart;
+use crate::fact_step::part::FactPart;
+use crate::lemma_step::part::LemmaPart;
+use crate::lift_step::part::LiftPart;
+use crate::open_step::part::OpenPart;
+use crate::raise_step::part::RaisePart;
+use crate::stall_step::part::StallPart;
 
 /// One step of a book. The rules of the book say which steps are legal.
 #[derive(Drop)]

@@ -4,7 +4,7 @@ ghost use Rattle.book_rules.specs.Places.{goal_has_places, has_places, head_of, 
 ghost use Rattle.step_rules.specs.Taken.{step_of};
 ghost use Rattle.step_rules.specs.Tokens.{all_no_lifts, all_shown, all_used, goal_of, why_of};
 
-use crate::raise_rules::clause_of;
+use crate::raise_step::rules::clause_of;
 use crate::step::Step;
 use chc_tokens::{Goal, NoLift, Shown, Used, Why};
 use clause_form::{Atom, System};

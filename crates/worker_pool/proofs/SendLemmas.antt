@@ -36,8 +36,8 @@ use Rattle.std.proofs.sync.Condvar.TheSendSync as condvar
 use Rattle.std.proofs.sync.Mutex.TheSendSync as mutex
 use Rattle.std.proofs.sync.ledger.Book.TheSendSync as ledger_book
 use Rattle.std.proofs.vec.Vec.TheSendSync as vec
-use Rattle.step_rules.proofs.fact_part.FactPart.TheSendSync as fact_part
-use Rattle.step_rules.proofs.open_part.OpenPart.TheSendSync as open_part
+use Rattle.step_rules.proofs.fact_step.part.FactPart.TheSendSync as fact_part
+use Rattle.step_rules.proofs.open_step.part.OpenPart.TheSendSync as open_part
 use Rattle.clause_form.specs.contracts.system.System.{the_row as system_row}
 use Rattle.clause_index.specs.contracts.indexed.IndexedSystem.{the_row as indexed_row}
 use Rattle.cube_forms.specs.contracts.held.Held.{the_row as held_row}

@@ -12,7 +12,7 @@ use Rattle.clause_queries.specs.Answers.{AreProofs, IsFound, IsHit, IsLost}
 use Rattle.clause_queries.specs.declared.finding.Found.{Found}
 use Rattle.clause_queries.specs.declared.finding.Found.TheVariants.{Instance, Refuted, GivenUp}
 use Rattle.step_rules.specs.Standing.{Standing}
-use Rattle.step_rules.specs.declared.lemma_part.LemmaPart.{LemmaPart}
+use Rattle.step_rules.specs.declared.lemma_step.part.LemmaPart.{LemmaPart}
 use Rattle.lemma_general.specs.Generals.{IsAgainst, IsForSame, IsLearnt, IsLeast, IsPart, bounds_of}
 use Rattle.lemma_general.specs.Tries.{IsMet}
 use Rattle.lemma_general.specs.declared.breaking.Breaking.{Breaking}

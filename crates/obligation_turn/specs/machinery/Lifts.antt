@@ -21,7 +21,7 @@ use Rattle.step_rules.specs.Standing.{Standing, standing_state}
 use Rattle.step_rules.specs.Taken.{IsMadeFor, step_of}
 use Rattle.step_rules.specs.Tokens.{all_no_lifts, no_lift_of}
 use Rattle.step_rules.specs.Views.{framed_at, lemmas_of}
-use Rattle.step_rules.specs.declared.lift_part.LiftPart.{LiftPart}
+use Rattle.step_rules.specs.declared.lift_step.part.LiftPart.{LiftPart}
 use Rattle.step_rules.specs.declared.step.Step.TheVariants.{LiftStep}
 use Rattle.book_rules.specs.Places.{has_places}
 use Rattle.obligation_turn.specs.Turns.{WhyCounts}

@@ -1,7 +1,7 @@
 use Rattle.std.proofs.Common.{List, ap, ◌∙◌, subst}
 use Rattle.std.specs.Prelude.{Option, IfSome}
 use Rattle.lin_atoms.specs.declared.lit.Lit.{Lit}
-use Rattle.step_rules.specs.declared.lemma_part.LemmaPart.{LemmaPart}
+use Rattle.step_rules.specs.declared.lemma_step.part.LemmaPart.{LemmaPart}
 use Rattle.search_learn.proofs.TriedLemmas.{widened-by}
 use Rattle.search_learn.proofs.widening.try_move.Goals as goal
 use Rattle.lemma_general.specs.Tries.{IsWiderCube}

@@ -1,0 +1,11 @@
+use Rattle.std.proofs.Common.{◌≡◌, ◌≤◌, drop}
+use Rattle.book_rules.specs.RaiseRules.{below_from, in_places, rule_42}
+use Rattle.step_rules.specs.Taken.{raise_of}
+use Rattle.step_rules.specs.Tokens.{all_no_lifts}
+use Rattle.cube_rules.specs.Views.{lemmas_of}
+use Rattle.step_rules.specs.Standing.{standing_state}
+use Rattle.step_rules.proofs.raise_step.rules.raise_rule_42_each_lower_lemma_has_no_lift.Given as goal
+
+-- the lemmas and the reasons to come decide
+abbrev pub invariant-loop-id : goal.invariant-loop-id
+invariant-loop-id l = (in_places l.parts.system (below_from l.parts.level l.id (drop l.id (lemmas_of l.parts.frames.lemmas))) (all_no_lifts (drop l.place l.kept)) ≡ rule_42 l.parts.system (standing_state l.parts) (raise_of l.step)) × (l.place ≤ l.id)

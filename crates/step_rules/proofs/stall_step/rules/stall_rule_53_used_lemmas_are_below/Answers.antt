@@ -1,0 +1,23 @@
+use Rattle.std.proofs.Common.{◌<◌, ◌≤◌, length, refl, ◌∙◌, arith, ◌≡◌, ap}
+use Rattle.step_rules.specs.Standing.{Standing, standing_state}
+use Rattle.step_rules.specs.Taken.{stall_of}
+use Rattle.step_rules.specs.machinery.Told.{misused_told}
+use Rattle.step_rules.proofs.OnLemmas.{past-told, told-asked}
+use Rattle.obligation_tree.specs.Nodes.{node_at, obligation_in}
+use Rattle.step_rules.proofs.stall_step.rules.stall_rule_53_used_lemmas_are_below.Goals as goal
+
+pub returns-then-step-count : goal.returns-then-step-count
+returns-then-step-count c =
+    let nodes = c.args.parts.now.tree.nodes in
+    let n = c.args.step.now.target in
+    let same : length c.parts.inside.tree.now.nodes ≡ length nodes = ap (λ (s : Standing). length s.tree.nodes) c.parts.view_is in
+    let past : length nodes ≤ n = omega (arith, same) in
+    past-told nodes n (misused_told c.args.parts.now.system (standing_state c.args.parts.now) (stall_of c.args.step.now)) past
+
+pub returns : goal.returns
+returns c =
+    let nodes = c.args.parts.now.tree.nodes in
+    let n = c.args.step.now.target in
+    let same : length c.parts.inside.tree.now.nodes ≡ length nodes = ap (λ (s : Standing). length s.tree.nodes) c.parts.view_is in
+    let within : n < length nodes = omega (arith, same) in
+    c.misused_below.ensures ∙ told-asked nodes n (misused_told c.args.parts.now.system (standing_state c.args.parts.now) (stall_of c.args.step.now)) c.obligation.result.now within (c.obligation.ensures ∙ ap (λ (s : Standing). obligation_in (node_at s.tree.nodes n)) c.parts.view_is) (λ x closed stalled. refl)

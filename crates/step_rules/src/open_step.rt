@@ -1,0 +1,5 @@
+//! An Open: what it says, and the rules that it must keep.
+
+pub(crate) mod part;
+pub(crate) mod rivals;
+pub(crate) mod rules;
