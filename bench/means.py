@@ -2,11 +2,16 @@
 """What each means of the search is worth: how many scripts are solved with it left out.
 
 `copies` writes copies of the repository into a folder, one for each means, in which worker 1 has that
-means alone the other way round than `means_of` says (`crates/search_strategy/src/means.rt`): `./chc` of a copy
-proves and builds its program. `table` runs built programs on every script of a folder, one worker each,
-and prints a row for each script with their answers and seconds of processor time, and at last how many
-scripts each solves, which of them the first program doesn't solve, and which ones it does and this one
-doesn't. It fails where two answers differ."""
+means alone the other way round than `crates/search_strategy/src/strategy.rt` says: `./chc` of a copy proves
+and builds its program. A means that every worker has is a constant there, and named as it is, in small
+letters: the copy has its other value, for all workers. One by which workers differ is a field of
+`Strategy`: the copy tells it by another test of a worker's number, both in `strategy_of` and in the
+definition that its contract names.
+
+`table` runs built programs on every script of a folder, one worker each, and prints a row for each script
+with their answers and seconds of processor time, and at last how many scripts each solves, which of them
+the first program doesn't solve, and which ones it does and this one doesn't. It fails where two answers
+differ."""
 
 import argparse
 import os
@@ -17,38 +22,68 @@ import sys
 from measure import TOP, launched, run
 from search import answer_of
 
-MEANS = os.path.join("crates", "search_strategy", "src", "means.rt")
-ENTRY = re.compile(r"^        (\w+): (.+),$", re.MULTILINE)
-OFF_FOR_FIRST = {"cores_first"}
+STRATEGY = os.path.join("crates", "search_strategy", "src", "strategy.rt")
+DEFINITION = os.path.join("crates", "search_strategy", "specs", "machinery", "Passes.antt")
+CONSTANT = re.compile(r"^pub const (\w+): bool = (true|false);$", re.MULTILINE)
+FIELD = re.compile(r"^    pub (\w+): bool,$", re.MULTILINE)
+# tests of a worker's number that tell the field of worker 1 the other way round
+TURNED = {"cores_first": "worker % 2 == 1", "reversed": "worker % 2 == 0"}
 SOLVED = ("sat", "unsat")
 
 
-def means_in(text):
-    """The means of worker 1, by name, and whether it uses each."""
-    return {name: name not in OFF_FOR_FIRST for name, _ in ENTRY.findall(text)}
+def read_of(path):
+    with open(os.path.join(TOP, path), encoding="utf-8") as file:
+        return file.read()
 
 
-def write_copy(folder, name, text):
-    """A copy of the repository without what was built, in which worker 1 has this means the other way round."""
+def replaced(path, pattern, text):
+    """A file of the repository with the one place that the pattern finds, written as this text."""
+    turned, count = re.subn(pattern, text, read_of(path), flags=re.MULTILINE)
+    if count != 1:
+        sys.exit(f"{path} has {count} places for {pattern}")
+    return turned
+
+
+def constant_edits(name, value):
+    """The constant with the other value."""
+    other = "false" if value == "true" else "true"
+    return {STRATEGY: replaced(STRATEGY, rf"^pub const {name}: bool = {value};$", f"pub const {name}: bool = {other};")}
+
+
+def field_edits(name):
+    """The field by another test, where it is told and where it is defined."""
+    if name not in TURNED:
+        sys.exit(f"nothing turns {name} of {STRATEGY}")
+    return {
+        STRATEGY: replaced(STRATEGY, rf"^        {name}: .+,$", f"        {name}: {TURNED[name]},"),
+        DEFINITION: replaced(DEFINITION, rf"(?<=[{{;] ){name} = [^;}}]+(?=;| }})", f"{name} = {TURNED[name]}"),
+    }
+
+
+def known_edits():
+    """The texts of the files that turn each means round, by its name."""
+    text = read_of(STRATEGY)
+    constants = {name.lower(): constant_edits(name, value) for name, value in CONSTANT.findall(text)}
+    fields = {name: field_edits(name) for name in FIELD.findall(text)}
+    return constants | fields
+
+
+def write_copy(folder, name, edits):
+    """A copy of the repository without what was built, in which this means is the other way round."""
     place = os.path.join(folder, name)
     shutil.copytree(TOP, place, ignore=shutil.ignore_patterns("out", ".git", "__pycache__"))
-    value = "false" if means_in(text)[name] else "true"
-    turned, count = re.subn(rf"^        {name}: .+,$", f"        {name}: {value},", text, flags=re.MULTILINE)
-    if count != 1:
-        sys.exit(f"{MEANS} has {count} lines for {name}")
-    with open(os.path.join(place, MEANS), "w", encoding="utf-8") as file:
-        file.write(turned)
+    for path, text in edits.items():
+        with open(os.path.join(place, path), "w", encoding="utf-8") as file:
+            file.write(text)
     print(os.path.join(place, "chc"))
 
 
 def write_copies(words):
-    with open(os.path.join(TOP, MEANS), encoding="utf-8") as file:
-        text = file.read()
-    known = means_in(text)
+    known = known_edits()
     for name in words.means or known:
         if name not in known:
             sys.exit(f"no means {name}: there are {', '.join(known)}")
-        write_copy(words.folder, name, text)
+        write_copy(words.folder, name, known[name])
 
 
 def program_of(word):

@@ -4,10 +4,10 @@ ghost use Rattle.std.specs.Prelude.{◌<◌, length, IfOk};
 ghost use Rattle.search_strategy.specs.machinery.Steps.{AreFor, IsOffered};
 ghost use Rattle.book_loop.specs.machinery.Steps.{HasTaken, IsFurther};
 
-use crate::taking::{WORKER, offer};
+use crate::taking::offer;
 use base::{Copied, Memory};
 use chc_core::Book;
-use search_strategy::{equal, means_of};
+use search_strategy::{LIFTS_OLDER, equal};
 use step_rules::{LemmaPart, LiftPart, Step};
 
 /// Lifts the lemma from this level to the next with the part's proofs, if the book takes it.
@@ -51,13 +51,13 @@ fn carry(book: &mut Book, id: u32, part: &LemmaPart, nodes: u32) -> Result<bool,
     Ok(taken)
 }
 
-/// Lifts an older lemma that has the part's cube, if there is one and that is among the worker's means.
+/// Lifts an older lemma that has the part's cube, if there is one and older lemmas are lifted.
 fn carry_older(book: &mut Book, part: &LemmaPart, nodes: u32) -> Result<bool, Memory>
     requires { AreFor book.old.system part.now.proofs }
     ensures further { IsFurther nodes book.old book.new }
     ensures taken { IfOk result (HasTaken book.old book.new) }
 {
-    if !means_of(WORKER).lifts {
+    if !LIFTS_OLDER {
         return Ok(false);
     }
     match equal(book.frames(), part) {

@@ -20,7 +20,7 @@ use chc_core::Book;
 use guess_all::{Hints, hints_of};
 use obligation_turn::{Workspace, turn_in};
 use search_learn::improved;
-use search_strategy::{means_of, pass_of};
+use search_strategy::{pass_of, strategy_of};
 use step_rules::Step;
 
 /// The step of the next turn. A lemma is first made more general and raised.
@@ -42,7 +42,7 @@ fn next_step(
     let lent = lend(book);
     hints.renew(lent.alloc, lent.system, lent.level, lent.spent)?;
     let step = turn_in(&lent, job, nodes, work)?;
-    let served = improved(&lent, step, Some(hints), nodes, means_of(WORKER))?;
+    let served = improved(&lent, step, Some(hints), nodes, strategy_of(WORKER))?;
     Ok(served)
 }
 

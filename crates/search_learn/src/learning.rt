@@ -13,7 +13,10 @@ use crate::widening::widen;
 use base::Memory;
 use guess_all::Hints;
 use lemma_general::{Tries, generalise, raise};
-use search_strategy::{Means, excluding, few, with_core, with_turned};
+use search_strategy::{
+    RAISES_LEMMAS, Strategy, TRIES_BOUNDS, TRIES_HULLS, TRIES_OLD, TRIES_SUMS, WIDENS_BOUNDS,
+    excluding, few, with_core, with_turned,
+};
 use step_rules::{LemmaPart, Lent, Step};
 
 /// From this level of the book on all guesses are tried: few systems that end below it need more than
@@ -25,13 +28,13 @@ const MANY_LITERALS: usize = 4;
 
 /// Whether an old lemma that excludes the obligation's point holds at the part's level, too, and so
 /// stands in its place. One is tried: the newest of the highest level.
-fn again(lent: &Lent, tries: &mut Tries, nodes: u32, means: Means) -> Result<bool, Memory>
+fn again(lent: &Lent, tries: &mut Tries, nodes: u32) -> Result<bool, Memory>
     requires goes_on { GoesOn lent.now }
     requires some { 0 < nodes }
     requires trying { IsTrying lent.now tries.old }
     ensures { OnOk result (IsTrying lent.now tries.new) }
 {
-    if !means.again {
+    if !TRIES_OLD {
         return Ok(false);
     }
     let part = tries.part();
@@ -44,20 +47,14 @@ fn again(lent: &Lent, tries: &mut Tries, nodes: u32, means: Means) -> Result<boo
 }
 
 /// Whether a cube that needs more steps than the part's level allows for stands in its place.
-fn paced(
-    lent: &Lent,
-    tries: &mut Tries,
-    hints: Option<&Hints>,
-    nodes: u32,
-    means: Means,
-) -> Result<bool, Memory>
+fn paced(lent: &Lent, tries: &mut Tries, hints: Option<&Hints>, nodes: u32) -> Result<bool, Memory>
     requires goes_on { GoesOn lent.now }
     requires some { 0 < nodes }
     requires trying { IsTrying lent.now tries.old }
     ensures { OnOk result (IsTrying lent.now tries.new) }
 {
     match hints {
-        Some(hints) if means.bounds => {
+        Some(hints) if TRIES_BOUNDS => {
             let shown = try_paces(lent, tries, hints, nodes)?;
             Ok(shown)
         }
@@ -67,26 +64,20 @@ fn paced(
 
 /// Whether a cube that is known holds at the part's level, and so stands in its place: one that needs more
 /// steps, that of an old lemma, or one that bounds exclude.
-fn ready(
-    lent: &Lent,
-    tries: &mut Tries,
-    hints: Option<&Hints>,
-    nodes: u32,
-    means: Means,
-) -> Result<bool, Memory>
+fn ready(lent: &Lent, tries: &mut Tries, hints: Option<&Hints>, nodes: u32) -> Result<bool, Memory>
     requires goes_on { GoesOn lent.now }
     requires some { 0 < nodes }
     requires trying { IsTrying lent.now tries.old }
     ensures { OnOk result (IsTrying lent.now tries.new) }
 {
-    if paced(lent, tries, hints, nodes, means)? {
+    if paced(lent, tries, hints, nodes)? {
         return Ok(true);
     }
-    if again(lent, tries, nodes, means)? {
+    if again(lent, tries, nodes)? {
         return Ok(true);
     }
     match hints {
-        Some(hints) if means.bounds => {
+        Some(hints) if TRIES_BOUNDS => {
             let shown = try_bounds(lent, tries, hints, nodes)?;
             Ok(shown)
         }
@@ -95,13 +86,13 @@ fn ready(
 }
 
 /// The lemma with what its proofs use of its cube, where cores come first.
-fn cored(lent: &Lent, part: LemmaPart, nodes: u32, means: Means) -> Result<LemmaPart, Memory>
+fn cored(lent: &Lent, part: LemmaPart, nodes: u32, strategy: Strategy) -> Result<LemmaPart, Memory>
     requires goes_on { GoesOn lent.now }
     requires some { 0 < nodes }
     requires learnt { IsLearnt lent.now part }
     ensures { IfOk result (IsLearnt lent.now) }
 {
-    if !means.cores_first {
+    if !strategy.cores_first {
         return Ok(part);
     }
     let core = with_core(lent, part, nodes)?;
@@ -110,13 +101,18 @@ fn cored(lent: &Lent, part: LemmaPart, nodes: u32, means: Means) -> Result<Lemma
 
 /// The lemma with its literals in the order in which they are brought into their simplest form, which
 /// turns it round.
-fn ordered(lent: &Lent, part: LemmaPart, nodes: u32, means: Means) -> Result<LemmaPart, Memory>
+fn ordered(
+    lent: &Lent,
+    part: LemmaPart,
+    nodes: u32,
+    strategy: Strategy,
+) -> Result<LemmaPart, Memory>
     requires goes_on { GoesOn lent.now }
     requires some { 0 < nodes }
     requires learnt { IsLearnt lent.now part }
     ensures { IfOk result (IsLearnt lent.now) }
 {
-    if means.reversed {
+    if strategy.reversed {
         return Ok(part);
     }
     let turned = with_turned(lent, part, nodes)?;
@@ -134,13 +130,12 @@ fn by_hulls(lent: &Lent, part: LemmaPart, hints: &Hints, nodes: u32) -> Result<L
     Ok(proposed)
 }
 
-/// The same for a worker that uses hulls.
+/// The same where hulls are tried.
 fn hulled(
     lent: &Lent,
     part: LemmaPart,
     hints: Option<&Hints>,
     nodes: u32,
-    means: Means,
 ) -> Result<LemmaPart, Memory>
     requires goes_on { GoesOn lent.now }
     requires some { 0 < nodes }
@@ -148,7 +143,7 @@ fn hulled(
     ensures { IfOk result (IsLearnt lent.now) }
 {
     match hints {
-        Some(hints) if means.hulls => by_hulls(lent, part, hints, nodes),
+        Some(hints) if TRIES_HULLS => by_hulls(lent, part, hints, nodes),
         _ => Ok(part),
     }
 }
@@ -164,13 +159,12 @@ fn by_bounds(lent: &Lent, part: LemmaPart, hints: &Hints, nodes: u32) -> Result<
     Ok(narrower)
 }
 
-/// The same for a worker that uses bounds.
+/// The same where bounds are tried.
 fn bounded(
     lent: &Lent,
     part: LemmaPart,
     hints: Option<&Hints>,
     nodes: u32,
-    means: Means,
 ) -> Result<LemmaPart, Memory>
     requires goes_on { GoesOn lent.now }
     requires some { 0 < nodes }
@@ -178,7 +172,7 @@ fn bounded(
     ensures { IfOk result (IsLearnt lent.now) }
 {
     match hints {
-        Some(hints) if means.bounds => by_bounds(lent, part, hints, nodes),
+        Some(hints) if TRIES_BOUNDS => by_bounds(lent, part, hints, nodes),
         _ => Ok(part),
     }
 }
@@ -199,13 +193,12 @@ fn by_hulls_alike(
     Ok(proposed)
 }
 
-/// The same for a worker that uses hulls.
+/// The same where hulls are tried.
 fn hulled_alike(
     lent: &Lent,
     part: LemmaPart,
     hints: Option<&Hints>,
     nodes: u32,
-    means: Means,
 ) -> Result<LemmaPart, Memory>
     requires goes_on { GoesOn lent.now }
     requires some { 0 < nodes }
@@ -213,19 +206,19 @@ fn hulled_alike(
     ensures { IfOk result (IsLearnt lent.now) }
 {
     match hints {
-        Some(hints) if means.hulls => by_hulls_alike(lent, part, hints, nodes),
+        Some(hints) if TRIES_HULLS => by_hulls_alike(lent, part, hints, nodes),
         _ => Ok(part),
     }
 }
 
 /// A lemma of a sum of two bounds in its place.
-fn summed(lent: &Lent, part: LemmaPart, nodes: u32, means: Means) -> Result<LemmaPart, Memory>
+fn summed(lent: &Lent, part: LemmaPart, nodes: u32) -> Result<LemmaPart, Memory>
     requires goes_on { GoesOn lent.now }
     requires some { 0 < nodes }
     requires learnt { IsLearnt lent.now part }
     ensures { IfOk result (IsLearnt lent.now) }
 {
-    if !means.sums {
+    if !TRIES_SUMS {
         return Ok(part);
     }
     let proposed = propose(lent, part, nodes)?;
@@ -233,13 +226,13 @@ fn summed(lent: &Lent, part: LemmaPart, nodes: u32, means: Means) -> Result<Lemm
 }
 
 /// The lemma with wider bounds.
-fn widened(lent: &Lent, part: LemmaPart, nodes: u32, means: Means) -> Result<LemmaPart, Memory>
+fn widened(lent: &Lent, part: LemmaPart, nodes: u32) -> Result<LemmaPart, Memory>
     requires goes_on { GoesOn lent.now }
     requires some { 0 < nodes }
     requires learnt { IsLearnt lent.now part }
     ensures { IfOk result (IsLearnt lent.now) }
 {
-    if !means.widens {
+    if !WIDENS_BOUNDS {
         return Ok(part);
     }
     let wider = widen(lent, part, nodes)?;
@@ -247,13 +240,13 @@ fn widened(lent: &Lent, part: LemmaPart, nodes: u32, means: Means) -> Result<Lem
 }
 
 /// The lemma at the highest level to which the frames carry it.
-fn raised(lent: &Lent, part: LemmaPart, nodes: u32, means: Means) -> Result<LemmaPart, Memory>
+fn raised(lent: &Lent, part: LemmaPart, nodes: u32) -> Result<LemmaPart, Memory>
     requires goes_on { GoesOn lent.now }
     requires some { 0 < nodes }
     requires learnt { IsLearnt lent.now part }
     ensures { IfOk result (IsLearnt lent.now) }
 {
-    if !means.raises {
+    if !RAISES_LEMMAS {
         return Ok(part);
     }
     let higher = raise(lent, part, nodes)?;
@@ -268,20 +261,20 @@ fn guessed(
     part: LemmaPart,
     hints: Option<&Hints>,
     nodes: u32,
-    means: Means,
+    strategy: Strategy,
 ) -> Result<LemmaPart, Memory>
     requires goes_on { GoesOn lent.now }
     requires some { 0 < nodes }
     requires learnt { IsLearnt lent.now part }
     ensures { IfOk result (IsLearnt lent.now) }
 {
-    let ordered = ordered(lent, part, nodes, means)?;
+    let ordered = ordered(lent, part, nodes, strategy)?;
     let tidied = tidy(lent, ordered, nodes)?;
-    let hulled = hulled(lent, tidied, hints, nodes, means)?;
-    let bounded = bounded(lent, hulled, hints, nodes, means)?;
+    let hulled = hulled(lent, tidied, hints, nodes)?;
+    let bounded = bounded(lent, hulled, hints, nodes)?;
     let general = generalise(lent, bounded, nodes)?;
-    let summed = summed(lent, general, nodes, means)?;
-    let widened = widened(lent, summed, nodes, means)?;
+    let summed = summed(lent, general, nodes)?;
+    let widened = widened(lent, summed, nodes)?;
     Ok(widened)
 }
 
@@ -292,14 +285,13 @@ fn plain(
     part: LemmaPart,
     hints: Option<&Hints>,
     nodes: u32,
-    means: Means,
 ) -> Result<LemmaPart, Memory>
     requires goes_on { GoesOn lent.now }
     requires some { 0 < nodes }
     requires learnt { IsLearnt lent.now part }
     ensures { IfOk result (IsLearnt lent.now) }
 {
-    let hulled = hulled_alike(lent, part, hints, nodes, means)?;
+    let hulled = hulled_alike(lent, part, hints, nodes)?;
     let general = generalise(lent, hulled, nodes)?;
     Ok(general)
 }
@@ -310,19 +302,19 @@ fn general(
     part: LemmaPart,
     hints: Option<&Hints>,
     nodes: u32,
-    means: Means,
+    strategy: Strategy,
 ) -> Result<LemmaPart, Memory>
     requires goes_on { GoesOn lent.now }
     requires some { 0 < nodes }
     requires learnt { IsLearnt lent.now part }
     ensures { IfOk result (IsLearnt lent.now) }
 {
-    let cored = cored(lent, part, nodes, means)?;
+    let cored = cored(lent, part, nodes, strategy)?;
     if lent.level < GUESS_LEVEL && cored.lemma.cube().lits().len() < MANY_LITERALS {
-        let plain = plain(lent, cored, hints, nodes, means)?;
+        let plain = plain(lent, cored, hints, nodes)?;
         Ok(plain)
     } else {
-        let guessed = guessed(lent, cored, hints, nodes, means)?;
+        let guessed = guessed(lent, cored, hints, nodes, strategy)?;
         Ok(guessed)
     }
 }
@@ -333,7 +325,7 @@ fn served(
     part: LemmaPart,
     hints: Option<&Hints>,
     nodes: u32,
-    means: Means,
+    strategy: Strategy,
 ) -> Result<LemmaPart, Memory>
     requires goes_on { GoesOn lent.now }
     requires some { 0 < nodes }
@@ -341,12 +333,12 @@ fn served(
     ensures { IfOk result (IsLearnt lent.now) }
 {
     let mut tries = Tries::new(lent.alloc, part);
-    let shown = ready(lent, &mut tries, hints, nodes, means)?;
+    let shown = ready(lent, &mut tries, hints, nodes)?;
     let part = tries.into_part();
     if shown {
         return Ok(part);
     }
-    let general = general(lent, part, hints, nodes, means)?;
+    let general = general(lent, part, hints, nodes, strategy)?;
     Ok(general)
 }
 
@@ -356,26 +348,26 @@ fn learnt(
     part: LemmaPart,
     hints: Option<&Hints>,
     nodes: u32,
-    means: Means,
+    strategy: Strategy,
 ) -> Result<LemmaPart, Memory>
     requires goes_on { GoesOn lent.now }
     requires some { 0 < nodes }
     requires learnt { IsLearnt lent.now part }
     ensures { IfOk result (IsLearnt lent.now) }
 {
-    let served = served(lent, part, hints, nodes, means)?;
-    let raised = raised(lent, served, nodes, means)?;
+    let served = served(lent, part, hints, nodes, strategy)?;
+    let raised = raised(lent, served, nodes)?;
     Ok(raised)
 }
 
-/// The step with the lemma that is learnt in the end, by these means, in place of its own; any other step
-/// as it is.
+/// The step with the lemma that is learnt in the end, by this strategy, in place of its own; any other
+/// step as it is.
 pub fn improved(
     lent: &Lent,
     step: Step,
     hints: Option<&Hints>,
     nodes: u32,
-    means: Means,
+    strategy: Strategy,
 ) -> Result<Step, Memory>
     requires goes_on { GoesOn lent.now }
     requires some { 0 < nodes }
@@ -384,7 +376,7 @@ pub fn improved(
 {
     match step {
         Step::LemmaStep(part) => {
-            let made = learnt(lent, part, hints, few(nodes), means)?;
+            let made = learnt(lent, part, hints, few(nodes), strategy)?;
             Ok(Step::LemmaStep(made))
         }
         step => Ok(step),

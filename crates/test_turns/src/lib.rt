@@ -23,8 +23,6 @@ mod led;
 #[cfg(test)]
 mod lemma_books;
 #[cfg(test)]
-mod means;
-#[cfg(test)]
 mod moves;
 #[cfg(test)]
 mod rows;
@@ -34,5 +32,7 @@ mod runs;
 mod shared_books;
 #[cfg(test)]
 mod shown;
+#[cfg(test)]
+mod strategies;
 #[cfg(test)]
 mod systems;

@@ -9,7 +9,7 @@ ghost use Rattle.search_strategy.specs.machinery.Steps.{AreFor, IsOffered};
 use crate::siblings::{Opened, atoms_of, opened_by, sibling};
 use base::{Copied, Memory};
 use chc_core::Refused;
-use search_strategy::Means;
+use search_strategy::LIFTS_OLDER;
 use shared_book::{Run, Share, SharedBook};
 use std::sync::Wait;
 use step_rules::{LemmaPart, Lent, LiftPart, OpenPart, Step};
@@ -168,15 +168,14 @@ fn carry<R: Run>(
     Ok(taken)
 }
 
-/// Lifts an older lemma that has the part's cube, if there is one and the means are so; whether it was
-/// lifted.
+/// Lifts an older lemma that has the part's cube, if there is one and older lemmas are lifted; whether it
+/// was lifted.
 fn carry_older<R: Run>(
     rt: &impl Wait,
     lent: &Lent,
     shared: &SharedBook<R>,
     share: &mut Share<R>,
     part: &LemmaPart,
-    means: Means,
 ) -> Result<bool, Memory>
     requires { AreFor R.system part.now.proofs }
     ensures taken { IfOk result (λ taken. taken ≡ nat_lt share.old.count share.new.count) }
@@ -184,7 +183,7 @@ fn carry_older<R: Run>(
     ensures worker { share.new.worker ≡ share.old.worker }
     ensures offered { IfOk result (λ taken. taken ≡ true → share.new.has_offered ≡ true) }
 {
-    if !means.lifts {
+    if !LIFTS_OLDER {
         return Ok(false);
     }
     match shared.older(rt, part) {
@@ -200,7 +199,6 @@ fn offer_lemma<R: Run>(
     shared: &SharedBook<R>,
     share: &mut Share<R>,
     part: LemmaPart,
-    means: Means,
 ) -> Result<bool, Memory>
     requires { IsOffered R.system R.nodes (LemmaStep part) }
     ensures taken { IfOk result (λ taken. taken ≡ nat_lt share.old.count share.new.count) }
@@ -208,7 +206,7 @@ fn offer_lemma<R: Run>(
     ensures worker { share.new.worker ≡ share.old.worker }
     ensures offered { OnOk result (share.new.has_offered ≡ true) }
 {
-    if carry_older(rt, lent, shared, share, &part, means)? {
+    if carry_older(rt, lent, shared, share, &part)? {
         return Ok(true);
     }
     offer(rt, shared, share, Step::LemmaStep(part))
@@ -223,7 +221,6 @@ pub fn offer_turn<R: Run>(
     share: &mut Share<R>,
     step: Step,
     most: u32,
-    means: Means,
 ) -> Result<bool, Memory>
     requires goes_on { GoesOn lent.now }
     requires system { lent.now.system ≡ R.system }
@@ -235,7 +232,7 @@ pub fn offer_turn<R: Run>(
 {
     match step {
         Step::OpenStep(part) => offer_open(rt, lent, shared, share, part, most),
-        Step::LemmaStep(part) => offer_lemma(rt, lent, shared, share, part, means),
+        Step::LemmaStep(part) => offer_lemma(rt, lent, shared, share, part),
         step => offer(rt, shared, share, step),
     }
 }

@@ -10,7 +10,7 @@ use base::Memory;
 use guess_all::{Hints, hints_of};
 use obligation_turn::{Workspace, turn_in};
 use search_learn::improved;
-use search_strategy::{Means, Pass, next_lift, pass_of};
+use search_strategy::{Pass, Strategy, TRIES_BOUNDS, TRIES_HULLS, next_lift, pass_of};
 use std::alloc::Global;
 use step_rules::{Lent, Step};
 
@@ -22,12 +22,12 @@ pub(crate) struct Mind {
     work: Workspace,
     /// How many further body atoms of an instance it asks at the most.
     pub(crate) siblings: u32,
-    pub(crate) means: Means,
+    strategy: Strategy,
 }
 
 impl Mind {
     /// Nothing yet.
-    pub(crate) fn new(alloc: Global, siblings: u32, means: Means) -> Mind
+    pub(crate) fn new(alloc: Global, siblings: u32, strategy: Strategy) -> Mind
         ensures { (sys : Clauses) → IsWorkspaceFor sys result.work }
     {
         Mind {
@@ -35,7 +35,7 @@ impl Mind {
             pass: None,
             work: Workspace::new(alloc),
             siblings,
-            means,
+            strategy,
         }
     }
 }
@@ -48,19 +48,19 @@ fn hints_kept(lent: &Lent, kept: &mut Option<Hints>) -> Result<Hints, Memory> {
     }
 }
 
-/// The same, as this level and these units renew them, where the worker uses bounds.
-fn hints_now(lent: &Lent, kept: &mut Option<Hints>, means: Means) -> Result<Hints, Memory> {
+/// The same, as this level and these units renew them, where bounds are tried.
+fn hints_now(lent: &Lent, kept: &mut Option<Hints>) -> Result<Hints, Memory> {
     let mut hints = hints_kept(lent, kept)?;
-    if means.bounds {
+    if TRIES_BOUNDS {
         hints.renew(lent.alloc, lent.system, lent.level, lent.spent)?;
     }
     Ok(hints)
 }
 
-/// The hints of a worker that uses any.
-fn hints_for(lent: &Lent, kept: &mut Option<Hints>, means: Means) -> Result<Option<Hints>, Memory> {
-    if means.hulls || means.bounds {
-        let hints = hints_now(lent, kept, means)?;
+/// The hints, where any are tried.
+fn hints_for(lent: &Lent, kept: &mut Option<Hints>) -> Result<Option<Hints>, Memory> {
+    if TRIES_HULLS || TRIES_BOUNDS {
+        let hints = hints_now(lent, kept)?;
         Ok(Some(hints))
     } else {
         Ok(None)
@@ -76,9 +76,9 @@ fn serve(lent: &Lent, job: u32, nodes: u32, mind: &mut Mind) -> Result<Step, Mem
     ensures taken { IfOk result (IsTaken lent.now nodes) }
     ensures work { OnOk result (IsWorkspaceFor lent.now.system mind.new.work) }
 {
-    let hints = hints_for(lent, &mut mind.hints, mind.means)?;
+    let hints = hints_for(lent, &mut mind.hints)?;
     let step = turn_in(lent, job, nodes, &mut mind.work)?;
-    let served = improved(lent, step, hints.as_ref(), nodes, mind.means)?;
+    let served = improved(lent, step, hints.as_ref(), nodes, mind.strategy)?;
     mind.hints = hints;
     Ok(served)
 }

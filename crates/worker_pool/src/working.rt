@@ -8,7 +8,7 @@ use crate::limits::Limits;
 use crate::offering::offer_turn;
 use crate::turning::{Mind, go_on, next_step, pass_after};
 use base::Memory;
-use search_strategy::means_of;
+use search_strategy::strategy_of;
 use shared_book::{Job, Over, Run, Share, SharedBook};
 use std::alloc::Global;
 use std::sync::Wait;
@@ -32,7 +32,7 @@ fn serve<R: Run>(
     let lent = job.lend();
     let step = next_step(&lent, job.obligation(), nodes, mind)?;
     let pass = pass_after(&lent, &step, mind);
-    let taken = offer_turn(rt, &lent, shared, share, step, mind.siblings, mind.means)?;
+    let taken = offer_turn(rt, &lent, shared, share, step, mind.siblings)?;
     go_on(mind, taken, pass);
     Ok(())
 }
@@ -84,7 +84,7 @@ pub(crate) fn work<R: Run, W: Wait, G: Gate>(
     let mut mind = Mind::new(
         alloc,
         siblings_for(limits.workers),
-        means_of(share.worker()),
+        strategy_of(share.worker()),
     );
     let mut turn: u64 = 0;
     for _ in rt.forever() {

@@ -1,9 +1,9 @@
--- Which lemmas are lifted after a step, and which means a worker uses.
-use Rattle.std.specs.Prelude.{◌&&◌, ◌==◌, ◌%◌, ℕ, true, nat_lt, Option, Some, None}
+-- Which lemmas are lifted after a step, and the strategy of a worker.
+use Rattle.std.specs.Prelude.{◌&&◌, ◌==◌, ◌%◌, ℕ, nat_lt, Option, Some, None}
 use Rattle.step_rules.specs.declared.step.Step.{Step}
 use Rattle.step_rules.specs.declared.step.Step.TheVariants.{RaiseStep, LiftStep}
 use Rattle.search_strategy.specs.declared.lifts.Pass.{Pass}
-use Rattle.search_strategy.specs.declared.means.Means.{Means}
+use Rattle.search_strategy.specs.declared.strategy.Strategy.{Strategy}
 
 -- after a Raise those of the level that was the highest, after a Lift the later ones
 abbrev pub pass_of : ℕ → Step → Option Pass
@@ -12,5 +12,5 @@ pass_of level (LiftStep part) = Some (record { next = part.lemma; least = 1 })
 pass_of level step = None
 
 -- workers from the second on differ by their order: odd ones begin with what proofs use, even ones leave literals out from the first on
-abbrev pub means_of : ℕ → Means
-means_of worker = record { again = true; bounds = true; cores_first = nat_lt 1 worker && (worker % 2 == 1); reversed = worker % 2 == 1; hulls = true; sums = true; widens = true; raises = true; lifts = true }
+abbrev pub strategy_of : ℕ → Strategy
+strategy_of worker = record { cores_first = nat_lt 1 worker && (worker % 2 == 1); reversed = worker % 2 == 1 }

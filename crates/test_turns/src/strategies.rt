@@ -1,4 +1,4 @@
-//! Runs of workers with their means.
+//! Runs of workers with their strategies.
 
 ghost use Rattle.std.specs.Prelude.{◌≡◌, []};
 ghost use Rattle.chc_core.specs.Views.{standing_of};
@@ -9,7 +9,7 @@ use crate::runs::{check_counts, height_of_false, solved};
 use crate::systems::system_of;
 use book_loop::search;
 use chc_core::{Book, End, Step};
-use search_strategy::{begin, means_of};
+use search_strategy::{begin, strategy_of};
 use std::alloc::Global;
 use std::process::Abort;
 use worker_pool::FreeGate;
@@ -75,7 +75,7 @@ fn one_worker_alone_goes_the_way_of_the_search(rt: HostRuntime) {
 }
 
 #[test]
-fn workers_of_other_means_come_to_the_same_end(rt: HostRuntime) {
+fn workers_of_other_strategies_come_to_the_same_end(rt: HostRuntime) {
     for workers in [1, 2, 4] {
         let outcome = solved(&rt, rt.alloc(), LONG, workers, &FreeGate);
         assert!(&rt; height_of_false(&outcome.book) == 26, "{workers} workers");
@@ -98,13 +98,21 @@ fn as_many_workers_as_there_may_be_share_a_book(rt: HostRuntime) {
 
 #[test]
 fn the_first_worker_uses_what_serves_alone(rt: HostRuntime) {
-    let first = means_of(1);
-    let tries = first.again && first.bounds && first.hulls && first.sums && first.widens;
-    let goes_on = first.raises && first.lifts;
-    let orders = first.reversed && !first.cores_first;
-    assert!(&rt; tries && goes_on && orders, "the first worker");
-    for worker in [2, 3, 4] {
-        let means = means_of(worker);
-        assert!(&rt; !means.reversed || means.cores_first, "worker {worker}");
+    let first = strategy_of(1);
+    assert!(&rt; first.reversed && !first.cores_first, "the first worker");
+}
+
+#[test]
+fn the_others_differ_from_it_by_their_numbers(rt: HostRuntime) {
+    for (worker, cores_first, reversed) in [(2, false, false), (3, true, true), (4, false, false)] {
+        let strategy = strategy_of(worker);
+        assert!(&rt;
+            strategy.cores_first == cores_first,
+            "cores of worker {worker}"
+        );
+        assert!(&rt;
+            strategy.reversed == reversed,
+            "the order of worker {worker}"
+        );
     }
 }
