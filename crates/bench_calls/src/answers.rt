@@ -1,4 +1,4 @@
-//! What a benchmark calls: a derivation is made, printed and read back.
+//! For `bench/answer_text.sh`: a derivation is made, printed and read back.
 
 use answer_text::{Answer, Line, push_parameter_name, read_answer, write_answer};
 use base::{Items, Memory};

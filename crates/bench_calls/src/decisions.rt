@@ -1,4 +1,4 @@
-//! Exports of `lia_cases` for its benchmark.
+//! For `bench/solver.sh`: formulas are decided by `lia_cases`.
 
 use base::{Items, MOST_VARIABLES, Memory};
 use lia_cases::{Decision, are_below, decide_owned, have_short_multiples};

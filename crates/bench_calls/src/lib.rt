@@ -1,4 +1,5 @@
-//! What the benchmarks in C and Rust call: a few functions of the layers, each handed on by its own file.
+//! What the benchmarks in C and Rust call: a few functions of the layers, in a file for each benchmark. `rt lib`
+//! makes one static library of them, `out/libbench_calls.a`.
 #![tactic(auto)]
 
 mod answers;

@@ -1,4 +1,4 @@
-//! Exports of `model_project` for its benchmark.
+//! For `bench/projection.sh`: conjunctions are projected by `model_project`.
 
 ghost use Rattle.std.specs.Prelude.{◌≡◌, length, true};
 ghost use Rattle.std.specs.List.{list_all};

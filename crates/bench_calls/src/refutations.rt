@@ -1,4 +1,4 @@
-//! What a benchmark calls: the checker of refutations, and a walk that only counts their nodes.
+//! For `bench/refutation.sh`: the checker of refutations, and a walk that only counts their nodes.
 
 use base::{Boxed, Items, Memory};
 use farkas_proof::check;

@@ -1,4 +1,4 @@
-//! Exports of `lin_atoms` for its benchmark.
+//! For `bench/sign_of_dot.sh`: the sign of a scalar product by `lin_atoms`.
 
 ghost use Rattle.std.specs.Prelude.{◌≡◌, ◌+ℤ◌, ◌^◌, ◌<◌, length};
 ghost use Rattle.std.specs.Int.{int_signum};

@@ -1,4 +1,4 @@
-//! Exports of `cube_forms` for its benchmark of tables.
+//! For `bench/tables.sh`: pushes into a table of `cube_forms`, with versions between them.
 
 ghost use Rattle.std.specs.Prelude.{◌<◌};
 

@@ -1,4 +1,4 @@
-//! What a benchmark calls: the reader, and a plain loop over the same bytes to measure it against.
+//! For `bench/sexp_read.sh`: the reader, and plain loops over the same bytes to measure it against.
 
 ghost use Rattle.std.specs.Prelude.{◌<◌, ◌^◌, length};
 

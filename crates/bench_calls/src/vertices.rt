@@ -1,4 +1,4 @@
-//! Exports of `simplex_core` for its benchmark.
+//! For `bench/simplex.sh`: systems are solved by `simplex_core`.
 
 ghost use Rattle.std.specs.Prelude.{◌≡◌, ◌+◌, ◌*◌, ◌<◌, true, IfOk};
 ghost use Rattle.std.specs.List.{list_all};

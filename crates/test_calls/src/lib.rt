@@ -1,21 +1,22 @@
-//! The words of calls, and those that are none, against tables. It has nothing but tests.
+//! Words that are a call and words that are none, the texts and summaries of generated scripts, and the
+//! verdicts on answers, right ones and one with each fault. It has nothing but tests.
 #![tactic(auto)]
 
 #[cfg(test)]
-mod faults;
+mod added_flags;
 #[cfg(test)]
-mod links;
+mod definitions;
 #[cfg(test)]
-mod models;
+mod derivations;
 #[cfg(test)]
-mod scripts;
+mod generated_texts;
 #[cfg(test)]
-mod steps;
+mod no_answers;
 #[cfg(test)]
 mod summaries;
 #[cfg(test)]
-mod texts;
-#[cfg(test)]
 mod told;
+#[cfg(test)]
+mod verdicts;
 #[cfg(test)]
 mod words;

@@ -1,6 +1,6 @@
 //! Verdicts in words.
 
-use crate::texts::verdict;
+use crate::verdicts::verdict;
 use base::Memory;
 use chc_checker::{Hidden, Place, Verdict};
 use std::alloc::Global;
@@ -39,7 +39,7 @@ fn verdict_told(alloc: Global, verdict: &Verdict) -> Result<String, Memory> {
 }
 
 /// The verdict in words.
-pub fn told(alloc: Global, text: &str, answer: &str, nodes: u32) -> Result<String, Memory> {
+pub(crate) fn told(alloc: Global, text: &str, answer: &str, nodes: u32) -> Result<String, Memory> {
     let (text, answer) = (text.as_bytes(), answer.as_bytes());
     if text.len() > 10000 || answer.len() > 10000 || nodes == 0 {
         return Ok(String::from_str(alloc, "too long")?);
@@ -51,7 +51,14 @@ pub fn told(alloc: Global, text: &str, answer: &str, nodes: u32) -> Result<Strin
 }
 
 /// The verdict on the answer is this one, where forms are given up after `nodes` inner nodes.
-pub fn check(rt: &impl Abort, alloc: Global, text: &str, answer: &str, nodes: u32, awaited: &str) {
+pub(crate) fn check(
+    rt: &impl Abort,
+    alloc: Global,
+    text: &str,
+    answer: &str,
+    nodes: u32,
+    awaited: &str,
+) {
     let told = told(alloc, text, answer, nodes).expect(rt, "memory");
     assert_eq!(rt; told.as_str(), awaited, "{answer}");
 }

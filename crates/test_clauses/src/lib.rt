@@ -1,4 +1,4 @@
-//! Sums and linear forms of terms, formulas, definitions, and normal clauses of whole scripts: shapes and
+//! Sums and linear forms of terms, formulas, definitions, and normal clauses of whole scripts: their shapes,
 //! limits with the places of refusals, guards by hand, and small clauses against the values of their terms.
 //! It has nothing but tests, and stands apart so that what it tests is proved once.
 #![tactic(auto)]
@@ -21,8 +21,6 @@ mod limits;
 mod linear_forms;
 #[cfg(test)]
 mod made;
-#[cfg(test)]
-mod misfits;
 #[cfg(test)]
 mod orders;
 #[cfg(test)]

@@ -29,8 +29,12 @@ fn quantified(rt: &impl Abort, alloc: Global, variables: usize, body: &str) -> S
 
 #[test]
 fn a_clause_has_1024_variables_of_its_own(rt: HostRuntime) {
-    for (count, awaited) in [(1024, "1024 1024 0 head;"), (1025, COUNT)] {
-        let text = quantified(&rt, rt.alloc(), count, "q");
+    for (count, body, awaited) in [
+        (1024, "q", "1024 1024 0 head;"),
+        (1025, "q", COUNT),
+        (1025, "(not q)", COUNT),
+    ] {
+        let text = quantified(&rt, rt.alloc(), count, body);
         check(&rt, rt.alloc(), "variables", text.as_str(), awaited);
     }
 }

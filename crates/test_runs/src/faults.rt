@@ -1,3 +1,5 @@
+//! Sources and sinks that fail: the status, and what was read and written before.
+
 use crate::runs::{Ends, check_ran, run};
 
 #[test]
@@ -76,4 +78,33 @@ fn a_refusal_or_usage_that_cannot_be_written_is_status_4(rt: HostRuntime) {
     );
     let usage = run(&rt, rt.alloc(), &["gen"], b"", &SHORT);
     check_ran(&rt, "usage without room", &usage, 4, b"usage:");
+}
+
+#[test]
+fn a_check_whose_sink_fails_is_status_4(rt: HostRuntime) {
+    let ends = Ends {
+        source_step: 4096,
+        source_fails: None,
+        sink_step: 3,
+        sink_fails: Some(2),
+    };
+    let input = b"(set-logic HORN)(check-sat)\n;;answer\nsat ()".as_slice();
+    let words = &["check", "--nodes", "1"];
+    let ran = run(&rt, rt.alloc(), words, input, &ends);
+    check_ran(&rt, "a check whose sink fails", &ran, 4, b"val");
+    assert!(rt; ran.read.as_slice() == input, "all was read");
+}
+
+#[test]
+fn a_summary_that_cannot_be_written_is_status_4(rt: HostRuntime) {
+    let ends = Ends {
+        source_step: 4096,
+        source_fails: None,
+        sink_step: 6,
+        sink_fails: Some(2),
+    };
+    let words = &["gen", "--seed=7", "--depth=1"];
+    let ran = run(&rt, rt.alloc(), words, b"", &ends);
+    check_ran(&rt, "a summary without room", &ran, 4, b"unsat ");
+    assert!(rt; ran.entries.is_some(), "the book has ended");
 }

@@ -1,17 +1,17 @@
-//! Whole runs of the program's top call over sources and sinks in memory, and whole scripts whose
-//! trees are read before they are checked. It has nothing but tests.
+//! Whole runs of the program's top call that a table of texts doesn't give: ends that fail, texts at the
+//! limits, searches whose answer may vary, several workers, and words as the system gives them; and whole
+//! scripts whose trees are read before they are checked. Inputs with one answer are data of `chc_examples`. It
+//! has nothing but tests.
 #![tactic(auto)]
 
 #[cfg(test)]
+mod bytes;
+#[cfg(test)]
 mod cases;
-#[cfg(test)]
-mod checks;
-#[cfg(test)]
-mod clauses;
 #[cfg(test)]
 mod faults;
 #[cfg(test)]
-mod gens;
+mod free_values;
 #[cfg(test)]
 mod guesses;
 #[cfg(test)]
@@ -21,20 +21,8 @@ mod limits;
 #[cfg(test)]
 mod programs;
 #[cfg(test)]
-mod readings;
-#[cfg(test)]
-mod refusals;
-#[cfg(test)]
 mod runs;
 #[cfg(test)]
-mod scripts;
-#[cfg(test)]
-mod searches;
-#[cfg(test)]
-mod terms;
-#[cfg(test)]
 mod trees;
-#[cfg(test)]
-mod usage;
 #[cfg(test)]
 mod workers;

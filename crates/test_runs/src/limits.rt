@@ -53,6 +53,7 @@ fn only_256_sorts_of_a_declaration_are_looked_at(rt: HostRuntime) {
     let shows = "256 arguments";
     check(&rt, rt.alloc(), shows, most.as_bytes(), 0, "sat\n");
     for (shows, name, integers, more, ends, told) in [
+        ("257 arguments", "p", 257, "", "Bool", COUNT),
         ("the number before the result", "p", 257, "", "Int", COUNT),
         ("a late unknown sort", "p", 299, "Real", "Bool", COUNT),
         (
@@ -190,4 +191,13 @@ fn a_text_has_at_most_2_to_the_24_bytes(rt: HostRuntime) {
     let line = error_line(&rt, rt.alloc(), told);
     let shows = "one byte more, behind an exit";
     check(&rt, rt.alloc(), shows, text.as_slice(), 1, line.as_str());
+}
+
+#[test]
+fn at_most_2000_lists_are_open(rt: HostRuntime) {
+    let text = repeated(&rt, rt.alloc(), "", "(", 2001, "");
+    let told = "kind 4 Deep at byte 2000 after 0 commands";
+    let line = error_line(&rt, rt.alloc(), told);
+    let shows = "2,001 open lists";
+    check(&rt, rt.alloc(), shows, text.as_bytes(), 1, line.as_str());
 }

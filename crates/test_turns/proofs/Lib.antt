@@ -1,3 +1,2 @@
-pub mod AtomLemmas
 pub mod BookLemmas
 pub mod LedLemmas

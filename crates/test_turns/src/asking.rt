@@ -6,8 +6,8 @@ ghost use Rattle.chc_core.specs.Views.{standing_of};
 ghost use Rattle.obligation_turn.specs.Turns.{IsThin};
 ghost use Rattle.search_strategy.specs.Runs.{CanRun};
 
-use crate::books::opened;
 use crate::journals::searched;
+use crate::scripts::opened;
 use chc_core::Book;
 use chc_tokens::Goal;
 use clause_queries::{Found, ask_all};

@@ -1,7 +1,7 @@
 //! What is guessed of the tuples of a predicate before a search.
 
-use crate::lemma_books::book_of;
-use crate::shown::shown_cubes;
+use crate::scripts::opened;
+use crate::shown_lemmas::shown_cubes;
 use guess_all::{Hints, hints_of};
 use std::alloc::Global;
 use std::process::Abort;
@@ -12,11 +12,7 @@ const SCRIPT: &str =
 
 /// What is guessed of the script.
 fn guessed(rt: &impl Abort, alloc: Global) -> Hints {
-    let text = SCRIPT.as_bytes();
-    assert!(rt; text.len() < 2000, "a short script");
-    let book = book_of(alloc, text)
-        .expect(rt, "memory")
-        .expect(rt, "a script");
+    let book = opened(rt, alloc, SCRIPT, 1);
     hints_of(alloc, book.lend().system).expect(rt, "memory")
 }
 

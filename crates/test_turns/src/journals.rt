@@ -4,7 +4,7 @@ ghost use Rattle.chc_core.specs.Views.{standing_of};
 ghost use Rattle.obligation_turn.specs.Turns.{IsThin};
 ghost use Rattle.search_strategy.specs.Runs.{CanRun};
 
-use crate::books::opened;
+use crate::scripts::opened;
 use base::Same;
 use book_loop::search;
 use chc_core::{Book, Step};
@@ -26,7 +26,7 @@ pub(crate) fn letter(step: &Step) -> &'static str {
 }
 
 /// The letters of all entries.
-fn letters(rt: &impl Abort, alloc: Global, book: &Book) -> String {
+pub(crate) fn letters(rt: &impl Abort, alloc: Global, book: &Book) -> String {
     let mut told = String::new(alloc);
     for before in 0..book.length() {
         let entry = book.entry(before + 1);

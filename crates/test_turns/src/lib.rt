@@ -1,17 +1,12 @@
-//! The search by hand: what is asked of the clauses, the step of a first turn, and the journal of a
-//! whole search. It has nothing but tests.
+//! Turns over small scripts: what is read and asked of their clauses, and guessed of them; the step of a
+//! first turn, and the journal of a whole search; lemmas that are made more general and raised; what the
+//! calls of a shared book answer; and runs of one and of several workers. It has nothing but tests.
 #![tactic(auto)]
 
 #[cfg(test)]
 mod asking;
 #[cfg(test)]
-mod books;
-#[cfg(test)]
-mod calls;
-#[cfg(test)]
-mod firsts;
-#[cfg(test)]
-mod gates;
+mod first_steps;
 #[cfg(test)]
 mod guesses;
 #[cfg(test)]
@@ -19,20 +14,20 @@ mod indexes;
 #[cfg(test)]
 mod journals;
 #[cfg(test)]
-mod led;
+mod learnt_lemmas;
 #[cfg(test)]
-mod lemma_books;
+mod led_books;
 #[cfg(test)]
-mod moves;
+mod scripts;
 #[cfg(test)]
-mod rows;
+mod shared_calls;
 #[cfg(test)]
-mod runs;
+mod shared_moves;
 #[cfg(test)]
-mod shared_books;
+mod shown_lemmas;
 #[cfg(test)]
-mod shown;
+mod worker_gates;
 #[cfg(test)]
-mod strategies;
+mod worker_runs;
 #[cfg(test)]
-mod systems;
+mod worker_strategies;
