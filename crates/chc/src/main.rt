@@ -20,9 +20,9 @@ fn main(rt: HostRuntime) -> ExitCode {
     let mut source = StdSource::new(rt.stdin());
     let mut sink = StdSink::new(rt.stdout());
     let report = chc_main(&rt, rt.alloc(), words(&rt), &mut source, &mut sink);
-    let status = report.status;
+    let number = report.number();
     // The process ends here and gives its memory back as a whole: letting the clauses and the book go
     // part by part would only take time.
     mem::forget(report);
-    ExitCode::from(status)
+    ExitCode::from(number)
 }

@@ -52,7 +52,7 @@ fn main(rt: HostRuntime) -> io::Result<()> {
             &mut sink,
             &FreeGate,
         );
-        println!(rt; "status {}", report.status)?;
+        println!(rt; "status {}", report.number())?;
     }
     Ok(())
 }

@@ -75,7 +75,7 @@ pub fn seen(rt: &impl Abort, alloc: Global, report: Report, sink: &MemSink) -> R
         None => None,
     };
     let ran = Ran {
-        status: report.status,
+        status: report.number(),
         read: Vec::from_slice(alloc, report.read.as_slice()).expect(rt, "memory"),
         is_refused: report.refusal.is_some(),
         entries,
