@@ -10,7 +10,7 @@ mod numerals;
 mod options;
 mod status;
 
-pub use calls::{check_nodes_of, limits_of, words_of};
+pub use calls::words_of;
 pub use laws::{calls_exclude_each_other, calls_have_one_reading};
 pub use limits::{Limits, Words};
 pub use status::Status;
