@@ -23,19 +23,30 @@ use std::thread::Threads;
 use term_tree::Refusal;
 use worker_pool::Gate;
 
-/// How a call of `solve` ended.
-#[derive(Drop)]
-pub struct Solved {
+/// How a call ended: a call of `solve`, and, as the program reports it, any other.
+pub struct Report {
     pub status: Status,
-    /// The bytes that were read, all of them. None where the end wasn't met.
+    /// The bytes that were read, all of them. None where the end wasn't met, or nothing is to be read.
     pub read: Vec<u8>,
     /// The refusal, exactly where the script is refused.
     pub refusal: Option<Refusal>,
-    /// The book of the script's clauses, as the workers left it, wherever one was opened: at its end
-    /// where the script is answered.
+    /// The book of the clauses of a script that is to be solved, as the workers left it, wherever one was
+    /// opened: at its end where the script is answered.
     pub book: Option<Book>,
     /// How many of the book's entries each worker wrote, in their order. None where there is no book.
     pub counts: Vec<u64>,
+}
+
+impl Drop for Report {
+    fn drop(self) {
+        let Report {
+            status: _,
+            read: _,
+            refusal: _,
+            book: _,
+            counts: _,
+        } = self;
+    }
 }
 
 /// Solves the script that the source gives, by as many workers as the limits say and within them, and
@@ -49,7 +60,7 @@ pub fn solve_call<W: Threads + Wait + Sync, S: Source, K: Sink, G: Gate>(
     source: &mut S,
     sink: &mut K,
     gate: &G,
-) -> Solved
+) -> Report
     requires { IsInRange limits }
     ensures no_usage { result.status ≢ Status.Usage }
     ensures no_wrong { result.status ≢ Status.Wrong }
@@ -112,7 +123,7 @@ pub fn solve_call<W: Threads + Wait + Sync, S: Source, K: Sink, G: Gate>(
                 Ok(()) => Status::Answered,
                 Err(_) => Status::WriteFault,
             };
-            Solved {
+            Report {
                 status,
                 read,
                 refusal: None,
@@ -127,7 +138,7 @@ pub fn solve_call<W: Threads + Wait + Sync, S: Source, K: Sink, G: Gate>(
                 Ok(()) => Status::Memory,
                 Err(_) => Status::WriteFault,
             };
-            Solved {
+            Report {
                 status,
                 read,
                 refusal: None,
@@ -140,14 +151,14 @@ pub fn solve_call<W: Threads + Wait + Sync, S: Source, K: Sink, G: Gate>(
             refusal,
             line,
         } => match write_all(sink, line.as_slice()) {
-            Ok(()) => Solved {
+            Ok(()) => Report {
                 status: Status::Refused,
                 read,
                 refusal: Some(refusal),
                 book: None,
                 counts: Vec::new(alloc),
             },
-            Err(_) => Solved {
+            Err(_) => Report {
                 status: Status::WriteFault,
                 read,
                 refusal: None,
@@ -158,14 +169,14 @@ pub fn solve_call<W: Threads + Wait + Sync, S: Source, K: Sink, G: Gate>(
         Plan::Overlong { refusal, line } => {
             let read = Vec::new(alloc);
             match write_all(sink, line.as_slice()) {
-                Ok(()) => Solved {
+                Ok(()) => Report {
                     status: Status::Refused,
                     read,
                     refusal: Some(refusal),
                     book: None,
                     counts: Vec::new(alloc),
                 },
-                Err(_) => Solved {
+                Err(_) => Report {
                     status: Status::WriteFault,
                     read,
                     refusal: None,
@@ -174,7 +185,7 @@ pub fn solve_call<W: Threads + Wait + Sync, S: Source, K: Sink, G: Gate>(
                 },
             }
         }
-        Plan::ReadFault => Solved {
+        Plan::ReadFault => Report {
             status: Status::ReadFault,
             read: Vec::new(alloc),
             refusal: None,
@@ -186,7 +197,7 @@ pub fn solve_call<W: Threads + Wait + Sync, S: Source, K: Sink, G: Gate>(
                 Ok(()) => Status::Memory,
                 Err(_) => Status::WriteFault,
             };
-            Solved {
+            Report {
                 status,
                 read,
                 refusal: None,

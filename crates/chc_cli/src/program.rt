@@ -9,6 +9,7 @@ ghost use Rattle.outside_io.specs.Turns.{EndsOnce};
 ghost use Rattle.term_tree.specs.declared.refusal.Refusal.{Refusal};
 ghost use Rattle.sort_check.specs.Scripts.{IsRefused, ReadsInput};
 ghost use Rattle.answer_text.specs.Lines.{usage_text, memory_text};
+ghost use Rattle.call_words.specs.Status.{status_number};
 ghost use Rattle.call_words.specs.Words.{IsCall, IsCheckCall, IsGenCall, IsNoGenCall};
 ghost use Rattle.call_words.specs.declared.limits.Limits.{Limits};
 ghost use Rattle.call_solve.specs.Clauses.{HasNoSystem, IsUnrefused};
@@ -19,8 +20,9 @@ ghost use Rattle.call_check.specs.Calls.{Checks, IsUnrefusedCheck, RefusesCheck,
 ghost use Rattle.call_gen.specs.Summaries.{IsGeneratedBook, Summarises, WritesPartOfSummary};
 ghost use Rattle.chc_cli.specs.Commands.{ByCommand, ByReader, BySearch, HoldsPart, HoldsPartOfUsage, HoldsPartOfWant, IsNoCommand, OfCheck};
 
-use crate::run::{Report, chc_run, no_command, no_memory};
+use crate::run::{chc_run, no_command, no_memory};
 use crate::words::words_after_name;
+use call_solve::Report;
 use call_words::Status;
 use outside_io::{Sink, Source};
 use std::alloc::Global;
@@ -123,4 +125,11 @@ pub fn chc_main<W: Threads + Wait + Sync, S: Source, K: Sink>(
         Err(error) if error.kind() == ErrorKind::OutOfMemory => no_memory(alloc, sink),
         Err(_) => no_command(alloc, sink),
     }
+}
+
+/// The number that the program ends with.
+pub fn exit_number(report: &Report) -> u8
+    ensures { result ≡ status_number report.now.status }
+{
+    report.status.number()
 }

@@ -7,7 +7,6 @@ ghost use Rattle.outside_io.specs.Turns.{EndsOnce};
 ghost use Rattle.term_tree.specs.declared.refusal.Refusal.{Refusal};
 ghost use Rattle.sort_check.specs.Scripts.{IsRefused, ReadsInput};
 ghost use Rattle.answer_text.specs.Lines.{memory_text, usage_text};
-ghost use Rattle.call_words.specs.Status.{status_number};
 ghost use Rattle.call_words.specs.Words.{IsCall, IsCheckCall, IsGenCall, IsNoGenCall};
 ghost use Rattle.call_words.specs.declared.limits.Limits.{Limits};
 ghost use Rattle.call_solve.specs.Clauses.{HasNoSystem, IsUnrefused};
@@ -22,51 +21,13 @@ use crate::command::{Command, command_of};
 use answer_text::{memory_line, usage_line};
 use call_check::check_call;
 use call_gen::gen_call;
-use call_solve::solve_call;
+use call_solve::{Report, solve_call};
 use call_words::{Status, calls_exclude_each_other};
-use chc_core::Book;
 use outside_io::{Sink, Source, write_all};
 use std::alloc::Global;
 use std::sync::Wait;
 use std::thread::Threads;
-use term_tree::Refusal;
 use worker_pool::Gate;
-
-/// How a call ended.
-pub struct Report {
-    pub status: Status,
-    /// The bytes that were read, all of them. None where the end wasn't met, or the words are a call of
-    /// `gen` or no command.
-    pub read: Vec<u8>,
-    /// The refusal, exactly where the script is refused.
-    pub refusal: Option<Refusal>,
-    /// The book of the clauses of a script that is to be solved, as the workers left it, wherever one was
-    /// opened: under status 0 at its end. `gen` has one worker.
-    pub book: Option<Book>,
-    /// How many of the book's entries each worker wrote, in their order. None where there is no book.
-    pub counts: Vec<u64>,
-}
-
-impl Report {
-    /// The number that the program ends with.
-    pub fn number(&self) -> u8
-        ensures { result ≡ status_number self.now.status }
-    {
-        self.status.number()
-    }
-}
-
-impl Drop for Report {
-    fn drop(self) {
-        let Report {
-            status: _,
-            read: _,
-            refusal: _,
-            book: _,
-            counts: _,
-        } = self;
-    }
-}
 
 /// The program: it carries out the words after the program's name over what the source gives, and
 /// writes one text into the sink. A call of `solve` solves a script by as many workers as the words say,
@@ -173,16 +134,7 @@ pub fn chc_run<W: Threads + Wait + Sync, S: Source, K: Sink, G: Gate>(
     // A law, which runs nothing: words never call two commands.
     calls_exclude_each_other();
     match command_of(alloc, words) {
-        Command::Solve(limits) => {
-            let solved = solve_call(rt, alloc, limits, source, sink, gate);
-            Report {
-                status: solved.status,
-                read: solved.read,
-                refusal: solved.refusal,
-                book: solved.book,
-                counts: solved.counts,
-            }
-        }
+        Command::Solve(limits) => solve_call(rt, alloc, limits, source, sink, gate),
         Command::Check(nodes) => {
             let checked = check_call(alloc, nodes, source, sink);
             Report {

@@ -2,7 +2,7 @@
 //! written for it and the status.
 #![tactic(auto)]
 
-use chc_cli::chc_run;
+use chc_cli::{chc_run, exit_number};
 use outside_io::{StdSink, StdSource};
 use std::alloc::Global;
 use std::{fs, io};
@@ -52,7 +52,7 @@ fn main(rt: HostRuntime) -> io::Result<()> {
             &mut sink,
             &FreeGate,
         );
-        println!(rt; "status {}", report.number())?;
+        println!(rt; "status {}", exit_number(&report))?;
     }
     Ok(())
 }

@@ -7,32 +7,32 @@ use Rattle.chc_cli.proofs.run.chc_run.Goals as goal
 -- a call of `solve`
 
 pub returns-in-Solve-clause-answered : goal.returns-in-Solve-clause-answered
-returns-in-Solve-clause-answered g c = λ zero. inl (c.in-Solve.limits, c.in-Solve.ensures.0, c.solve_call-solved.ensures.answered zero)
+returns-in-Solve-clause-answered g c = λ zero. inl (c.in-Solve.limits, c.in-Solve.ensures.0, c.solve_call.ensures.answered zero)
 
 pub returns-in-Solve-clause-wrong : goal.returns-in-Solve-clause-wrong
-returns-in-Solve-clause-wrong g c = λ six. absurd (c.solve_call-solved.ensures.no_wrong six)
+returns-in-Solve-clause-wrong g c = λ six. absurd (c.solve_call.ensures.no_wrong six)
 
 pub returns-in-Solve-clause-not_shown : goal.returns-in-Solve-clause-not_shown
-returns-in-Solve-clause-not_shown g c = λ seven. absurd (c.solve_call-solved.ensures.no_unshown seven)
+returns-in-Solve-clause-not_shown g c = λ seven. absurd (c.solve_call.ensures.no_unshown seven)
 
 pub returns-in-Solve-clause-refused : goal.returns-in-Solve-clause-refused
 returns-in-Solve-clause-refused g c =
-    refused_solve (map string_bytes c.args.words.now) c.solve_call-solved.result.refusal _ _ c.in-Solve.limits c.in-Solve.ensures.0 c.solve_call-solved.ensures.refused
+    refused_solve (map string_bytes c.args.words.now) c.solve_call.result.refusal _ _ c.in-Solve.limits c.in-Solve.ensures.0 c.solve_call.ensures.refused
 
 pub returns-in-Solve-clause-book : goal.returns-in-Solve-clause-book
-returns-in-Solve-clause-book g c = book_of_solve (map string_bytes c.args.words.now) c.solve_call-solved.result.book _ _ c.in-Solve.limits c.in-Solve.ensures.0 c.solve_call-solved.ensures.book
+returns-in-Solve-clause-book g c = book_of_solve (map string_bytes c.args.words.now) c.solve_call.result.book _ _ c.in-Solve.limits c.in-Solve.ensures.0 c.solve_call.ensures.book
 
 pub returns-in-Solve-clause-counts : goal.returns-in-Solve-clause-counts
-returns-in-Solve-clause-counts g c = book_of_solve (map string_bytes c.args.words.now) c.solve_call-solved.result.book _ _ c.in-Solve.limits c.in-Solve.ensures.0 c.solve_call-solved.ensures.counts
+returns-in-Solve-clause-counts g c = book_of_solve (map string_bytes c.args.words.now) c.solve_call.result.book _ _ c.in-Solve.limits c.in-Solve.ensures.0 c.solve_call.ensures.counts
 
 pub returns-in-Solve-clause-usage : goal.returns-in-Solve-clause-usage
-returns-in-Solve-clause-usage g c = λ two. absurd (c.solve_call-solved.ensures.no_usage two)
+returns-in-Solve-clause-usage g c = λ two. absurd (c.solve_call.ensures.no_usage two)
 
 pub returns-in-Solve-clause-checks : goal.returns-in-Solve-clause-checks
-returns-in-Solve-clause-checks g c = λ nodes call. c.solve_call-solved.ensures.no_usage
+returns-in-Solve-clause-checks g c = λ nodes call. c.solve_call.ensures.no_usage
 
 pub returns-in-Solve-clause-solves : goal.returns-in-Solve-clause-solves
-returns-in-Solve-clause-solves g c = λ limits call. c.solve_call-solved.ensures.no_usage
+returns-in-Solve-clause-solves g c = λ limits call. c.solve_call.ensures.no_usage
 
 pub returns-in-Solve-clause-other_words : goal.returns-in-Solve-clause-other_words
 returns-in-Solve-clause-other_words g c = λ none. absurd (none.solve c.in-Solve.limits c.in-Solve.ensures.0)
@@ -47,10 +47,10 @@ pub returns-in-Solve-clause-check_book : goal.returns-in-Solve-clause-check_book
 returns-in-Solve-clause-check_book g c = λ nodes call. absurd (c.calls_exclude_each_other.ensures.apart (map string_bytes c.args.words.now) c.in-Solve.limits nodes c.in-Solve.ensures.0 call)
 
 pub returns-in-Solve-clause-other_read : goal.returns-in-Solve-clause-other_read
-returns-in-Solve-clause-other_read g c = λ two. absurd (c.solve_call-solved.ensures.no_usage two)
+returns-in-Solve-clause-other_read g c = λ two. absurd (c.solve_call.ensures.no_usage two)
 
 pub returns-in-Solve-clause-writes_part : goal.returns-in-Solve-clause-writes_part
-returns-in-Solve-clause-writes_part g c = λ four. inl (inl (c.in-Solve.limits, c.in-Solve.ensures.0, c.solve_call-solved.ensures.writes_part four))
+returns-in-Solve-clause-writes_part g c = λ four. inl (inl (c.in-Solve.limits, c.in-Solve.ensures.0, c.solve_call.ensures.writes_part four))
 
 pub returns-in-Solve-clause-checks_scripts : goal.returns-in-Solve-clause-checks_scripts
 returns-in-Solve-clause-checks_scripts g c =
@@ -65,7 +65,7 @@ returns-in-Solve-clause-checks_no_shapes g c =
     λ nodes call. absurd (c.calls_exclude_each_other.ensures.apart (map string_bytes c.args.words.now) c.in-Solve.limits nodes c.in-Solve.ensures.0 call)
 
 pub returns-in-Solve-clause-answers_all : goal.returns-in-Solve-clause-answers_all
-returns-in-Solve-clause-answers_all g c = λ none zero. c.solve_call-solved.ensures.answers_all zero
+returns-in-Solve-clause-answers_all g c = λ none zero. c.solve_call.ensures.answers_all zero
 
 pub returns-in-Solve-clause-generates : goal.returns-in-Solve-clause-generates
 returns-in-Solve-clause-generates g c = λ depth seed call. absurd (c.calls_exclude_each_other.ensures.apart_gen (map string_bytes c.args.words.now) c.in-Solve.limits depth seed c.in-Solve.ensures.0 call)
