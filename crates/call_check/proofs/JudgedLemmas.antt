@@ -9,6 +9,7 @@ use Rattle.sort_check.specs.Scripts.{Outcome}
 use Rattle.clause_form.specs.System.{Clauses}
 use Rattle.clause_form.specs.declared.clause.Clause.{Clause}
 use Rattle.clause_normal.specs.Reading.{all_clauses, system_reading, unless_stopped}
+use Rattle.call_words.specs.declared.status.Status.{Status}
 use Rattle.call_check.specs.Calls.{IsJudged}
 use Rattle.call_check.specs.declared.found.Found.{Found}
 use Rattle.call_check.specs.declared.found.Found.TheVariants.{Refused, Valid, Wrong, NotShown}
@@ -25,7 +26,7 @@ not_stopped checked sys h = by checked.stop (all_clauses checked.script 0 checke
 pub part_is_short : (bytes : List ℕ) → length bytes ≤ most_bytes → (n : ℕ) → length (take n bytes) ≤ most_bytes
 part_is_short bytes short n = let long = length-take n bytes in omega (arith, short, long)
 
-judged : (nodes : ℕ) (bytes : List ℕ) (status : ℕ) (text : List ℕ) → ((n : ℕ) → length (take n bytes) ≤ most_bytes) → HasVerdict nodes bytes status text → IsJudged nodes bytes status text
+judged : (nodes : ℕ) (bytes : List ℕ) (status : Status) (text : List ℕ) → ((n : ℕ) → length (take n bytes) ≤ most_bytes) → HasVerdict nodes bytes status text → IsJudged nodes bytes status text
 judged nodes bytes status text short (verdict, judges, is) =
     let none = not_stopped judges.checked judges.system judges.accepted in
     let read = judges.read_as.read in
@@ -46,6 +47,6 @@ judged nodes bytes status text short (verdict, judges, is) =
 
 pub found : (nodes : ℕ) (bytes : List ℕ) → ((n : ℕ) → length (take n bytes) ≤ most_bytes) → (it : Found) → IsTold nodes bytes it → IsFound nodes bytes it
 found nodes bytes short (Refused refusal line) h = absurd h
-found nodes bytes short (Valid text) h = judged nodes bytes 0 text.items short h
-found nodes bytes short (Wrong text) h = judged nodes bytes 6 text.items short h
-found nodes bytes short (NotShown text) h = judged nodes bytes 7 text.items short h
+found nodes bytes short (Valid text) h = judged nodes bytes Status.Answered text.items short h
+found nodes bytes short (Wrong text) h = judged nodes bytes Status.Wrong text.items short h
+found nodes bytes short (NotShown text) h = judged nodes bytes Status.NotShown text.items short h

@@ -11,6 +11,7 @@ use Rattle.sort_check.specs.Scripts.{IsScript, IsScriptOf}
 use Rattle.answer_text.specs.Lines.{error_text, memory_text}
 use Rattle.chc_checker.specs.declared.verdict.Verdict.{Verdict}
 use Rattle.chc_checker.specs.declared.verdict.Verdict.TheVariants.{Valid, Wrong, NotShown}
+use Rattle.call_words.specs.declared.status.Status.{Status}
 use Rattle.check_input.specs.Inputs.{HasNoRefusal, JudgesInput, RefusesScript}
 
 -- the refusal of an input: that it has too many bytes, or that of its script
@@ -24,18 +25,18 @@ pub record IsUnrefusedCheck (input : List ℕ) : Type 0 where
   pub script : HasNoRefusal input
 
 -- the status that a verdict ends the call with
-abbrev pub verdict_status : Verdict → ℕ
-verdict_status Valid = 0
-verdict_status (Wrong place) = 6
-verdict_status (NotShown place evidence) = 7
+abbrev pub verdict_status : Verdict → Status
+verdict_status Valid = Status.Answered
+verdict_status (Wrong place) = Status.Wrong
+verdict_status (NotShown place evidence) = Status.NotShown
 
 -- a call that ends with this status tells a verdict
-abbrev pub TellsVerdict : ℕ → Type 0
-TellsVerdict status = (status ≡ 0) ⊎ (status ≡ 6) ⊎ (status ≡ 7)
+abbrev pub TellsVerdict : Status → Type 0
+TellsVerdict status = (status ≡ Status.Answered) ⊎ (status ≡ Status.Wrong) ⊎ (status ≡ Status.NotShown)
 
 -- a verdict on the answer that stands in the bytes, with this status and this text; and the script that is answered is the one which
 -- the bytes before the marker spell
-pub record IsJudged (nodes : ℕ) (bytes : List ℕ) (status : ℕ) (text : List ℕ) : Type 0 where
+pub record IsJudged (nodes : ℕ) (bytes : List ℕ) (status : Status) (text : List ℕ) : Type 0 where
   pub verdict : Verdict
   pub judges : JudgesInput nodes bytes verdict text
   pub status_is : status ≡ verdict_status verdict
@@ -44,7 +45,7 @@ pub record IsJudged (nodes : ℕ) (bytes : List ℕ) (status : ℕ) (text : List
   pub spelled : IsScriptOf commands judges.checked.script
 
 -- the sink holds the verdict's text behind what it held, and all that the source had was read
-pub record Checks (nodes : ℕ) (left : Option (List ℕ)) (read : List ℕ) (status : ℕ) (old new : Option (List ℕ)) : Type 0 where
+pub record Checks (nodes : ℕ) (left : Option (List ℕ)) (read : List ℕ) (status : Status) (old new : Option (List ℕ)) : Type 0 where
   pub text : List ℕ
   pub judged : IsJudged nodes read status text
   pub whole : IfSome left (λ bytes. read ≡ bytes)
@@ -65,11 +66,11 @@ pub record RefusesCheck (left : Option (List ℕ)) (ends after : ℕ) (read : Li
 
 -- the text that the call was to write
 pub data IsMeantByCheck (nodes : ℕ) (left : Option (List ℕ)) (old new : ℕ) (read : List ℕ) (text : List ℕ) : Type 0 where
-  verdict : (status : ℕ) → IsJudged nodes read status text → IfSome left (λ bytes. read ≡ bytes) → IsMeantByCheck nodes left old new read text
+  verdict : (status : Status) → IsJudged nodes read status text → IfSome left (λ bytes. read ≡ bytes) → IsMeantByCheck nodes left old new read text
   error : (refusal : Refusal) → RefusesLeft left old new read refusal → text ≡ error_text refusal → IsMeantByCheck nodes left old new read text
   memory : text ≡ memory_text → IsMeantByCheck nodes left old new read text
 
--- status 4: a prefix of the text that was meant is held, and not all of it
+-- the sink has failed: a prefix of the text that was meant is held, and not all of it
 pub record WritesPartOfCheck (nodes : ℕ) (left : Option (List ℕ)) (ends after : ℕ) (read : List ℕ) (old new : Option (List ℕ)) : Type 0 where
   pub text : List ℕ
   pub meant : IsMeantByCheck nodes left ends after read text

@@ -1,4 +1,4 @@
-ghost use Rattle.std.specs.Prelude.{◌≡◌, ◌≢◌, ◌≤◌, ◌<◌, ◌↔◌, [], IfSome, IsSome};
+ghost use Rattle.std.specs.Prelude.{◌≡◌, ◌≢◌, ◌<◌, ◌↔◌, [], IfSome, IsSome};
 ghost use Rattle.outside_io.specs.Bytes.{Appends};
 ghost use Rattle.outside_io.specs.Counts.{counted};
 ghost use Rattle.outside_io.specs.declared.turn.Turn.TheVariants.{Fault};
@@ -11,6 +11,7 @@ ghost use Rattle.sort_check.specs.Scripts.{ReadsInput};
 
 use crate::plan::{Plan, plan_for};
 use answer_text::memory_line;
+use call_words::Status;
 use check_input::inputs_are_parted_once;
 use outside_io::{Sink, Source, write_all};
 use sort_check::no_script_is_refused;
@@ -18,22 +19,12 @@ use std::alloc::Global;
 use term_tree::Refusal;
 
 /// How a call of `check` ended.
-///
-/// | status | name |
-/// |---|---|
-/// | 0 | the answer is valid |
-/// | 1 | script refused |
-/// | 3 | the source has failed |
-/// | 4 | the sink has failed |
-/// | 5 | out of memory |
-/// | 6 | the answer is wrong |
-/// | 7 | the answer isn't shown |
 #[derive(Drop)]
 pub struct Checked {
-    pub status: u8,
+    pub status: Status,
     /// The bytes that were read, all of them. None where the end wasn't met.
     pub read: Vec<u8>,
-    /// The refusal, exactly under status 1.
+    /// The refusal, exactly where the script is refused.
     pub refusal: Option<Refusal>,
 }
 
@@ -49,40 +40,39 @@ pub fn check_call<S: Source, K: Sink>(
     sink: &mut K,
 ) -> Checked
     requires some { 0 < nodes }
-    ensures statuses { result.status ≤ 7 }
-    ensures no_usage { result.status ≢ 2 }
+    ensures no_usage { result.status ≢ Status.Usage }
 
-    // 0, 6 and 7: the sink holds the text of a verdict on the answer to the script that stands before it in the bytes read, and the verdict is of the status's kind: valid, wrong, not shown.
-    ensures valid { result.status ≡ 0 → Checks nodes (S.left source.old) result.read.items 0 (K.held sink.old) (K.held sink.new) }
-    ensures wrong { result.status ≡ 6 → Checks nodes (S.left source.old) result.read.items 6 (K.held sink.old) (K.held sink.new) }
-    ensures not_shown { result.status ≡ 7 → Checks nodes (S.left source.old) result.read.items 7 (K.held sink.old) (K.held sink.new) }
+    // Answered, Wrong and NotShown: the sink holds the text of a verdict on the answer to the script that stands before it in the bytes read, and the verdict is of the status's kind: valid, wrong, not shown.
+    ensures valid { result.status ≡ Status.Answered → Checks nodes (S.left source.old) result.read.items Status.Answered (K.held sink.old) (K.held sink.new) }
+    ensures wrong { result.status ≡ Status.Wrong → Checks nodes (S.left source.old) result.read.items Status.Wrong (K.held sink.old) (K.held sink.new) }
+    ensures not_shown { result.status ≡ Status.NotShown → Checks nodes (S.left source.old) result.read.items Status.NotShown (K.held sink.old) (K.held sink.new) }
 
-    // 1: it holds the line of the script's refusal.
+    // Refused: it holds the line of the script's refusal.
     ensures refused { IfSome result.refusal (λ refusal. RefusesCheck (S.left source.old) (S.ends source.old) (S.ends source.new) result.read.items refusal (K.held sink.old) (K.held sink.new)) }
     ensures refuses_all { IfSome result.refusal (ReadsInput (S.left source.old) result.read.items) }
-    ensures refusal { IsSome result.refusal ↔ (result.status ≡ 1) }
+    ensures refusal { IsSome result.refusal ↔ (result.status ≡ Status.Refused) }
 
     // Both exactly: of an input that has no refusal none is told, and where the script is refused by the rules of commands, or has no system of clauses, no verdict is.
-    ensures judges_scripts { IfSome (S.left source.old) (λ bytes. IsUnrefusedCheck bytes → result.status ≢ 1) }
+    ensures judges_scripts { IfSome (S.left source.old) (λ bytes. IsUnrefusedCheck bytes → result.status ≢ Status.Refused) }
     ensures refuses_others { IfSome (S.left source.old) (λ bytes. (refusal : Refusal) → HasRefusedScript bytes refusal → TellsVerdict result.status → ⊥) }
     ensures refuses_shapes { IfSome (S.left source.old) (λ bytes. HasNoSystemOfCheck bytes → TellsVerdict result.status → ⊥) }
 
-    // 3: exactly where the source has failed, and then nothing is written.
-    ensures source_faults { result.status ≢ 3 → S.faults source.new ≡ S.faults source.old }
-    ensures read_fault { result.status ≡ 3 → S.faults source.new ≡ counted (S.faults source.old) }
-    ensures stops_reading { result.status ≡ 3 → S.last source.new ≡ Fault }
-    ensures unwritten { result.status ≡ 3 → K.turns sink.new ≡ K.turns sink.old }
-    ensures holds_nothing { result.status ≡ 3 → K.held sink.new ≡ K.held sink.old }
-    ensures failed_read { result.status ≡ 3 → result.read.items ≡ [] }
+    // ReadFault: exactly where the source has failed, and then nothing is written.
+    ensures source_faults { result.status ≢ Status.ReadFault → S.faults source.new ≡ S.faults source.old }
+    ensures read_fault { result.status ≡ Status.ReadFault → S.faults source.new ≡ counted (S.faults source.old) }
+    ensures stops_reading { result.status ≡ Status.ReadFault → S.last source.new ≡ Fault }
+    ensures unwritten { result.status ≡ Status.ReadFault → K.turns sink.new ≡ K.turns sink.old }
+    ensures holds_nothing { result.status ≡ Status.ReadFault → K.held sink.new ≡ K.held sink.old }
+    ensures failed_read { result.status ≡ Status.ReadFault → result.read.items ≡ [] }
 
-    // 4: exactly where the sink has failed, and then it holds a prefix of what was meant.
-    ensures sink_faults { result.status ≢ 4 → K.faults sink.new ≡ K.faults sink.old }
-    ensures write_fault { result.status ≡ 4 → K.faults sink.new ≡ counted (K.faults sink.old) }
-    ensures stops_writing { result.status ≡ 4 → K.last sink.new ≡ Fault }
-    ensures writes_part { result.status ≡ 4 → WritesPartOfCheck nodes (S.left source.old) (S.ends source.old) (S.ends source.new) result.read.items (K.held sink.old) (K.held sink.new) }
+    // WriteFault: exactly where the sink has failed, and then it holds a prefix of what was meant.
+    ensures sink_faults { result.status ≢ Status.WriteFault → K.faults sink.new ≡ K.faults sink.old }
+    ensures write_fault { result.status ≡ Status.WriteFault → K.faults sink.new ≡ counted (K.faults sink.old) }
+    ensures stops_writing { result.status ≡ Status.WriteFault → K.last sink.new ≡ Fault }
+    ensures writes_part { result.status ≡ Status.WriteFault → WritesPartOfCheck nodes (S.left source.old) (S.ends source.old) (S.ends source.new) result.read.items (K.held sink.old) (K.held sink.new) }
 
-    // 5: want of memory.
-    ensures memory { result.status ≡ 5 → Appends memory_text (K.held sink.old) (K.held sink.new) }
+    // Memory: want of memory.
+    ensures memory { result.status ≡ Status.Memory → Appends memory_text (K.held sink.old) (K.held sink.new) }
 
     // Whatever the status: nothing is asked of the source after its end, and the report keeps all that was read up to it, and nothing of an input whose end wasn't met.
     ensures ends { EndsOnce (S.ends source.old) (S.ends source.new) (S.last source.new) }
@@ -96,8 +86,8 @@ pub fn check_call<S: Source, K: Sink>(
     match plan_for(alloc, source, nodes) {
         Plan::Valid { read, text } => {
             let status = match write_all(sink, text.as_slice()) {
-                Ok(()) => 0,
-                Err(_) => 4,
+                Ok(()) => Status::Answered,
+                Err(_) => Status::WriteFault,
             };
             Checked {
                 status,
@@ -107,8 +97,8 @@ pub fn check_call<S: Source, K: Sink>(
         }
         Plan::Wrong { read, text } => {
             let status = match write_all(sink, text.as_slice()) {
-                Ok(()) => 6,
-                Err(_) => 4,
+                Ok(()) => Status::Wrong,
+                Err(_) => Status::WriteFault,
             };
             Checked {
                 status,
@@ -118,8 +108,8 @@ pub fn check_call<S: Source, K: Sink>(
         }
         Plan::NotShown { read, text } => {
             let status = match write_all(sink, text.as_slice()) {
-                Ok(()) => 7,
-                Err(_) => 4,
+                Ok(()) => Status::NotShown,
+                Err(_) => Status::WriteFault,
             };
             Checked {
                 status,
@@ -133,12 +123,12 @@ pub fn check_call<S: Source, K: Sink>(
             line,
         } => match write_all(sink, line.as_slice()) {
             Ok(()) => Checked {
-                status: 1,
+                status: Status::Refused,
                 read,
                 refusal: Some(refusal),
             },
             Err(_) => Checked {
-                status: 4,
+                status: Status::WriteFault,
                 read,
                 refusal: None,
             },
@@ -147,26 +137,26 @@ pub fn check_call<S: Source, K: Sink>(
             let read = Vec::new(alloc);
             match write_all(sink, line.as_slice()) {
                 Ok(()) => Checked {
-                    status: 1,
+                    status: Status::Refused,
                     read,
                     refusal: Some(refusal),
                 },
                 Err(_) => Checked {
-                    status: 4,
+                    status: Status::WriteFault,
                     read,
                     refusal: None,
                 },
             }
         }
         Plan::ReadFault => Checked {
-            status: 3,
+            status: Status::ReadFault,
             read: Vec::new(alloc),
             refusal: None,
         },
         Plan::OutOfMemory { read } => {
             let status = match write_all(sink, memory_line()) {
-                Ok(()) => 5,
-                Err(_) => 4,
+                Ok(()) => Status::Memory,
+                Err(_) => Status::WriteFault,
             };
             Checked {
                 status,

@@ -5,6 +5,7 @@ use Rattle.std.specs.declared.option.Option.{Option}
 use Rattle.outside_io.specs.Bytes.{Appends}
 use Rattle.answer_text.specs.Lines.{memory_text}
 use Rattle.chc_core.specs.Contents.{Contents}
+use Rattle.call_words.specs.declared.status.Status.{Status}
 use Rattle.book_answers.specs.Wanting.{wanting_text}
 use Rattle.call_gen.specs.Summaries.{IsMeantToSum, WritesPartOfSummary}
 use Rattle.call_gen.specs.Summaries.IsMeantToSum.{memory}
@@ -36,9 +37,9 @@ module _ (book : Option Contents) (none : book ≡ None) (old new : Option (List
 
 -- which statuses there are
 
-pub not_other : (s n : ℕ) → s ≡ n → (n ≡ 4 → ⊥) → s ≢ 4
-not_other s n is other = λ four. other (subst (λ (k : ℕ). k ≡ 4) is four)
+pub not_other : (s n : Status) → s ≡ n → (n ≡ Status.WriteFault → ⊥) → s ≢ Status.WriteFault
+not_other s n is other = λ four. other (subst (λ (k : Status). k ≡ Status.WriteFault) is four)
 
-pub only_five : (s n : ℕ) → (s ≢ 4 → s ≡ 5) → s ≡ n → (n ≡ 4 → ⊥) → (n ≡ 5 → ⊥) → ⊥
-only_five s n ends is four five =
-    five (subst (λ (k : ℕ). k ≡ 5) is (ends (not_other s n is four)))
+pub only_memory : (s n : Status) → (s ≢ Status.WriteFault → s ≡ Status.Memory) → s ≡ n → (n ≡ Status.WriteFault → ⊥) → (n ≡ Status.Memory → ⊥) → ⊥
+only_memory s n ends is four five =
+    five (subst (λ (k : Status). k ≡ Status.Memory) is (ends (not_other s n is four)))

@@ -61,7 +61,7 @@ IsGeneratedBook depth seed b = IsSearchedWith (generated depth seed) default_uni
 abbrev pub IsGeneratedSummary : ℕ → ℕ → Contents → List ℕ → Type 0
 IsGeneratedSummary depth seed b text = IsSummed (generated depth seed) default_units default_nodes b text
 
--- status 0: the sink holds the summary of the book's end behind what it held
+-- the summary is written: the sink holds the summary of the book's end behind what it held
 pub record Summarises (depth seed : ℕ) (book : Option Contents) (old new : Option (List ℕ)) : Type 0 where
   pub b : Contents
   pub book_is : book ≡ Some b
@@ -74,7 +74,7 @@ pub data IsMeantToSum (depth seed : ℕ) (book : Option Contents) (text : List �
   summary : (b : Contents) → book ≡ Some b → IsGeneratedSummary depth seed b text → IsMeantToSum depth seed book text
   memory : text ≡ wanting_text book → IsMeantToSum depth seed book text
 
--- status 4: a prefix of the text that was meant is held, and not all of it
+-- the sink has failed: a prefix of the text that was meant is held, and not all of it
 pub record WritesPartOfSummary (depth seed : ℕ) (book : Option Contents) (old new : Option (List ℕ)) : Type 0 where
   pub text : List ℕ
   pub meant : IsMeantToSum depth seed book text

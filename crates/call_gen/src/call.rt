@@ -11,6 +11,7 @@ ghost use Rattle.call_gen.specs.Answers.{IsMadeOf};
 use crate::answer::{Generated, answer_for};
 use answer_text::memory_line;
 use book_answers::unfinished_lines;
+use call_words::Status;
 use chc_core::Book;
 use outside_io::{Sink, write_all};
 use std::alloc::Global;
@@ -22,16 +23,11 @@ const UNITS: u32 = 50_000;
 const NODES: u32 = 2_000;
 
 /// How a call of `gen` ended.
-///
-/// | status | name |
-/// |---|---|
-/// | 0 | the summary is written |
-/// | 4 | the sink has failed |
-/// | 5 | out of memory |
 #[derive(Drop)]
 pub struct Summarised {
-    pub status: u8,
-    /// The book of the script's clauses, wherever one was opened: under status 0 at its end.
+    pub status: Status,
+    /// The book of the script's clauses, wherever one was opened: at its end where the summary is
+    /// written.
     pub book: Option<Book>,
     /// How many entries the book has, which its one worker wrote. None where there is no book.
     pub counts: Vec<u64>,
@@ -44,26 +40,25 @@ pub struct Summarised {
 pub fn gen_call<K: Sink>(alloc: Global, depth: u32, seed: u32, sink: &mut K) -> Summarised
     requires depth { depth ≤ 12 }
     requires seed { seed < 2 ^ 31 }
-    ensures statuses { result.status ≤ 5 }
-    ensures few { result.status ≢ 4 → result.status ≢ 5 → result.status ≡ 0 }
+    ensures few { result.status ≢ Status.WriteFault → result.status ≢ Status.Memory → result.status ≡ Status.Answered }
 
-    // 0: the book over the clauses of the generated script has ended, and the sink holds its summary: of a derivation of false by the script's assertions, how many steps it has and how high
+    // Answered: the book over the clauses of the generated script has ended, and the sink holds its summary: of a derivation of false by the script's assertions, how many steps it has and how high
     // it is, and at any other end what `solve` prints.
-    ensures answered { result.status ≡ 0 → Summarises depth seed result.book (K.held sink.old) (K.held sink.new) }
+    ensures answered { result.status ≡ Status.Answered → Summarises depth seed result.book (K.held sink.old) (K.held sink.new) }
 
     // Whatever the status: the book is one of that script, within the limits, and no derivation of false is as low as its closed level.
     ensures book { IfSome result.book (λ b. IsGeneratedBook depth seed b) }
     ensures counts { IfSome result.book (λ b. result.counts.items ≡ length b.journal ∷ []) }
     ensures uncounted { result.book ≡ None → result.counts.items ≡ [] }
 
-    // 4: exactly where the sink has failed, and then it holds a prefix of what was meant.
-    ensures sink_faults { result.status ≢ 4 → K.faults sink.new ≡ K.faults sink.old }
-    ensures write_fault { result.status ≡ 4 → K.faults sink.new ≡ counted (K.faults sink.old) }
-    ensures stops_writing { result.status ≡ 4 → K.last sink.new ≡ Fault }
-    ensures writes_part { result.status ≡ 4 → WritesPartOfSummary depth seed result.book (K.held sink.old) (K.held sink.new) }
+    // WriteFault: exactly where the sink has failed, and then it holds a prefix of what was meant.
+    ensures sink_faults { result.status ≢ Status.WriteFault → K.faults sink.new ≡ K.faults sink.old }
+    ensures write_fault { result.status ≡ Status.WriteFault → K.faults sink.new ≡ counted (K.faults sink.old) }
+    ensures stops_writing { result.status ≡ Status.WriteFault → K.last sink.new ≡ Fault }
+    ensures writes_part { result.status ≡ Status.WriteFault → WritesPartOfSummary depth seed result.book (K.held sink.old) (K.held sink.new) }
 
-    // 5: want of memory: the closed level of the book, where there is one.
-    ensures memory { result.status ≡ 5 → Appends (wanting_text result.book) (K.held sink.old) (K.held sink.new) }
+    // Memory: want of memory: the closed level of the book, where there is one.
+    ensures memory { result.status ≡ Status.Memory → Appends (wanting_text result.book) (K.held sink.old) (K.held sink.new) }
 {
     match answer_for(alloc, depth, seed, UNITS, NODES) {
         Ok(found) => written(alloc, found, depth, seed, sink),
@@ -80,17 +75,16 @@ fn written<K: Sink>(
     sink: &mut K,
 ) -> Summarised
     requires { IsMadeOf (generated depth seed) default_units default_nodes found }
-    ensures statuses { result.status ≤ 5 }
-    ensures few { result.status ≢ 4 → result.status ≢ 5 → result.status ≡ 0 }
-    ensures answered { result.status ≡ 0 → Summarises depth seed result.book (K.held sink.old) (K.held sink.new) }
+    ensures few { result.status ≢ Status.WriteFault → result.status ≢ Status.Memory → result.status ≡ Status.Answered }
+    ensures answered { result.status ≡ Status.Answered → Summarises depth seed result.book (K.held sink.old) (K.held sink.new) }
     ensures book { IfSome result.book (λ b. IsGeneratedBook depth seed b) }
     ensures counts { IfSome result.book (λ b. result.counts.items ≡ length b.journal ∷ []) }
     ensures uncounted { result.book ≡ None → result.counts.items ≡ [] }
-    ensures sink_faults { result.status ≢ 4 → K.faults sink.new ≡ K.faults sink.old }
-    ensures write_fault { result.status ≡ 4 → K.faults sink.new ≡ counted (K.faults sink.old) }
-    ensures stops_writing { result.status ≡ 4 → K.last sink.new ≡ Fault }
-    ensures writes_part { result.status ≡ 4 → WritesPartOfSummary depth seed result.book (K.held sink.old) (K.held sink.new) }
-    ensures memory { result.status ≡ 5 → Appends (wanting_text result.book) (K.held sink.old) (K.held sink.new) }
+    ensures sink_faults { result.status ≢ Status.WriteFault → K.faults sink.new ≡ K.faults sink.old }
+    ensures write_fault { result.status ≡ Status.WriteFault → K.faults sink.new ≡ counted (K.faults sink.old) }
+    ensures stops_writing { result.status ≡ Status.WriteFault → K.last sink.new ≡ Fault }
+    ensures writes_part { result.status ≡ Status.WriteFault → WritesPartOfSummary depth seed result.book (K.held sink.old) (K.held sink.new) }
+    ensures memory { result.status ≡ Status.Memory → Appends (wanting_text result.book) (K.held sink.old) (K.held sink.new) }
 {
     match found {
         Generated::Answered { book, text } => answered(alloc, book, text, depth, seed, sink),
@@ -108,22 +102,21 @@ fn answered<K: Sink>(
     sink: &mut K,
 ) -> Summarised
     requires { IsGeneratedSummary depth seed book text.items }
-    ensures statuses { result.status ≤ 5 }
-    ensures few { result.status ≢ 4 → result.status ≢ 5 → result.status ≡ 0 }
-    ensures answered { result.status ≡ 0 → Summarises depth seed result.book (K.held sink.old) (K.held sink.new) }
+    ensures few { result.status ≢ Status.WriteFault → result.status ≢ Status.Memory → result.status ≡ Status.Answered }
+    ensures answered { result.status ≡ Status.Answered → Summarises depth seed result.book (K.held sink.old) (K.held sink.new) }
     ensures book { IfSome result.book (λ b. IsGeneratedBook depth seed b) }
     ensures counts { IfSome result.book (λ b. result.counts.items ≡ length b.journal ∷ []) }
     ensures uncounted { result.book ≡ None → result.counts.items ≡ [] }
-    ensures sink_faults { result.status ≢ 4 → K.faults sink.new ≡ K.faults sink.old }
-    ensures write_fault { result.status ≡ 4 → K.faults sink.new ≡ counted (K.faults sink.old) }
-    ensures stops_writing { result.status ≡ 4 → K.last sink.new ≡ Fault }
-    ensures writes_part { result.status ≡ 4 → WritesPartOfSummary depth seed result.book (K.held sink.old) (K.held sink.new) }
-    ensures memory { result.status ≡ 5 → Appends (wanting_text result.book) (K.held sink.old) (K.held sink.new) }
+    ensures sink_faults { result.status ≢ Status.WriteFault → K.faults sink.new ≡ K.faults sink.old }
+    ensures write_fault { result.status ≡ Status.WriteFault → K.faults sink.new ≡ counted (K.faults sink.old) }
+    ensures stops_writing { result.status ≡ Status.WriteFault → K.last sink.new ≡ Fault }
+    ensures writes_part { result.status ≡ Status.WriteFault → WritesPartOfSummary depth seed result.book (K.held sink.old) (K.held sink.new) }
+    ensures memory { result.status ≡ Status.Memory → Appends (wanting_text result.book) (K.held sink.old) (K.held sink.new) }
 {
     let (_depth, _seed) = (depth, seed);
     match Vec::from_slice(alloc, &[book.length()]) {
         Ok(counts) => {
-            let status = status_of(text.as_slice(), 0, sink);
+            let status = status_of(text.as_slice(), Status::Answered, sink);
             Summarised {
                 status,
                 book: Some(book),
@@ -137,24 +130,23 @@ fn answered<K: Sink>(
 /// Writes the closed level of a book for which memory was wanted.
 fn unfinished<K: Sink>(alloc: Global, book: Book, depth: u32, seed: u32, sink: &mut K) -> Summarised
     requires { IsGeneratedBook depth seed book }
-    ensures statuses { result.status ≤ 5 }
-    ensures few { result.status ≢ 4 → result.status ≢ 5 → result.status ≡ 0 }
-    ensures answered { result.status ≡ 0 → Summarises depth seed result.book (K.held sink.old) (K.held sink.new) }
+    ensures few { result.status ≢ Status.WriteFault → result.status ≢ Status.Memory → result.status ≡ Status.Answered }
+    ensures answered { result.status ≡ Status.Answered → Summarises depth seed result.book (K.held sink.old) (K.held sink.new) }
     ensures book { IfSome result.book (λ b. IsGeneratedBook depth seed b) }
     ensures counts { IfSome result.book (λ b. result.counts.items ≡ length b.journal ∷ []) }
     ensures uncounted { result.book ≡ None → result.counts.items ≡ [] }
-    ensures sink_faults { result.status ≢ 4 → K.faults sink.new ≡ K.faults sink.old }
-    ensures write_fault { result.status ≡ 4 → K.faults sink.new ≡ counted (K.faults sink.old) }
-    ensures stops_writing { result.status ≡ 4 → K.last sink.new ≡ Fault }
-    ensures writes_part { result.status ≡ 4 → WritesPartOfSummary depth seed result.book (K.held sink.old) (K.held sink.new) }
-    ensures memory { result.status ≡ 5 → Appends (wanting_text result.book) (K.held sink.old) (K.held sink.new) }
+    ensures sink_faults { result.status ≢ Status.WriteFault → K.faults sink.new ≡ K.faults sink.old }
+    ensures write_fault { result.status ≡ Status.WriteFault → K.faults sink.new ≡ counted (K.faults sink.old) }
+    ensures stops_writing { result.status ≡ Status.WriteFault → K.last sink.new ≡ Fault }
+    ensures writes_part { result.status ≡ Status.WriteFault → WritesPartOfSummary depth seed result.book (K.held sink.old) (K.held sink.new) }
+    ensures memory { result.status ≡ Status.Memory → Appends (wanting_text result.book) (K.held sink.old) (K.held sink.new) }
 {
     let (_depth, _seed) = (depth, seed);
     match Vec::from_slice(alloc, &[book.length()]) {
         Ok(counts) => {
             let mut front = [0; 72];
             let length = unfinished_lines(book.level(), &mut front);
-            let status = status_of(&front[..length], 5, sink);
+            let status = status_of(&front[..length], Status::Memory, sink);
             Summarised {
                 status,
                 book: Some(book),
@@ -167,17 +159,16 @@ fn unfinished<K: Sink>(alloc: Global, book: Book, depth: u32, seed: u32, sink: &
 
 /// Writes the line for want of memory, where there is no book.
 fn wanting<K: Sink>(alloc: Global, sink: &mut K) -> Summarised
-    ensures within { result.status ≤ 5 }
-    ensures statuses { result.status ≢ 4 → result.status ≡ 5 }
+    ensures statuses { result.status ≢ Status.WriteFault → result.status ≡ Status.Memory }
     ensures book { result.book ≡ None }
     ensures counts { result.counts.items ≡ [] }
-    ensures sink_faults { result.status ≢ 4 → K.faults sink.new ≡ K.faults sink.old }
-    ensures write_fault { result.status ≡ 4 → K.faults sink.new ≡ counted (K.faults sink.old) }
-    ensures stops_writing { result.status ≡ 4 → K.last sink.new ≡ Fault }
-    ensures part { result.status ≡ 4 → (n : ℕ) × (n < length memory_text) × Appends (take n memory_text) (K.held sink.old) (K.held sink.new) }
-    ensures memory { result.status ≡ 5 → Appends memory_text (K.held sink.old) (K.held sink.new) }
+    ensures sink_faults { result.status ≢ Status.WriteFault → K.faults sink.new ≡ K.faults sink.old }
+    ensures write_fault { result.status ≡ Status.WriteFault → K.faults sink.new ≡ counted (K.faults sink.old) }
+    ensures stops_writing { result.status ≡ Status.WriteFault → K.last sink.new ≡ Fault }
+    ensures part { result.status ≡ Status.WriteFault → (n : ℕ) × (n < length memory_text) × Appends (take n memory_text) (K.held sink.old) (K.held sink.new) }
+    ensures memory { result.status ≡ Status.Memory → Appends memory_text (K.held sink.old) (K.held sink.new) }
 {
-    let status = status_of(memory_line(), 5, sink);
+    let status = status_of(memory_line(), Status::Memory, sink);
     Summarised {
         status,
         book: None,
@@ -185,19 +176,17 @@ fn wanting<K: Sink>(alloc: Global, sink: &mut K) -> Summarised
     }
 }
 
-/// Writes a text: the status that is given where all of it is written, else 4.
-fn status_of<K: Sink>(text: &[u8], status: u8, sink: &mut K) -> u8
-    requires other { status ≢ 4 }
-    requires most { status ≤ 5 }
-    ensures within { result ≤ 5 }
-    ensures whole { result ≢ 4 → (result ≡ status) × Appends text.now (K.held sink.old) (K.held sink.new) }
-    ensures sink_faults { result ≢ 4 → K.faults sink.new ≡ K.faults sink.old }
-    ensures write_fault { result ≡ 4 → K.faults sink.new ≡ counted (K.faults sink.old) }
-    ensures stops_writing { result ≡ 4 → K.last sink.new ≡ Fault }
-    ensures part { result ≡ 4 → (n : ℕ) × (n < length text.now) × Appends (take n text.now) (K.held sink.old) (K.held sink.new) }
+/// Writes a text: the status that is given where all of it is written, else that the sink has failed.
+fn status_of<K: Sink>(text: &[u8], status: Status, sink: &mut K) -> Status
+    requires { status ≢ Status.WriteFault }
+    ensures whole { result ≢ Status.WriteFault → (result ≡ status) × Appends text.now (K.held sink.old) (K.held sink.new) }
+    ensures sink_faults { result ≢ Status.WriteFault → K.faults sink.new ≡ K.faults sink.old }
+    ensures write_fault { result ≡ Status.WriteFault → K.faults sink.new ≡ counted (K.faults sink.old) }
+    ensures stops_writing { result ≡ Status.WriteFault → K.last sink.new ≡ Fault }
+    ensures part { result ≡ Status.WriteFault → (n : ℕ) × (n < length text.now) × Appends (take n text.now) (K.held sink.old) (K.held sink.new) }
 {
     match write_all(sink, text) {
         Ok(()) => status,
-        Err(_) => 4,
+        Err(_) => Status::WriteFault,
     }
 }

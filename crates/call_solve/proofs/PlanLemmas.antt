@@ -15,6 +15,7 @@ use Rattle.call_solve.specs.declared.plan.Plan.{Plan}
 use Rattle.call_solve.specs.declared.plan.Plan.TheVariants.{Answered, Unfinished, Refused, Overlong, ReadFault, OutOfMemory}
 use Rattle.chc_core.specs.Contents.{Contents}
 use Rattle.call_words.specs.declared.limits.Limits.{Limits}
+use Rattle.call_words.specs.declared.status.Status.{Status}
 use Rattle.call_solve.specs.Headline.{IsBookFor, IsMeant, RefusesInput, WritesPart}
 use Rattle.call_solve.specs.machinery.Plans.{IsPlan}
 
@@ -54,8 +55,8 @@ of_too_long limits old (Some rest) limit plan is h told untold =
 
 -- what is answered is not refused by the rules of commands
 pub answered_only : ((text : List ℕ) (commands : List Command) (refusal : Refusal) → IsScript text commands → IsRefused text refusal → ⊥)
-    → (limits : Limits) (left : Option (List ℕ)) (read : List ℕ) (b : Contents) (status : ℕ) → IsBookFor limits read b → IfSome left (λ bytes. read ≡ bytes)
-    → IfSome left (λ bytes. (refusal : Refusal) → IsRefused bytes refusal → status ≢ 0)
+    → (limits : Limits) (left : Option (List ℕ)) (read : List ℕ) (b : Contents) (status : Status) → IsBookFor limits read b → IfSome left (λ bytes. read ≡ bytes)
+    → IfSome left (λ bytes. (refusal : Refusal) → IsRefused bytes refusal → status ≢ Status.Answered)
 answered_only not_both limits None read b status h same = tt
 answered_only not_both limits (Some bytes) read b status h same = λ refusal refused e. not_both bytes h.commands refusal (subst (λ (b : List ℕ). IsScript b h.commands) same h.is_script) refused
 
@@ -65,8 +66,8 @@ has_system limits read b h none =
     let s = h.is_script in
     none (record { script = h.script; stop = None }) b.system h.of.arena (s.trees, s.stop, s.reading, record { commands = h.commands; outcome_is = s.legal; script = h.spelled }) h.of.system
 
-pub answered_system : (limits : Limits) (left : Option (List ℕ)) (read : List ℕ) (b : Contents) (status : ℕ) → IsBookFor limits read b → IfSome left (λ bytes. read ≡ bytes)
-    → IfSome left (λ bytes. HasNoSystem bytes → status ≢ 0)
+pub answered_system : (limits : Limits) (left : Option (List ℕ)) (read : List ℕ) (b : Contents) (status : Status) → IsBookFor limits read b → IfSome left (λ bytes. read ≡ bytes)
+    → IfSome left (λ bytes. HasNoSystem bytes → status ≢ Status.Answered)
 answered_system limits None read b status h same = tt
 answered_system limits (Some bytes) read b status h same = λ none e. has_system limits read b h (subst HasNoSystem (sym same) none)
 
@@ -75,7 +76,7 @@ not_refused bytes refusal (too_long long is) h = let short = h.short in omega (a
 not_refused bytes refusal (illegal checked short arena is read) h = h.legal checked refusal arena is read
 
 -- what has no refusal is not refused
-pub refused_only : (left : Option (List ℕ)) (refusal : Refusal) (status : ℕ) → IfSome left (λ bytes. IsInputRefused bytes refusal) → IfSome left (λ bytes. IsUnrefused bytes → status ≢ 1)
+pub refused_only : (left : Option (List ℕ)) (refusal : Refusal) (status : Status) → IfSome left (λ bytes. IsInputRefused bytes refusal) → IfSome left (λ bytes. IsUnrefused bytes → status ≢ Status.Refused)
 refused_only None refusal status h = tt
 refused_only (Some bytes) refusal status h = λ unrefused e. not_refused bytes refusal h unrefused
 

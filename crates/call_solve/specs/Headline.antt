@@ -61,7 +61,7 @@ pub data IsMeant (limits : Limits) (left : Option (List ℕ)) (old new : ℕ) (r
   error : (refusal : Refusal) → RefusesInput left old new read refusal → text ≡ error_text refusal → IsMeant limits left old new read book text
   memory : text ≡ wanting_text book → IsMeant limits left old new read book text
 
--- status 4: a prefix of the text that was meant is held, and not all of it
+-- the sink has failed: a prefix of the text that was meant is held, and not all of it
 pub record WritesPart (limits : Limits) (left : Option (List ℕ)) (ends after : ℕ) (read : List ℕ) (book : Option Contents) (old new : Option (List ℕ)) : Type 0 where
   pub text : List ℕ
   pub meant : IsMeant limits left ends after read book text
@@ -69,7 +69,7 @@ pub record WritesPart (limits : Limits) (left : Option (List ℕ)) (ends after :
   pub part : count < length text
   pub held : Appends (take count text) old new
 
--- status 0: the sink holds the answer of the book's end behind what it held
+-- the script is answered: the sink holds the answer of the book's end behind what it held
 pub record Answers (limits : Limits) (read : List ℕ) (book : Option Contents) (old new : Option (List ℕ)) : Type 0 where
   pub b : Contents
   pub book_is : book ≡ Some b
@@ -77,7 +77,7 @@ pub record Answers (limits : Limits) (read : List ℕ) (book : Option Contents) 
   pub answer : IsAnswered limits read b text
   pub held : Appends text old new
 
--- status 1: it holds the line of the refusal
+-- the script is refused: it holds the line of the refusal
 pub record Refuses (left : Option (List ℕ)) (ends after : ℕ) (read : List ℕ) (refusal : Refusal) (old new : Option (List ℕ)) : Type 0 where
   pub refused : RefusesInput left ends after read refusal
   pub held : Appends (error_text refusal) old new

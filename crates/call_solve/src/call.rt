@@ -1,4 +1,4 @@
-ghost use Rattle.std.specs.Prelude.{◌≡◌, ◌≢◌, ◌≤◌, ◌<◌, ◌↔◌, [], None, IfSome, IsSome};
+ghost use Rattle.std.specs.Prelude.{◌≡◌, ◌≢◌, ◌↔◌, [], None, IfSome, IsSome};
 ghost use Rattle.outside_io.specs.Bytes.{Appends};
 ghost use Rattle.outside_io.specs.Counts.{counted};
 ghost use Rattle.outside_io.specs.declared.turn.Turn.TheVariants.{Fault};
@@ -13,7 +13,7 @@ ghost use Rattle.call_solve.specs.Headline.{Answers, AreCounts, IsBookFor, Refus
 use crate::plan::{Plan, plan_for};
 use answer_text::memory_line;
 use book_answers::unfinished_lines;
-use call_words::Limits;
+use call_words::{Limits, Status};
 use chc_core::Book;
 use outside_io::{Sink, Source, write_all};
 use sort_check::no_script_is_refused;
@@ -23,27 +23,30 @@ use std::thread::Threads;
 use term_tree::Refusal;
 use worker_pool::Gate;
 
-/// How a call of `solve` ended.
-///
-/// | status | name |
-/// |---|---|
-/// | 0 | answered |
-/// | 1 | script refused |
-/// | 3 | the source has failed |
-/// | 4 | the sink has failed |
-/// | 5 | out of memory |
-#[derive(Drop)]
-pub struct Solved {
-    pub status: u8,
-    /// The bytes that were read, all of them. None where the end wasn't met.
+/// How a call ended: a call of `solve`, and, as the program reports it, any other.
+pub struct Report {
+    pub status: Status,
+    /// The bytes that were read, all of them. None where the end wasn't met, or nothing is to be read.
     pub read: Vec<u8>,
-    /// The refusal, exactly under status 1.
+    /// The refusal, exactly where the script is refused.
     pub refusal: Option<Refusal>,
-    /// The book of the script's clauses, as the workers left it, wherever one was opened: under status 0
-    /// at its end.
+    /// The book of the clauses of a script that is to be solved, as the workers left it, wherever one was
+    /// opened: at its end where the script is answered.
     pub book: Option<Book>,
     /// How many of the book's entries each worker wrote, in their order. None where there is no book.
     pub counts: Vec<u64>,
+}
+
+impl Drop for Report {
+    fn drop(self) {
+        let Report {
+            status: _,
+            read: _,
+            refusal: _,
+            book: _,
+            counts: _,
+        } = self;
+    }
 }
 
 /// Solves the script that the source gives, by as many workers as the limits say and within them, and
@@ -57,25 +60,26 @@ pub fn solve_call<W: Threads + Wait + Sync, S: Source, K: Sink, G: Gate>(
     source: &mut S,
     sink: &mut K,
     gate: &G,
-) -> Solved
+) -> Report
     requires { IsInRange limits }
-    ensures statuses { result.status ≤ 5 }
-    ensures no_usage { result.status ≢ 2 }
+    ensures no_usage { result.status ≢ Status.Usage }
+    ensures no_wrong { result.status ≢ Status.Wrong }
+    ensures no_unshown { result.status ≢ Status.NotShown }
 
-    // 0: the book over the clauses of the script that the bytes read spell has ended, and the sink holds the answer of its end: a derivation of false by the script's assertions,
+    // Answered: the book over the clauses of the script that the bytes read spell has ended, and the sink holds the answer of its end: a derivation of false by the script's assertions,
     // definitions under which each of them is true, or the closed level and the cause.
-    ensures answered { result.status ≡ 0 → Answers limits result.read.items result.book (K.held sink.old) (K.held sink.new) }
-    ensures answers_all { result.status ≡ 0 → IfSome (S.left source.old) (λ bytes. result.read.items ≡ bytes) }
+    ensures answered { result.status ≡ Status.Answered → Answers limits result.read.items result.book (K.held sink.old) (K.held sink.new) }
+    ensures answers_all { result.status ≡ Status.Answered → IfSome (S.left source.old) (λ bytes. result.read.items ≡ bytes) }
 
-    // 1: it is the line of the one refusal of the bytes.
+    // Refused: it is the line of the one refusal of the bytes.
     ensures refused { IfSome result.refusal (λ refusal. Refuses (S.left source.old) (S.ends source.old) (S.ends source.new) result.read.items refusal (K.held sink.old) (K.held sink.new)) }
     ensures refuses_all { IfSome result.refusal (ReadsInput (S.left source.old) result.read.items) }
-    ensures refusal { IsSome result.refusal ↔ (result.status ≡ 1) }
+    ensures refusal { IsSome result.refusal ↔ (result.status ≡ Status.Refused) }
 
     // Both exactly: of bytes that have no refusal none is told, and bytes that are no script, or have no system of clauses, are not answered.
-    ensures answers_scripts { IfSome (S.left source.old) (λ bytes. IsUnrefused bytes → result.status ≢ 1) }
-    ensures refuses_others { IfSome (S.left source.old) (λ bytes. (refusal : Refusal) → IsRefused bytes refusal → result.status ≢ 0) }
-    ensures refuses_shapes { IfSome (S.left source.old) (λ bytes. HasNoSystem bytes → result.status ≢ 0) }
+    ensures answers_scripts { IfSome (S.left source.old) (λ bytes. IsUnrefused bytes → result.status ≢ Status.Refused) }
+    ensures refuses_others { IfSome (S.left source.old) (λ bytes. (refusal : Refusal) → IsRefused bytes refusal → result.status ≢ Status.Answered) }
+    ensures refuses_shapes { IfSome (S.left source.old) (λ bytes. HasNoSystem bytes → result.status ≢ Status.Answered) }
 
     // Whatever the status: the book is one of the script that the bytes read spell, within the limits, and no derivation of false is as low as its closed level. The workers' counts sum to the
     // length of its journal.
@@ -84,22 +88,22 @@ pub fn solve_call<W: Threads + Wait + Sync, S: Source, K: Sink, G: Gate>(
     ensures unopened { IsSome result.refusal → result.book ≡ None }
     ensures uncounted { result.book ≡ None → result.counts.items ≡ [] }
 
-    // 3: exactly where the source has failed, and then nothing is written.
-    ensures source_faults { result.status ≢ 3 → S.faults source.new ≡ S.faults source.old }
-    ensures read_fault { result.status ≡ 3 → S.faults source.new ≡ counted (S.faults source.old) }
-    ensures stops_reading { result.status ≡ 3 → S.last source.new ≡ Fault }
-    ensures unwritten { result.status ≡ 3 → K.turns sink.new ≡ K.turns sink.old }
-    ensures holds_nothing { result.status ≡ 3 → K.held sink.new ≡ K.held sink.old }
-    ensures failed_read { result.status ≡ 3 → result.read.items ≡ [] }
+    // ReadFault: exactly where the source has failed, and then nothing is written.
+    ensures source_faults { result.status ≢ Status.ReadFault → S.faults source.new ≡ S.faults source.old }
+    ensures read_fault { result.status ≡ Status.ReadFault → S.faults source.new ≡ counted (S.faults source.old) }
+    ensures stops_reading { result.status ≡ Status.ReadFault → S.last source.new ≡ Fault }
+    ensures unwritten { result.status ≡ Status.ReadFault → K.turns sink.new ≡ K.turns sink.old }
+    ensures holds_nothing { result.status ≡ Status.ReadFault → K.held sink.new ≡ K.held sink.old }
+    ensures failed_read { result.status ≡ Status.ReadFault → result.read.items ≡ [] }
 
-    // 4: exactly where the sink has failed, and then it holds a prefix of what was meant.
-    ensures sink_faults { result.status ≢ 4 → K.faults sink.new ≡ K.faults sink.old }
-    ensures write_fault { result.status ≡ 4 → K.faults sink.new ≡ counted (K.faults sink.old) }
-    ensures stops_writing { result.status ≡ 4 → K.last sink.new ≡ Fault }
-    ensures writes_part { result.status ≡ 4 → WritesPart limits (S.left source.old) (S.ends source.old) (S.ends source.new) result.read.items result.book (K.held sink.old) (K.held sink.new) }
+    // WriteFault: exactly where the sink has failed, and then it holds a prefix of what was meant.
+    ensures sink_faults { result.status ≢ Status.WriteFault → K.faults sink.new ≡ K.faults sink.old }
+    ensures write_fault { result.status ≡ Status.WriteFault → K.faults sink.new ≡ counted (K.faults sink.old) }
+    ensures stops_writing { result.status ≡ Status.WriteFault → K.last sink.new ≡ Fault }
+    ensures writes_part { result.status ≡ Status.WriteFault → WritesPart limits (S.left source.old) (S.ends source.old) (S.ends source.new) result.read.items result.book (K.held sink.old) (K.held sink.new) }
 
-    // 5: want of memory: the closed level of the book, where there is one.
-    ensures memory { result.status ≡ 5 → Appends (wanting_text result.book) (K.held sink.old) (K.held sink.new) }
+    // Memory: want of memory: the closed level of the book, where there is one.
+    ensures memory { result.status ≡ Status.Memory → Appends (wanting_text result.book) (K.held sink.old) (K.held sink.new) }
 
     // Whatever the status: nothing is asked of the source after its end, and the report keeps all that was read up to it, and nothing of an input whose end wasn't met.
     ensures ends { EndsOnce (S.ends source.old) (S.ends source.new) (S.last source.new) }
@@ -116,10 +120,10 @@ pub fn solve_call<W: Threads + Wait + Sync, S: Source, K: Sink, G: Gate>(
             text,
         } => {
             let status = match write_all(sink, text.as_slice()) {
-                Ok(()) => 0,
-                Err(_) => 4,
+                Ok(()) => Status::Answered,
+                Err(_) => Status::WriteFault,
             };
-            Solved {
+            Report {
                 status,
                 read,
                 refusal: None,
@@ -131,10 +135,10 @@ pub fn solve_call<W: Threads + Wait + Sync, S: Source, K: Sink, G: Gate>(
             let mut front = [0; 72];
             let length = unfinished_lines(book.level(), &mut front);
             let status = match write_all(sink, &front[..length]) {
-                Ok(()) => 5,
-                Err(_) => 4,
+                Ok(()) => Status::Memory,
+                Err(_) => Status::WriteFault,
             };
-            Solved {
+            Report {
                 status,
                 read,
                 refusal: None,
@@ -147,15 +151,15 @@ pub fn solve_call<W: Threads + Wait + Sync, S: Source, K: Sink, G: Gate>(
             refusal,
             line,
         } => match write_all(sink, line.as_slice()) {
-            Ok(()) => Solved {
-                status: 1,
+            Ok(()) => Report {
+                status: Status::Refused,
                 read,
                 refusal: Some(refusal),
                 book: None,
                 counts: Vec::new(alloc),
             },
-            Err(_) => Solved {
-                status: 4,
+            Err(_) => Report {
+                status: Status::WriteFault,
                 read,
                 refusal: None,
                 book: None,
@@ -165,15 +169,15 @@ pub fn solve_call<W: Threads + Wait + Sync, S: Source, K: Sink, G: Gate>(
         Plan::Overlong { refusal, line } => {
             let read = Vec::new(alloc);
             match write_all(sink, line.as_slice()) {
-                Ok(()) => Solved {
-                    status: 1,
+                Ok(()) => Report {
+                    status: Status::Refused,
                     read,
                     refusal: Some(refusal),
                     book: None,
                     counts: Vec::new(alloc),
                 },
-                Err(_) => Solved {
-                    status: 4,
+                Err(_) => Report {
+                    status: Status::WriteFault,
                     read,
                     refusal: None,
                     book: None,
@@ -181,8 +185,8 @@ pub fn solve_call<W: Threads + Wait + Sync, S: Source, K: Sink, G: Gate>(
                 },
             }
         }
-        Plan::ReadFault => Solved {
-            status: 3,
+        Plan::ReadFault => Report {
+            status: Status::ReadFault,
             read: Vec::new(alloc),
             refusal: None,
             book: None,
@@ -190,10 +194,10 @@ pub fn solve_call<W: Threads + Wait + Sync, S: Source, K: Sink, G: Gate>(
         },
         Plan::OutOfMemory { read } => {
             let status = match write_all(sink, memory_line()) {
-                Ok(()) => 5,
-                Err(_) => 4,
+                Ok(()) => Status::Memory,
+                Err(_) => Status::WriteFault,
             };
-            Solved {
+            Report {
                 status,
                 read,
                 refusal: None,

@@ -6,4 +6,4 @@ mod call;
 mod lines;
 mod plan;
 
-pub use call::{Solved, solve_call};
+pub use call::{Report, solve_call};

@@ -6,14 +6,14 @@ use Rattle.clap.specs.Simple.{subcommand_of}
 use Rattle.call_words.specs.Command.{chc}
 use Rattle.clap.specs.declared.parser.matches.ArgMatches.{ArgMatches}
 use Rattle.call_words.specs.Parsed.{IsParsedAs, IsTaken}
-use Rattle.call_words.specs.Properties.{AreLimitsOf, AreNodesOf, AreWordsOf, IsInRange, IsWithin}
+use Rattle.call_words.specs.Properties.{AreWordsOf, IsInRange, IsWithin}
 use Rattle.call_words.specs.Words.{IsCall, IsCheckCall, IsGenCall, default_nodes, default_units, default_workers, most_depth, most_nodes, most_seed, most_call_units, most_workers}
-use Rattle.call_words.specs.machinery.Reading.{limits_alone, nodes_alone, said, words_in}
+use Rattle.call_words.specs.machinery.Reading.{said, words_in}
 use Rattle.call_words.specs.declared.limits.Limits.{Limits}
 use Rattle.call_words.specs.declared.limits.Words.{Words}
 use Rattle.call_words.specs.declared.limits.Words.TheVariants.{Solve, Check, Gen}
 use Rattle.call_words.proofs.RangeLemmas.{given_within, or_within}
-use Rattle.call_words.proofs.CallLemmas.{apart, apart_gen, call_read, check_apart, check_found, gen_found, solve_found}
+use Rattle.call_words.proofs.CallLemmas.{call_read, check_found, gen_found, solve_found}
 
 none_some : (w : Words) → (let o : Option Words = None in o) ≡ Some w → ⊥
 none_some w h = absurd (cc)
@@ -59,35 +59,3 @@ words_within words None are = tt
 words_within words (Some (Solve l)) are = limits_within words l are
 words_within words (Some (Check nodes)) are = nodes_within words nodes are
 words_within words (Some (Gen depth seed)) are = seeds_within words depth seed are
-
--- one command alone
-
-pub are_limits : (words : List Text) (found : Option Words) → AreWordsOf words found → AreLimitsOf words (limits_alone found)
-are_limits words None are = are.0
-are_limits words (Some (Solve l)) are = are
-are_limits words (Some (Check nodes)) are = λ l call. apart words l nodes call are
-are_limits words (Some (Gen depth seed)) are = λ l call. apart_gen words l depth seed call are
-
-pub are_nodes : (words : List Text) (found : Option Words) → AreWordsOf words found → AreNodesOf words (nodes_alone found)
-are_nodes words None are = are.1
-are_nodes words (Some (Solve l)) are = λ nodes call. apart words l nodes are call
-are_nodes words (Some (Check nodes)) are = are
-are_nodes words (Some (Gen depth seed)) are = λ nodes call. check_apart words nodes depth seed call are
-
-pub in_range : (found : Option Words) → IfSome found IsWithin → IfSome (limits_alone found) IsInRange
-in_range None h = tt
-in_range (Some (Solve l)) h = h
-in_range (Some (Check nodes)) h = tt
-in_range (Some (Gen depth seed)) h = tt
-
-pub some_nodes : (found : Option Words) → IfSome found IsWithin → IfSome (nodes_alone found) (λ nodes. 1 ≤ nodes)
-some_nodes None h = tt
-some_nodes (Some (Solve l)) h = tt
-some_nodes (Some (Check nodes)) h = h.0
-some_nodes (Some (Gen depth seed)) h = tt
-
-pub few_nodes : (found : Option Words) → IfSome found IsWithin → IfSome (nodes_alone found) (λ nodes. nodes ≤ most_nodes)
-few_nodes None h = tt
-few_nodes (Some (Solve l)) h = tt
-few_nodes (Some (Check nodes)) h = h.1
-few_nodes (Some (Gen depth seed)) h = tt

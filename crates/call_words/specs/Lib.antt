@@ -2,4 +2,5 @@ pub mod Command
 pub mod Parsed
 pub mod Words
 pub mod Properties
+pub mod Status
 pub mod machinery

@@ -12,16 +12,6 @@ AreWordsOf words (Some (Solve limits)) = IsCall words limits
 AreWordsOf words (Some (Check nodes)) = IsCheckCall words nodes
 AreWordsOf words (Some (Gen depth seed)) = IsGenCall words depth seed
 
--- the limits of a call, or that the words are none
-abbrev pub AreLimitsOf : List (List ℕ) → Option Limits → Type 0
-AreLimitsOf words None = IsNoCall words
-AreLimitsOf words (Some limits) = IsCall words limits
-
--- the nodes of a call of `check`, or that the words are none
-abbrev pub AreNodesOf : List (List ℕ) → Option ℕ → Type 0
-AreNodesOf words None = IsNoCheckCall words
-AreNodesOf words (Some nodes) = IsCheckCall words nodes
-
 -- what such limits are
 pub record IsInRange (limits : Limits) : Type 0 where
   pub one : 1 ≤ limits.workers

@@ -1,11 +1,10 @@
 //! The calls of `solve`, `check` and `gen`.
 
-ghost use Rattle.std.specs.Prelude.{◌≡◌, ◌≤◌, map, IfOk, IfSome};
+ghost use Rattle.std.specs.Prelude.{◌≡◌, map, IfOk, IfSome};
 ghost use Rattle.std.specs.String.{string_bytes};
 ghost use Rattle.clap.specs.Words.{found_of, rows_of, subcommand_rows_of};
-ghost use Rattle.call_words.specs.Properties.{AreLimitsOf, AreNodesOf, AreWordsOf, IsInRange, IsWithin};
-ghost use Rattle.call_words.specs.Words.{most_nodes};
-ghost use Rattle.call_words.specs.machinery.Reading.{check_named, gen_named, limits_alone, limits_with, nodes_alone, said, solve_named, words_in, words_named};
+ghost use Rattle.call_words.specs.Properties.{AreWordsOf, IsWithin};
+ghost use Rattle.call_words.specs.machinery.Reading.{check_named, gen_named, limits_with, said, solve_named, words_in, words_named};
 
 use crate::command::parsed;
 use crate::limits::{Limits, Words};
@@ -141,45 +140,4 @@ pub fn words_of(alloc: Global, words: &[String]) -> Result<Option<Words>, Memory
     let parsed = parsed(alloc, words)?;
     let found = said(&parsed);
     Ok(found)
-}
-
-/// The limits of these words.
-fn limits_alone(words: Option<Words>) -> Option<Limits>
-    ensures { result ≡ limits_alone words }
-{
-    match words {
-        Some(Words::Solve(limits)) => Some(limits),
-        _ => None,
-    }
-}
-
-/// The limits of a call of `solve`, by the words after the program's name; nothing where they are no such
-/// call.
-pub fn limits_of(alloc: Global, words: &[String]) -> Result<Option<Limits>, Memory>
-    ensures read { IfOk result (AreLimitsOf (map string_bytes words.now)) }
-    ensures within { IfOk result (λ found. IfSome found IsInRange) }
-{
-    let found = words_of(alloc, words)?;
-    Ok(limits_alone(found))
-}
-
-/// The nodes of these words.
-fn nodes_alone(words: Option<Words>) -> Option<u32>
-    ensures { result ≡ nodes_alone words }
-{
-    match words {
-        Some(Words::Check { nodes }) => Some(nodes),
-        _ => None,
-    }
-}
-
-/// The inner nodes at which a call of `check` gives a form up, by the words after the program's name;
-/// nothing where they are no such call.
-pub fn check_nodes_of(alloc: Global, words: &[String]) -> Result<Option<u32>, Memory>
-    ensures read { IfOk result (AreNodesOf (map string_bytes words.now)) }
-    ensures some { IfOk result (λ found. IfSome found (λ nodes. 1 ≤ nodes)) }
-    ensures within { IfOk result (λ found. IfSome found (λ nodes. nodes ≤ most_nodes)) }
-{
-    let found = words_of(alloc, words)?;
-    Ok(nodes_alone(found))
 }

@@ -1,5 +1,5 @@
 //! The words that the program is called with, read by `clap`: what is to be done, and within which
-//! limits.
+//! limits; and the statuses that a call may end with.
 #![tactic(auto)]
 
 mod calls;
@@ -8,7 +8,9 @@ mod laws;
 mod limits;
 mod numerals;
 mod options;
+mod status;
 
-pub use calls::{check_nodes_of, limits_of, words_of};
+pub use calls::words_of;
 pub use laws::{calls_exclude_each_other, calls_have_one_reading};
 pub use limits::{Limits, Words};
+pub use status::Status;

@@ -4,7 +4,7 @@
 mod stack;
 
 use crate::stack::take_stack;
-use chc_cli::chc_main;
+use chc_cli::{chc_main, exit_number};
 use outside_io::{StdSink, StdSource};
 use std::env::{self, Args};
 use std::process::ExitCode;
@@ -20,9 +20,9 @@ fn main(rt: HostRuntime) -> ExitCode {
     let mut source = StdSource::new(rt.stdin());
     let mut sink = StdSink::new(rt.stdout());
     let report = chc_main(&rt, rt.alloc(), words(&rt), &mut source, &mut sink);
-    let status = report.status;
+    let number = exit_number(&report);
     // The process ends here and gives its memory back as a whole: letting the clauses and the book go
     // part by part would only take time.
     mem::forget(report);
-    ExitCode::from(status)
+    ExitCode::from(number)
 }

@@ -6,6 +6,7 @@ use Rattle.term_tree.specs.declared.refusal.Refusal.{Refusal}
 use Rattle.chc_core.specs.Contents.{Contents}
 use Rattle.call_words.specs.Words.{IsCall, IsCheckCall, IsGenCall}
 use Rattle.call_words.specs.declared.limits.Limits.{Limits}
+use Rattle.call_words.specs.declared.status.Status.{Status}
 use Rattle.chc_cli.specs.Commands.{ByReader, BySearch}
 
 pub refused_solve : (words : List (List ℕ)) (found : Option Refusal) (solves : Refusal → Limits → Type 0) (checks : Refusal → ℕ → Type 0) (limits : Limits) → IsCall words limits
@@ -38,14 +39,15 @@ pub no_book : (found : Option Contents) (told : Contents → Type 0) → found �
 no_book None told none = tt
 no_book (Some b) told none = absurd (cc)
 
--- words that are no command end with status 2 or 4
-pub only : (status other : ℕ) → (status ≢ 4 → status ≡ 2) → status ≡ other → (other ≡ 4 → ⊥) → (other ≡ 2 → ⊥) → ⊥
+-- words that are no command end with the usage line, or a sink that has failed
+pub only : (status other : Status) → (status ≢ Status.WriteFault → status ≡ Status.Usage) → status ≡ other → (other ≡ Status.WriteFault → ⊥) → (other ≡ Status.Usage → ⊥) → ⊥
 only status other ends is four two = two (sym is ∙ ends (λ e. four (sym is ∙ e)))
 
--- and without memory to read them with status 5 or 4
-pub wanting : (status other : ℕ) → (status ≢ 4 → status ≡ 5) → status ≡ other → (other ≡ 4 → ⊥) → (other ≡ 5 → ⊥) → ⊥
+-- and without memory to read them with want of memory, or such a sink
+pub wanting : (status other : Status) → (status ≢ Status.WriteFault → status ≡ Status.Memory) → status ≡ other → (other ≡ Status.WriteFault → ⊥) → (other ≡ Status.Memory → ⊥) → ⊥
 wanting status other ends is four five = five (sym is ∙ ends (λ e. four (sym is ∙ e)))
 
--- and a call of `gen` with status 0, 4 or 5
-pub made : (status other : ℕ) → (status ≢ 4 → status ≢ 5 → status ≡ 0) → status ≡ other → (other ≡ 4 → ⊥) → (other ≡ 5 → ⊥) → (other ≡ 0 → ⊥) → ⊥
+-- and a call of `gen` with a summary, or one of these two
+pub made : (status other : Status) → (status ≢ Status.WriteFault → status ≢ Status.Memory → status ≡ Status.Answered) → status ≡ other
+    → (other ≡ Status.WriteFault → ⊥) → (other ≡ Status.Memory → ⊥) → (other ≡ Status.Answered → ⊥) → ⊥
 made status other ends is four five zero = zero (sym is ∙ ends (λ e. four (sym is ∙ e)) (λ e. five (sym is ∙ e)))

@@ -6,5 +6,6 @@ mod program;
 mod run;
 mod words;
 
-pub use program::chc_main;
-pub use run::{Report, chc_run};
+pub use call_solve::Report;
+pub use program::{chc_main, exit_number};
+pub use run::chc_run;

@@ -1,4 +1,4 @@
-ghost use Rattle.std.specs.Prelude.{◌≡◌, ◌≢◌, ◌≤◌, ◌↔◌, ◌⊎◌, ◌∷◌, [], length, map, ℕ, None, IfSome, IsSome};
+ghost use Rattle.std.specs.Prelude.{◌≡◌, ◌≢◌, ◌↔◌, ◌⊎◌, ◌∷◌, [], length, map, ℕ, None, IfSome, IsSome};
 ghost use Rattle.std.specs.String.{string_bytes};
 ghost use Rattle.outside_io.specs.Bytes.{Appends};
 ghost use Rattle.outside_io.specs.Counts.{counted};
@@ -21,53 +21,13 @@ use crate::command::{Command, command_of};
 use answer_text::{memory_line, usage_line};
 use call_check::check_call;
 use call_gen::gen_call;
-use call_solve::solve_call;
-use call_words::calls_exclude_each_other;
-use chc_core::Book;
+use call_solve::{Report, solve_call};
+use call_words::{Status, calls_exclude_each_other};
 use outside_io::{Sink, Source, write_all};
 use std::alloc::Global;
 use std::sync::Wait;
 use std::thread::Threads;
-use term_tree::Refusal;
 use worker_pool::Gate;
-
-/// How a call ended.
-///
-/// | status | name |
-/// |---|---|
-/// | 0 | answered: a script is solved, an answer is valid, or a summary is written |
-/// | 1 | script refused |
-/// | 2 | usage: the words are no command |
-/// | 3 | the source has failed |
-/// | 4 | the sink has failed |
-/// | 5 | out of memory |
-/// | 6 | the answer is wrong |
-/// | 7 | the answer isn't shown |
-pub struct Report {
-    pub status: u8,
-    /// The bytes that were read, all of them. None where the end wasn't met, or the words are a call of
-    /// `gen` or no command.
-    pub read: Vec<u8>,
-    /// The refusal, exactly under status 1.
-    pub refusal: Option<Refusal>,
-    /// The book of the clauses of a script that is to be solved, as the workers left it, wherever one was
-    /// opened: under status 0 at its end. `gen` has one worker.
-    pub book: Option<Book>,
-    /// How many of the book's entries each worker wrote, in their order. None where there is no book.
-    pub counts: Vec<u64>,
-}
-
-impl Drop for Report {
-    fn drop(self) {
-        let Report {
-            status: _,
-            read: _,
-            refusal: _,
-            book: _,
-            counts: _,
-        } = self;
-    }
-}
 
 /// The program: it carries out the words after the program's name over what the source gives, and
 /// writes one text into the sink. A call of `solve` solves a script by as many workers as the words say,
@@ -83,41 +43,39 @@ pub fn chc_run<W: Threads + Wait + Sync, S: Source, K: Sink, G: Gate>(
     sink: &mut K,
     gate: &G,
 ) -> Report
-    ensures statuses { result.status ≤ 7 }
-
-    // 0, for `solve`: the book over the clauses of the script that the bytes read spell has ended, and the sink holds the answer of its end: a derivation of false by the script's assertions,
+    // Answered, for `solve`: the book over the clauses of the script that the bytes read spell has ended, and the sink holds the answer of its end: a derivation of false by the script's assertions,
     // definitions under which each of them is true, or the closed level and the cause. For `check`: the sink holds the verdict on the bytes read, and it is that the answer is valid.
     // For `gen`: the book over the clauses of the generated script has ended, and the sink holds its summary.
-    ensures answered { result.status ≡ 0 → ByCommand (map string_bytes words.now)
+    ensures answered { result.status ≡ Status.Answered → ByCommand (map string_bytes words.now)
         (λ limits. Answers limits result.read.items result.book (K.held sink.old) (K.held sink.new))
-        (λ nodes. Checks nodes (S.left source.old) result.read.items 0 (K.held sink.old) (K.held sink.new))
+        (λ nodes. Checks nodes (S.left source.old) result.read.items Status.Answered (K.held sink.old) (K.held sink.new))
         (λ depth seed. Summarises depth seed result.book (K.held sink.old) (K.held sink.new)) }
-    ensures answers_all { IsNoGenCall (map string_bytes words.now) → result.status ≡ 0 → IfSome (S.left source.old) (λ bytes. result.read.items ≡ bytes) }
+    ensures answers_all { IsNoGenCall (map string_bytes words.now) → result.status ≡ Status.Answered → IfSome (S.left source.old) (λ bytes. result.read.items ≡ bytes) }
 
-    // 6 and 7, for `check` alone: the sink holds such a verdict, that the answer is wrong, or that it isn't shown.
-    ensures wrong { result.status ≡ 6 → OfCheck (map string_bytes words.now)
-        (λ nodes. Checks nodes (S.left source.old) result.read.items 6 (K.held sink.old) (K.held sink.new)) }
-    ensures not_shown { result.status ≡ 7 → OfCheck (map string_bytes words.now)
-        (λ nodes. Checks nodes (S.left source.old) result.read.items 7 (K.held sink.old) (K.held sink.new)) }
+    // Wrong and NotShown, for `check` alone: the sink holds such a verdict, that the answer is wrong, or that it isn't shown.
+    ensures wrong { result.status ≡ Status.Wrong → OfCheck (map string_bytes words.now)
+        (λ nodes. Checks nodes (S.left source.old) result.read.items Status.Wrong (K.held sink.old) (K.held sink.new)) }
+    ensures not_shown { result.status ≡ Status.NotShown → OfCheck (map string_bytes words.now)
+        (λ nodes. Checks nodes (S.left source.old) result.read.items Status.NotShown (K.held sink.old) (K.held sink.new)) }
 
-    // 1: it holds the line of the one refusal of the bytes, for `check` of those that stand before the marker.
+    // Refused: it holds the line of the one refusal of the bytes, for `check` of those that stand before the marker.
     ensures refused { IfSome result.refusal (λ refusal. ByReader (map string_bytes words.now)
         (λ limits. Refuses (S.left source.old) (S.ends source.old) (S.ends source.new) result.read.items refusal (K.held sink.old) (K.held sink.new))
         (λ nodes. RefusesCheck (S.left source.old) (S.ends source.old) (S.ends source.new) result.read.items refusal (K.held sink.old) (K.held sink.new))) }
     ensures refuses_all { IfSome result.refusal (ReadsInput (S.left source.old) result.read.items) }
-    ensures refusal { IsSome result.refusal ↔ (result.status ≡ 1) }
+    ensures refusal { IsSome result.refusal ↔ (result.status ≡ Status.Refused) }
 
     // Both exactly for `solve`: of bytes that have no refusal none is told, and bytes that are no script, or have no system of clauses, are not answered.
     ensures answers_scripts { (limits : Limits) → IsCall (map string_bytes words.now) limits
-        → IfSome (S.left source.old) (λ bytes. IsUnrefused bytes → result.status ≢ 1) }
+        → IfSome (S.left source.old) (λ bytes. IsUnrefused bytes → result.status ≢ Status.Refused) }
     ensures refuses_others { (limits : Limits) → IsCall (map string_bytes words.now) limits
-        → IfSome (S.left source.old) (λ bytes. (refusal : Refusal) → IsRefused bytes refusal → result.status ≢ 0) }
+        → IfSome (S.left source.old) (λ bytes. (refusal : Refusal) → IsRefused bytes refusal → result.status ≢ Status.Answered) }
     ensures refuses_shapes { (limits : Limits) → IsCall (map string_bytes words.now) limits
-        → IfSome (S.left source.old) (λ bytes. HasNoSystem bytes → result.status ≢ 0) }
+        → IfSome (S.left source.old) (λ bytes. HasNoSystem bytes → result.status ≢ Status.Answered) }
 
     // And for `check`: of an input whose script has no refusal none is told, and where it is refused by the rules of commands, or has no system of clauses, no verdict is.
     ensures checks_scripts { (nodes : ℕ) → IsCheckCall (map string_bytes words.now) nodes
-        → IfSome (S.left source.old) (λ bytes. IsUnrefusedCheck bytes → result.status ≢ 1) }
+        → IfSome (S.left source.old) (λ bytes. IsUnrefusedCheck bytes → result.status ≢ Status.Refused) }
     ensures checks_no_others { (nodes : ℕ) → IsCheckCall (map string_bytes words.now) nodes
         → IfSome (S.left source.old) (λ bytes. (refusal : Refusal) → HasRefusedScript bytes refusal → TellsVerdict result.status → ⊥) }
     ensures checks_no_shapes { (nodes : ℕ) → IsCheckCall (map string_bytes words.now) nodes
@@ -132,41 +90,41 @@ pub fn chc_run<W: Threads + Wait + Sync, S: Source, K: Sink, G: Gate>(
         (λ limits. AreCounts limits b result.counts.items) (λ depth seed. result.counts.items ≡ length b.journal ∷ [])) }
     ensures uncounted { result.book ≡ None → result.counts.items ≡ [] }
 
-    // `gen` asks nothing of the source, and ends with status 0, 4 or 5.
-    ensures generates { (depth seed : ℕ) → IsGenCall (map string_bytes words.now) depth seed → result.status ≢ 4 → result.status ≢ 5 → result.status ≡ 0 }
+    // `gen` asks nothing of the source, and ends with a summary, a sink that has failed, or want of memory.
+    ensures generates { (depth seed : ℕ) → IsGenCall (map string_bytes words.now) depth seed → result.status ≢ Status.WriteFault → result.status ≢ Status.Memory → result.status ≡ Status.Answered }
     ensures gen_unread { (depth seed : ℕ) → IsGenCall (map string_bytes words.now) depth seed → S.turns source.new ≡ S.turns source.old }
 
-    // 2: words that are no command are answered so, unless memory is wanted to read them, and nothing is read for them.
-    ensures usage { result.status ≡ 2 → Appends usage_text (K.held sink.old) (K.held sink.new) }
-    ensures solves { (limits : Limits) → IsCall (map string_bytes words.now) limits → result.status ≢ 2 }
-    ensures checks { (nodes : ℕ) → IsCheckCall (map string_bytes words.now) nodes → result.status ≢ 2 }
-    ensures other_words { IsNoCommand (map string_bytes words.now) → result.status ≢ 4 → result.status ≢ 5 → result.status ≡ 2 }
+    // Usage: words that are no command are answered so, unless memory is wanted to read them, and nothing is read for them.
+    ensures usage { result.status ≡ Status.Usage → Appends usage_text (K.held sink.old) (K.held sink.new) }
+    ensures solves { (limits : Limits) → IsCall (map string_bytes words.now) limits → result.status ≢ Status.Usage }
+    ensures checks { (nodes : ℕ) → IsCheckCall (map string_bytes words.now) nodes → result.status ≢ Status.Usage }
+    ensures other_words { IsNoCommand (map string_bytes words.now) → result.status ≢ Status.WriteFault → result.status ≢ Status.Memory → result.status ≡ Status.Usage }
     ensures unread { IsNoCommand (map string_bytes words.now) → S.turns source.new ≡ S.turns source.old }
     ensures other_book { IsNoCommand (map string_bytes words.now) → result.book ≡ None }
     ensures check_book { (nodes : ℕ) → IsCheckCall (map string_bytes words.now) nodes → result.book ≡ None }
-    ensures other_read { result.status ≡ 2 → result.read.items ≡ [] }
+    ensures other_read { result.status ≡ Status.Usage → result.read.items ≡ [] }
 
-    // 3: exactly where the source has failed, and then nothing is written.
-    ensures source_faults { result.status ≢ 3 → S.faults source.new ≡ S.faults source.old }
-    ensures read_fault { result.status ≡ 3 → S.faults source.new ≡ counted (S.faults source.old) }
-    ensures stops_reading { result.status ≡ 3 → S.last source.new ≡ Fault }
-    ensures unwritten { result.status ≡ 3 → K.turns sink.new ≡ K.turns sink.old }
-    ensures holds_nothing { result.status ≡ 3 → K.held sink.new ≡ K.held sink.old }
-    ensures failed_read { result.status ≡ 3 → result.read.items ≡ [] }
+    // ReadFault: exactly where the source has failed, and then nothing is written.
+    ensures source_faults { result.status ≢ Status.ReadFault → S.faults source.new ≡ S.faults source.old }
+    ensures read_fault { result.status ≡ Status.ReadFault → S.faults source.new ≡ counted (S.faults source.old) }
+    ensures stops_reading { result.status ≡ Status.ReadFault → S.last source.new ≡ Fault }
+    ensures unwritten { result.status ≡ Status.ReadFault → K.turns sink.new ≡ K.turns sink.old }
+    ensures holds_nothing { result.status ≡ Status.ReadFault → K.held sink.new ≡ K.held sink.old }
+    ensures failed_read { result.status ≡ Status.ReadFault → result.read.items ≡ [] }
 
-    // 4: exactly where the sink has failed, and then it holds a prefix of what was meant.
-    ensures sink_faults { result.status ≢ 4 → K.faults sink.new ≡ K.faults sink.old }
-    ensures write_fault { result.status ≡ 4 → K.faults sink.new ≡ counted (K.faults sink.old) }
-    ensures stops_writing { result.status ≡ 4 → K.last sink.new ≡ Fault }
-    ensures writes_part { result.status ≡ 4 → ByCommand (map string_bytes words.now)
+    // WriteFault: exactly where the sink has failed, and then it holds a prefix of what was meant.
+    ensures sink_faults { result.status ≢ Status.WriteFault → K.faults sink.new ≡ K.faults sink.old }
+    ensures write_fault { result.status ≡ Status.WriteFault → K.faults sink.new ≡ counted (K.faults sink.old) }
+    ensures stops_writing { result.status ≡ Status.WriteFault → K.last sink.new ≡ Fault }
+    ensures writes_part { result.status ≡ Status.WriteFault → ByCommand (map string_bytes words.now)
         (λ limits. WritesPart limits (S.left source.old) (S.ends source.old) (S.ends source.new) result.read.items result.book (K.held sink.old) (K.held sink.new))
         (λ nodes. WritesPartOfCheck nodes (S.left source.old) (S.ends source.old) (S.ends source.new) result.read.items (K.held sink.old) (K.held sink.new))
         (λ depth seed. WritesPartOfSummary depth seed result.book (K.held sink.old) (K.held sink.new))
         ⊎ HoldsPartOfUsage (map string_bytes words.now) result.read.items (K.held sink.old) (K.held sink.new)
         ⊎ HoldsPartOfWant result.read.items (K.held sink.old) (K.held sink.new) }
 
-    // 5: want of memory: the closed level of the book, where there is one.
-    ensures memory { result.status ≡ 5 → Appends (wanting_text result.book) (K.held sink.old) (K.held sink.new) }
+    // Memory: want of memory: the closed level of the book, where there is one.
+    ensures memory { result.status ≡ Status.Memory → Appends (wanting_text result.book) (K.held sink.old) (K.held sink.new) }
 
     // Whatever the status: nothing is asked of the source after its end, and the report keeps all that was read up to it, and nothing of an input whose end wasn't met.
     ensures ends { EndsOnce (S.ends source.old) (S.ends source.new) (S.last source.new) }
@@ -176,16 +134,7 @@ pub fn chc_run<W: Threads + Wait + Sync, S: Source, K: Sink, G: Gate>(
     // A law, which runs nothing: words never call two commands.
     calls_exclude_each_other();
     match command_of(alloc, words) {
-        Command::Solve(limits) => {
-            let solved = solve_call(rt, alloc, limits, source, sink, gate);
-            Report {
-                status: solved.status,
-                read: solved.read,
-                refusal: solved.refusal,
-                book: solved.book,
-                counts: solved.counts,
-            }
-        }
+        Command::Solve(limits) => solve_call(rt, alloc, limits, source, sink, gate),
         Command::Check(nodes) => {
             let checked = check_call(alloc, nodes, source, sink);
             Report {
@@ -213,20 +162,20 @@ pub fn chc_run<W: Threads + Wait + Sync, S: Source, K: Sink, G: Gate>(
 
 /// The report where the words are no command.
 pub(crate) fn no_command<K: Sink>(alloc: Global, sink: &mut K) -> Report
-    ensures statuses { result.status ≢ 4 → result.status ≡ 2 }
+    ensures statuses { result.status ≢ Status.WriteFault → result.status ≡ Status.Usage }
     ensures read { result.read.items ≡ [] }
-    ensures sink_faults { result.status ≢ 4 → K.faults sink.new ≡ K.faults sink.old }
-    ensures write_fault { result.status ≡ 4 → K.faults sink.new ≡ counted (K.faults sink.old) }
-    ensures usage { result.status ≡ 2 → Appends usage_text (K.held sink.old) (K.held sink.new) }
-    ensures stops_writing { result.status ≡ 4 → K.last sink.new ≡ Fault }
-    ensures writes_part { result.status ≡ 4 → HoldsPart usage_text (K.held sink.old) (K.held sink.new) }
+    ensures sink_faults { result.status ≢ Status.WriteFault → K.faults sink.new ≡ K.faults sink.old }
+    ensures write_fault { result.status ≡ Status.WriteFault → K.faults sink.new ≡ counted (K.faults sink.old) }
+    ensures usage { result.status ≡ Status.Usage → Appends usage_text (K.held sink.old) (K.held sink.new) }
+    ensures stops_writing { result.status ≡ Status.WriteFault → K.last sink.new ≡ Fault }
+    ensures writes_part { result.status ≡ Status.WriteFault → HoldsPart usage_text (K.held sink.old) (K.held sink.new) }
     ensures refusal { result.refusal ≡ None }
     ensures book { result.book ≡ None }
     ensures counts { result.counts.items ≡ [] }
 {
     let status = match write_all(sink, usage_line()) {
-        Ok(()) => 2,
-        Err(_) => 4,
+        Ok(()) => Status::Usage,
+        Err(_) => Status::WriteFault,
     };
     Report {
         status,
@@ -239,20 +188,20 @@ pub(crate) fn no_command<K: Sink>(alloc: Global, sink: &mut K) -> Report
 
 /// The report where memory was wanted before the words were read.
 pub(crate) fn no_memory<K: Sink>(alloc: Global, sink: &mut K) -> Report
-    ensures statuses { result.status ≢ 4 → result.status ≡ 5 }
+    ensures statuses { result.status ≢ Status.WriteFault → result.status ≡ Status.Memory }
     ensures read { result.read.items ≡ [] }
-    ensures sink_faults { result.status ≢ 4 → K.faults sink.new ≡ K.faults sink.old }
-    ensures write_fault { result.status ≡ 4 → K.faults sink.new ≡ counted (K.faults sink.old) }
-    ensures memory { result.status ≡ 5 → Appends memory_text (K.held sink.old) (K.held sink.new) }
-    ensures stops_writing { result.status ≡ 4 → K.last sink.new ≡ Fault }
-    ensures writes_part { result.status ≡ 4 → HoldsPart memory_text (K.held sink.old) (K.held sink.new) }
+    ensures sink_faults { result.status ≢ Status.WriteFault → K.faults sink.new ≡ K.faults sink.old }
+    ensures write_fault { result.status ≡ Status.WriteFault → K.faults sink.new ≡ counted (K.faults sink.old) }
+    ensures memory { result.status ≡ Status.Memory → Appends memory_text (K.held sink.old) (K.held sink.new) }
+    ensures stops_writing { result.status ≡ Status.WriteFault → K.last sink.new ≡ Fault }
+    ensures writes_part { result.status ≡ Status.WriteFault → HoldsPart memory_text (K.held sink.old) (K.held sink.new) }
     ensures refusal { result.refusal ≡ None }
     ensures book { result.book ≡ None }
     ensures counts { result.counts.items ≡ [] }
 {
     let status = match write_all(sink, memory_line()) {
-        Ok(()) => 5,
-        Err(_) => 4,
+        Ok(()) => Status::Memory,
+        Err(_) => Status::WriteFault,
     };
     Report {
         status,

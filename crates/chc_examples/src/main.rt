@@ -2,7 +2,7 @@
 //! written and the status.
 #![tactic(auto)]
 
-use chc_cli::chc_run;
+use chc_cli::{chc_run, exit_number};
 use outside_io::{MemSource, Source, StdSink, StdSource};
 use std::alloc::Global;
 use std::{fs, io};
@@ -63,7 +63,7 @@ fn carry_out<S: Source>(rt: &HostRuntime, line: &str, source: &mut S) -> io::Res
         &mut sink,
         &FreeGate,
     );
-    println!(rt; "status {}", report.status)
+    println!(rt; "status {}", exit_number(&report))
 }
 
 fn run_script(rt: &HostRuntime, script: &str, options: &str) -> io::Result<()> {

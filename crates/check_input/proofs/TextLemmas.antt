@@ -1,10 +1,7 @@
 -- The assertion whose instance a verdict tells is there.
-use Rattle.std.proofs.Common.{◌≡◌, ℕ, suc, ◌<◌, List, length, inl, inr, arith}
-use Rattle.std.proofs.lemmas.Option.{slice_get_within}
+use Rattle.std.proofs.Common.{◌≡◌, ℕ, List, inl, inr}
 use Rattle.std.specs.Prelude.{ℤ, ◌⊎◌}
 use Rattle.term_tree.specs.declared.script.Script.{Script}
-use Rattle.horn_shape.specs.declared.clause.HornClause.{HornClause}
-use Rattle.check_derivation.specs.machinery.Tests.{AreClausesOf}
 use Rattle.answer_text.specs.declared.answer.Answer.{Answer}
 use Rattle.answer_text.specs.declared.answer.Answer.TheVariants.{Sat, Unsat, Unknown}
 use Rattle.chc_checker.specs.declared.verdict.Place.TheVariants.{Byte, Instance}
@@ -24,11 +21,3 @@ said nodes script (Unknown level cause) number integers says = absurd says
 pub instance_there : (nodes : ℕ) (script : Script) (bytes : List ℕ) (number : ℕ) (integers : List ℤ) → Judges nodes script bytes (Wrong (Instance number integers)) → IsAssertionOf script number
 instance_there nodes script bytes number integers (inl told) = said nodes script told.0 number integers told.2
 instance_there nodes script bytes number integers (inr bad) = absurd (differs number bad.0 integers bad.2)
-
--- its clause is among those of the script
-pub index_there : (script : Script) (clauses : List HornClause) (number : ℕ) → AreClausesOf script clauses → (there : IsAssertionOf script number) → there.0 < length clauses
-index_there script clauses number are there =
-    let is = there.3 in
-    let less : there.0 < length script.asserts = slice_get_within script.asserts there.0 is.assertion is.there in
-    let long = are.long in
-    omega (arith, less, long)

@@ -1,21 +1,19 @@
 //! Verdicts, printed.
 
-ghost use Rattle.std.specs.Prelude.{◌≡◌, ◌<◌, ◌≤◌, ◌++◌, [], codes, decimal, length, suc, IfOk, OnOk, ℕ, List};
+ghost use Rattle.std.specs.Prelude.{◌≡◌, ◌<◌, ◌++◌, ◌-◌, [], codes, decimal, IfOk, OnOk, ℕ, List};
 ghost use Rattle.term_tree.specs.declared.script.Script.{Script as AScript};
 ghost use Rattle.term_tree.specs.declared.sort.Sort.{Sort as ASort};
 ghost use Rattle.term_tree.specs.Truth.{as_values};
 ghost use Rattle.horn_shape.specs.Clause.{IsClauseOf, IsLegalScript};
-ghost use Rattle.check_derivation.specs.machinery.Tests.{AreClausesOf};
 ghost use Rattle.answer_text.specs.Names.{spaced, value_text};
 ghost use Rattle.chc_checker.specs.declared.verdict.Verdict.TheVariants.{Wrong};
-ghost use Rattle.chc_checker.specs.Verdicts.{IsNormalScript, Judges};
+ghost use Rattle.chc_checker.specs.Verdicts.{Judges};
 ghost use Rattle.check_input.specs.Texts.{AreSortsFor, AreSortsOf, IsAssertionOf, IsVerdictText, hidden_text, place_text, verdict_text};
 
 use crate::pieces::{push_numeral, push_short, push_sum, push_values, values_at};
 use base::Memory;
 use chc_checker::{Hidden, Place, Verdict};
-use check_derivation::clauses_of;
-use horn_shape::HornClause;
+use horn_shape::{HornClause, HornStop, clause_of};
 use std::alloc::Global;
 use term_tree::{Script, Sort, Value};
 
@@ -130,12 +128,17 @@ fn plain_text(alloc: Global, start: u64, verdict: &Verdict) -> Result<Vec<u8>, M
 }
 
 /// The clause of the assertion of that number, from 1.
-fn clause_at(clauses: &[HornClause], assertion: u32) -> &HornClause
+fn clause_at(alloc: Global, script: &Script, assertion: u32) -> Result<HornClause, Memory>
+    requires legal { IsLegalScript script.now }
     requires from_one { 0 < assertion }
-    requires within { assertion ≤ length clauses.now }
-    ensures { (script : AScript) (index : ℕ) → AreClausesOf script clauses.now → assertion ≡ suc index → IsClauseOf script index result.now }
+    requires there { IsAssertionOf script.now assertion }
+    ensures { IfOk result (λ clause. IsClauseOf script.now (assertion - 1) clause) }
 {
-    &clauses[assertion as usize - 1]
+    match clause_of(alloc, script, assertion as usize - 1) {
+        Ok(clause) => Ok(clause),
+        Err(HornStop::Memory) => Err(Memory),
+        Err(HornStop::NotHorn { .. }) => unreachable!(),
+    }
 }
 
 /// The text of a verdict that tells an instance of the assertion of that number, from 1.
@@ -147,13 +150,10 @@ fn instance_text(
     assertion: u32,
 ) -> Result<Vec<u8>, Memory>
     requires legal { IsLegalScript script.now }
-    requires normal { IsNormalScript script.now }
     requires there { IsAssertionOf script.now assertion }
     ensures { ((sorts : List ASort) → AreSortsOf script.now assertion sorts → AreSortsFor script.now verdict.now sorts) → IfOk result (λ text. IsVerdictText script.now start verdict.now text.items) }
 {
-    let clauses = clauses_of(alloc, script)?;
-    let list = clauses.as_slice();
-    let clause = clause_at(list, assertion);
+    let clause = clause_at(alloc, script, assertion)?;
     let sorts = clause.vars.as_slice();
     let text = verdict_text(alloc, start, sorts, verdict)?;
     Ok(text)
@@ -168,7 +168,6 @@ fn wrong_text(
     place: &Place,
 ) -> Result<Vec<u8>, Memory>
     requires legal { IsLegalScript script.now }
-    requires normal { IsNormalScript script.now }
     requires judges { (nodes : ℕ) × (bytes : List ℕ) × Judges nodes script.now bytes verdict.now }
     requires is { verdict.now ≡ Wrong place.now }
     ensures { IfOk result (λ text. IsVerdictText script.now start verdict.now text.items) }
@@ -197,7 +196,6 @@ pub(crate) fn text_of(
     verdict: &Verdict,
 ) -> Result<Vec<u8>, Memory>
     requires legal { IsLegalScript script.now }
-    requires normal { IsNormalScript script.now }
     requires judges { (nodes : ℕ) × (bytes : List ℕ) × Judges nodes script.now bytes verdict.now }
     ensures { IfOk result (λ text. IsVerdictText script.now start verdict.now text.items) }
 {

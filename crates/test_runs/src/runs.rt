@@ -3,7 +3,7 @@
 //! A report isn't let go, as `main` doesn't let go its own: to let its book go part by part would be proved
 //! anew in each function that holds one.
 
-use chc_cli::{Report, chc_run};
+use chc_cli::{Report, chc_run, exit_number};
 use outside_io::{MemSink, MemSource};
 use std::alloc::Global;
 use std::mem;
@@ -75,7 +75,7 @@ pub fn seen(rt: &impl Abort, alloc: Global, report: Report, sink: &MemSink) -> R
         None => None,
     };
     let ran = Ran {
-        status: report.status,
+        status: exit_number(&report),
         read: Vec::from_slice(alloc, report.read.as_slice()).expect(rt, "memory"),
         is_refused: report.refusal.is_some(),
         entries,

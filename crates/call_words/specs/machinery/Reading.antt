@@ -72,11 +72,3 @@ words_in (Some named) = words_named named.0 named.1
 abbrev pub said : Option ArgMatches → Option Words
 said None = None
 said (Some matches) = words_in (subcommand_rows_of matches)
-
-abbrev pub limits_alone : Option Words → Option Limits
-limits_alone (Some (Solve limits)) = Some limits
-limits_alone _ = None
-
-abbrev pub nodes_alone : Option Words → Option ℕ
-nodes_alone (Some (Check nodes)) = Some nodes
-nodes_alone _ = None

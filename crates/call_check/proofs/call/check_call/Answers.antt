@@ -1,5 +1,6 @@
-use Rattle.std.proofs.Common.{refl, arith, ◌∙◌}
+use Rattle.std.proofs.Common.{refl, ◌∙◌}
 use Rattle.answer_text.specs.Lines.{error_text}
+use Rattle.call_words.specs.declared.status.Status.{Status}
 use Rattle.call_check.specs.Calls.IsMeantByCheck.{verdict, error}
 use Rattle.call_check.proofs.ExactLemmas.{judged_others, judged_system, refused_only, untold, untold_others, untold_system}
 use Rattle.call_check.proofs.PlanLemmas.{appended, input_of, refused_read, refused_long, written_part}
@@ -9,9 +10,9 @@ use Rattle.call_check.proofs.call.check_call.Goals as goal
 pub returns-in-Valid-clause-writes_part : goal.returns-in-Valid-clause-writes_part
 returns-in-Valid-clause-writes_part g c = λ four.
     let plan = c.in-Valid.ensures.plan in
-    let meant = verdict 0 plan.0 plan.1 in
+    let meant = verdict Status.Answered plan.0 plan.1 in
     elim c.match-write_all.branch [
-      | in-Ok w ↦ absurd (omega (arith, w.status-is, four))
+      | in-Ok w ↦ absurd (cc (w.status-is, four))
       | in-Err w ↦
           let part = w.in-Err.ensures.err in
           written_part _ _ _ _ _ _ _ c.in-Valid.text.items c.as_slice.result.now meant c.as_slice.ensures.value part.0 part.1 part.2
@@ -20,9 +21,9 @@ returns-in-Valid-clause-writes_part g c = λ four.
 pub returns-in-Wrong-clause-writes_part : goal.returns-in-Wrong-clause-writes_part
 returns-in-Wrong-clause-writes_part g c = λ four.
     let plan = c.in-Wrong.ensures.plan in
-    let meant = verdict 6 plan.0 plan.1 in
+    let meant = verdict Status.Wrong plan.0 plan.1 in
     elim c.match-write_all-2.branch [
-      | in-Ok-write_all w ↦ absurd (omega (arith, w.status-is, four))
+      | in-Ok-write_all w ↦ absurd (cc (w.status-is, four))
       | in-Err-write_all w ↦
           let part = w.in-Err-write_all.ensures.err in
           written_part _ _ _ _ _ _ _ c.in-Wrong.text.items c.as_slice-in-Wrong.result.now meant c.as_slice-in-Wrong.ensures.value part.0 part.1 part.2
@@ -31,9 +32,9 @@ returns-in-Wrong-clause-writes_part g c = λ four.
 pub returns-in-NotShown-clause-writes_part : goal.returns-in-NotShown-clause-writes_part
 returns-in-NotShown-clause-writes_part g c = λ four.
     let plan = c.in-NotShown.ensures.plan in
-    let meant = verdict 7 plan.0 plan.1 in
+    let meant = verdict Status.NotShown plan.0 plan.1 in
     elim c.match-write_all-3.branch [
-      | in-Ok-write_all-2 w ↦ absurd (omega (arith, w.status-is, four))
+      | in-Ok-write_all-2 w ↦ absurd (cc (w.status-is, four))
       | in-Err-write_all-2 w ↦
           let part = w.in-Err-write_all-2.ensures.err in
           written_part _ _ _ _ _ _ _ c.in-NotShown.text.items c.as_slice-in-NotShown.result.now meant c.as_slice-in-NotShown.ensures.value part.0 part.1 part.2
@@ -90,82 +91,82 @@ returns-in-Overlong-clause-writes_part g c = λ four.
 pub returns-in-Valid-clause-refuses_others : goal.returns-in-Valid-clause-refuses_others
 returns-in-Valid-clause-refuses_others g c =
     let plan = c.in-Valid.ensures.plan in
-    judged_others c.inputs_are_parted_once.ensures.script c.no_script_is_refused.ensures c.args.nodes (g.S.Source.left c.args.source.now) c.in-Valid.read.items 0 _ c.in-Valid.text.items plan.0 plan.1
+    judged_others c.inputs_are_parted_once.ensures.script c.no_script_is_refused.ensures c.args.nodes (g.S.Source.left c.args.source.now) c.in-Valid.read.items Status.Answered _ c.in-Valid.text.items plan.0 plan.1
 
 pub returns-in-Valid-clause-refuses_shapes : goal.returns-in-Valid-clause-refuses_shapes
 returns-in-Valid-clause-refuses_shapes g c =
     let plan = c.in-Valid.ensures.plan in
-    judged_system c.args.nodes (g.S.Source.left c.args.source.now) c.in-Valid.read.items 0 _ c.in-Valid.text.items plan.0 plan.1
+    judged_system c.args.nodes (g.S.Source.left c.args.source.now) c.in-Valid.read.items Status.Answered _ c.in-Valid.text.items plan.0 plan.1
 
 pub returns-in-Wrong-clause-refuses_others : goal.returns-in-Wrong-clause-refuses_others
 returns-in-Wrong-clause-refuses_others g c =
     let plan = c.in-Wrong.ensures.plan in
-    judged_others c.inputs_are_parted_once.ensures.script c.no_script_is_refused.ensures c.args.nodes (g.S.Source.left c.args.source.now) c.in-Wrong.read.items 6 _ c.in-Wrong.text.items plan.0 plan.1
+    judged_others c.inputs_are_parted_once.ensures.script c.no_script_is_refused.ensures c.args.nodes (g.S.Source.left c.args.source.now) c.in-Wrong.read.items Status.Wrong _ c.in-Wrong.text.items plan.0 plan.1
 
 pub returns-in-Wrong-clause-refuses_shapes : goal.returns-in-Wrong-clause-refuses_shapes
 returns-in-Wrong-clause-refuses_shapes g c =
     let plan = c.in-Wrong.ensures.plan in
-    judged_system c.args.nodes (g.S.Source.left c.args.source.now) c.in-Wrong.read.items 6 _ c.in-Wrong.text.items plan.0 plan.1
+    judged_system c.args.nodes (g.S.Source.left c.args.source.now) c.in-Wrong.read.items Status.Wrong _ c.in-Wrong.text.items plan.0 plan.1
 
 pub returns-in-NotShown-clause-refuses_others : goal.returns-in-NotShown-clause-refuses_others
 returns-in-NotShown-clause-refuses_others g c =
     let plan = c.in-NotShown.ensures.plan in
-    judged_others c.inputs_are_parted_once.ensures.script c.no_script_is_refused.ensures c.args.nodes (g.S.Source.left c.args.source.now) c.in-NotShown.read.items 7 _ c.in-NotShown.text.items plan.0 plan.1
+    judged_others c.inputs_are_parted_once.ensures.script c.no_script_is_refused.ensures c.args.nodes (g.S.Source.left c.args.source.now) c.in-NotShown.read.items Status.NotShown _ c.in-NotShown.text.items plan.0 plan.1
 
 pub returns-in-NotShown-clause-refuses_shapes : goal.returns-in-NotShown-clause-refuses_shapes
 returns-in-NotShown-clause-refuses_shapes g c =
     let plan = c.in-NotShown.ensures.plan in
-    judged_system c.args.nodes (g.S.Source.left c.args.source.now) c.in-NotShown.read.items 7 _ c.in-NotShown.text.items plan.0 plan.1
+    judged_system c.args.nodes (g.S.Source.left c.args.source.now) c.in-NotShown.read.items Status.NotShown _ c.in-NotShown.text.items plan.0 plan.1
 
 pub returns-in-Ok-write_all-3-clause-refuses_others : goal.returns-in-Ok-write_all-3-clause-refuses_others
-returns-in-Ok-write_all-3-clause-refuses_others g c = untold_others (g.S.Source.left c.args.source.now) 1 (untold 1 (omega arith) (omega arith))
+returns-in-Ok-write_all-3-clause-refuses_others g c = untold_others (g.S.Source.left c.args.source.now) Status.Refused (untold Status.Refused tt)
 
 pub returns-in-Ok-write_all-3-clause-refuses_shapes : goal.returns-in-Ok-write_all-3-clause-refuses_shapes
-returns-in-Ok-write_all-3-clause-refuses_shapes g c = untold_system (g.S.Source.left c.args.source.now) 1 (untold 1 (omega arith) (omega arith))
+returns-in-Ok-write_all-3-clause-refuses_shapes g c = untold_system (g.S.Source.left c.args.source.now) Status.Refused (untold Status.Refused tt)
 
 pub returns-in-Refused-clause-refuses_others : goal.returns-in-Refused-clause-refuses_others
-returns-in-Refused-clause-refuses_others g c = untold_others (g.S.Source.left c.args.source.now) 4 (untold 4 (omega arith) (omega arith))
+returns-in-Refused-clause-refuses_others g c = untold_others (g.S.Source.left c.args.source.now) Status.WriteFault (untold Status.WriteFault tt)
 
 pub returns-in-Refused-clause-refuses_shapes : goal.returns-in-Refused-clause-refuses_shapes
-returns-in-Refused-clause-refuses_shapes g c = untold_system (g.S.Source.left c.args.source.now) 4 (untold 4 (omega arith) (omega arith))
+returns-in-Refused-clause-refuses_shapes g c = untold_system (g.S.Source.left c.args.source.now) Status.WriteFault (untold Status.WriteFault tt)
 
 pub returns-in-Ok-write_all-4-clause-refuses_others : goal.returns-in-Ok-write_all-4-clause-refuses_others
-returns-in-Ok-write_all-4-clause-refuses_others g c = untold_others (g.S.Source.left c.args.source.now) 1 (untold 1 (omega arith) (omega arith))
+returns-in-Ok-write_all-4-clause-refuses_others g c = untold_others (g.S.Source.left c.args.source.now) Status.Refused (untold Status.Refused tt)
 
 pub returns-in-Ok-write_all-4-clause-refuses_shapes : goal.returns-in-Ok-write_all-4-clause-refuses_shapes
-returns-in-Ok-write_all-4-clause-refuses_shapes g c = untold_system (g.S.Source.left c.args.source.now) 1 (untold 1 (omega arith) (omega arith))
+returns-in-Ok-write_all-4-clause-refuses_shapes g c = untold_system (g.S.Source.left c.args.source.now) Status.Refused (untold Status.Refused tt)
 
 pub returns-in-Overlong-clause-refuses_others : goal.returns-in-Overlong-clause-refuses_others
-returns-in-Overlong-clause-refuses_others g c = untold_others (g.S.Source.left c.args.source.now) 4 (untold 4 (omega arith) (omega arith))
+returns-in-Overlong-clause-refuses_others g c = untold_others (g.S.Source.left c.args.source.now) Status.WriteFault (untold Status.WriteFault tt)
 
 pub returns-in-Overlong-clause-refuses_shapes : goal.returns-in-Overlong-clause-refuses_shapes
-returns-in-Overlong-clause-refuses_shapes g c = untold_system (g.S.Source.left c.args.source.now) 4 (untold 4 (omega arith) (omega arith))
+returns-in-Overlong-clause-refuses_shapes g c = untold_system (g.S.Source.left c.args.source.now) Status.WriteFault (untold Status.WriteFault tt)
 
 pub returns-in-ReadFault-clause-refuses_others : goal.returns-in-ReadFault-clause-refuses_others
-returns-in-ReadFault-clause-refuses_others g c = untold_others (g.S.Source.left c.args.source.now) 3 (untold 3 (omega arith) (omega arith))
+returns-in-ReadFault-clause-refuses_others g c = untold_others (g.S.Source.left c.args.source.now) Status.ReadFault (untold Status.ReadFault tt)
 
 pub returns-in-ReadFault-clause-refuses_shapes : goal.returns-in-ReadFault-clause-refuses_shapes
-returns-in-ReadFault-clause-refuses_shapes g c = untold_system (g.S.Source.left c.args.source.now) 3 (untold 3 (omega arith) (omega arith))
+returns-in-ReadFault-clause-refuses_shapes g c = untold_system (g.S.Source.left c.args.source.now) Status.ReadFault (untold Status.ReadFault tt)
 
 pub returns-in-Ok-write_all-3-clause-judges_scripts : goal.returns-in-Ok-write_all-3-clause-judges_scripts
 returns-in-Ok-write_all-3-clause-judges_scripts g c =
     let plan = c.in-Refused.ensures.plan in
     let left = g.S.Source.left c.args.source.now in
-    refused_only left c.in-Refused.refusal 1 (input_of left c.in-Refused.read.items c.in-Refused.refusal plan.1 plan.0)
+    refused_only left c.in-Refused.refusal Status.Refused (input_of left c.in-Refused.read.items c.in-Refused.refusal plan.1 plan.0)
 
 pub returns-in-Ok-write_all-4-clause-judges_scripts : goal.returns-in-Ok-write_all-4-clause-judges_scripts
-returns-in-Ok-write_all-4-clause-judges_scripts g c = refused_only (g.S.Source.left c.args.source.now) c.in-Overlong.refusal 1 c.in-Overlong.ensures.plan.1
+returns-in-Ok-write_all-4-clause-judges_scripts g c = refused_only (g.S.Source.left c.args.source.now) c.in-Overlong.refusal Status.Refused c.in-Overlong.ensures.plan.1
 
 pub returns-clause-refuses_others : goal.returns-clause-refuses_others
 returns-clause-refuses_others g c =
     elim c.match-write_all-6.branch [
-      | in-Ok-write_all-5 w ↦ rw w.status-is (untold_others (g.S.Source.left c.args.source.now) 5 (untold 5 (omega arith) (omega arith)))
-      | in-Err-write_all-5 w ↦ rw w.status-is (untold_others (g.S.Source.left c.args.source.now) 4 (untold 4 (omega arith) (omega arith)))
+      | in-Ok-write_all-5 w ↦ rw w.status-is (untold_others (g.S.Source.left c.args.source.now) Status.Memory (untold Status.Memory tt))
+      | in-Err-write_all-5 w ↦ rw w.status-is (untold_others (g.S.Source.left c.args.source.now) Status.WriteFault (untold Status.WriteFault tt))
     ]
 
 pub returns-clause-refuses_shapes : goal.returns-clause-refuses_shapes
 returns-clause-refuses_shapes g c =
     elim c.match-write_all-6.branch [
-      | in-Ok-write_all-5 w ↦ rw w.status-is (untold_system (g.S.Source.left c.args.source.now) 5 (untold 5 (omega arith) (omega arith)))
-      | in-Err-write_all-5 w ↦ rw w.status-is (untold_system (g.S.Source.left c.args.source.now) 4 (untold 4 (omega arith) (omega arith)))
+      | in-Ok-write_all-5 w ↦ rw w.status-is (untold_system (g.S.Source.left c.args.source.now) Status.Memory (untold Status.Memory tt))
+      | in-Err-write_all-5 w ↦ rw w.status-is (untold_system (g.S.Source.left c.args.source.now) Status.WriteFault (untold Status.WriteFault tt))
     ]

@@ -1,5 +1,6 @@
 use Rattle.std.proofs.Common.{◌≡◌, ℕ, List, refl, subst}
 use Rattle.answer_text.specs.Lines.{error_text}
+use Rattle.call_words.specs.declared.status.Status.{Status}
 use Rattle.call_check.specs.Calls.{IsJudged, IsRefusal}
 use Rattle.call_check.proofs.plan.plan_of.Goals as goal
 
@@ -12,14 +13,14 @@ returns-in-Ok-Refused-clause-plan c =
 pub returns-in-Ok-Valid-clause-plan : goal.returns-in-Ok-Valid-clause-plan
 returns-in-Ok-Valid-clause-plan c =
     let arm = c.in-Ok-Valid in
-    (subst (λ (bytes : List ℕ). IsJudged c.args.nodes bytes 0 arm.text.items) c.as_slice.ensures.value (rw arm.field-0-is at arm.ensures), refl)
+    (subst (λ (bytes : List ℕ). IsJudged c.args.nodes bytes Status.Answered arm.text.items) c.as_slice.ensures.value (rw arm.field-0-is at arm.ensures), refl)
 
 pub returns-in-Ok-Wrong-clause-plan : goal.returns-in-Ok-Wrong-clause-plan
 returns-in-Ok-Wrong-clause-plan c =
     let arm = c.in-Ok-Wrong in
-    (subst (λ (bytes : List ℕ). IsJudged c.args.nodes bytes 6 arm.text.items) c.as_slice.ensures.value (rw arm.field-0-is at arm.ensures), refl)
+    (subst (λ (bytes : List ℕ). IsJudged c.args.nodes bytes Status.Wrong arm.text.items) c.as_slice.ensures.value (rw arm.field-0-is at arm.ensures), refl)
 
 pub returns-in-Ok-NotShown-clause-plan : goal.returns-in-Ok-NotShown-clause-plan
 returns-in-Ok-NotShown-clause-plan c =
     let arm = c.in-Ok-NotShown in
-    (subst (λ (bytes : List ℕ). IsJudged c.args.nodes bytes 7 arm.text.items) c.as_slice.ensures.value (rw arm.field-0-is at arm.ensures), refl)
+    (subst (λ (bytes : List ℕ). IsJudged c.args.nodes bytes Status.NotShown arm.text.items) c.as_slice.ensures.value (rw arm.field-0-is at arm.ensures), refl)

@@ -1,7 +1,8 @@
-use Rattle.std.proofs.Common.{refl, sym, arith, ◌∙◌, ap}
+use Rattle.std.proofs.Common.{refl, sym, ◌∙◌, ap}
 use Rattle.std.specs.Prelude.{None, Some, ℕ, ◌++◌, codes}
 use Rattle.call_gen.specs.Summaries.IsMeantToSum.{summary}
-use Rattle.call_gen.proofs.CallLemmas.{appended, not_other, only_five, part_of, want_book, want_memory, want_part}
+use Rattle.call_words.specs.declared.status.Status.{Status}
+use Rattle.call_gen.proofs.CallLemmas.{appended, not_other, only_memory, part_of, want_book, want_memory, want_part}
 use Rattle.call_gen.proofs.call.answered.Goals as goal
 
 pub returns-in-Ok-clause-few : goal.returns-in-Ok-clause-few
@@ -14,7 +15,7 @@ returns-in-Ok-clause-answered g c = λ zero.
       book_is = refl;
       text = c.args.text.items;
       summary = c.requires;
-      held = appended c.args.text.items _ _ _ c.as_slice.ensures.value (c.status_of-status.ensures.whole (not_other c.status_of-status.result 0 zero (λ e. omega (arith, e)))).1;
+      held = appended c.args.text.items _ _ _ c.as_slice.ensures.value (c.status_of-status.ensures.whole (not_other c.status_of-status.result Status.Answered zero (λ e. absurd (cc)))).1;
     }
 
 pub returns-in-Ok-clause-writes_part : goal.returns-in-Ok-clause-writes_part
@@ -23,14 +24,14 @@ returns-in-Ok-clause-writes_part g c = λ four.
 
 pub returns-in-Ok-clause-memory : goal.returns-in-Ok-clause-memory
 returns-in-Ok-clause-memory g c = λ five.
-    let zero = (c.status_of-status.ensures.whole (not_other c.status_of-status.result 5 five (λ e. omega (arith, e)))).0 in
-    absurd (omega (arith, zero, five))
+    let zero = (c.status_of-status.ensures.whole (not_other c.status_of-status.result Status.Memory five (λ e. absurd (cc)))).0 in
+    absurd (cc (zero, five))
 
 pub returns-in-Err-clause-few : goal.returns-in-Err-clause-few
 returns-in-Err-clause-few g c = λ four five. absurd (five (c.wanting.ensures.statuses four))
 
 pub returns-in-Err-clause-answered : goal.returns-in-Err-clause-answered
-returns-in-Err-clause-answered g c = λ zero. absurd (only_five c.wanting.result.status 0 c.wanting.ensures.statuses zero (λ e. omega (arith, e)) (λ e. omega (arith, e)))
+returns-in-Err-clause-answered g c = λ zero. absurd (only_memory c.wanting.result.status Status.Answered c.wanting.ensures.statuses zero (λ e. absurd (cc)) (λ e. absurd (cc)))
 
 pub returns-in-Err-clause-book : goal.returns-in-Err-clause-book
 returns-in-Err-clause-book g c = want_book c.wanting.result.book c.wanting.ensures.book None None _

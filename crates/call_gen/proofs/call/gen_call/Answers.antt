@@ -1,13 +1,14 @@
-use Rattle.std.proofs.Common.{refl, sym, arith, ◌∙◌, ap}
+use Rattle.std.proofs.Common.{refl, sym, ◌∙◌, ap}
 use Rattle.std.specs.Prelude.{None, Some, ℕ, ◌++◌, codes}
-use Rattle.call_gen.proofs.CallLemmas.{only_five, want_book, want_memory, want_part}
+use Rattle.call_words.specs.declared.status.Status.{Status}
+use Rattle.call_gen.proofs.CallLemmas.{only_memory, want_book, want_memory, want_part}
 use Rattle.call_gen.proofs.call.gen_call.Goals as goal
 
 pub returns-in-Err-clause-few : goal.returns-in-Err-clause-few
 returns-in-Err-clause-few g c = λ four five. absurd (five (c.wanting.ensures.statuses four))
 
 pub returns-in-Err-clause-answered : goal.returns-in-Err-clause-answered
-returns-in-Err-clause-answered g c = λ zero. absurd (only_five c.wanting.result.status 0 c.wanting.ensures.statuses zero (λ e. omega (arith, e)) (λ e. omega (arith, e)))
+returns-in-Err-clause-answered g c = λ zero. absurd (only_memory c.wanting.result.status Status.Answered c.wanting.ensures.statuses zero (λ e. absurd (cc)) (λ e. absurd (cc)))
 
 pub returns-in-Err-clause-book : goal.returns-in-Err-clause-book
 returns-in-Err-clause-book g c = want_book c.wanting.result.book c.wanting.ensures.book None None _

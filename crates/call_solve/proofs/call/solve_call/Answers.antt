@@ -1,4 +1,4 @@
-use Rattle.std.proofs.Common.{◌++◌, ℕ, ap, arith, refl, ◌∙◌}
+use Rattle.std.proofs.Common.{◌++◌, ℕ, ap, refl, ◌∙◌}
 use Rattle.std.specs.Prelude.{Some, None, codes}
 use Rattle.answer_text.specs.Lines.{error_text, level_text}
 use Rattle.answer_text.specs.declared.answer.UnknownCause.TheVariants.{NoMemory}
@@ -23,7 +23,7 @@ returns-in-Answered-clause-writes_part g c = λ four.
     let plan = c.in-Answered.ensures.plan in
     let meant = answer c.in-Answered.book refl plan.0 plan.1 in
     elim c.match-write_all.branch [
-      | in-Ok w ↦ absurd (omega (arith, w.status-is, four))
+      | in-Ok w ↦ absurd (cc (w.status-is, four))
       | in-Err w ↦
           let part = w.in-Err.ensures.err in
           written_part _ _ _ _ _ _ _ _ c.in-Answered.text.items c.as_slice.result.now meant c.as_slice.ensures.value part.0 part.1 part.2
@@ -34,7 +34,7 @@ returns-in-Unfinished-clause-writes_part g c = λ four.
     let meant = memory refl in
     let same = c.unfinished_lines-length.ensures.text ∙ ap (λ (l : ℕ). codes "unknown\n" ++ level_text l NoMemory) c.level.ensures.is in
     elim c.match-write_all-2.branch [
-      | in-Ok-write_all w ↦ absurd (omega (arith, w.status-is, four))
+      | in-Ok-write_all w ↦ absurd (cc (w.status-is, four))
       | in-Err-write_all w ↦
           let part = w.in-Err-write_all.ensures.err in
           written_part _ _ _ _ _ _ _ _ (wanting_text (Some c.in-Unfinished.book)) _ meant same part.0 part.1 part.2
@@ -46,7 +46,7 @@ returns-in-Unfinished-clause-memory g c = λ five.
     elim c.match-write_all-2.branch [
       | in-Ok-write_all w ↦ appended (wanting_text (Some c.in-Unfinished.book)) _ (g.K.Sink.held c.args.sink.now) (g.K.Sink.held c.write_all-in-Unfinished.new.sink)
           same w.in-Ok-write_all.ensures.ok
-      | in-Err-write_all w ↦ absurd (omega (arith, w.status-is, five))
+      | in-Err-write_all w ↦ absurd (cc (w.status-is, five))
     ]
 
 pub returns-in-Ok-write_all-2-clause-refused : goal.returns-in-Ok-write_all-2-clause-refused
@@ -99,7 +99,7 @@ pub returns-clause-writes_part : goal.returns-clause-writes_part
 returns-clause-writes_part g c = λ four.
     let meant = memory refl in
     elim c.match-write_all-5.branch [
-      | in-Ok-write_all-4 w ↦ absurd (omega (arith, w.status-is, four))
+      | in-Ok-write_all-4 w ↦ absurd (cc (w.status-is, four))
       | in-Err-write_all-4 w ↦
           let part = w.in-Err-write_all-4.ensures.err in
           written_part _ _ _ _ _ _ _ _ (wanting_text None) c.memory_line.result.now meant c.memory_line.ensures part.0 part.1 part.2

@@ -6,9 +6,6 @@ use Rattle.check_input.proofs.whole.judged.Goals as goal
 pub check_text-requires-clause-normal : goal.check_text-requires-clause-normal
 check_text-requires-clause-normal c = c.systems_can_be_checked.ensures c.args.checked.now c.requires.accepted.0 c.requires.accepted.1
 
-pub text_of-requires-clause-normal : goal.text_of-requires-clause-normal
-text_of-requires-clause-normal c = c.systems_can_be_checked.ensures c.args.checked.now c.requires.accepted.0 c.requires.accepted.1
-
 pub text_of-requires-clause-judges : goal.text_of-requires-clause-judges
 text_of-requires-clause-judges c = (c.args.nodes, _, c.in_ok-verdict.ensures)
 
