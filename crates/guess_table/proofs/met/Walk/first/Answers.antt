@@ -1,11 +1,6 @@
-use Rattle.std.proofs.Common.{◌≤◌, ◌∙◌, ap, sym, arith, take, length}
-use Rattle.std.proofs.lemmas.List.{length-take-le, take_all}
+use Rattle.std.proofs.Common.{◌≤◌, sym, arith, length}
+use Rattle.std.proofs.lemmas.List.{length-take-le}
 use Rattle.guess_table.proofs.met.Walk.first.Goals as goal
-
-pub returns-then-all-le-MOST_MET : goal.returns-then-all-le-MOST_MET
-returns-then-all-le-MOST_MET c =
-    let few : length c.as_slice-all.result.now ≤ 160 = omega arith in
-    sym (take_all 160 c.as_slice-all.result.now few) ∙ ap (take 160) c.as_slice-all.ensures.value
 
 pub slice_bounds-result-end : goal.slice_bounds-result-end
 slice_bounds-result-end c =
