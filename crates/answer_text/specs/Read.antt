@@ -5,6 +5,7 @@ use Rattle.sexp_read.specs.declared.tree.TextStop.{TextStop}
 use Rattle.sexp_read.specs.Trees.{IsReading}
 use Rattle.term_tree.specs.declared.script.Pred.{Pred}
 use Rattle.term_tree.specs.declared.definition.Definition.{Definition}
+use Rattle.term_tree.specs.Arena.{IsArena}
 use Rattle.term_check.specs.Term.{IsTermAt}
 use Rattle.answer_text.specs.declared.answer.Answer.{Answer}
 use Rattle.answer_text.specs.declared.answer.Answer.TheVariants.{Sat, Unsat}
@@ -25,10 +26,12 @@ Adds {A} outcome old new (Ok done) = (a : A) × (outcome ≡ Ok a) × (new ≡ o
 Adds outcome old new (Err OutOfMemory) = Unit {0}
 Adds outcome old new (Err (BadAnswer offset)) = outcome ≡ Err offset
 
--- the definition has the parameters, and the term in an arena of its own
+-- the definition has the parameters, and the term in an arena of its own: a node's number tells a term only where each stands after
+-- its parts
 pub record IsDefinition (d : Defined) (definition : Definition) : Type 0 where
   pub pred : definition.pred ≡ d.pred
   pub params : definition.params ≡ map (λ p. p.0) d.params
+  pub arena : IsArena definition.terms.nodes
   pub term : IsTermAt definition.terms [] d.body definition.body.0
 
 abbrev pub AreDefinitions : List Defined → List Definition → Type 0

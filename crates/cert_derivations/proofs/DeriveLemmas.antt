@@ -13,7 +13,9 @@ use Rattle.clause_form.specs.System.{Clauses}
 use Rattle.book_rules.specs.State.{Fact}
 use Rattle.answer_text.specs.declared.answer.Line.{Line}
 use Rattle.cert_derivations.specs.Steps.{AreClosed, as_atom, script_step}
-use Rattle.cert_derivations.proofs.Public.{facts_derive, last_step, system_made}
+use Rattle.cert_derivations.proofs.HeightLemmas.{last_step}
+use Rattle.cert_derivations.proofs.StepLemmas.{facts_derive}
+use Rattle.cert_derivations.proofs.SystemLemmas.{system_made}
 use Rattle.cert_derivations.specs.Claims.{AreFactsOf, DeriveFalse, EndInFalse}
 use Rattle.cert_derivations.specs.Lines.{fact_lines, lines_of}
 

@@ -22,7 +22,8 @@ use Rattle.answer_text.specs.AnswerTexts.{answer_text}
 use Rattle.answer_text.specs.Printable.{IsAnswerText, IsConclusion, IsShort, IsPrintableStep}
 use Rattle.cert_derivations.specs.Steps.{script_steps}
 use Rattle.cert_derivations.proofs.AtomLemmas.{IsSortedHead, conclusion_sorted}
-use Rattle.cert_derivations.proofs.Public.{all_steps, facts_derive, system_made}
+use Rattle.cert_derivations.proofs.StepLemmas.{all_steps, facts_derive}
+use Rattle.cert_derivations.proofs.SystemLemmas.{system_made}
 use Rattle.cert_derivations.specs.Claims.{AreFactsOf, EndInFalse}
 use Rattle.cert_derivations.specs.Lines.{fact_lines, line_head, line_of, lines_from}
 use Rattle.cert_derivations.proofs.LineLemmas.{concluded-at}

@@ -1,13 +1,14 @@
 -- The terms of a generated script stand in an arena whose nodes are the generated ones.
-use Rattle.std.proofs.Common.{ℕ, pos, ◌≡◌, ◌≤◌, List, [], ◌∷◌, ◌++◌, refl, sym, subst}
+use Rattle.std.proofs.Common.{ℕ, pos, ◌≡◌, ◌+◌, ◌≤◌, List, [], ◌∷◌, ◌++◌, get_or, true, refl, sym, subst, arith}
 use Rattle.term_tree.specs.declared.sort.Sort.TheVariants.{Int as IntSort}
 use Rattle.term_tree.specs.declared.node.TermId.{TermId}
 use Rattle.term_tree.specs.declared.node.Node.{Node}
 use Rattle.term_tree.specs.declared.node.Node.TheVariants.{Num, Var, Op, Pred as Applied}
 use Rattle.term_tree.specs.declared.script.Script.{Script}
-use Rattle.term_tree.specs.Arena.{Arena}
+use Rattle.term_tree.specs.Arena.{Arena, IsArena, has_parts_below}
 use Rattle.term_check.specs.Term.{Term, Terms, IsNodeAt, IsTermAt, AreTermsAt}
 use Rattle.sort_check.specs.Commands.Command.{SetLogic, Declare, Assert, CheckSat}
+use Rattle.clause_gen.proofs.OrderLemmas.{below_at}
 use Rattle.clause_gen.specs.Generated.{children, generated_preds, generated_script, ids, leaves, parent, query, root_number}
 use Rattle.gen_text.specs.Texts.{generated_text}
 use Rattle.gen_laws.specs.Spelling.{SpellsScript}
@@ -68,6 +69,10 @@ module _ (low high depth start : ℕ) (text : List ℕ) (w : IsWritten low high 
   abbrev arena : Arena
   arena = record { nodes = nodes; offsets = offsets }
 
+  -- each node stands after its parts
+  in_order : IsArena nodes
+  in_order i d within = let from : 0 + i ≡ i = omega arith in subst (λ (k : ℕ). has_parts_below k (get_or nodes i d) ≡ true) from (below_at 0 nodes i d within refl)
+
   first : IsTermAt arena [] w.leaves 14
   first =
       subst (λ (u : Term). IsTermAt arena [] u 14) (sym w.leaves_fit.2) (
@@ -107,6 +112,7 @@ spells depth seed most =
       read = script;
       is_script = w.is_script;
       spelled = record {
+        arena = in_order (low_of depth seed) (high_of depth seed) depth (root_number seed) (generated_text depth seed) w;
         preds = refl;
         asserts = (
           _,

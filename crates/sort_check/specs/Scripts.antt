@@ -6,7 +6,7 @@ use Rattle.sexp_read.specs.declared.tree.Tree.{Tree}
 use Rattle.sexp_read.specs.declared.tree.TextStop.{TextStop}
 use Rattle.sexp_read.specs.declared.tree.TextStop.TheVariants.{BadByte as BadByteStop, Unclosed as UnclosedStop, Deep as DeepStop}
 use Rattle.sexp_read.specs.Trees.{IsReading}
-use Rattle.term_tree.specs.Arena.{Arena}
+use Rattle.term_tree.specs.Arena.{Arena, IsArena}
 use Rattle.term_tree.specs.declared.script.Assertion.{Assertion}
 use Rattle.term_tree.specs.declared.script.Script.{Script}
 use Rattle.term_tree.specs.declared.refusal.Refusal.{Refusal}
@@ -76,8 +76,9 @@ AreAsserted terms number assertions (CheckSat ∷ commands) = AreAsserted terms 
 AreAsserted terms number assertions (GetModel ∷ commands) = AreAsserted terms (number + 1) assertions commands
 AreAsserted terms number assertions (Exit ∷ commands) = AreAsserted terms (number + 1) assertions commands
 
--- the script that commands spell
+-- the script that commands spell; its terms are named by number, which tells terms only where each node stands after its parts
 pub record IsScriptOf (commands : List Command) (script : Script) : Type 0 where
+  pub arena : IsArena script.terms.nodes
   pub preds : script.preds ≡ declared commands
   pub asserts : AreAsserted script.terms 0 script.asserts commands
 
