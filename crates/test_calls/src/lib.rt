@@ -7,7 +7,7 @@ mod added_flags;
 #[cfg(test)]
 mod definitions;
 #[cfg(test)]
-mod derivations;
+mod derivation_verdicts;
 #[cfg(test)]
 mod generated_texts;
 #[cfg(test)]
