@@ -17,7 +17,7 @@ use Rattle.answer_text.specs.declared.answer.Answer.{Answer}
 use Rattle.answer_text.specs.declared.answer.Answer.TheVariants.{Sat, Unsat, Unknown}
 use Rattle.answer_text.specs.Read.{AreDefinitions, IsReply, Spells}
 use Rattle.answer_text.specs.ReadBack.{AreSameDefinitions, IsSameModel}
-use Rattle.answer_text.specs.Reading.{Defined, Reply, reply}
+use Rattle.answer_text.specs.Reading.{Defined, Reply}
 use Rattle.answer_text.specs.Reading.Reply.{model, refutation}
 use Rattle.answer_text.proofs.Public.{same_reply}
 
