@@ -2,7 +2,6 @@
 use Rattle.std.proofs.Common.{◌≡◌, ℕ, suc, cond, ◌+◌, List, [], ◌∷◌, length, map, Bool, true, false, refl, sym, ap, subst, ◌∙◌, arith}
 use Rattle.std.proofs.lemmas.List.{length-map}
 use Rattle.std.specs.Prelude.{Some, Result, Ok, Err, slice_get}
-use Rattle.std.specs.List.{AllByRecursion}
 use Rattle.sexp_read.specs.declared.tree.Tree.{Tree}
 use Rattle.term_tree.specs.declared.sort.Sort.{Sort}
 use Rattle.term_tree.specs.declared.sort.Sort.TheVariants.{Int as IntSort, Bool as BoolSort}
@@ -28,9 +27,6 @@ use Rattle.answer_text.specs.ReadBack.{AreSameDefinitions}
 use Rattle.answer_laws.proofs.FormulaLemmas.{IsRight, AreRight, reply_right}
 use Rattle.answer_laws.proofs.PartnerLemmas.{short_divisors}
 
-abbrev pub IsInArena : Definition → Type 0
-IsInArena d = IsArena d.terms.nodes
-
 params_are : (first : ℕ) (ps : List (Name × Sort)) → AreParameters first (params_from first ps) (map (λ p. p.1) ps)
 params_are first [] = tt
 params_are first (p ∷ ps) = (refl, params_are (first + 1) ps)
@@ -55,9 +51,10 @@ PlainLaw = (text : List ℕ) (scope : SpellingScope) (variables : List Sort) (tr
 
 module _ (plain_law : PlainLaw) (text : List ℕ) (preds : List Pred) where
   -- the term of a definition that is read is legal over the sorts of the arguments, and plain
-  legal_plain : (d : Defined) (right : IsRight text preds d) (e : Definition) → IsDefinition d e → IsInArena e → (sorts : List Sort) → sorts_of preds d.pred ≡ sorts
+  legal_plain : (d : Defined) (right : IsRight text preds d) (e : Definition) → IsDefinition d e → (sorts : List Sort) → sorts_of preds d.pred ≡ sorts
       → IsLegal [] e.terms.nodes sorts BoolSort e.body.0 × IsPlain e.terms.nodes e.body.0
-  legal_plain d right e is arena sorts same =
+  legal_plain d right e is sorts same =
+      let arena = is.arena in
       let scope : SpellingScope = scope_of [] (params_from 0 d.params) false in
       let s = bool_is (spelled text scope (length d.params) right.tree) d.body right.body in
       let variables : List Sort = map (λ p. p.1) d.params in
@@ -71,28 +68,28 @@ module _ (plain_law : PlainLaw) (text : List ℕ) (preds : List Pred) where
 
   formed_from : (number : ℕ) (rest : List Pred) (ds : List Definition) (rs : List Defined) (es : List Definition)
       → ((k : ℕ) (p : Pred) → slice_get rest k ≡ Some p → slice_get preds (number + k) ≡ Some p)
-      → AreRight text preds number rest rs → AreDefinitions rs es → AllByRecursion IsInArena es → AreFormulas rest ds → AreSameDefinitions ds es → AreFormulas rest es
-  formed_from number [] ds rs es stand right are arenas formed same = tt
-  formed_from number (p ∷ rest) ds [] es stand right are arenas formed same = absurd right
-  formed_from number (p ∷ rest) ds (r ∷ rs) [] stand right are arenas formed same = absurd are
-  formed_from number (p ∷ rest) [] (r ∷ rs) (e ∷ es) stand right are arenas formed same = absurd same
-  formed_from number (p ∷ rest) (d ∷ ds) (r ∷ rs) (e ∷ es) stand right are arenas formed same =
+      → AreRight text preds number rest rs → AreDefinitions rs es → AreFormulas rest ds → AreSameDefinitions ds es → AreFormulas rest es
+  formed_from number [] ds rs es stand right are formed same = tt
+  formed_from number (p ∷ rest) ds [] es stand right are formed same = absurd right
+  formed_from number (p ∷ rest) ds (r ∷ rs) [] stand right are formed same = absurd are
+  formed_from number (p ∷ rest) [] (r ∷ rs) (e ∷ es) stand right are formed same = absurd same
+  formed_from number (p ∷ rest) (d ∷ ds) (r ∷ rs) (e ∷ es) stand right are formed same =
       let here : slice_get preds number ≡ Some p = ap (λ (k : ℕ). slice_get preds k) (let n : number ≡ number + 0 = omega arith in n) ∙ stand 0 p refl in
       let sorts : sorts_of preds r.pred ≡ p.args = ap (sorts_of preds) right.0 ∙ ap sorts_in here in
-      let both = legal_plain r right.1 e are.0 arenas.0 p.args sorts in (
+      let both = legal_plain r right.1 e are.0 p.args sorts in (
         record {
-          arena = arenas.0;
+          arena = are.0.arena;
           legal = both.0;
           plain = both.1;
           divisors = short_divisors d.terms.nodes e.terms.nodes formed.0.arena d.body.0 e.body.0 same.0.term formed.0.divisors;
         },
-        formed_from (number + 1) rest ds rs es (λ k q there. ap (λ (i : ℕ). slice_get preds i) (let n : number + 1 + k ≡ number + suc k = omega arith in n) ∙ stand (suc k) q there) right.2 are.1 arenas.1 formed.1 same.1,
+        formed_from (number + 1) rest ds rs es (λ k q there. ap (λ (i : ℕ). slice_get preds i) (let n : number + 1 + k ≡ number + suc k = omega arith in n) ∙ stand (suc k) q there) right.2 are.1 formed.1 same.1,
       )
 
   -- definitions that are read as the same ones as formulas are formulas
-  pub read_formed : (ds es : List Definition) → AreFormulas preds ds → AreSameDefinitions ds es → AllByRecursion IsInArena es → Spells preds text (Sat es) → AreFormulas preds es
-  read_formed ds es formed same arenas spells = by spells.claimed spells.spelled spells.is
+  pub read_formed : (ds es : List Definition) → AreFormulas preds ds → AreSameDefinitions ds es → Spells preds text (Sat es) → AreFormulas preds es
+  read_formed ds es formed same spells = by spells.claimed spells.spelled spells.is
     where
       by : (claimed : Reply) → reply text spells.stop preds spells.trees ≡ Ok claimed → IsReply claimed (Sat es) → AreFormulas preds es
-      by (model rs) is are = formed_from 0 preds ds rs es (λ k p there. ap (λ (i : ℕ). slice_get preds i) (let n : 0 + k ≡ k = omega arith in n) ∙ there) (reply_right text preds spells.stop spells.trees rs is) are arenas formed same
+      by (model rs) is are = formed_from 0 preds ds rs es (λ k p there. ap (λ (i : ℕ). slice_get preds i) (let n : 0 + k ≡ k = omega arith in n) ∙ there) (reply_right text preds spells.stop spells.trees rs is) are formed same
       by (refutation lines) is are = absurd are

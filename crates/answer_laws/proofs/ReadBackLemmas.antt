@@ -18,8 +18,9 @@ use Rattle.answer_text.specs.ReadBack.{AreSameDefinitions, IsReadAs, IsStored}
 use Rattle.answer_text.proofs.Public.{read_as}
 use Rattle.answer_laws.specs.Texts.{IsSatAnswer}
 use Rattle.answer_laws.proofs.DeclaredLemmas.{declared_law}
-use Rattle.answer_laws.proofs.FormedLemmas.{IsInArena, PlainLaw, read_formed}
+use Rattle.answer_laws.proofs.FormedLemmas.{PlainLaw, read_formed}
 use Rattle.answer_laws.proofs.NameLemmas.{HasFewArguments}
+use Rattle.answer_laws.proofs.OneModelLemmas.{one_model_law}
 
 -- definitions by formulas, of predicates with few arguments, are such that their text is read back
 stored : (number : ℕ) (preds : List Pred) (ds : List Definition) → DefinesEach number preds ds → AreFormulas preds ds → AllByRecursion HasFewArguments preds → AllByRecursion IsStored ds
@@ -60,10 +61,15 @@ module _ (same_value : (nodes others : List Node) (id other : ℕ) (env : Enviro
 
   module _ (still : (script : Script) (old new : List Definition) → AgreeEverywhere (interpretation_of old) (interpretation_of new) → DefinesEach 0 script.preds new → AreFormulas script.preds new
       → IsSolution script old → IsSolution script new) where
-    pub solved : PlainLaw → (bytes printed : List ℕ) → (h : IsSatAnswer bytes printed) → (es : List Definition) → Spells h.script.preds printed (Sat es) → AllByRecursion IsInArena es → IsSolution h.script es
-    solved plain_law bytes printed h es spells arenas =
-        let same = (read_back bytes printed h).same (Sat es) spells in
-        let preds = h.script.preds in
-        let ds = h.definitions in
-        let formed = read_formed plain_law printed preds ds es h.solution.formed same arenas spells in
-        still h.script ds es (agree 0 preds ds es h.solution.defined h.solution.formed formed same) (defines_same 0 preds ds es h.solution.defined same) formed h.solution
+    -- what is read as the same definitions as a solution is one
+    solved_by : PlainLaw → (script : Script) (text : List ℕ) (ds es : List Definition) → IsSolution script ds → AreSameDefinitions ds es → Spells script.preds text (Sat es) → IsSolution script es
+    solved_by plain_law script text ds es solution same spells =
+        let preds = script.preds in
+        let formed = read_formed plain_law text preds ds es solution.formed same spells in
+        still script ds es (agree 0 preds ds es solution.defined solution.formed formed same) (defines_same 0 preds ds es solution.defined same) formed solution
+
+    pub solved : PlainLaw → (bytes printed : List ℕ) → (h : IsSatAnswer bytes printed) → (es : List Definition) → Spells h.script.preds printed (Sat es) → IsSolution h.script es
+    solved plain_law bytes printed h es spells = solved_by plain_law h.script printed h.definitions es h.solution ((read_back bytes printed h).same (Sat es) spells) spells
+
+    pub all_solved : PlainLaw → (script : Script) (text : List ℕ) (ds es : List Definition) → IsSolution script ds → Spells script.preds text (Sat ds) → Spells script.preds text (Sat es) → IsSolution script es
+    all_solved plain_law script text ds es solution one two = solved_by plain_law script text ds es solution (one_model_law script.preds text ds (Sat es) one two) two

@@ -2,6 +2,7 @@
 
 ghost use Rattle.std.specs.Prelude.{◌≡◌, ℕ, List};
 ghost use Rattle.std.specs.List.{AllByRecursion};
+ghost use Rattle.term_tree.specs.declared.script.Pred.{Pred};
 ghost use Rattle.term_tree.specs.declared.script.Script.{Script};
 ghost use Rattle.term_tree.specs.declared.definition.Definition.{Definition};
 ghost use Rattle.sort_check.specs.Commands.{Command};
@@ -41,6 +42,23 @@ pub fn printed_models_are_solutions()
     ensures same { (bytes printed : List ℕ) → (h : IsSatAnswer bytes printed) → (answer : Answer) → Spells h.script.preds printed answer → IsSameModel h.definitions answer }
     ensures solution { (bytes printed : List ℕ) → (h : IsSatAnswer bytes printed) → (definitions : List Definition) → Spells h.script.preds printed (Sat definitions)
         → AllByRecursion (λ d. IsArena d.terms.nodes) definitions → IsSolution h.script definitions }
+{
+    same_tree_same_value();
+    same_values_same_solution();
+    spelled_formulas_are_legal();
+}
+
+/// A text that spells definitions spells no derivation, and whatever definitions it spells are the same:
+/// of the same predicates, with the same parameters, by terms that are equal as trees.
+pub fn one_model()
+    ensures { (preds : List Pred) (text : List ℕ) (definitions : List Definition) (answer : Answer) → Spells preds text (Sat definitions)
+        → Spells preds text answer → IsSameModel definitions answer }
+{}
+
+/// Where a text spells a solution of a script, whatever definitions it spells are a solution.
+pub fn texts_of_solutions_spell_solutions()
+    ensures { (script : Script) (text : List ℕ) (definitions others : List Definition) → IsSolution script definitions
+        → Spells script.preds text (Sat definitions) → Spells script.preds text (Sat others) → IsSolution script others }
 {
     same_tree_same_value();
     same_values_same_solution();

@@ -5,6 +5,6 @@
 mod laws;
 
 pub use laws::{
-    printed_models_are_solutions, sat_answers_are_read_back, scripts_have_names,
-    unsat_answers_are_read_back,
+    one_model, printed_models_are_solutions, sat_answers_are_read_back, scripts_have_names,
+    texts_of_solutions_spell_solutions, unsat_answers_are_read_back,
 };
