@@ -1,20 +1,19 @@
 -- The parts of each term that a text's commands assert start in the order of the text.
 use Rattle.std.proofs.Common.{◌≡◌, ℕ, ◌+◌, List, [], ◌∷◌, ◌++◌, length, Bool, true, false, refl, ap, sym, ◌∙◌, subst}
-use Rattle.std.specs.Prelude.{Option, Some, None, Result, Ok, Err, not, ◌&&◌, if◌then◌else◌, codes}
+use Rattle.std.specs.Prelude.{Option, Some, Result, Ok, Err, not, ◌&&◌, if◌then◌else◌, codes}
 use Rattle.std.specs.List.{list_all, list_any}
 use Rattle.sexp_read.specs.declared.tree.Tree.{Tree, Leaf, List', items-the_row-Tree, items_hidden-the_row-Tree-0}
-use Rattle.sexp_read.specs.declared.tree.Tree.TheViews.{List as ListTree}
 use Rattle.sexp_read.specs.declared.tree.TextStop.{TextStop}
 use Rattle.sexp_read.specs.Trees.{IsTree, leaf, list, AreTrees, none as no_trees, more as more_trees}
 use Rattle.term_tree.specs.declared.refusal.Kind.TheVariants.{CommandForm}
 use Rattle.term_tree.specs.declared.refusal.Refusal.{Refusal}
 use Rattle.term_check.specs.declared.part.Fault.{Fault}
 use Rattle.term_check.specs.Rules.{fault, unless}
-use Rattle.term_check.specs.Spelling.{Spelled, ◌>>=◌, is_word, scope_of, spelled}
+use Rattle.term_check.specs.Spelling.{◌>>=◌, is_word, scope_of, spelled}
 use Rattle.term_check.proofs.Public.{bind_ok, unless_ok}
 use Rattle.sort_check.specs.Commands.{Command, alone_fault, assert_fault, assert_term, asserted, assertion, bool_fault, command, declaration, declaration_fault, declare_constant, declare_function, declare_listed, declared, exit, get_model, inform, inform_fault, is_check_sat, is_exit, is_inform, is_set_logic, listed, plain, predicate_named, set_logic, set_logic_fault, worded, check_sat}
 use Rattle.sort_check.specs.Commands.Command.{SetLogic, Inform, Declare, Assert, CheckSat, GetModel, Exit}
-use Rattle.sort_check.specs.Scripts.{Outcome, after, end_fault, outcome, stop_fault, stops}
+use Rattle.sort_check.specs.Scripts.{Outcome, after, end_fault, outcome, stops}
 use Rattle.clause_readings.specs.Layout.{AreCommandsLaid}
 use Rattle.clause_readings.proofs.LaidLemmas.{spelled_laid}
 

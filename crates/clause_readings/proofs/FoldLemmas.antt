@@ -1,6 +1,6 @@
 -- Terms that match are the same constants, and have the same sorts.
-use Rattle.std.proofs.Common.{◌≡◌, ℕ, List, [], ◌∷◌, map, Bool, true, refl, ap, sym, ◌∙◌}
-use Rattle.std.specs.Prelude.{slice_get, Option, Some, None, option_map, ℤ, if◌then◌else◌}
+use Rattle.std.proofs.Common.{◌≡◌, ℕ, List, map, ap, sym, ◌∙◌}
+use Rattle.std.specs.Prelude.{slice_get, Option, None, option_map, ℤ, if◌then◌else◌}
 use Rattle.std.specs.List.{list_all}
 use Rattle.term_tree.specs.declared.sort.Sort.{Sort}
 use Rattle.term_tree.specs.declared.sort.Sort.TheVariants.{Int, Bool as Truth}
@@ -12,7 +12,7 @@ use Rattle.term_tree.specs.Arena.{IsArena}
 use Rattle.term_tree.specs.Constants.{node_constant, constant_of, is_arithmetic, integer_result, all_constant}
 use Rattle.term_tree.specs.Sorts.{node_sort, sort_of, predicate_sort, operation_sort, sort_if, has_sort, is_sorted}
 use Rattle.term_tree.proofs.Public.{constant_at, sort_at}
-use Rattle.clause_readings.specs.Matching.{AreMatched, IsNodeLike, AreNodesLike}
+use Rattle.clause_readings.specs.Matching.{IsNodeLike, AreNodesLike}
 use Rattle.clause_readings.proofs.InductionLemmas.{With, by_two, same_map}
 
 module _ (f g : ℕ → Option ℤ) (matched : ℕ → ℕ → Type 0) where

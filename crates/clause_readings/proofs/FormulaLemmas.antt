@@ -1,7 +1,6 @@
 -- Bool terms that match are the same formulas.
-use Rattle.std.proofs.Common.{◌≡◌, ℕ, List, [], ◌∷◌, map, Bool, true, refl, ap, sym, ◌∙◌}
-use Rattle.std.specs.Prelude.{slice_get, Option, Some, None, not, nat_abs, if◌then◌else◌}
-use Rattle.term_tree.specs.declared.sort.Sort.{Sort}
+use Rattle.std.proofs.Common.{◌≡◌, ℕ, List, [], ◌∷◌, map, Bool, refl, ap, sym, ◌∙◌}
+use Rattle.std.specs.Prelude.{not, nat_abs, if◌then◌else◌}
 use Rattle.term_tree.specs.declared.sort.Sort.TheVariants.{Bool as Truth}
 use Rattle.term_tree.specs.declared.node.TermId.{TermId}
 use Rattle.term_tree.specs.declared.node.OpKind.{OpKind}

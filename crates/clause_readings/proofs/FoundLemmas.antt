@@ -3,10 +3,9 @@ use Rattle.std.proofs.Common.{◌≡◌, ℕ, ◌+◌, ◌<◌, ◌≤◌, ◌==
 use Rattle.std.specs.Prelude.{slice_get, Option, Some, None, if◌then◌else◌}
 use Rattle.term_tree.specs.declared.node.TermId.{TermId}
 use Rattle.term_tree.specs.declared.node.Node.{Node}
-use Rattle.term_tree.specs.declared.node.Node.TheVariants.{Num, True, False, Var, LetVar, Pred, Op, Divisible, Let, Forall, Exists}
-use Rattle.term_tree.specs.Arena.{Arena}
+use Rattle.term_tree.specs.declared.node.Node.TheVariants.{Pred, Op, Divisible, Let, Forall, Exists}
 use Rattle.term_tree.proofs.PlainLemmas.{eqb_self, same_number}
-use Rattle.term_check.specs.Term.{Term, numeral, truth, variable, let_name, predicate, operation, divisible, binding, universal, existential, Terms, none, more, IsTermAt, AreTermsAt}
+use Rattle.term_check.specs.Term.{Term, numeral, truth, variable, let_name, predicate, operation, divisible, binding, universal, existential, Terms, none, more}
 use Rattle.linear_terms.specs.Width.{first_of_two}
 use Rattle.clause_readings.specs.Layout.{IsLaid, AreLaid}
 

@@ -1,9 +1,8 @@
 -- The parts of a term that a text spells start in the order of the text.
-use Rattle.std.proofs.Common.{◌≡◌, ℕ, zero, suc, ◌+◌, ◌<◌, ◌≤◌, List, [], ◌∷◌, length, Bool, true, false, refl, ap, sym, ◌∙◌, subst, arith}
-use Rattle.std.specs.Prelude.{Option, Some, None, Result, Ok, Err, if◌then◌else◌, codes}
-use Rattle.sexp_read.specs.declared.tree.Tree.{Tree, Leaf, List', items-the_row-Tree, items_hidden-the_row-Tree-0}
+use Rattle.std.proofs.Common.{◌≡◌, ℕ, ◌+◌, ◌<◌, ◌≤◌, List, [], ◌∷◌, length, Bool, true, false, refl, ap, sym, ◌∙◌, subst, arith}
+use Rattle.std.specs.Prelude.{Option, None, Result, Ok, Err, if◌then◌else◌, codes}
+use Rattle.sexp_read.specs.declared.tree.Tree.{Tree, items_hidden-the_row-Tree-0}
 use Rattle.sexp_read.specs.declared.tree.Tree.TheViews.{List as ListTree}
-use Rattle.sexp_read.specs.declared.tree.LeafKind.{LeafKind}
 use Rattle.sexp_read.specs.Trees.{IsTree, leaf, list, AreTrees, none as no_trees, more as more_trees}
 use Rattle.sexp_read.proofs.Public.{IsAhead, next_ahead}
 use Rattle.term_tree.specs.declared.sort.Sort.{Sort}
@@ -22,7 +21,7 @@ use Rattle.term_check.specs.Spelling.{SpellingScope, Spelled, Gathered, ◌>>=�
 use Rattle.term_check.specs.machinery.Reading.{all_bound, any_list, applied_list, each_spelled, item_bound, let_list, next_spelled, quantifier_list, under_lets, under_variables}
 use Rattle.term_check.proofs.Public.{bind_ok, spelled-List, unless_ok}
 use Rattle.clause_readings.specs.Layout.{IsLaid, AreLaid}
-use Rattle.clause_readings.proofs.FoundLemmas.{all_laid_apart, laid_apart}
+use Rattle.clause_readings.proofs.FoundLemmas.{all_laid_apart}
 
 -- room around what is laid
 mutual

@@ -1,8 +1,7 @@
 -- Terms that match have the same linear forms and the same bits.
-use Rattle.std.proofs.Common.{◌≡◌, ℕ, List, [], ◌∷◌, map, Bool, true, refl, ap, sym, ◌∙◌}
-use Rattle.std.specs.Prelude.{slice_get, Option, Some, None, ℤ}
+use Rattle.std.proofs.Common.{◌≡◌, ℕ, List, map, ap, sym, ◌∙◌}
+use Rattle.std.specs.Prelude.{Option, ℤ}
 use Rattle.term_tree.specs.declared.node.TermId.{TermId}
-use Rattle.term_tree.specs.declared.node.OpKind.{OpKind}
 use Rattle.term_tree.specs.declared.node.Node.{Node}
 use Rattle.term_tree.specs.declared.node.Node.TheVariants.{Num, True, False, Var, LetVar, Pred, Op, Divisible, Let, Forall, Exists}
 use Rattle.term_tree.specs.Arena.{IsArena}
@@ -10,7 +9,7 @@ use Rattle.term_tree.specs.Constants.{constant_of}
 use Rattle.lin_atoms.specs.Linear.{Linear}
 use Rattle.linear_terms.specs.Linear.{Naming, auxiliary_form, operation_form, node_linear, told_linear, linear_of, variable_form, bare_bit, bit_form, node_bit, told_bit, bit_of}
 use Rattle.linear_terms.proofs.Public.{linear_at, bit_at}
-use Rattle.clause_readings.specs.Matching.{AreMatched, IsNodeLike, AreNodesLike}
+use Rattle.clause_readings.specs.Matching.{IsNodeLike, AreNodesLike}
 use Rattle.clause_readings.proofs.FoldLemmas.{same_constant}
 use Rattle.clause_readings.proofs.InductionLemmas.{With, by_two, same_map_by}
 

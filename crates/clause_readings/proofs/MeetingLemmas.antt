@@ -11,7 +11,7 @@ use Rattle.term_check.specs.Term.{Term, numeral, truth, variable, let_name, pred
 use Rattle.linear_terms.specs.Width.{first_of_two}
 use Rattle.clause_readings.specs.Layout.{IsLaid, AreLaid}
 use Rattle.clause_readings.specs.Matching.{AreMatched, IsNodeLike, AreNodesLike, IsOneToOne}
-use Rattle.clause_readings.proofs.FoundLemmas.{start_of, args_of, body_of, found, found_among, found_itself, found_within, all_within, all_laid_apart, laid_apart}
+use Rattle.clause_readings.proofs.FoundLemmas.{start_of, args_of, body_of, found, found_among, found_itself, found_within, all_within, all_laid_apart}
 
 -- what is found in a part is found in the whole
 abbrev Lifts : List Node → Term → ℕ → Term → ℕ → Type 0

@@ -1,7 +1,6 @@
 -- Assertions whose terms match have the same normal clause, or the same refusal.
-use Rattle.std.proofs.Common.{◌≡◌, ℕ, suc, ◌+◌, ◌==◌, List, [], ◌∷◌, ◌++◌, map, length, Bool, true, false, cond, ◌||◌, refl, ap, sym, ◌∙◌, subst}
-use Rattle.std.specs.Prelude.{slice_get, position, Option, Some, None, option_map, unwrap_or, Result, Ok, Err, not, nat_lt, ℤ, pos, if◌then◌else◌}
-use Rattle.base.specs.Limits.{most_variables}
+use Rattle.std.proofs.Common.{◌≡◌, ℕ, suc, ◌+◌, ◌==◌, List, [], ◌∷◌, map, Bool, true, false, cond, refl, ap, sym, ◌∙◌}
+use Rattle.std.specs.Prelude.{slice_get, position, Option, Some, None, option_map, unwrap_or, not, ℤ, pos, if◌then◌else◌}
 use Rattle.term_tree.specs.declared.sort.Sort.{Sort}
 use Rattle.term_tree.specs.declared.sort.Sort.TheVariants.{Int, Bool as Truth}
 use Rattle.term_tree.specs.declared.node.OpKind.{OpKind}
@@ -9,38 +8,26 @@ use Rattle.term_tree.specs.declared.node.OpKind.TheVariants.{Ite, Abs, Div as Qu
 use Rattle.term_tree.specs.declared.node.TermId.{TermId}
 use Rattle.term_tree.specs.declared.node.Node.{Node}
 use Rattle.term_tree.specs.declared.node.Node.TheVariants.{Num, True, False, Var, LetVar, Pred, Op, Divisible, Let, Forall, Exists}
-use Rattle.term_tree.specs.declared.refusal.Kind.TheVariants.{TooWide, NotHorn, Count}
-use Rattle.term_tree.specs.declared.refusal.Refusal.{Refusal}
-use Rattle.term_tree.specs.declared.script.Assertion.{Assertion}
-use Rattle.term_tree.specs.declared.script.Pred.{Pred as Declared}
-use Rattle.term_tree.specs.declared.script.Script.{Script}
 use Rattle.term_tree.specs.Arena.{IsArena}
-use Rattle.term_tree.specs.Sorts.{has_sort, sort_of}
+use Rattle.term_tree.specs.Sorts.{has_sort}
 use Rattle.term_tree.proofs.PlainLemmas.{eqb_self, same_number}
 use Rattle.horn_shape.specs.declared.clause.AtomUse.{AtomUse}
-use Rattle.horn_shape.specs.declared.clause.HornClause.{HornClause}
 use Rattle.horn_shape.specs.declared.clause.Part.{Part}
-use Rattle.horn_shape.specs.Clause.{assertion_reading}
-use Rattle.horn_shape.specs.Shape.{Content, Reading}
 use Rattle.lin_atoms.specs.Linear.{Linear}
 use Rattle.lin_atoms.specs.declared.form.Form.{Form}
-use Rattle.linear_terms.specs.Text.{Sorting, is_truth, places}
+use Rattle.linear_terms.specs.Text.{Sorting, is_truth}
 use Rattle.linear_terms.specs.Linear.{Naming, naming_of, variable_form, linear_of, bit_of}
-use Rattle.linear_terms.specs.Formula.{TermForms, formula, reading_of}
-use Rattle.linear_terms.specs.Place.{abs_place, choice_place, constant_value, integer_place, place_form, quotient_place, remainder_place, truth_place}
-use Rattle.linear_terms.specs.Width.{first_wide}
+use Rattle.linear_terms.specs.Formula.{formula, reading_of}
+use Rattle.linear_terms.specs.Place.{abs_place, constant_value, integer_place, place_form, quotient_place, remainder_place, truth_place}
 use Rattle.clause_form.specs.declared.atom.Atom.{Atom}
-use Rattle.clause_form.specs.declared.clause.Clause.{Clause}
-use Rattle.clause_normal.specs.Normal.{argument_variable, auxiliaries, bits_from, clause_guard, conjunction, first_without_room, guard_form, guard_parts, is_too_large, most_atoms, most_own, names_of, normal_atom, normal_clause, place_forms, sorting, term_number, top_of, variable_sorts}
-use Rattle.clause_normal.specs.Reading.{by_room, by_shape, clause_with, normal_reading, refusal_at, term_start}
+use Rattle.clause_normal.specs.Normal.{argument_variable, guard_form, normal_atom, place_forms}
 use Rattle.term_widths.proofs.PositionLemmas.{position_on}
 use Rattle.clause_readings.specs.Matching.{AreMatched, IsNodeLike, AreNodesLike, IsOneToOne}
-use Rattle.clause_readings.proofs.FoldLemmas.{same_constant, same_sort_of}
+use Rattle.clause_readings.proofs.FoldLemmas.{same_constant}
 use Rattle.clause_readings.proofs.LinearLemmas.{AreNamedAlike, same_bit, same_linear}
-use Rattle.clause_readings.proofs.FormulaLemmas.{AreReadAlike, same_formula}
-use Rattle.clause_readings.proofs.SpotLemmas.{AreNumbersMatched, same_places}
-use Rattle.clause_readings.proofs.WidthLemmas.{AreBothMatched, same_wide}
-use Rattle.clause_readings.proofs.ShapeLemmas.{AreAtomsMatched, AreContentsMatched, AreHeadsMatched, ArePartsMatched, AreReadingsMatched, same_clause}
+use Rattle.clause_readings.proofs.FormulaLemmas.{same_formula}
+use Rattle.clause_readings.proofs.SpotLemmas.{AreNumbersMatched}
+use Rattle.clause_readings.proofs.ShapeLemmas.{AreAtomsMatched, AreHeadsMatched, ArePartsMatched}
 
 same_test : (x a y b : ℕ) → (x ≡ a → y ≡ b) → (y ≡ b → x ≡ a) → (x == a) ≡ (y == b)
 same_test x a y b forth back = by_tests (x == a) (y == b) refl refl

@@ -1,7 +1,7 @@
 -- Terms that match have the same shape: as clauses they give the same variables, and guards and atoms that match, or their first
 -- misfits match.
-use Rattle.std.proofs.Common.{◌≡◌, ℕ, List, [], ◌∷◌, ◌++◌, map, Bool, true, false, ◌&&◌, ◌||◌, refl, ap, sym, ◌∙◌, subst}
-use Rattle.std.specs.Prelude.{slice_get, Option, Some, None, Result, Ok, Err, if◌then◌else◌}
+use Rattle.std.proofs.Common.{◌≡◌, ℕ, List, [], ◌∷◌, ◌++◌, Bool, true, false, ◌&&◌, ◌||◌, refl, ap, sym, ◌∙◌, subst}
+use Rattle.std.specs.Prelude.{slice_get, Option, Some, None, Ok, Err, if◌then◌else◌}
 use Rattle.std.specs.List.{list_all}
 use Rattle.term_tree.specs.declared.sort.Sort.{Sort}
 use Rattle.term_tree.specs.declared.node.TermId.{TermId}
@@ -13,7 +13,7 @@ use Rattle.term_tree.specs.Arena.{IsArena}
 use Rattle.horn_shape.specs.declared.clause.AtomUse.{AtomUse}
 use Rattle.horn_shape.specs.declared.clause.Part.{Part}
 use Rattle.horn_shape.specs.Plain.{node_is_plain, is_plain_term}
-use Rattle.horn_shape.specs.Shape.{Place, Content, Reading, nothing, either_head, beside, both, quantified_reading, part_at, guard_of, atom_of, head_of, arguments, application_reading, at, bound_over, each, body_form, node_body, body_reading, is_application, disjunct_form, disjunct_reading, disjuncts, implication, denial, clause_form, node_clause, clause_reading}
+use Rattle.horn_shape.specs.Shape.{Place, Content, Reading, nothing, either_head, both, quantified_reading, guard_of, atom_of, head_of, arguments, application_reading, at, bound_over, each, body_form, node_body, body_reading, is_application, disjunct_form, disjunct_reading, disjuncts, implication, denial, clause_form, node_clause, clause_reading}
 use Rattle.horn_shape.proofs.FlagLemmas.{plain_at}
 use Rattle.horn_shape.proofs.Public.{body_at, clause_at}
 use Rattle.clause_readings.specs.Matching.{AreMatched, IsNodeLike, AreNodesLike}

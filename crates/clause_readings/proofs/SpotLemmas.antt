@@ -1,9 +1,8 @@
 -- Terms that match have texts whose terms match, one by one, and so have those of them that have auxiliary variables.
 use Rattle.std.proofs.Common.{◌≡◌, ℕ, List, [], ◌∷◌, ◌++◌, map, Bool, true, false, ◌||◌, refl, ap, sym, ◌∙◌, subst}
-use Rattle.std.specs.Prelude.{slice_get, filter, Option, Some, None, if◌then◌else◌}
+use Rattle.std.specs.Prelude.{slice_get, filter, Option, Some, if◌then◌else◌}
 use Rattle.std.specs.List.{flat_map}
 use Rattle.term_tree.specs.declared.sort.Sort.{Sort}
-use Rattle.term_tree.specs.declared.sort.Sort.TheVariants.{Int, Bool as Truth}
 use Rattle.term_tree.specs.declared.node.TermId.{TermId}
 use Rattle.term_tree.specs.declared.node.OpKind.{OpKind}
 use Rattle.term_tree.specs.declared.node.OpKind.TheVariants.{Xor, Eq, Distinct, Ite}

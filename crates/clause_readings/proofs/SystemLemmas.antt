@@ -1,15 +1,12 @@
 -- Two scripts that the same commands spell have the same system of clauses, or the same refusal.
-use Rattle.std.proofs.Common.{◌≡◌, ℕ, zero, suc, ◌+◌, List, [], ◌∷◌, map, refl, ap, sym, ◌∙◌, arith}
+use Rattle.std.proofs.Common.{◌≡◌, ℕ, suc, ◌+◌, List, [], ◌∷◌, map, refl, ap, sym, ◌∙◌, arith}
 use Rattle.std.specs.Prelude.{slice_get, Option, Some, None, Result, Ok, Err}
-use Rattle.term_tree.specs.declared.node.TermId.{TermId}
-use Rattle.term_tree.specs.declared.sort.Sort.{Sort}
 use Rattle.term_tree.specs.declared.refusal.Refusal.{Refusal}
 use Rattle.term_tree.specs.declared.script.Assertion.{Assertion}
 use Rattle.term_tree.specs.declared.script.Pred.{Pred as Declared}
 use Rattle.term_tree.specs.declared.script.Script.{Script}
 use Rattle.term_tree.specs.declared.refusal.Checked.{Checked}
 use Rattle.term_tree.specs.Arena.{IsArena}
-use Rattle.term_check.specs.Term.{Term}
 use Rattle.sort_check.specs.Commands.{Command}
 use Rattle.sort_check.specs.Commands.Command.{SetLogic, Inform, Declare, Assert, CheckSat, GetModel, Exit}
 use Rattle.sort_check.specs.Scripts.{AreAsserted, IsScriptOf}

@@ -5,7 +5,6 @@ use Rattle.sexp_read.specs.declared.tree.Tree.{Tree}
 use Rattle.sexp_read.specs.declared.tree.TextStop.{TextStop}
 use Rattle.sexp_read.proofs.Public.{one_reading}
 use Rattle.term_tree.specs.declared.refusal.Checked.{Checked}
-use Rattle.term_tree.specs.declared.refusal.Refusal.{Refusal}
 use Rattle.term_tree.specs.Arena.{IsArena}
 use Rattle.sort_check.specs.Checked.{IsCheckedText}
 use Rattle.sort_check.specs.Commands.{Command}
