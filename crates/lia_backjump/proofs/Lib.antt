@@ -1,6 +1,1 @@
-pub mod FlatLemmas
-pub mod NameLemmas
 pub mod ShortLemmas
-pub mod TreeLemmas
-pub mod UsedLemmas
-pub mod WayLemmas

@@ -1,13 +1,5 @@
 //! What is split above the node that is looked at.
 
-ghost use Rattle.std.specs.Prelude.{◌≡◌, ◌+◌, ◌∷◌, ◌++◌, [], IfOk, IfSome, OnOk, is_some, length, map, not, true, ◌==◌, if◌then◌else◌};
-ghost use Rattle.std.specs.List.{filter, list_any};
-ghost use Rattle.lia_backjump.specs.declared.tree.Step.{Step};
-ghost use Rattle.lia_backjump.specs.machinery.Flat.{room};
-ghost use Rattle.lia_backjump.specs.machinery.Trees.{with_used};
-ghost use Rattle.lia_backjump.specs.machinery.Ways.{count_of, given, has_next, has_part, part_at, range_at, split_of, splits};
-ghost use Rattle.lia_backjump.specs.machinery.Used.{is_within, with_number, with_numbers};
-
 use crate::names::name_terms;
 use crate::near::{Part, nearest_first};
 use crate::nodes::Node;
@@ -59,12 +51,7 @@ pub struct Closed {
 
 impl Closed {
     /// A tree without nodes, which uses nothing.
-    pub fn new(alloc: Global) -> Closed
-        ensures steps { result.tree.steps.items ≡ [] }
-        ensures multipliers { result.tree.multipliers.items ≡ [] }
-        ensures terms { result.tree.terms.items ≡ [] }
-        ensures used { result.used.items ≡ [] }
-    {
+    pub fn new(alloc: Global) -> Closed {
         Closed {
             tree: Tree::new(alloc),
             used: Vec::new(alloc),
@@ -72,10 +59,7 @@ impl Closed {
     }
 
     /// The tree is closed, and what it uses.
-    pub fn put(&mut self, tree: Tree) -> Result<(), Memory>
-        ensures tree { self.new.tree ≡ tree }
-        ensures used { OnOk result (self.new.used.items ≡ with_used [] tree) }
-    {
+    pub fn put(&mut self, tree: Tree) -> Result<(), Memory> {
         self.tree = tree;
         self.used.clear();
         self.tree.put_used(&mut self.used)
@@ -105,9 +89,7 @@ fn put_in_order(tree: &mut Tree, order: &[Part], trees: &[Tree]) -> Result<(), M
 }
 
 /// The split by the form of a literal that says that the form is at most 0.
-fn put_split(above: &mut Tree, side: &Lit) -> Result<(), Memory>
-    ensures { OnOk result (above.new.steps.items ≡ above.old.steps.items ++ split_of side.now) }
-{
+fn put_split(above: &mut Tree, side: &Lit) -> Result<(), Memory> {
     match side {
         Lit::Le(lin) => above.put_split(lin),
         Lit::Eq(_) => Ok(()),
@@ -117,9 +99,7 @@ fn put_split(above: &mut Tree, side: &Lit) -> Result<(), Memory>
 }
 
 /// The branch with the number, and the split by the form of the first of its sides.
-fn put_branch(above: &mut Tree, number: u32, sides: &[Lit]) -> Result<(), Memory>
-    ensures { OnOk result (above.new.steps.items ≡ above.old.steps.items ++ Step.Branch number ∷ splits sides.now) }
-{
+fn put_branch(above: &mut Tree, number: u32, sides: &[Lit]) -> Result<(), Memory> {
     above.steps.push(Step::Branch(number))?;
     match sides.first() {
         Some(side) => put_split(above, side),
@@ -134,15 +114,7 @@ impl<'a> Way<'a> {
         at: usize,
         case: Case<'a>,
         point: &[i64],
-    ) -> Result<Way<'a>, Memory>
-        ensures at { IfOk result (λ way. way.at ≡ at) }
-        ensures parts { IfOk result (λ way. way.parts.now ≡ case.entry.0.now) }
-        ensures sides { IfOk result (λ way. way.sides.items ≡ []) }
-        ensures number { IfOk result (λ way. way.number ≡ case.entry.1) }
-        ensures order { IfOk result (λ way. length way.order.items ≡ length case.entry.0.now) }
-        ensures above { IfOk result (λ way. way.above.steps.items ≡ Step.Cases case.entry.1 (length case.entry.0.now) ∷ []) }
-        ensures terms { IfOk result (λ way. way.above.terms.items ≡ []) }
-    {
+    ) -> Result<Way<'a>, Memory> {
         let (parts, number) = case;
         let order = nearest_first(alloc, parts.as_slice(), number, point)?;
         let mut above = Tree::new(alloc);
@@ -165,13 +137,7 @@ impl<'a> Way<'a> {
         number: u32,
         node: &Node,
         end: u32,
-    ) -> Result<Way<'a>, Memory>
-        ensures parts { IfOk result (λ way. way.parts.now ≡ []) }
-        ensures sides { IfOk result (λ way. way.sides ≡ sides) }
-        ensures number { IfOk result (λ way. way.number ≡ number) }
-        ensures order { IfOk result (λ way. way.order.items ≡ (0, number) ∷ (1, number) ∷ []) }
-        ensures above { IfOk result (λ way. way.above.steps.items ≡ Step.Branch number ∷ splits sides.items) }
-    {
+    ) -> Result<Way<'a>, Memory> {
         let mut above = Tree::new(alloc);
         put_branch(&mut above, number, sides.as_slice())?;
         name_terms(
@@ -199,12 +165,7 @@ impl<'a> Way<'a> {
         part: Part,
         falsehood: &'a Lit,
         below: &mut Node<'a>,
-    ) -> Result<Option<u32>, Memory>
-        ensures found { IfOk result (λ found. is_some found ≡ has_part self.now part) }
-        ensures count { IfOk result (λ found. IfSome found (λ count. count ≡ count_of self.now part)) }
-        ensures lits { IfOk result (λ found. IfSome found (λ _. below.new.lits ≡ node.now.lits ++ map (λ l. l.0) (given falsehood.now self.now part))) }
-        ensures left_out { IfOk result (λ found. IfSome found (λ _. below.new.left_out.items ≡ node.now.left_out.items)) }
-    {
+    ) -> Result<Option<u32>, Memory> {
         let (part, first) = part;
         let sides = self.sides.as_slice();
         if part < sides.len() {
@@ -224,14 +185,7 @@ impl<'a> Way<'a> {
 
 impl<'a> Frame<'a> {
     /// A node that is split.
-    pub fn new(alloc: Global, node: Node<'a>, way: Way<'a>) -> Frame<'a>
-        ensures node { result.node ≡ node.entry }
-        ensures way { result.way ≡ way.entry }
-        ensures next { result.next ≡ 0 }
-        ensures range { result.range ≡ (way.entry.number, room (way.entry.number + 1)) }
-        ensures trees { result.trees.items ≡ [] }
-        ensures used { result.used.items ≡ [] }
-    {
+    pub fn new(alloc: Global, node: Node<'a>, way: Way<'a>) -> Frame<'a> {
         let number = way.number;
         Frame {
             node,
@@ -244,30 +198,17 @@ impl<'a> Frame<'a> {
     }
 
     /// The number of the disjunction or of the branch.
-    pub fn number(&self) -> u32
-        ensures { result ≡ self.now.way.number }
-    {
+    pub fn number(&self) -> u32 {
         self.way.number
     }
 
     /// Whether the tree of what was looked at doesn't use what that has alone.
-    pub fn is_idle(&self, closed: &Closed) -> bool
-        ensures { result ≡ not (list_any (is_within self.now.range) closed.now.used.items) }
-    {
+    pub fn is_idle(&self, closed: &Closed) -> bool {
         !is_used(closed.used.as_slice(), self.range)
     }
 
     /// One more is closed. Its tree is taken out.
-    pub fn add(&mut self, alloc: Global, closed: &mut Closed) -> Result<(), Memory>
-        ensures used { OnOk result (self.new.used.items ≡ with_numbers self.old.used.items (filter (λ n. not (is_within self.old.range n)) closed.old.used.items)) }
-        ensures trees { OnOk result (self.new.trees.items ≡ self.old.trees.items ++ closed.old.tree ∷ []) }
-        ensures node { self.new.node ≡ self.old.node }
-        ensures way { self.new.way ≡ self.old.way }
-        ensures next { self.new.next ≡ self.old.next }
-        ensures range { self.new.range ≡ self.old.range }
-        ensures left { closed.new.used ≡ closed.old.used }
-        ensures taken { OnOk result (closed.new.tree.steps.items ≡ []) }
-    {
+    pub fn add(&mut self, alloc: Global, closed: &mut Closed) -> Result<(), Memory> {
         put_others(&mut self.used, closed.used.as_slice(), self.range)?;
         let tree = std::mem::replace(&mut closed.tree, Tree::new(alloc));
         self.trees.push(tree)?;
@@ -280,17 +221,7 @@ impl<'a> Frame<'a> {
         alloc: Global,
         falsehood: &'a Lit,
         below: &mut Node<'a>,
-    ) -> Result<bool, Memory>
-        ensures went { IfOk result (λ went. went ≡ has_next self.old.way self.old.next) }
-        ensures next { IfOk result (λ went. self.new.next ≡ (if went then self.old.next + 1 else self.old.next)) }
-        ensures range { IfOk result (λ went. went ≡ true → self.new.range ≡ range_at self.old.way self.old.next) }
-        ensures lits { IfOk result (λ went. went ≡ true → below.new.lits ≡ self.old.node.lits ++ map (λ l. l.0) (given falsehood.now self.old.way (part_at self.old.way self.old.next))) }
-        ensures left_out { IfOk result (λ went. went ≡ true → below.new.left_out.items ≡ self.old.node.left_out.items) }
-        ensures way { self.new.way ≡ self.old.way }
-        ensures node { self.new.node ≡ self.old.node }
-        ensures trees { self.new.trees ≡ self.old.trees }
-        ensures used { self.new.used ≡ self.old.used }
-    {
+    ) -> Result<bool, Memory> {
         let order = self.way.order.as_slice();
         if self.next >= order.len() {
             return Ok(false);
@@ -310,10 +241,7 @@ impl<'a> Frame<'a> {
     }
 
     /// All below is closed, so what was closed last is the node.
-    pub fn close(&mut self, alloc: Global, closed: &mut Closed) -> Result<(), Memory>
-        ensures used { OnOk result (closed.new.used.items ≡ (if length self.old.way.sides.items == 0 then with_number self.old.used.items self.old.way.number else self.old.used.items)) }
-        ensures trees { self.new.trees ≡ self.old.trees }
-    {
+    pub fn close(&mut self, alloc: Global, closed: &mut Closed) -> Result<(), Memory> {
         if self.way.sides.is_empty() {
             put(&mut self.used, self.way.number)?;
         }

@@ -1,9 +1,5 @@
 //! The nodes of the search.
 
-ghost use Rattle.std.specs.Prelude.{◌≡◌, ◌==◌, ◌∷◌, ◌++◌, [], OnOk, drop, not, take};
-ghost use Rattle.std.specs.List.{remove};
-ghost use Rattle.lia_backjump.specs.machinery.Nodes.{at_most_one, has_quotient, literals, reason, reasons, replaced};
-
 use crate::numbering::{Case, Flat, Numbered, put_replaced};
 use base::{Copied, Items, Memory};
 use lin_atoms::Lit;
@@ -24,9 +20,7 @@ pub struct Node<'a> {
 }
 
 /// Whether the literal has a quotient: 0 where it has none, and else how many literals are known of it.
-pub(crate) fn known_of_quotient(lit: &Lit) -> u32
-    ensures { (result == 0) ≡ not (has_quotient lit.now) }
-{
+pub(crate) fn known_of_quotient(lit: &Lit) -> u32 {
     match lit {
         Lit::Le(_) => 0,
         Lit::Eq(_) => 0,
@@ -45,9 +39,7 @@ pub(crate) fn number_of(lit: &Lit, reason: u32) -> u32 {
 }
 
 /// The number of the first literal that gives the bounds of the literal with the number.
-pub(crate) fn reason(lit: &Lit, number: u32) -> u32
-    ensures { result ≡ reason (lit.now, number) }
-{
+pub(crate) fn reason(lit: &Lit, number: u32) -> u32 {
     if known_of_quotient(lit) == 0 {
         number
     } else {
@@ -57,12 +49,7 @@ pub(crate) fn reason(lit: &Lit, number: u32) -> u32
 
 impl<'a> Node<'a> {
     /// A node without anything.
-    pub fn new(alloc: Global) -> Node<'a>
-        ensures lits { result.lits ≡ [] }
-        ensures reasons { result.reasons.items ≡ [] }
-        ensures left_out { result.left_out.items ≡ [] }
-        ensures cases { result.cases.items ≡ [] }
-    {
+    pub fn new(alloc: Global) -> Node<'a> {
         Node {
             lits: Items::new(alloc),
             reasons: Vec::new(alloc),
@@ -72,12 +59,7 @@ impl<'a> Node<'a> {
     }
 
     /// A literal joins.
-    fn join(&mut self, lit: Lit, number: u32) -> Result<(), Memory>
-        ensures lits { OnOk result (self.new.lits ≡ self.old.lits ++ lit ∷ []) }
-        ensures reasons { OnOk result (self.new.reasons.items ≡ self.old.reasons.items ++ reason (lit, number) ∷ []) }
-        ensures left_out { self.new.left_out ≡ self.old.left_out }
-        ensures cases { self.new.cases ≡ self.old.cases }
-    {
+    fn join(&mut self, lit: Lit, number: u32) -> Result<(), Memory> {
         let reason = reason(&lit, number);
         self.lits.push(lit)?;
         self.reasons.push(reason)?;
@@ -85,12 +67,7 @@ impl<'a> Node<'a> {
     }
 
     /// Copies of the literals join.
-    fn join_all(&mut self, alloc: Global, lits: &[Numbered]) -> Result<(), Memory>
-        ensures lits { OnOk result (self.new.lits ≡ self.old.lits ++ literals lits.now) }
-        ensures reasons { OnOk result (self.new.reasons.items ≡ self.old.reasons.items ++ reasons lits.now) }
-        ensures left_out { self.new.left_out ≡ self.old.left_out }
-        ensures cases { self.new.cases ≡ self.old.cases }
-    {
+    fn join_all(&mut self, alloc: Global, lits: &[Numbered]) -> Result<(), Memory> {
         for (lit, number) in lits {
             self.join(lit.copy(alloc)?, *number)?;
         }
@@ -98,12 +75,7 @@ impl<'a> Node<'a> {
     }
 
     /// What the form gives: the first `taken` literals join, and the others are left out.
-    pub fn begin(&mut self, alloc: Global, flat: &Flat<'a>, taken: usize) -> Result<(), Memory>
-        ensures lits { OnOk result (self.new.lits ≡ self.old.lits ++ literals (take taken flat.now.lits.items)) }
-        ensures reasons { OnOk result (self.new.reasons.items ≡ self.old.reasons.items ++ reasons (take taken flat.now.lits.items)) }
-        ensures left_out { OnOk result (self.new.left_out.items ≡ self.old.left_out.items ++ drop taken flat.now.lits.items) }
-        ensures cases { OnOk result (self.new.cases.items ≡ self.old.cases.items ++ flat.now.cases.items) }
-    {
+    pub fn begin(&mut self, alloc: Global, flat: &Flat<'a>, taken: usize) -> Result<(), Memory> {
         let lits = flat.lits.as_slice();
         let count = taken.min(lits.len());
         self.left_out.extend_from_slice(&lits[count..])?;
@@ -112,12 +84,7 @@ impl<'a> Node<'a> {
     }
 
     /// The one at the place among those that were left out joins. Past their end nothing joins.
-    pub fn take_in(&mut self, alloc: Global, at: usize) -> Result<(), Memory>
-        ensures lits { OnOk result (self.new.lits ≡ self.old.lits ++ literals (at_most_one at self.old.left_out.items)) }
-        ensures reasons { OnOk result (self.new.reasons.items ≡ self.old.reasons.items ++ reasons (at_most_one at self.old.left_out.items)) }
-        ensures left_out { OnOk result (self.new.left_out.items ≡ remove self.old.left_out.items at) }
-        ensures cases { self.new.cases ≡ self.old.cases }
-    {
+    pub fn take_in(&mut self, alloc: Global, at: usize) -> Result<(), Memory> {
         if at < self.left_out.len() {
             let (lit, number) = self.left_out.remove(at);
             self.join(lit.copy(alloc)?, number)?;
@@ -126,12 +93,7 @@ impl<'a> Node<'a> {
     }
 
     /// The other node becomes a copy, but for its disjunctions.
-    fn put_literals(&self, alloc: Global, to: &mut Node<'a>) -> Result<(), Memory>
-        ensures lits { OnOk result (to.new.lits ≡ self.now.lits) }
-        ensures reasons { OnOk result (to.new.reasons.items ≡ self.now.reasons.items) }
-        ensures left_out { OnOk result (to.new.left_out.items ≡ self.now.left_out.items) }
-        ensures cases { OnOk result (to.new.cases.items ≡ []) }
-    {
+    fn put_literals(&self, alloc: Global, to: &mut Node<'a>) -> Result<(), Memory> {
         to.lits = self.lits.copy(alloc)?;
         to.reasons.clear();
         to.reasons.extend_from_slice(self.reasons.as_slice())?;
@@ -148,12 +110,7 @@ impl<'a> Node<'a> {
         lit: &Lit,
         number: u32,
         to: &mut Node<'a>,
-    ) -> Result<(), Memory>
-        ensures lits { OnOk result (to.new.lits ≡ self.now.lits ++ lit.now ∷ []) }
-        ensures reasons { OnOk result (to.new.reasons.items ≡ self.now.reasons.items ++ reason (lit.now, number) ∷ []) }
-        ensures left_out { OnOk result (to.new.left_out.items ≡ self.now.left_out.items) }
-        ensures cases { OnOk result (to.new.cases.items ≡ self.now.cases.items) }
-    {
+    ) -> Result<(), Memory> {
         self.put_literals(alloc, to)?;
         to.cases.extend_from_slice(self.cases.as_slice())?;
         to.join(lit.copy(alloc)?, number)
@@ -166,12 +123,7 @@ impl<'a> Node<'a> {
         at: usize,
         part: &Flat<'a>,
         to: &mut Node<'a>,
-    ) -> Result<(), Memory>
-        ensures lits { OnOk result (to.new.lits ≡ self.now.lits ++ literals part.now.lits.items) }
-        ensures reasons { OnOk result (to.new.reasons.items ≡ self.now.reasons.items ++ reasons part.now.lits.items) }
-        ensures left_out { OnOk result (to.new.left_out.items ≡ self.now.left_out.items) }
-        ensures cases { OnOk result (to.new.cases.items ≡ replaced self.now.cases.items at part.now.cases.items) }
-    {
+    ) -> Result<(), Memory> {
         self.put_literals(alloc, to)?;
         put_replaced(
             &mut to.cases,

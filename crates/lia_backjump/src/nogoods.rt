@@ -1,8 +1,6 @@
 //! Trees of what was closed, which close other nodes, too: own numbers are the same wherever a literal or a disjunction
 //! of the form is.
 
-ghost use Rattle.std.specs.Prelude.{◌≡◌, ◌^◌, [], IfOk, OnOk, false, if◌then◌else◌, nat_lt, replicate};
-
 use crate::frames::{BRANCHES, Closed};
 use crate::nodes::{Node, known_of_quotient, number_of};
 use crate::numbering::{Case, size};
@@ -55,12 +53,7 @@ fn has_branch(used: &[u32]) -> bool {
 }
 
 /// The other one becomes a copy.
-fn put_copy(alloc: Global, closed: &Closed, to: &mut Closed) -> Result<(), Memory>
-    ensures used { OnOk result (to.new.used.items ≡ closed.now.used.items) }
-    ensures steps { OnOk result (to.new.tree.steps.items ≡ closed.now.tree.steps.items) }
-    ensures multipliers { OnOk result (to.new.tree.multipliers.items ≡ closed.now.tree.multipliers.items) }
-    ensures terms { OnOk result (to.new.tree.terms.items ≡ closed.now.tree.terms.items) }
-{
+fn put_copy(alloc: Global, closed: &Closed, to: &mut Closed) -> Result<(), Memory> {
     to.used.clear();
     to.used.extend_from_slice(closed.used.as_slice())?;
     to.tree = Tree::new(alloc);
@@ -167,9 +160,7 @@ enum Lacking {
 }
 
 /// So many that aren't there.
-fn nothing(alloc: Global, numbers: u32) -> Result<Vec<bool>, Memory>
-    ensures { IfOk result (λ there. there.items ≡ replicate numbers false) }
-{
+fn nothing(alloc: Global, numbers: u32) -> Result<Vec<bool>, Memory> {
     let mut there = Vec::with_capacity(alloc, numbers as usize)?;
     'there: for _ in 0..numbers {
         there.push(false)?;
@@ -179,13 +170,7 @@ fn nothing(alloc: Global, numbers: u32) -> Result<Vec<bool>, Memory>
 
 impl Nogoods {
     /// Nothing was closed yet. The form takes so many numbers.
-    pub fn new(alloc: Global, numbers: u32) -> Result<Nogoods, Memory>
-        ensures numbers { IfOk result (λ nogoods. nogoods.numbers ≡ (if nat_lt (2 ^ 12) numbers then 0 else numbers)) }
-        ensures kept { IfOk result (λ nogoods. nogoods.kept.items ≡ []) }
-        ensures next { IfOk result (λ nogoods. nogoods.next ≡ 0) }
-        ensures there { IfOk result (λ nogoods. nogoods.seen.there.items ≡ replicate nogoods.numbers false) }
-        ensures shut { IfOk result (λ nogoods. nogoods.seen.shut.items ≡ []) }
-    {
+    pub fn new(alloc: Global, numbers: u32) -> Result<Nogoods, Memory> {
         let numbers = if numbers > MOST_NUMBERS { 0 } else { numbers };
         Ok(Nogoods {
             numbers,
@@ -199,9 +184,7 @@ impl Nogoods {
     }
 
     /// What was seen at the node that was looked at last.
-    pub fn seen(&self) -> &Seen
-        ensures { result.now ≡ self.now.seen }
-    {
+    pub fn seen(&self) -> &Seen {
         &self.seen
     }
 

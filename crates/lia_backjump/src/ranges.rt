@@ -1,7 +1,5 @@
 //! What variables can be where literals are true, by intervals: a guess of which parts of a disjunction are left.
 
-ghost use Rattle.std.specs.Prelude.{◌≡◌, ◌≤◌, IfOk, length};
-
 use crate::nogoods::Seen;
 use crate::numbering::{Case, size};
 use base::Memory;
@@ -71,9 +69,7 @@ impl Ranges {
     }
 
     /// `coefficient` times the variable is at most the number.
-    fn meet(&mut self, variable: u32, coefficient: i128, most: i128)
-        ensures { length self.new.each.items ≡ length self.old.each.items }
-    {
+    fn meet(&mut self, variable: u32, coefficient: i128, most: i128) {
         let Some(size) = coefficient.checked_abs() else {
             return;
         };
@@ -90,9 +86,7 @@ impl Ranges {
     }
 
     /// The form with the sign is at most 0.
-    fn meet_lin(&mut self, lin: &Lin, sign: i128)
-        ensures { length self.new.each.items ≡ length self.old.each.items }
-    {
+    fn meet_lin(&mut self, lin: &Lin, sign: i128) {
         for (at, (variable, coefficient)) in lin.terms().iter().enumerate() {
             if let Some(most) = self.least(lin, sign, at).and_then(i128::checked_neg) {
                 if let Some(term) = i128::from(*coefficient).checked_mul(sign) {
@@ -102,9 +96,7 @@ impl Ranges {
         }
     }
 
-    fn meet_lit(&mut self, lit: &Lit)
-        ensures { length self.new.each.items ≡ length self.old.each.items }
-    {
+    fn meet_lit(&mut self, lit: &Lit) {
         match lit {
             Lit::Le(lin) => self.meet_lin(lin, 1),
             Lit::Eq(lin) => {
@@ -117,9 +109,7 @@ impl Ranges {
     }
 
     /// The ranges of the variables below `end` where the literals are true.
-    pub fn new(alloc: Global, lits: &[Lit], end: u32) -> Result<Ranges, Memory>
-        ensures { IfOk result (λ ranges. length ranges.each.items ≡ end) }
-    {
+    pub fn new(alloc: Global, lits: &[Lit], end: u32) -> Result<Ranges, Memory> {
         let mut each = Vec::with_capacity(alloc, end as usize)?;
         'each: for _ in 0..end {
             each.push(Range {
@@ -205,9 +195,7 @@ impl Ranges {
     }
 
     /// How many parts of the disjunction are left.
-    pub fn left(&self, case: &Case, seen: &Seen) -> usize
-        ensures { result ≤ length case.now.0.now }
-    {
+    pub fn left(&self, case: &Case, seen: &Seen) -> usize {
         let (parts, number) = case;
         let mut first = number.saturating_add(1);
         let mut count: usize = 0;

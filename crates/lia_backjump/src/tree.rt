@@ -1,11 +1,6 @@
 //! Trees as lists of their nodes, of plain numbers: what is below a node stands behind it, in order. What such a list
 //! is kept for is copied and put together without going down a tree.
 
-ghost use Rattle.std.specs.Prelude.{◌≡◌, ◌∷◌, ◌++◌, [], IfOk, OnOk, length};
-ghost use Rattle.std.specs.List.{flat_map};
-ghost use Rattle.lia_backjump.specs.declared.tree.Step.{Step};
-ghost use Rattle.lia_backjump.specs.machinery.Trees.{multipliers, nodes, terms, with_named, with_used};
-
 use crate::used::put;
 use base::Memory;
 use lin_atoms::Lin;
@@ -38,9 +33,7 @@ pub struct Tree {
 }
 
 /// Puts the number of the literal whose quotient the node names behind the others.
-fn put_named(used: &mut Vec<u32>, step: Step) -> Result<(), Memory>
-    ensures { OnOk result (used.new.items ≡ with_named used.old.items step) }
-{
+fn put_named(used: &mut Vec<u32>, step: Step) -> Result<(), Memory> {
     match step {
         Step::Leaf(_) => Ok(()),
         Step::Round(_, _) => Ok(()),
@@ -53,11 +46,7 @@ fn put_named(used: &mut Vec<u32>, step: Step) -> Result<(), Memory>
 
 impl Tree {
     /// A tree without nodes.
-    pub fn new(alloc: Global) -> Tree
-        ensures steps { result.steps.items ≡ [] }
-        ensures multipliers { result.multipliers.items ≡ [] }
-        ensures terms { result.terms.items ≡ [] }
-    {
+    pub fn new(alloc: Global) -> Tree {
         Tree {
             steps: Vec::new(alloc),
             multipliers: Vec::new(alloc),
@@ -66,11 +55,7 @@ impl Tree {
     }
 
     /// The nodes of the refutation, as it is given.
-    pub fn of(alloc: Global, tree: Refutation) -> Result<Tree, Memory>
-        ensures steps { IfOk result (λ made. made.steps.items ≡ nodes tree) }
-        ensures multipliers { IfOk result (λ made. made.multipliers.items ≡ multipliers tree) }
-        ensures terms { IfOk result (λ made. made.terms.items ≡ terms tree) }
-    {
+    pub fn of(alloc: Global, tree: Refutation) -> Result<Tree, Memory> {
         let mut made = Tree::new(alloc);
         made.put(&tree)?;
         Ok(made)
@@ -78,11 +63,7 @@ impl Tree {
 
     /// The nodes of the refutation come behind the others.
     #[cycle(reading)]
-    fn put(&mut self, tree: &Refutation) -> Result<(), Memory>
-        ensures steps { OnOk result (self.new.steps.items ≡ self.old.steps.items ++ nodes tree.now) }
-        ensures multipliers { OnOk result (self.new.multipliers.items ≡ self.old.multipliers.items ++ multipliers tree.now) }
-        ensures terms { OnOk result (self.new.terms.items ≡ self.old.terms.items ++ terms tree.now) }
-    {
+    fn put(&mut self, tree: &Refutation) -> Result<(), Memory> {
         match tree {
             Refutation::Leaf { multipliers } => {
                 self.steps.push(Step::Leaf(multipliers.len()))?;
@@ -115,11 +96,7 @@ impl Tree {
     }
 
     #[cycle(reading)]
-    fn put_all(&mut self, subs: &[Refutation]) -> Result<(), Memory>
-        ensures steps { OnOk result (self.new.steps.items ≡ self.old.steps.items ++ flat_map nodes subs.now) }
-        ensures multipliers { OnOk result (self.new.multipliers.items ≡ self.old.multipliers.items ++ flat_map multipliers subs.now) }
-        ensures terms { OnOk result (self.new.terms.items ≡ self.old.terms.items ++ flat_map terms subs.now) }
-    {
+    fn put_all(&mut self, subs: &[Refutation]) -> Result<(), Memory> {
         for sub in subs {
             self.put(sub)?;
         }
@@ -127,11 +104,7 @@ impl Tree {
     }
 
     /// A split by the form comes behind the others.
-    pub(crate) fn put_split(&mut self, lin: &Lin) -> Result<(), Memory>
-        ensures steps { OnOk result (self.new.steps.items ≡ self.old.steps.items ++ Step.Split (length lin.now.terms) lin.now.constant ∷ []) }
-        ensures multipliers { self.new.multipliers ≡ self.old.multipliers }
-        ensures terms { OnOk result (self.new.terms.items ≡ self.old.terms.items ++ lin.now.terms) }
-    {
+    pub(crate) fn put_split(&mut self, lin: &Lin) -> Result<(), Memory> {
         let terms = lin.terms();
         self.steps.push(Step::Split(terms.len(), lin.constant()))?;
         self.terms.extend_from_slice(terms)?;
@@ -139,11 +112,7 @@ impl Tree {
     }
 
     /// The nodes of the other tree come behind the others.
-    pub(crate) fn append(&mut self, other: &Tree) -> Result<(), Memory>
-        ensures steps { OnOk result (self.new.steps.items ≡ self.old.steps.items ++ other.now.steps.items) }
-        ensures multipliers { OnOk result (self.new.multipliers.items ≡ self.old.multipliers.items ++ other.now.multipliers.items) }
-        ensures terms { OnOk result (self.new.terms.items ≡ self.old.terms.items ++ other.now.terms.items) }
-    {
+    pub(crate) fn append(&mut self, other: &Tree) -> Result<(), Memory> {
         self.steps.extend_from_slice(other.steps.as_slice())?;
         self.multipliers
             .extend_from_slice(other.multipliers.as_slice())?;
@@ -152,9 +121,7 @@ impl Tree {
     }
 
     /// Puts the numbers of the literals that the tree uses behind the others.
-    pub(crate) fn put_used(&self, used: &mut Vec<u32>) -> Result<(), Memory>
-        ensures { OnOk result (used.new.items ≡ with_used used.old.items self.now) }
-    {
+    pub(crate) fn put_used(&self, used: &mut Vec<u32>) -> Result<(), Memory> {
         for (number, _) in self.multipliers.as_slice() {
             put(used, *number)?;
         }

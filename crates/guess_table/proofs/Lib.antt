@@ -1,3 +1,0 @@
-mod NeedLemmas
-mod TightLemmas
-mod ValueLemmas
