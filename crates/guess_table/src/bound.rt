@@ -1,11 +1,5 @@
 //! A bound of a part, and what was asked about it.
 
-ghost use Rattle.std.specs.Prelude.{◌≡◌, ◌+◌, ◌-◌, ◌^◌, ◌<◌, ◌≤◌, ◌++◌, [], ◌∷◌, length, min, HoldsAt, IfOk, OnOk, OnErr};
-ghost use Rattle.lin_atoms.specs.declared.lit.Lit.TheVariants.{Le};
-ghost use Rattle.cube_forms.specs.Cubes.{cube_holds};
-ghost use Rattle.guess_table.specs.declared.bound.Limit.TheVariants.{At};
-ghost use Rattle.guess_table.specs.Bounds.{cube_if_short, excluded, excludes, is_as_low, is_needless, passing, stands};
-
 use crate::forms::{copied, push_copies, value_at};
 use base::Memory;
 use cube_forms::{Cube, CubeStop, Lemma, negate};
@@ -84,9 +78,7 @@ impl Drop for Bound {
 }
 
 /// The lemma that denies these literals, where numbers have room.
-fn denying(alloc: Global, lits: Vec<Lit>) -> Result<Option<Lemma>, Memory>
-    ensures { IfOk result (λ lemma. lemma ≡ cube_if_short lits.items) }
-{
+fn denying(alloc: Global, lits: Vec<Lit>) -> Result<Option<Lemma>, Memory> {
     match Cube::new(alloc, lits) {
         Ok(cube) => Ok(Some(negate(alloc, &cube)?)),
         Err(CubeStop::Wide) => Ok(None),
@@ -95,9 +87,7 @@ fn denying(alloc: Global, lits: Vec<Lit>) -> Result<Option<Lemma>, Memory>
 }
 
 /// The form that is at most 0 where the part passes the limit.
-fn passing(alloc: Global, part: &Lin, limit: i64) -> Result<Option<Lin>, Memory>
-    ensures { IfOk result (λ made. made ≡ passing part.now limit) }
-{
+fn passing(alloc: Global, part: &Lin, limit: i64) -> Result<Option<Lin>, Memory> {
     match limit.checked_add(1) {
         Some(more) => Ok(part.negated(alloc)?.plus(more)),
         None => Ok(None),
@@ -105,9 +95,7 @@ fn passing(alloc: Global, part: &Lin, limit: i64) -> Result<Option<Lin>, Memory>
 }
 
 /// The condition, and that the form is at most 0.
-fn with_bound(alloc: Global, condition: &[Lit], lin: Lin) -> Result<Vec<Lit>, Memory>
-    ensures { IfOk result (λ lits. lits.items ≡ condition.now ++ Le lin ∷ []) }
-{
+fn with_bound(alloc: Global, condition: &[Lit], lin: Lin) -> Result<Vec<Lit>, Memory> {
     let mut lits = Vec::new(alloc);
     push_copies(alloc, &mut lits, condition)?;
     lits.push(Lit::Le(lin))?;
@@ -119,9 +107,7 @@ fn lemma_at(
     condition: &[Lit],
     part: &Lin,
     limit: i64,
-) -> Result<Option<Lemma>, Memory>
-    ensures { IfOk result (λ lemma. lemma ≡ excluded condition.now part.now (At limit)) }
-{
+) -> Result<Option<Lemma>, Memory> {
     match passing(alloc, part, limit)? {
         Some(lin) => denying(alloc, with_bound(alloc, condition, lin)?),
         None => Ok(None),
@@ -134,9 +120,7 @@ fn lemma_of(
     condition: &[Lit],
     part: &Lin,
     limit: Limit,
-) -> Result<Option<Lemma>, Memory>
-    ensures { IfOk result (λ lemma. lemma ≡ excluded condition.now part.now limit) }
-{
+) -> Result<Option<Lemma>, Memory> {
     match limit {
         Limit::Nothing => {
             if part.terms().len() > 0 {
@@ -150,9 +134,7 @@ fn lemma_of(
 }
 
 /// Whether each literal is true at the tuple.
-fn all_hold(lits: &[Lit], tuple: &[i64]) -> bool
-    ensures { result ≡ cube_holds tuple.now lits.now }
-{
+fn all_hold(lits: &[Lit], tuple: &[i64]) -> bool {
     for lit in lits {
         if !lit.holds(tuple) {
             return false;
@@ -216,10 +198,7 @@ impl Bound {
 
     /// Puts the limit up: it then excludes what passes this one, and has a new version. Without memory nothing
     /// changes.
-    pub fn put(&mut self, alloc: Global, limit: Limit) -> Result<(), Memory>
-        ensures put { OnOk result (self.new ≡ record self.old { limit = limit; lemma = excluded self.old.condition.items self.old.part limit; version = min (self.old.version + 1) (2 ^ 32 - 1) }) }
-        ensures unchanged { OnErr result (self.new ≡ self.old) }
-    {
+    pub fn put(&mut self, alloc: Global, limit: Limit) -> Result<(), Memory> {
         let lemma = lemma_of(alloc, self.condition.as_slice(), &self.part, limit)?;
         self.lemma = lemma;
         self.limit = limit;
@@ -228,9 +207,7 @@ impl Bound {
     }
 
     /// Whether the bound excludes the tuple.
-    pub(crate) fn excludes(&self, tuple: &[i64]) -> bool
-        ensures { result ≡ excludes tuple.now self.now }
-    {
+    pub(crate) fn excludes(&self, tuple: &[i64]) -> bool {
         match &self.lemma {
             Some(lemma) => lemma.excludes(tuple),
             None => false,
@@ -240,11 +217,7 @@ impl Bound {
 
 /// Where the bounds of a predicate begin: they stand in the order of their predicates. The bound before that place
 /// is one of an earlier predicate, and that at the place isn't.
-pub fn first_of(bounds: &[Bound], pred: u32) -> usize
-    ensures within { result ≤ length bounds.now }
-    ensures before { 0 < result → HoldsAt (λ bound. bound.pred < pred) bounds.now (result - 1) }
-    ensures behind { result < length bounds.now → HoldsAt (λ bound. pred ≤ bound.pred) bounds.now result }
-{
+pub fn first_of(bounds: &[Bound], pred: u32) -> usize {
     let (mut low, mut high) = (0, bounds.len());
     while low < high {
         let middle = low + (high - low) / 2;
@@ -258,9 +231,7 @@ pub fn first_of(bounds: &[Bound], pred: u32) -> usize
 }
 
 /// Whether the first of two limits that are known is as low as the second.
-fn is_as_low(one: Limit, other: Limit) -> bool
-    ensures { result ≡ is_as_low one other }
-{
+fn is_as_low(one: Limit, other: Limit) -> bool {
     match one {
         Limit::Nothing => false,
         Limit::At(least) => match other {
@@ -273,9 +244,7 @@ fn is_as_low(one: Limit, other: Limit) -> bool
 }
 
 /// Whether a bound without the condition says as much.
-fn is_needless(bounds: &[Bound], bound: &Bound) -> bool
-    ensures { result ≡ is_needless bounds.now bound.now }
-{
+fn is_needless(bounds: &[Bound], bound: &Bound) -> bool {
     match bound.plain {
         Some(plain) => match bounds.get(plain) {
             Some(other) => is_as_low(other.limit, bound.limit),
@@ -286,8 +255,6 @@ fn is_needless(bounds: &[Bound], bound: &Bound) -> bool
 }
 
 /// Whether the bound excludes something that no other one does.
-pub fn stands(bounds: &[Bound], bound: &Bound) -> bool
-    ensures { result ≡ stands bounds.now bound.now }
-{
+pub fn stands(bounds: &[Bound], bound: &Bound) -> bool {
     bound.lemma.is_some() && !is_needless(bounds, bound)
 }

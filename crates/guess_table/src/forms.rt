@@ -1,20 +1,12 @@
 //! Values of forms, their parts, and lists of what is different.
 
-ghost use Rattle.std.specs.Prelude.{◌≡◌, ◌++◌, [], ◌∷◌, ◌↔◌, ◌+ℤ◌, ◌*ℤ◌, Contains, FitsSigned, IsTrue, IfOk, OnOk, SomeIff};
-ghost use Rattle.std.specs.Int.{w128};
-ghost use Rattle.lin_atoms.specs.Denial.{linear_of};
-ghost use Rattle.lin_atoms.specs.Linear.{value_at, variable_at};
-ghost use Rattle.guess_table.specs.Values.{ValueFits};
-
 use crate::tightening::tightened;
 use base::{Copied, Memory, Same};
 use lin_atoms::{Lin, Lit};
 use std::alloc::Global;
 
 /// What a variable stands for at a point: 0 past the end.
-pub fn variable_at(point: &[i64], variable: u32) -> i64
-    ensures { result ≡ variable_at point.now variable }
-{
+pub fn variable_at(point: &[i64], variable: u32) -> i64 {
     match point.get(variable as usize) {
         Some(value) => *value,
         None => 0,
@@ -22,24 +14,18 @@ pub fn variable_at(point: &[i64], variable: u32) -> i64
 }
 
 /// The product of two numbers, which has room.
-fn times(a: i64, b: i64) -> i128
-    ensures { result ≡ a *ℤ b }
-{
+fn times(a: i64, b: i64) -> i128 {
     i128::from(a) * i128::from(b)
 }
 
 /// The sum and a product, where it has room.
-fn with_product(sum: i128, coefficient: i64, value: i64) -> Option<i128>
-    ensures { SomeIff result (FitsSigned w128 (sum +ℤ coefficient *ℤ value)) (sum +ℤ coefficient *ℤ value) }
-{
+fn with_product(sum: i128, coefficient: i64, value: i64) -> Option<i128> {
     sum.checked_add(times(coefficient, value))
 }
 
 /// The value of the form at the point, where it has 64 bits and each sum on the way, from the constant on, has
 /// 128. A variable past the point's end is 0.
-pub fn value_at(lin: &Lin, point: &[i64]) -> Option<i64>
-    ensures { SomeIff result (ValueFits point.now lin.now) (value_at point.now lin.now) }
-{
+pub fn value_at(lin: &Lin, point: &[i64]) -> Option<i64> {
     let mut total = lin.constant();
     for (variable, coefficient) in lin.terms() {
         total = match with_product(total, *coefficient, variable_at(point, *variable)) {
@@ -72,9 +58,7 @@ pub(crate) fn part_of(alloc: Global, lin: &Lin) -> Result<Option<Lin>, Memory> {
 }
 
 /// The form of a literal.
-pub(crate) fn lin_of(lit: &Lit) -> &Lin
-    ensures { result.now ≡ linear_of lit.now }
-{
+pub(crate) fn lin_of(lit: &Lit) -> &Lin {
     match lit {
         Lit::Le(lin) => lin,
         Lit::Eq(lin) => lin,
@@ -100,9 +84,7 @@ pub(crate) fn tidied(alloc: Global, lit: &Lit) -> Result<Lit, Memory> {
 }
 
 /// Whether the literal is one of these.
-pub fn has_lit(lits: &[Lit], lit: &Lit) -> bool
-    ensures { IsTrue result ↔ Contains lits.now lit.now }
-{
+pub fn has_lit(lits: &[Lit], lit: &Lit) -> bool {
     for one in lits {
         if one.equals(lit) {
             return true;
@@ -112,10 +94,7 @@ pub fn has_lit(lits: &[Lit], lit: &Lit) -> bool
 }
 
 /// Adds the literal, unless it is there.
-pub fn push_new(lits: &mut Vec<Lit>, lit: Lit) -> Result<(), Memory>
-    ensures there { Contains lits.old.items lit → OnOk result (lits.new.items ≡ lits.old.items) }
-    ensures new { ¬ Contains lits.old.items lit → OnOk result (lits.new.items ≡ lits.old.items ++ lit ∷ []) }
-{
+pub fn push_new(lits: &mut Vec<Lit>, lit: Lit) -> Result<(), Memory> {
     if has_lit(lits.as_slice(), &lit) {
         return Ok(());
     }
@@ -134,9 +113,7 @@ pub(crate) fn has_lin(lins: &[Lin], lin: &Lin) -> bool {
 }
 
 /// Adds copies of the literals.
-pub(crate) fn push_copies(alloc: Global, made: &mut Vec<Lit>, lits: &[Lit]) -> Result<(), Memory>
-    ensures { OnOk result (made.new.items ≡ made.old.items ++ lits.now) }
-{
+pub(crate) fn push_copies(alloc: Global, made: &mut Vec<Lit>, lits: &[Lit]) -> Result<(), Memory> {
     for lit in lits {
         made.push(lit.copy(alloc)?)?;
     }
@@ -144,9 +121,7 @@ pub(crate) fn push_copies(alloc: Global, made: &mut Vec<Lit>, lits: &[Lit]) -> R
 }
 
 /// Copies of the literals.
-pub(crate) fn copied(alloc: Global, lits: &[Lit]) -> Result<Vec<Lit>, Memory>
-    ensures { IfOk result (λ made. made.items ≡ lits.now) }
-{
+pub(crate) fn copied(alloc: Global, lits: &[Lit]) -> Result<Vec<Lit>, Memory> {
     let mut made = Vec::new(alloc);
     push_copies(alloc, &mut made, lits)?;
     Ok(made)

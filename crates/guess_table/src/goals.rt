@@ -1,11 +1,6 @@
 //! What a bound's lemma denies at the atoms of a clause. A bound is kept without a query where that is the same
 //! at the head and at a body atom.
 
-ghost use Rattle.std.specs.Prelude.{◌≡◌, ◌<◌, ◌↔◌, length, option_and_then, slice_get, HoldsAt, IfOk, IsTrue, MatchOption, Some};
-ghost use Rattle.std.specs.List.{AllWithin};
-ghost use Rattle.guess_table.specs.Bounds.{denied_at, denied_by};
-ghost use Rattle.guess_table.specs.Goals.{Denies};
-
 use crate::bound::{Bound, Use};
 use base::{Items, Memory, Same};
 use clause_form::Clause;
@@ -14,9 +9,7 @@ use lin_atoms::{Lit, WideStop};
 use std::alloc::Global;
 
 /// What a lemma denies, at arguments.
-pub fn denied_at(alloc: Global, lemma: &Lemma, args: &[u32]) -> Result<Option<Items<Lit>>, Memory>
-    ensures { IfOk result (λ lits. lits ≡ denied_at args.now lemma.now) }
-{
+pub fn denied_at(alloc: Global, lemma: &Lemma, args: &[u32]) -> Result<Option<Items<Lit>>, Memory> {
     match lemma.cube().at(alloc, args) {
         Ok(lits) => Ok(Some(lits)),
         Err(WideStop::Wide) => Ok(None),
@@ -30,9 +23,7 @@ pub fn denied_by(
     bounds: &[Bound],
     at: usize,
     clause: &Clause,
-) -> Result<Option<Items<Lit>>, Memory>
-    ensures { IfOk result (λ lits. lits ≡ option_and_then (λ head. denied_by head.args (slice_get bounds.now at)) clause.now.head) }
-{
+) -> Result<Option<Items<Lit>>, Memory> {
     let head = match &clause.head {
         Some(head) => head,
         None => return Ok(None),
@@ -47,9 +38,7 @@ pub fn denied_by(
 }
 
 /// Whether the lemma denies these literals at the arguments.
-fn denies(alloc: Global, lemma: &Lemma, args: &[u32], goal: &Items<Lit>) -> Result<bool, Memory>
-    ensures { IfOk result (λ yes. IsTrue yes ↔ (denied_at args.now lemma.now ≡ Some goal.now)) }
-{
+fn denies(alloc: Global, lemma: &Lemma, args: &[u32], goal: &Items<Lit>) -> Result<bool, Memory> {
     match denied_at(alloc, lemma, args)? {
         Some(own) => Ok(own.equals(goal)),
         None => Ok(false),
@@ -64,11 +53,7 @@ fn atom_of(
     pred: u32,
     lemma: &Lemma,
     goal: &Items<Lit>,
-) -> Result<Option<usize>, Memory>
-    ensures { IfOk result (λ found. MatchOption found
-        (AllWithin (λ atom. ¬ Denies pred (Some lemma.now) goal.now atom) clause.now.atoms 0 (length clause.now.atoms))
-        (λ at. (at < length clause.now.atoms) × HoldsAt (Denies pred (Some lemma.now) goal.now) clause.now.atoms at × AllWithin (λ atom. ¬ Denies pred (Some lemma.now) goal.now atom) clause.now.atoms 0 at)) }
-{
+) -> Result<Option<usize>, Memory> {
     for (number, atom) in clause.atoms.as_slice().iter().enumerate() {
         if atom.pred == pred && denies(alloc, lemma, atom.args.as_slice(), goal)? {
             return Ok(Some(number));
@@ -85,11 +70,7 @@ pub fn unmoved(
     at: usize,
     bound: &Bound,
     goal: &Items<Lit>,
-) -> Result<Option<Use>, Memory>
-    ensures { IfOk result (λ found. MatchOption found
-        (AllWithin (λ atom. ¬ Denies bound.now.pred bound.now.lemma goal.now atom) clause.now.atoms 0 (length clause.now.atoms))
-        (λ one. (one.bound ≡ at) × (one.version ≡ bound.now.version) × (one.atom < length clause.now.atoms) × HoldsAt (Denies bound.now.pred bound.now.lemma goal.now) clause.now.atoms one.atom × AllWithin (λ atom. ¬ Denies bound.now.pred bound.now.lemma goal.now atom) clause.now.atoms 0 one.atom)) }
-{
+) -> Result<Option<Use>, Memory> {
     let lemma = match &bound.lemma {
         Some(lemma) => lemma,
         None => return Ok(None),

@@ -1,19 +1,12 @@
 //! What arms refuted bounds with.
 
-ghost use Rattle.std.specs.Prelude.{◌≡◌, ◌<◌, ◌++◌, [], ◌∷◌, length, map, option_copied, option_to_list, slice_index_or, slice_set, remove, IfSome, IsNone, OnOk, OnErr};
-ghost use Rattle.std.specs.List.{list_all};
-ghost use Rattle.guess_table.specs.declared.bound.Bound.{Bound};
-ghost use Rattle.guess_table.specs.Memos.{all_now, as_now, forget, is_still_refuted, is_unchanged, memo_of, memos_in, uses_of, with_memos_of};
-
 use crate::bound::{Bound, Memo, Use, stands};
 use crate::table::Table;
 use base::Memory;
 use std::alloc::Global;
 
 /// Whether the bound is as it was.
-fn is_unchanged(bounds: &[Bound], one: &Use) -> bool
-    ensures { result ≡ is_unchanged bounds.now one.now }
-{
+fn is_unchanged(bounds: &[Bound], one: &Use) -> bool {
     match bounds.get(one.bound) {
         Some(bound) => bound.version == one.version,
         None => false,
@@ -21,9 +14,7 @@ fn is_unchanged(bounds: &[Bound], one: &Use) -> bool
 }
 
 /// Whether the bounds are as they were.
-fn are_unchanged(bounds: &[Bound], uses: &[Use]) -> bool
-    ensures { result ≡ list_all (is_unchanged bounds.now) uses.now }
-{
+fn are_unchanged(bounds: &[Bound], uses: &[Use]) -> bool {
     for one in uses {
         if !is_unchanged(bounds, one) {
             return false;
@@ -33,9 +24,7 @@ fn are_unchanged(bounds: &[Bound], uses: &[Use]) -> bool
 }
 
 /// What the arm refuted the bound with last.
-fn memo_of(bound: &Bound, arm: usize) -> Option<&Memo>
-    ensures { option_copied result ≡ memo_of bound.now.memos.items arm }
-{
+fn memo_of(bound: &Bound, arm: usize) -> Option<&Memo> {
     for memo in bound.memos.as_slice() {
         if memo.arm == arm {
             return Some(memo);
@@ -45,9 +34,7 @@ fn memo_of(bound: &Bound, arm: usize) -> Option<&Memo>
 }
 
 /// Whether the arm refuted the bound as it is, with bounds that haven't changed.
-pub fn is_kept(bounds: &[Bound], bound: &Bound, arm: usize) -> bool
-    ensures { result ≡ is_still_refuted bounds.now bound.now arm }
-{
+pub fn is_kept(bounds: &[Bound], bound: &Bound, arm: usize) -> bool {
     match memo_of(bound, arm) {
         Some(memo) => {
             memo.version == bound.version && are_unchanged(bounds, memo.uses.as_slice())
@@ -57,9 +44,7 @@ pub fn is_kept(bounds: &[Bound], bound: &Bound, arm: usize) -> bool
 }
 
 /// What the arm used then.
-fn uses_of(bound: &Bound, arm: usize) -> &[Use]
-    ensures { result.now ≡ uses_of bound.now arm }
-{
+fn uses_of(bound: &Bound, arm: usize) -> &[Use] {
     match memo_of(bound, arm) {
         Some(memo) => memo.uses.as_slice(),
         None => &[],
@@ -67,9 +52,7 @@ fn uses_of(bound: &Bound, arm: usize) -> &[Use]
 }
 
 /// The use of the bound as it is now, if it stands.
-fn as_now(bounds: &[Bound], one: &Use) -> Option<Use>
-    ensures { result ≡ as_now bounds.now one.now }
-{
+fn as_now(bounds: &[Bound], one: &Use) -> Option<Use> {
     let used = bounds.get(one.bound)?;
     if !stands(bounds, used) {
         return None;
@@ -81,9 +64,7 @@ fn as_now(bounds: &[Bound], one: &Use) -> Option<Use>
     })
 }
 
-fn push_if(made: &mut Vec<Use>, one: Option<Use>) -> Result<(), Memory>
-    ensures { OnOk result (made.new.items ≡ made.old.items ++ option_to_list one) }
-{
+fn push_if(made: &mut Vec<Use>, one: Option<Use>) -> Result<(), Memory> {
     if let Some(one) = one {
         made.push(one)?;
     }
@@ -96,9 +77,7 @@ pub fn push_first(
     bounds: &[Bound],
     bound: &Bound,
     arm: usize,
-) -> Result<(), Memory>
-    ensures { OnOk result (made.new.items ≡ made.old.items ++ all_now bounds.now (uses_of bound.now arm)) }
-{
+) -> Result<(), Memory> {
     for one in uses_of(bound, arm) {
         push_if(made, as_now(bounds, one))?;
     }
@@ -106,10 +85,7 @@ pub fn push_first(
 }
 
 /// The place of what the arm refuted the bound with last.
-fn place_of(memos: &[Memo], arm: usize) -> Option<usize>
-    ensures some { IfSome result (λ at. (at < length memos.now) × (remove memos.now at ≡ forget arm memos.now)) }
-    ensures none { IsNone result → memos.now ≡ forget arm memos.now }
-{
+fn place_of(memos: &[Memo], arm: usize) -> Option<usize> {
     for (at, memo) in memos.iter().enumerate() {
         if memo.arm == arm {
             return Some(at);
@@ -119,9 +95,7 @@ fn place_of(memos: &[Memo], arm: usize) -> Option<usize>
 }
 
 /// Forgets what the arm refuted the bound with last.
-fn forget(memos: &mut Vec<Memo>, arm: usize)
-    ensures { memos.new.items ≡ forget arm memos.old.items }
-{
+fn forget(memos: &mut Vec<Memo>, arm: usize) {
     if let Some(at) = place_of(memos.as_slice(), arm) {
         if at < memos.len() {
             let _old = memos.remove(at);
@@ -131,11 +105,7 @@ fn forget(memos: &mut Vec<Memo>, arm: usize)
 
 /// Remembers what the arm refuted the bound with, in place of what it did so with last. Without memory that is
 /// forgotten alone.
-pub fn remember(bound: &mut Bound, arm: usize, uses: Vec<Use>) -> Result<(), Memory>
-    ensures added { OnOk result (bound.new.memos.items ≡ forget arm bound.old.memos.items ++ record { arm = arm; version = bound.old.version; uses = uses } ∷ []) }
-    ensures forgotten { OnErr result (bound.new.memos.items ≡ forget arm bound.old.memos.items) }
-    ensures rest { record bound.new { memos = bound.old.memos } ≡ bound.old }
-{
+pub fn remember(bound: &mut Bound, arm: usize, uses: Vec<Use>) -> Result<(), Memory> {
     forget(&mut bound.memos, arm);
     let version = bound.version;
     bound.memos.push(Memo { arm, version, uses })?;
@@ -143,12 +113,7 @@ pub fn remember(bound: &mut Bound, arm: usize, uses: Vec<Use>) -> Result<(), Mem
 }
 
 /// What is remembered of a bound, taken out; nothing else of the table changes.
-pub fn forgotten(alloc: Global, table: &mut Table, at: usize) -> Vec<Memo>
-    ensures taken { result.items ≡ slice_index_or (map memos_in table.old.bounds.items) at [] }
-    ensures left { map memos_in table.new.bounds.items ≡ slice_set (map memos_in table.old.bounds.items) at [] }
-    ensures same { (other : Bound) → map (with_memos_of other) table.new.bounds.items ≡ map (with_memos_of other) table.old.bounds.items }
-    ensures rest { record table.new { bounds = table.old.bounds } ≡ table.old }
-{
+pub fn forgotten(alloc: Global, table: &mut Table, at: usize) -> Vec<Memo> {
     if at >= table.bounds.len() {
         return Vec::new(alloc);
     }

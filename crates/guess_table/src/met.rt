@@ -1,8 +1,5 @@
 //! Tuples that were met.
 
-ghost use Rattle.std.specs.Prelude.{◌≡◌, take};
-ghost use Rattle.guess_table.specs.Walks.{most_met};
-
 use base::Memory;
 use clause_form::Atom;
 use cube_forms::Tuple;
@@ -42,9 +39,7 @@ pub struct Walk {
 
 impl Walk {
     /// The first ones that were met.
-    pub fn first(&self) -> &[Met]
-        ensures { result.now ≡ take most_met self.now.met.items }
-    {
+    pub fn first(&self) -> &[Met] {
         let all = self.met.as_slice();
         if all.len() <= MOST_MET {
             return all;

@@ -1,8 +1,5 @@
 //! Which bounds are needed, and on how many others each one rests.
 
-ghost use Rattle.std.specs.Prelude.{◌≡◌, true, false, length, not, slice_index_or, slice_set, IfOk};
-ghost use Rattle.guess_table.specs.Needs.{has_new, marked, uses_in};
-
 use crate::bound::{Bound, Memo, Use};
 use base::Memory;
 use std::alloc::Global;
@@ -22,10 +19,7 @@ pub struct Needs {
 }
 
 /// Marks the bound at a place; whether it is there and wasn't marked.
-pub fn mark(needed: &mut Vec<bool>, at: usize) -> bool
-    ensures marked { needed.new.items ≡ slice_set needed.old.items at true }
-    ensures is_new { result ≡ not (slice_index_or needed.old.items at true) }
-{
+pub fn mark(needed: &mut Vec<bool>, at: usize) -> bool {
     if at >= needed.len() {
         return false;
     }
@@ -35,10 +29,7 @@ pub fn mark(needed: &mut Vec<bool>, at: usize) -> bool
 }
 
 /// Marks the bounds in use; whether one is new.
-pub fn mark_uses(needed: &mut Vec<bool>, uses: &[Use]) -> bool
-    ensures marked { needed.new.items ≡ marked needed.old.items uses.now }
-    ensures is_new { result ≡ has_new needed.old.items uses.now }
-{
+pub fn mark_uses(needed: &mut Vec<bool>, uses: &[Use]) -> bool {
     let mut changed = false;
     for one in uses {
         changed |= mark(needed, one.bound);
@@ -47,10 +38,7 @@ pub fn mark_uses(needed: &mut Vec<bool>, uses: &[Use]) -> bool
 }
 
 /// Marks what the bound rests on; whether something is new.
-pub fn mark_memos(needed: &mut Vec<bool>, memos: &[Memo]) -> bool
-    ensures marked { needed.new.items ≡ marked needed.old.items (uses_in memos.now) }
-    ensures is_new { result ≡ has_new needed.old.items (uses_in memos.now) }
-{
+pub fn mark_memos(needed: &mut Vec<bool>, memos: &[Memo]) -> bool {
     let mut changed = false;
     for memo in memos {
         changed |= mark_uses(needed, memo.uses.as_slice());
@@ -59,9 +47,7 @@ pub fn mark_memos(needed: &mut Vec<bool>, memos: &[Memo]) -> bool
 }
 
 /// Whether the bound at a place is there and marked.
-pub fn is_marked(needed: &[bool], at: usize) -> bool
-    ensures { result ≡ slice_index_or needed.now at false }
-{
+pub fn is_marked(needed: &[bool], at: usize) -> bool {
     match needed.get(at) {
         Some(true) => true,
         _ => false,
@@ -95,9 +81,7 @@ fn rank_of(ranks: &[u32], own: usize, memos: &[Memo]) -> u32 {
 }
 
 /// The ranks, of those before.
-fn next_ranks(alloc: Global, ranks: &[u32], bounds: &[Bound]) -> Result<Vec<u32>, Memory>
-    ensures { IfOk result (λ ranks. length ranks.items ≡ length bounds.now) }
-{
+fn next_ranks(alloc: Global, ranks: &[u32], bounds: &[Bound]) -> Result<Vec<u32>, Memory> {
     let mut made = Vec::new(alloc);
     for (at, bound) in bounds.iter().enumerate() {
         made.push(rank_of(ranks, at, bound.memos.as_slice()))?;
@@ -106,9 +90,7 @@ fn next_ranks(alloc: Global, ranks: &[u32], bounds: &[Bound]) -> Result<Vec<u32>
 }
 
 /// The rank of each bound.
-pub fn ranks_of(alloc: Global, bounds: &[Bound]) -> Result<Vec<u32>, Memory>
-    ensures { IfOk result (λ ranks. length ranks.items ≡ length bounds.now) }
-{
+pub fn ranks_of(alloc: Global, bounds: &[Bound]) -> Result<Vec<u32>, Memory> {
     let mut ranks = Vec::new(alloc);
     for _ in 0..MOST_RANK {
         ranks = next_ranks(alloc, ranks.as_slice(), bounds)?;

@@ -1,9 +1,5 @@
 //! Queries of one way through a clause, with bounds on its body atoms: of what they are made.
 
-ghost use Rattle.std.specs.Prelude.{◌≡◌, ◌++◌, map, option_to_list, remove, IfOk, OnOk};
-ghost use Rattle.lin_atoms.specs.declared.form.Form.TheVariants.{Lit as Literal};
-ghost use Rattle.guess_table.specs.Queries.{bound_on, lemma_if_room, use_of, uses_on};
-
 use crate::arms::Arm;
 use crate::bound::{Bound, Use, first_of, stands};
 use base::{Copied, Items, Memory};
@@ -15,9 +11,7 @@ use std::alloc::Global;
 /// How many bounds are taken in at once.
 const AT_ONCE: usize = 3;
 
-fn push_lits(alloc: Global, parts: &mut Items<Form>, lits: &[Lit]) -> Result<(), Memory>
-    ensures { OnOk result (parts.new ≡ parts.old ++ map Literal lits.now) }
-{
+fn push_lits(alloc: Global, parts: &mut Items<Form>, lits: &[Lit]) -> Result<(), Memory> {
     for lit in lits {
         parts.push(Form::Lit(lit.copy(alloc)?))?;
     }
@@ -30,9 +24,7 @@ fn push_lemma(
     parts: &mut Items<Form>,
     lemma: &Lemma,
     atom: &Atom,
-) -> Result<(), Memory>
-    ensures { OnOk result (parts.new ≡ parts.old ++ option_to_list (lemma_if_room atom.now.args lemma.now)) }
-{
+) -> Result<(), Memory> {
     match lemma.checked_form(alloc, atom.args.as_slice()) {
         Ok(form) => {
             parts.push(form)?;
@@ -49,9 +41,7 @@ fn push_bound(
     parts: &mut Items<Form>,
     bound: &Bound,
     atom: &Atom,
-) -> Result<(), Memory>
-    ensures { OnOk result (parts.new ≡ parts.old ++ option_to_list (bound_on atom.now bound.now)) }
-{
+) -> Result<(), Memory> {
     match &bound.lemma {
         Some(lemma) => push_lemma(alloc, parts, lemma, atom),
         None => Ok(()),
@@ -65,9 +55,7 @@ fn push_use(
     bounds: &[Bound],
     atoms: &[Atom],
     one: &Use,
-) -> Result<(), Memory>
-    ensures { OnOk result (parts.new ≡ parts.old ++ option_to_list (use_of bounds.now atoms.now one.now)) }
-{
+) -> Result<(), Memory> {
     match bounds.get(one.bound) {
         Some(bound) => match atoms.get(one.atom) {
             Some(atom) => push_bound(alloc, parts, bound, atom),
@@ -84,9 +72,7 @@ fn push_uses(
     bounds: &[Bound],
     atoms: &[Atom],
     uses: &[Use],
-) -> Result<(), Memory>
-    ensures { OnOk result (parts.new ≡ parts.old ++ uses_on bounds.now atoms.now uses.now) }
-{
+) -> Result<(), Memory> {
     for one in uses {
         push_use(alloc, parts, bounds, atoms, one)?;
     }
@@ -178,18 +164,14 @@ pub fn push_parts(
     bounds: &[Bound],
     goal: &[Lit],
     uses: &[Use],
-) -> Result<(), Memory>
-    ensures { OnOk result (parts.new ≡ parts.old ++ map Literal arm.now.lits.items ++ map Literal goal.now ++ uses_on bounds.now clause.now.atoms uses.now) }
-{
+) -> Result<(), Memory> {
     push_lits(alloc, parts, arm.lits.as_slice())?;
     push_lits(alloc, parts, goal)?;
     push_uses(alloc, parts, bounds, clause.atoms.as_slice(), uses)
 }
 
 /// All but the one at a place.
-pub fn without(alloc: Global, uses: &[Use], at: usize) -> Result<Vec<Use>, Memory>
-    ensures { IfOk result (λ made. made.items ≡ remove uses.now at) }
-{
+pub fn without(alloc: Global, uses: &[Use], at: usize) -> Result<Vec<Use>, Memory> {
     let mut made = Vec::from_slice(alloc, uses)?;
     if at < made.len() {
         let _left = made.remove(at);

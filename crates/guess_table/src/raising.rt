@@ -1,9 +1,5 @@
 //! Bounds rise by tuples that break them.
 
-ghost use Rattle.std.specs.Prelude.{◌≡◌};
-ghost use Rattle.std.specs.List.{list_all};
-ghost use Rattle.guess_table.specs.Needs.{is_reached};
-
 use crate::bound::{Bound, Limit, first_of};
 use crate::conditions::thresholds;
 use crate::met::Met;
@@ -21,9 +17,7 @@ const TO_THRESHOLDS: u32 = 4;
 pub const MOST_RISES: u32 = 30;
 
 /// Whether a tuple of each atom's predicate was met.
-pub fn are_reached(reached: &[bool], atoms: &[Atom]) -> bool
-    ensures { result ≡ list_all (is_reached reached.now) atoms.now }
-{
+pub fn are_reached(reached: &[bool], atoms: &[Atom]) -> bool {
     for atom in atoms {
         if !is_marked(reached, atom.pred as usize) {
             return false;

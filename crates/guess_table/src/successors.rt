@@ -1,9 +1,5 @@
 //! What the arm of a clause with at most one body atom is asked for: what follows from a tuple.
 
-ghost use Rattle.std.specs.Prelude.{◌≡◌, ◌++◌, [], ◌∷◌, pos, negsuc, IfOk, OnOk};
-ghost use Rattle.lin_atoms.specs.declared.lit.Lit.TheVariants.{Le};
-ghost use Rattle.guess_table.specs.Values.{form_if_legal};
-
 use crate::arms::Arm;
 use crate::forms::lin_of;
 use crate::met::Met;
@@ -18,9 +14,7 @@ fn form_of(
     variable: u32,
     coefficient: i64,
     constant: i128,
-) -> Result<Option<Lin>, Memory>
-    ensures { IfOk result (λ made. made ≡ form_if_legal (record { terms = (variable, coefficient) ∷ []; constant = constant })) }
-{
+) -> Result<Option<Lin>, Memory> {
     let mut terms = Vec::new(alloc);
     terms.push((variable, coefficient))?;
     match Lin::new(terms, constant) {
@@ -35,9 +29,7 @@ pub fn push_least(
     goal: &mut Vec<Lit>,
     variable: u32,
     least: usize,
-) -> Result<(), Memory>
-    ensures { OnOk result (goal.new.items ≡ goal.old.items ++ Le (record { terms = (variable, negsuc 0) ∷ []; constant = pos least }) ∷ []) }
-{
+) -> Result<(), Memory> {
     match form_of(alloc, variable, -1, least as i128)? {
         Some(lin) => {
             goal.push(Lit::Le(lin))?;

@@ -1,9 +1,7 @@
 //! Bounds without a common factor.
 
-ghost use Rattle.std.specs.Prelude.{◌≡◌, ◌<◌, ◌<ℤ◌, ◌^◌, length, map, nat_abs, neg_ℤ, pos, IfOk};
-ghost use Rattle.std.specs.Int.{int_div_euclid};
+ghost use Rattle.std.specs.Prelude.{◌≡◌, ◌<◌, ◌<ℤ◌, ◌^◌, length, map, nat_abs, pos};
 ghost use Rattle.int_rows.specs.Rows.{content};
-ghost use Rattle.int_rows.specs.Ready.{lin_content, rounded, tightened};
 
 use base::{Copied, Memory};
 use lin_atoms::{Lin, gcd};
@@ -26,7 +24,6 @@ pub fn content(terms: &[(u32, i64)]) -> u128
 /// A coefficient divided, rounded down.
 fn part(coefficient: i64, divisor: i64) -> i64
     requires { pos 0 <ℤ divisor }
-    ensures { result ≡ int_div_euclid coefficient divisor }
 {
     coefficient.div_euclid(divisor)
 }
@@ -34,7 +31,6 @@ fn part(coefficient: i64, divisor: i64) -> i64
 /// The terms with each coefficient divided, rounded down.
 pub fn divided(alloc: Global, terms: &[(u32, i64)], divisor: i64) -> Result<Vec<(u32, i64)>, Memory>
     requires { pos 0 <ℤ divisor }
-    ensures { IfOk result (λ made. made.items ≡ map (λ t. (t.0, int_div_euclid t.1 divisor)) terms.now) }
 {
     let mut made = Vec::with_capacity(alloc, terms.len())?;
     for (variable, coefficient) in terms {
@@ -47,7 +43,6 @@ pub fn divided(alloc: Global, terms: &[(u32, i64)], divisor: i64) -> Result<Vec<
 fn quotient(constant: i128, divisor: i64) -> i128
     requires positive { pos 0 <ℤ divisor }
     requires long { nat_abs constant < 2 ^ 64 }
-    ensures is { result ≡ int_div_euclid constant divisor }
     ensures long { nat_abs result < 2 ^ 64 }
 {
     constant.div_euclid(i128::from(divisor))
@@ -57,7 +52,6 @@ fn quotient(constant: i128, divisor: i64) -> i128
 fn ceiling(constant: i128, divisor: i64) -> i128
     requires positive { pos 0 <ℤ divisor }
     requires long { nat_abs constant < 2 ^ 64 }
-    ensures { result ≡ neg_ℤ (int_div_euclid (neg_ℤ constant) divisor) }
 {
     -quotient(-constant, divisor)
 }
@@ -66,7 +60,6 @@ fn ceiling(constant: i128, divisor: i64) -> i128
 /// each are in order, so that only want of memory is in the way.
 fn whole(alloc: Global, lin: &Lin, divisor: i64) -> Result<Lin, Memory>
     requires { pos 0 <ℤ divisor }
-    ensures { IfOk result (λ made. made ≡ rounded divisor lin.now) }
 {
     if divisor == 1 {
         return lin.copy(alloc);
@@ -89,7 +82,6 @@ fn signed(n: u128) -> i64
 /// The greatest common divisor of a form's coefficients.
 fn divisor_of(lin: &Lin) -> i64
     requires { 0 < length lin.now.terms }
-    ensures is { result ≡ pos (lin_content lin.now) }
     ensures positive { pos 0 <ℤ result }
 {
     signed(content(lin.terms()))
@@ -97,10 +89,7 @@ fn divisor_of(lin: &Lin) -> i64
 
 /// A form that is at most 0 at the same integer points, with coefficients that have no common factor; the
 /// form itself where it has no term.
-pub fn tightened(alloc: Global, lin: &Lin) -> Result<Lin, Memory>
-    ensures made { 0 < length lin.now.terms → IfOk result (λ made. made ≡ tightened lin.now) }
-    ensures same { length lin.now.terms ≡ 0 → IfOk result (λ made. made ≡ lin.now) }
-{
+pub fn tightened(alloc: Global, lin: &Lin) -> Result<Lin, Memory> {
     if lin.terms().len() == 0 {
         return lin.copy(alloc);
     }

@@ -1,7 +1,6 @@
-use Rattle.std.proofs.Common.{◌≡◌, ℕ, arith, ap, ◌∙◌, rules, FitsSigned, map}
-use Rattle.std.specs.Prelude.{ℤ, pos}
-use Rattle.std.specs.Int.{w64}
-use Rattle.std.proofs.lemmas.Int.{ints, to_z-of_z}
+use Rattle.std.proofs.Common.{◌≡◌, ℕ, arith, ap, ◌∙◌, map}
+use Rattle.std.specs.Prelude.{ℤ}
+use Rattle.std.proofs.lemmas.Int.{ints}
 use Rattle.int_rows.specs.Rows.{content}
 use Rattle.int_rows.specs.Ready.{lin_content}
 use Rattle.int_rows.proofs.ContentLemmas.{coefficients-content}
@@ -13,14 +12,8 @@ signed-requires c =
     let is : c.content.result ≡ lin_content c.args.lin.now = c.content.ensures ∙ ap content (ap (map (λ (t : ℕ × ℤ). t.1)) c.terms.ensures.is) in
     omega (arith, ints, is, bounds)
 
-pub returns-clause-is : goal.returns-clause-is
-returns-clause-is c =
-    let is : c.content.result ≡ lin_content c.args.lin.now = c.content.ensures ∙ ap content (ap (map (λ (t : ℕ × ℤ). t.1)) c.terms.ensures.is) in
-    let fits : FitsSigned w64 c.signed.result = search rules in
-    simp to_z-of_z (c.signed.ensures ∙ ap pos is)
-
-pub returns-clause-positive : goal.returns-clause-positive
-returns-clause-positive c =
+pub returns : goal.returns
+returns c =
     let bounds = coefficients-content c.args.lin.now c.requires c.terms.ensures.legal in
     let is : c.content.result ≡ lin_content c.args.lin.now = c.content.ensures ∙ ap content (ap (map (λ (t : ℕ × ℤ). t.1)) c.terms.ensures.is) in
     omega (arith, ints, is, bounds, c.signed.ensures)
