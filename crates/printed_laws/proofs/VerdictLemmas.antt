@@ -13,6 +13,6 @@ use Rattle.chc_checker.specs.Verdicts.{Judges, Says}
 pub said : (nodes : ℕ) (script : Script) (text : List ℕ) (lines : List Line) (verdict : Verdict) → Judges nodes script text verdict → Spells script.preds text (Unsat lines) → Says nodes script (Unsat lines) verdict
 said nodes script text lines verdict judges spells =
     ⊎_elim
-    (λ told. subst (λ (answer : Answer). Says nodes script answer verdict) (alone_law script.preds text lines told.0 spells told.1) told.2)
+    (λ told. subst (λ (answer : Answer). Says nodes script answer verdict) (alone_law script.preds text lines told.0 spells told.1) told.3)
     (λ bad. absurd (both_law script.preds text (Unsat lines) bad.0 spells bad.1))
     judges
