@@ -3,8 +3,10 @@
 #![tactic(auto)]
 
 use chc_cli::{chc_run, exit_number};
-use outside_io::{MemSource, Source, StdSink, StdSource};
+use outside_io::{MemSource, Sink, Source, StdSink, StdSource};
 use std::alloc::Global;
+use std::sync::Wait;
+use std::thread::Threads;
 use std::{fs, io};
 use worker_pool::FreeGate;
 
@@ -51,27 +53,17 @@ fn words_of(alloc: Global, line: &str) -> io::Result<Vec<String>> {
     Ok(words)
 }
 
-/// Carries out the words of a line over what the source gives.
-fn carry_out<S: Source>(rt: &HostRuntime, line: &str, source: &mut S) -> io::Result<()> {
-    let words = words_of(rt.alloc(), line)?;
-    let mut sink = StdSink::new(rt.stdout());
-    let report = chc_run(
-        rt,
-        rt.alloc(),
-        words.as_slice(),
-        source,
-        &mut sink,
-        &FreeGate,
-    );
+/// Carries out the words of a line over what the source gives, and prints the status behind what is written.
+fn carry_out<W: Threads + Wait + Print + Sync, S: Source, K: Sink>(
+    rt: &W,
+    alloc: Global,
+    line: &str,
+    source: &mut S,
+    sink: &mut K,
+) -> io::Result<()> {
+    let words = words_of(alloc, line)?;
+    let report = chc_run(rt, alloc, words.as_slice(), source, sink, &FreeGate);
     println!(rt; "status {}", exit_number(&report))
-}
-
-fn run_script(rt: &HostRuntime, script: &str, options: &str) -> io::Result<()> {
-    let space = if options.is_empty() { "" } else { " " };
-    println!(rt; "$ ./chc solve{space}{options} < examples/{script}")?;
-    let words = format!(in rt.alloc(); "solve {options}")?;
-    let mut source = StdSource::new(fs::open(rt, script)?);
-    carry_out(rt, words.as_str(), &mut source)
 }
 
 /// What a case shows, its words, and what it reads.
@@ -81,33 +73,39 @@ fn parts_of(case: &str) -> Option<(&str, &str, &str)> {
     Some((shows, words, input))
 }
 
-fn run_case(rt: &HostRuntime, shows: &str, words: &str, input: &str) -> io::Result<()> {
-    println!(rt; "# {shows}")?;
-    let bytes = Vec::from_slice(rt.alloc(), input.as_bytes())?;
-    let mut source = MemSource::new(bytes, 7, Vec::new(rt.alloc()));
-    carry_out(rt, words, &mut source)
-}
-
 /// Runs the cases of a table. What stands before the first one says what they show, and the last one ends
-/// before the file's last line feed.
-fn run_table(rt: &HostRuntime, table: &str) -> io::Result<()> {
-    println!(rt; "{table}")?;
-    let text = fs::read_to_string(rt, table)?;
-    let cases = text.strip_suffix('\n').unwrap_or(text.as_str());
+/// before the table's last line feed.
+fn run_cases<W: Threads + Wait + Print + Sync, K: Sink>(
+    rt: &W,
+    alloc: Global,
+    table: &str,
+    sink: &mut K,
+) -> io::Result<()> {
+    let cases = table.strip_suffix('\n').unwrap_or(table);
     for case in cases.split("\n# ").skip(1) {
         if let Some((shows, words, input)) = parts_of(case) {
-            run_case(rt, shows, words, input)?;
+            println!(rt; "# {shows}")?;
+            let bytes = Vec::from_slice(alloc, input.as_bytes())?;
+            let mut source = MemSource::new(bytes, 7, Vec::new(alloc));
+            carry_out(rt, alloc, words, &mut source, sink)?;
         }
     }
     Ok(())
 }
 
 fn main(rt: HostRuntime) -> io::Result<()> {
+    let mut sink = StdSink::new(rt.stdout());
     for (script, options) in SCRIPTS {
-        run_script(&rt, script, options)?;
+        let space = if options.is_empty() { "" } else { " " };
+        println!(rt; "$ ./chc solve{space}{options} < examples/{script}")?;
+        let words = format!(in rt.alloc(); "solve {options}")?;
+        let mut source = StdSource::new(fs::open(&rt, script)?);
+        carry_out(&rt, rt.alloc(), words.as_str(), &mut source, &mut sink)?;
     }
     for table in TABLES {
-        run_table(&rt, table)?;
+        println!(rt; "{table}")?;
+        let text = fs::read_to_string(&rt, table)?;
+        run_cases(&rt, rt.alloc(), text.as_str(), &mut sink)?;
     }
     Ok(())
 }

@@ -1,0 +1,15 @@
+pub mod AssertionLemmas
+pub mod CommandLemmas
+pub mod FoldLemmas
+pub mod FormulaLemmas
+pub mod FoundLemmas
+pub mod InductionLemmas
+pub mod LaidLemmas
+pub mod LinearLemmas
+pub mod MeetingLemmas
+pub mod NormalLemmas
+pub mod ShapeLemmas
+pub mod SpotLemmas
+pub mod SystemLemmas
+pub mod TextLemmas
+pub mod WidthLemmas

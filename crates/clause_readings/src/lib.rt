@@ -1,0 +1,7 @@
+//! Laws of readings: the system of clauses of a text, and each refusal of it by clauses, doesn't depend on
+//! how the terms of its script are numbered.
+#![tactic(auto)]
+
+mod laws;
+
+pub use laws::{numbering_is_free, texts_have_one_system};
