@@ -1,14 +1,11 @@
-use Rattle.std.proofs.Common.{◌≡◌, ◌≤◌, ℕ, [], ◌∷◌, false, length, take, rules, subst, ◌∙◌}
-use Rattle.std.proofs.lemmas.Bool.{le-ltb}
-use Rattle.std.specs.Prelude.{nat_lt}
+use Rattle.std.proofs.Common.{◌≡◌, [], ◌∷◌, length, take, rules, subst, ◌∙◌}
 use Rattle.lin_atoms.specs.declared.form.Form.{Form}
 use Rattle.lin_atoms.specs.declared.form.Form.TheViews.{And}
 use Rattle.refutation_trees.specs.Refutation.{HasNoPoint}
 use Rattle.lia_search.specs.declared.decision.Decision.{Decision}
-use Rattle.lia_search.specs.declared.decision.Decision.TheVariants.{GaveUp, Model}
-use Rattle.clause_form.specs.System.{most_variables}
+use Rattle.lia_search.specs.declared.decision.Decision.TheVariants.{Model}
 use Rattle.clause_normal.specs.Normal.{normal_clause}
-use Rattle.clause_laws.specs.Defined.{breaking_form, breaking_variables}
+use Rattle.clause_laws.specs.Defined.{breaking_form}
 use Rattle.chc_checker.specs.machinery.Judging.{Settles}
 use Rattle.chc_checker.proofs.JudgeLemmas.{false_here, true_here}
 use Rattle.chc_checker.proofs.model.verdict_by.Goals as goal
@@ -32,15 +29,3 @@ returns-in-Refuted c =
     let whole : Form = And (breaking_form defs (normal_clause script clause) ∷ []) in
     let told : HasNoPoint whole = subst (λ (d : Decision). Settles whole c.args.vars c.args.nodes d) c.in-Refuted.is c.requires.decides in
     true_here script defs c.args.number clause c.is_arena.ensures.arena c.requires.legal c.requires.defined c.requires.formulas c.requires.reached told
-
-pub returns-in-GaveUp : goal.returns-in-GaveUp
-returns-in-GaveUp c =
-    let script = c.args.script.now in
-    let defs = c.args.definitions.now in
-    let clause = c.args.clause.now in
-    let whole : Form = And (breaking_form defs (normal_clause script clause) ∷ []) in
-    let told : Settles whole c.args.vars c.args.nodes (GaveUp c.in-GaveUp.gave_up) = subst (λ (d : Decision). Settles whole c.args.vars c.args.nodes d) c.in-GaveUp.is c.requires.decides in
-    let total : ℕ = breaking_variables defs (normal_clause script clause) in
-    let most : total ≤ most_variables = subst (λ (n : ℕ). n ≤ 2048) c.requires.vars c.requires.few in
-    let few : nat_lt most_variables total ≡ false = le-ltb most_variables total most in
-    record { clause = clause; reached = c.requires.reached; narrow = c.requires.wide; few = few; form = told.0; count = told.1 }
