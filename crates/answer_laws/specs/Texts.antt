@@ -2,7 +2,6 @@
 use Rattle.std.specs.Prelude.{ℕ, List}
 use Rattle.term_tree.specs.declared.script.Script.{Script}
 use Rattle.term_tree.specs.declared.definition.Definition.{Definition}
-use Rattle.term_tree.specs.Arena.{IsArena}
 use Rattle.term_tree.specs.Solution.{IsSolution}
 use Rattle.sort_check.specs.Commands.{Command}
 use Rattle.sort_check.specs.Scripts.{IsScript, IsScriptOf}
@@ -16,6 +15,5 @@ pub record IsSatAnswer (bytes : List ℕ) (text : List ℕ) : Type 0 where
   pub definitions : List Definition
   pub is_script : IsScript bytes commands
   pub spelled : IsScriptOf commands script
-  pub arena : IsArena script.terms.nodes
   pub solution : IsSolution script definitions
   pub answer : IsAnswerText script.preds (Sat definitions) text

@@ -13,7 +13,6 @@ ghost use Rattle.answer_text.specs.declared.answer.Answer.TheVariants.{Sat, Unsa
 ghost use Rattle.answer_text.specs.Printable.{IsAnswerText};
 ghost use Rattle.answer_text.specs.Read.{Spells, IsBad};
 ghost use Rattle.answer_text.specs.ReadBack.{AreNames, IsSameModel, IsStored, IsReadAs};
-ghost use Rattle.term_tree.specs.Arena.{IsArena};
 ghost use Rattle.term_tree.specs.Solution.{IsSolution};
 ghost use Rattle.answer_laws.specs.Texts.{IsSatAnswer};
 
@@ -35,13 +34,12 @@ pub fn unsat_answers_are_read_back()
 {}
 
 /// What is printed under status 0 is accepted by the reader of answers, and read as the same model; and
-/// what is read, in arenas as every value of its type, is a solution of the script. So the text itself is
-/// the certificate.
+/// what is read is a solution of the script. So the text itself is the certificate.
 pub fn printed_models_are_solutions()
     ensures accepted { (bytes printed : List ℕ) → (h : IsSatAnswer bytes printed) → (offset : ℕ) → IsBad h.script.preds printed offset → ⊥ }
     ensures same { (bytes printed : List ℕ) → (h : IsSatAnswer bytes printed) → (answer : Answer) → Spells h.script.preds printed answer → IsSameModel h.definitions answer }
     ensures solution { (bytes printed : List ℕ) → (h : IsSatAnswer bytes printed) → (definitions : List Definition) → Spells h.script.preds printed (Sat definitions)
-        → AllByRecursion (λ d. IsArena d.terms.nodes) definitions → IsSolution h.script definitions }
+        → IsSolution h.script definitions }
 {
     same_tree_same_value();
     same_values_same_solution();

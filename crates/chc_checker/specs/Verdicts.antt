@@ -1,5 +1,5 @@
 -- What a verdict on an answer to a script says. Assertions are numbered from 1 here, as they are printed.
-use Rattle.std.specs.Prelude.{◌≡◌, ℕ, suc, ℤ, List, [], ◌∷◌, take, Some, None, true, nat_lt, slice_get, ◌⊎◌}
+use Rattle.std.specs.Prelude.{◌≡◌, ℕ, suc, ℤ, List, [], ◌∷◌, take, Some, None, true, false, nat_lt, slice_get, ◌⊎◌}
 use Rattle.std.specs.List.{AllByRecursion}
 use Rattle.term_tree.specs.declared.definition.Definition.{Definition}
 use Rattle.term_tree.specs.declared.scalar.Value.{Value as Given}
@@ -79,10 +79,13 @@ pub record IsTooWideAt (script : Script) (definitions : List Definition) (offset
   pub reached : IsAssertionReached script definitions number clause
   pub wide : breaking_wide definitions (normal_clause script clause) ≡ Some offset
 
--- the formula of the instances that make it false is kept as given up with the given number of inner nodes
+-- every number of the instances that make it false has room, their formula has at most 2,048 variables, and it is kept as given up
+-- with the given number of inner nodes
 pub record IsGivenUpAt (nodes : ℕ) (script : Script) (definitions : List Definition) (number : ℕ) (gave_up : GaveUp) : Type 0 where
   pub clause : HornClause
   pub reached : IsAssertionReached script definitions number clause
+  pub narrow : breaking_wide definitions (normal_clause script clause) ≡ None
+  pub few : nat_lt most_variables (breaking_variables definitions (normal_clause script clause)) ≡ false
   pub form : given_form gave_up ≡ And (breaking_form definitions (normal_clause script clause) ∷ [])
   pub count : CountsTo nodes (given_evidence gave_up)
 
@@ -113,11 +116,16 @@ Says nodes script answer Valid = IsValid script answer
 Says nodes script answer (Wrong place) = IsWrong script answer place
 Says nodes script answer (NotShown place evidence) = IsNotShown nodes script answer place evidence
 
--- what the verdict says of a text: that of the answer which it spells, or that it spells none, and where its first fault is
+-- what the verdict says of a text: that of an answer which it spells and which can be checked, or that it spells none, and where its
+-- first fault is
 abbrev pub Judges : ℕ → Script → List ℕ → Verdict → Type 0
 Judges nodes script text verdict =
-    ((answer : Answer) × Spells script.preds text answer × Says nodes script answer verdict) ⊎ ((offset : ℕ) × IsBad script.preds text offset × (verdict ≡ Wrong (Byte offset)))
+    ((answer : Answer) × Spells script.preds text answer × IsCheckable script answer × Says nodes script answer verdict) ⊎ ((offset : ℕ) × IsBad script.preds text offset × (verdict ≡ Wrong (Byte offset)))
 
 -- at the values of each step whose predecessors are right every number has room, as far as they are of the right sorts
 abbrev pub HaveRoom : Script → List Line → Type 0
 HaveRoom script lines = (number term : ℕ) → IsWideAt script lines number term → ⊥
+
+-- in the instances that make an assertion false under the definitions every number has room
+abbrev pub HaveRoomUnder : Script → List Definition → Type 0
+HaveRoomUnder script definitions = (index : ℕ) (clause : HornClause) → IsClauseOf script index clause → breaking_wide definitions (normal_clause script clause) ≡ None

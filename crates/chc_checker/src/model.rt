@@ -41,6 +41,8 @@ fn verdict_by(
     requires formulas { AreFormulas script.now.preds definitions.now }
     requires reached { IsAssertionReached script.now definitions.now number clause.now }
     requires vars { vars ≡ breaking_variables definitions.now (normal_clause script.now clause.now) }
+    requires few { vars ≤ most_variables }
+    requires wide { breaking_wide definitions.now (normal_clause script.now clause.now) ≡ None }
     requires decides { Settles (And (breaking_form definitions.now (normal_clause script.now clause.now) ∷ [])) vars nodes decision }
     ensures { IsDecided nodes script.now definitions.now number result }
 {

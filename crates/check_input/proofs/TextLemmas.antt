@@ -19,5 +19,5 @@ said nodes script (Unsat lines) number integers says = absurd says
 said nodes script (Unknown level cause) number integers says = absurd says
 
 pub instance_there : (nodes : ℕ) (script : Script) (bytes : List ℕ) (number : ℕ) (integers : List ℤ) → Judges nodes script bytes (Wrong (Instance number integers)) → IsAssertionOf script number
-instance_there nodes script bytes number integers (inl told) = said nodes script told.0 number integers told.2
+instance_there nodes script bytes number integers (inl told) = said nodes script told.0 number integers told.3
 instance_there nodes script bytes number integers (inr bad) = absurd (differs number bad.0 integers bad.2)

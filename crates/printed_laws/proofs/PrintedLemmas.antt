@@ -1,13 +1,12 @@
 -- A printed answer says by itself what the book's end says of it.
 use Rattle.std.proofs.Common.{◌≡◌, ℕ, List, [], ◌∷◌, ◌++◌, refl, sym, ap, subst, ◌∙◌}
 use Rattle.std.specs.Prelude.{Some, codes}
-use Rattle.std.specs.List.{AllByRecursion, flat_map}
+use Rattle.std.specs.List.{flat_map}
 use Rattle.std.specs.declared.option.Option.{Option}
 use Rattle.outside_io.specs.Bytes.{Appends}
 use Rattle.term_tree.specs.declared.script.Pred.{Pred}
 use Rattle.term_tree.specs.declared.script.Script.{Script}
 use Rattle.term_tree.specs.declared.definition.Definition.{Definition}
-use Rattle.term_tree.specs.Arena.{IsArena}
 use Rattle.term_tree.specs.Solution.{IsSolution}
 use Rattle.sort_check.specs.Commands.{Command}
 use Rattle.sort_check.specs.Scripts.{IsScript, IsScriptOf}
@@ -50,7 +49,7 @@ SameLaw = (bytes printed : List ℕ) → (h : IsSatAnswer bytes printed) → (an
 
 abbrev pub SolutionLaw : Type 0
 SolutionLaw = (bytes printed : List ℕ) → (h : IsSatAnswer bytes printed) → (definitions : List Definition) → Spells h.script.preds printed (Sat definitions)
-    → AllByRecursion (λ d. IsArena d.terms.nodes) definitions → IsSolution h.script definitions
+    → IsSolution h.script definitions
 
 abbrev pub SpelledLaw : Type 0
 SpelledLaw = (text : List ℕ) (commands : List Command) (script : Script) (lines : List Line) (printed : List ℕ) → IsScript text commands → IsScriptOf commands script
@@ -72,7 +71,7 @@ unsat_line preds lines = refl
 
 module _ (accepted : AcceptedLaw) (same : SameLaw) (solution : SolutionLaw) (spelled : SpelledLaw) (alone : AloneLaw) (not_bad : NotBadLaw) where
   solves : (bytes text : List ℕ) → (h : IsSatAnswer bytes text) → (answer : Answer) → Spells h.script.preds text answer → IsSolvedBy h.script answer
-  solves bytes text h (Sat definitions) spells = λ arenas. solution bytes text h definitions spells arenas
+  solves bytes text h (Sat definitions) spells = solution bytes text h definitions spells
   solves bytes text h (Unsat lines) spells = absurd (same bytes text h (Unsat lines) spells)
   solves bytes text h (Unknown level cause) spells = absurd (same bytes text h (Unknown level cause) spells)
 
@@ -88,7 +87,6 @@ module _ (accepted : AcceptedLaw) (same : SameLaw) (solution : SolutionLaw) (spe
         definitions = definitions;
         is_script = book.is_script;
         spelled = book.spelled;
-        arena = book.of.arena;
         solution = solved;
         answer = subst (λ (a : Answer). IsAnswerText preds a text) is printed;
       }

@@ -1,8 +1,6 @@
 -- What a text that a call of `solve` prints under status 0 says, for whoever has the bytes that were read and that text alone.
 use Rattle.std.specs.Prelude.{◌≡◌, ℕ, List, ◌++◌, codes}
-use Rattle.std.specs.List.{AllByRecursion}
 use Rattle.term_tree.specs.declared.script.Script.{Script}
-use Rattle.term_tree.specs.Arena.{IsArena}
 use Rattle.term_tree.specs.Solution.{IsSolution}
 use Rattle.sort_check.specs.Commands.{Command}
 use Rattle.sort_check.specs.Scripts.{IsScript, IsScriptOf}
@@ -15,9 +13,9 @@ use Rattle.answer_text.specs.Lines.{level_text}
 use Rattle.answer_text.specs.Read.{IsBad, Spells}
 use Rattle.book_answers.specs.Answers.{HasNoLowFalse}
 
--- the answer is definitions that are a solution of the script, in arenas as every value of their type
+-- the answer is definitions that are a solution of the script
 abbrev pub IsSolvedBy : Script → Answer → Type 0
-IsSolvedBy script (Sat definitions) = AllByRecursion (λ d. IsArena d.terms.nodes) definitions → IsSolution script definitions
+IsSolvedBy script (Sat definitions) = IsSolution script definitions
 IsSolvedBy script (Unsat lines) = ⊥
 IsSolvedBy script (Unknown level cause) = ⊥
 

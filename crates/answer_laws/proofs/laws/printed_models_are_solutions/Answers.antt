@@ -5,6 +5,5 @@ pub returns : goal.returns
 returns c = record {
   accepted = λ bytes printed h. (read_back bytes printed h).accepted;
   same = λ bytes printed h. (read_back bytes printed h).same;
-  solution = λ bytes printed h definitions spells arenas.
-      solved c.same_tree_same_value.ensures.value c.same_values_same_solution.ensures c.spelled_formulas_are_legal.ensures.plain bytes printed h definitions spells;
+  solution = solved c.same_tree_same_value.ensures.value c.same_values_same_solution.ensures c.spelled_formulas_are_legal.ensures.plain;
 }

@@ -5,4 +5,4 @@ pub check_answer-requires-clause-answer : goal.check_answer-requires-clause-answ
 check_answer-requires-clause-answer c = c.is_checkable.ensures c.args.text.now c.requires.spelled
 
 pub returns : goal.returns
-returns c = inl (c.args.answer.now, c.requires.spelled, c.in_ok-verdict.ensures)
+returns c = inl (c.args.answer.now, c.requires.spelled, c.is_checkable.ensures c.args.text.now c.requires.spelled, c.in_ok-verdict.ensures)
