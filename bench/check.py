@@ -30,42 +30,13 @@ import re
 import shutil
 import subprocess
 import sys
-import tempfile
 
-from measure import chc_program, launched, run, run_on
+from measure import MARKER, TIMED_OUT, chc_program, checked, commands_of, launched, run, shown, trees
 
-MARKER = b"\n;;answer\n"
-TIMED_OUT = (-9, -24)
 SHORTEST = 0.05
 NUMBER = re.compile(r"\(- \d+\)|(?<![^\s()])\d+(?![^\s()])")
 STEP = re.compile(r"\(step (\d+) (\d+) \((.*?)\) \(([\d ]*)\) (.*)\)")
 WRONG = re.compile(r"wrong\n; (?:step (\d+)|assertion (\d+) at \((.*)\)|byte (\d+))\n")
-TOKEN = re.compile(r'\s+|;[^\n]*|"(?:[^"]|"")*"|\|[^|]*\||[()]|[^\s()|";]+')
-
-
-def trees(text):
-    """The trees of a text up to its first fault: atoms are texts, and lists are lists."""
-    stack = [[]]
-    for token in TOKEN.findall(text):
-        if token == "(":
-            stack.append([])
-        elif token == ")" and len(stack) == 1:
-            break
-        elif token == ")":
-            done = stack.pop()
-            stack[-1].append(done)
-        elif not token.isspace() and not token.startswith(";"):
-            stack[-1].append(token)
-    return stack[0]
-
-
-def shown(tree):
-    """A tree as text. Divisibility is told by a remainder, since not every z3 has the former."""
-    if isinstance(tree, str):
-        return tree
-    if len(tree) == 2 and isinstance(tree[0], list) and tree[0][:2] == ["_", "divisible"]:
-        return f"(= (mod {shown(tree[1])} {tree[0][2]}) 0)"
-    return "(" + " ".join(map(shown, tree)) + ")"
 
 
 def items(text):
@@ -89,11 +60,7 @@ class Script:
     def __init__(self, path, solver):
         with open(path, encoding="utf-8") as file:
             self.text = file.read()
-        commands = trees(self.text)
-        if ["exit"] in commands:
-            commands = commands[: commands.index(["exit"])]
-        self.declared = [shown(it) for it in commands if it[0] in ("declare-fun", "declare-const")]
-        self.asserted = [it[1] for it in commands if it[0] == "assert"]
+        self.declared, self.asserted = commands_of(self.text)
         self.solver = solver
 
     def is_sure(self, head, claims):
@@ -201,14 +168,6 @@ def judge(script, at, lines, said):
     return judge_definitions(script, [it for it in lines if it.startswith("(define-fun ")], said)
 
 
-def checked(program, script, answer, seconds):
-    """The run of `check` on this answer to the script."""
-    with tempfile.TemporaryFile() as given:
-        given.write(script.encode() + MARKER + answer.encode())
-        given.seek(0)
-        return run_on([*launched(program), "check"], given, seconds)
-
-
 class Tally:
     """What was found over all scripts."""
 
@@ -244,7 +203,7 @@ def try_spoilt(words, name, script, answer, tally):
         if spoilt is None:
             continue
         at, new = spoilt
-        ran = checked(words.program, script.text, "\n".join(new), words.seconds)
+        ran = checked(words.program, script.text.encode(), "\n".join(new).encode(), words.seconds)
         said = "not shown\n" if ran.status in TIMED_OUT else ran.output.decode()
         word, is_right = judge(script, at, new, said)
         tally.add(word, is_right)
@@ -264,7 +223,7 @@ def try_script(words, path, solver, tally):
         print(f"{name:32} no answer to check")
         return
     script = Script(path, solver)
-    ran = checked(words.program, script.text, answer, words.seconds)
+    ran = checked(words.program, script.text.encode(), answer.encode(), words.seconds)
     said = "time" if ran.status in TIMED_OUT else ran.output.decode().replace("\n", " ").strip()
     parts = answer.count("\n(step ") or answer.count("\n(define-fun ")
     is_slow = kind == "sat" and ran.seconds > max(solved.seconds, SHORTEST)

@@ -19,8 +19,7 @@ import re
 import shutil
 import sys
 
-from measure import TOP, launched, run
-from search import answer_of
+from measure import TOP, answer_of, launched, run
 
 STRATEGY = os.path.join("crates", "search_strategy", "src", "strategy.rt")
 DEFINITION = os.path.join("crates", "search_strategy", "specs", "machinery", "Passes.antt")

@@ -24,8 +24,8 @@ import shutil
 import subprocess
 import sys
 
-from check import MARKER, Script, checked, items, shown, together, trees
-from measure import TOP, chc_program
+from check import Script, items, together
+from measure import MARKER, TOP, checked, chc_program, shown, trees
 
 FOLDER = os.path.join(TOP, "bench", "models")
 MADE = re.compile(r"; (\S+\.smt2), z3((?: \S+=\S+)*)(?: on (\S+\.smt2))?")
@@ -82,7 +82,7 @@ class Answer:
 def try_answer(program, solver, answer):
     """Has one answer checked, prints the row, and returns whether all is right."""
     script = Script(answer.script, solver)
-    ran = checked(program, script.text, answer.text, 20)
+    ran = checked(program, script.text.encode(), answer.text.encode(), 20)
     wanted = answer.wanted(script.text)
     said = ran.output.decode()
     is_said = said == wanted and ran.status == STATUS[said.split("\n")[0]]

@@ -45,6 +45,8 @@ def functions_of_rt():
     """The functions of rt, the kit's command, as the launcher takes them."""
     rt = shutil.which("rt") or sys.exit("the command rt is not on the PATH")
     path = os.path.join(os.path.dirname(os.path.realpath(rt)), "rtlib.py")
+    if not os.path.isfile(path):
+        sys.exit("the kit has other insides than this script knows: no rtlib.py stands beside rt")
     sys.dont_write_bytecode = True
     loader = importlib.machinery.SourceFileLoader("rtlib", path)
     rtlib = importlib.util.module_from_spec(importlib.util.spec_from_loader("rtlib", loader))

@@ -16,32 +16,20 @@ Fails where an answer differs from the one that the script tells."""
 import argparse
 import math
 import os
-import re
 import shutil
 import sys
 
-from measure import chc_program, launched, run
+from measure import LEVEL, answer_of, chc_program, launched, parts_of, run, told_by
 
-TOLD = re.compile(rb"\(set-info\s+:status\s+(sat|unsat)\s*\)|^;+ *expect: (sat|unsat)\b", re.MULTILINE)
-LEVEL = re.compile(rb"^; level (\d+) (?:units (\d+)|(stalled|memory))$", re.MULTILINE)
 SHORTEST = 0.01
 HEAD = ("script", "told", "chc", "open", "seconds", "level", "units", "answer", "z3", "seconds")
 ROW = "{:32} {:>6} {:>9} {:>6} {:>8} {:>6} {:>8} {:>22} {:>9} {:>8}"
 
 
-def answer_of(ran):
-    """The first word of what was written, or how the run ended."""
-    if ran.status in (-9, -24):
-        return "time"
-    first = ran.output.split(b"\n", 1)[0].decode("utf-8", "replace")
-    return first.split(" ")[0] if first in ("sat", "unsat", "unknown") else f"status {ran.status}"
-
-
 def size_of(output):
     """How many steps or definitions there are, and how many bytes."""
-    steps, definitions = output.count(b"\n(step "), output.count(b"\n(define-fun ")
-    what = f"{steps} steps" if steps else f"{definitions} definitions"
-    return f"{what}, {len(output)} B"
+    number, what = parts_of(output)
+    return f"{number} {what}, {len(output)} B"
 
 
 def spent(program, path, units, seconds):
@@ -68,8 +56,7 @@ def least_units(program, path, seconds):
 def row_of(words, path, theirs):
     """Runs both on one script, prints its row, and returns what it tells and what each answered."""
     with open(path, "rb") as script:
-        told = TOLD.search(script.read())
-    told = (told[1] or told[2]).decode() if told else "-"
+        told = told_by(script.read()) or "-"
     opened = run([*launched(words.program), "solve", "--units", "0"], path, words.seconds)
     ours = run([*launched(words.program), "solve"], path, words.seconds)
     answer, level, units, size = answer_of(ours), "-", "-", "-"

@@ -24,7 +24,7 @@ use Rattle.answer_text.specs.Reading.{Defined, Reply, reply}
 use Rattle.answer_text.specs.Reading.Reply.{model, refutation}
 use Rattle.answer_text.specs.declared.answer.Answer.TheVariants.{Sat}
 use Rattle.answer_text.specs.ReadBack.{AreSameDefinitions}
-use Rattle.answer_laws.proofs.FormulaLemmas.{IsRight, AreRight, reply_right}
+use Rattle.answer_laws.proofs.FormulaLemmas.{IsRight, AreRight, all_read, reply_right}
 use Rattle.answer_laws.proofs.PartnerLemmas.{short_divisors}
 
 params_are : (first : ℕ) (ps : List (Name × Sort)) → AreParameters first (params_from first ps) (map (λ p. p.1) ps)
@@ -40,7 +40,7 @@ sorted_is : (s : Spelled) (body : Term) (t : Bool) → same_sort s.part.sort Boo
 sorted_is s body true is h = (bool_sort s.part.sort is, cc)
 sorted_is s body false is h = absurd (cc)
 
-bool_is : (r : Result Spelled Fault) (body : Term) → bool_term r ≡ Ok body → (s : Spelled) × (r ≡ Ok s) × (s.part.sort ≡ BoolSort) × (s.term ≡ body)
+pub bool_is : (r : Result Spelled Fault) (body : Term) → bool_term r ≡ Ok body → (s : Spelled) × (r ≡ Ok s) × (s.part.sort ≡ BoolSort) × (s.term ≡ body)
 bool_is (Err f) body h = absurd (cc)
 bool_is (Ok s) body h = let both = sorted_is s body (same_sort s.part.sort BoolSort) refl h in (s, refl, both.0, both.1)
 
@@ -91,5 +91,5 @@ module _ (plain_law : PlainLaw) (text : List ℕ) (preds : List Pred) where
   read_formed ds es formed same spells = by spells.claimed spells.spelled spells.is
     where
       by : (claimed : Reply) → reply text spells.stop preds spells.trees ≡ Ok claimed → IsReply claimed (Sat es) → AreFormulas preds es
-      by (model rs) is are = formed_from 0 preds ds rs es (λ k p there. ap (λ (i : ℕ). slice_get preds i) (let n : 0 + k ≡ k = omega arith in n) ∙ there) (reply_right text preds spells.stop spells.trees rs is) are formed same
+      by (model rs) is are = formed_from 0 preds ds rs es (λ k p there. ap (λ (i : ℕ). slice_get preds i) (let n : 0 + k ≡ k = omega arith in n) ∙ there) (reply_right text preds spells.stop spells.trees rs (all_read text 0 0 spells.trees spells.reading.0 spells.reading.1) is) are formed same
       by (refutation lines) is are = absurd are

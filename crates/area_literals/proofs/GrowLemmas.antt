@@ -1,5 +1,5 @@
 -- Lists of literals that grow.
-use Rattle.std.proofs.Common.{◌≡◌, ℕ, zero, suc, ◌<◌, length, arith, List, [], ◌∷◌, ◌++◌, Bool, true, false, get_or, refl, ap, sym, ◌∙◌, subst}
+use Rattle.std.proofs.Common.{◌≡◌, ℕ, zero, suc, ◌<◌, length, arith, List, [], ◌∷◌, ◌++◌, Bool, true, false, ◌&&◌, not, get_or, refl, ap, sym, ◌∙◌, subst}
 use Rattle.std.specs.Prelude.{ℤ}
 use Rattle.std.specs.List.{list_all, list_any}
 use Rattle.std.proofs.lemmas.List.{append-nil, append_assoc}
@@ -14,6 +14,7 @@ use Rattle.book_rules.specs.Same.{same_lit}
 use Rattle.book_rules.proofs.Public.{cubes_equal}
 use Rattle.book_rules.proofs.FormLemmas.{cover-Literal, stands-Literal}
 use Rattle.cube_rules.proofs.Public.{both_true, from_both}
+use Rattle.area_literals.specs.Areas.{are_new}
 use Rattle.area_literals.specs.machinery.Growing.{AreGathered, AreGatheredSome, Grows, GrowsBy, IsAdded, IsGathered}
 use Rattle.area_literals.proofs.CoverLemmas.{cover-And, cover-Or, cover-True, either_left, either_right, stands-And, stands-Or}
 
@@ -24,13 +25,23 @@ all_weaken : {X : Type 0} (p q : X → Bool) → ((x : X) → p x ≡ true → q
 all_weaken p q f [] h = refl
 all_weaken p q f (x ∷ xs) h = let both = both_true (p x) (list_all p xs) h in from_both (q x) (list_all q xs) (f x both.0) (all_weaken p q f xs both.1)
 
+-- literals that weren't there, and more that weren't
+pub are_new-append : (before xs ys : List Lit) → are_new before (xs ++ ys) ≡ (are_new before xs && are_new (before ++ xs) ys)
+are_new-append before [] ys = ap (λ (zs : List Lit). are_new zs ys) (sym (append-nil before))
+are_new-append before (x ∷ xs) ys =
+    ap (λ b. not (is_among before x) && b) (are_new-append (before ++ x ∷ []) xs ys ∙ ap (λ (zs : List Lit). are_new (before ++ x ∷ []) xs && are_new zs ys) (append_assoc before (x ∷ []) xs)) ∙ sym (both_assoc (not (is_among before x)) (are_new (before ++ x ∷ []) xs) (are_new (before ++ x ∷ xs) ys))
+  where
+    both_assoc : (a b c : Bool) → ((a && b) && c) ≡ (a && (b && c))
+    both_assoc true b c = refl
+    both_assoc false b c = refl
+
 -- nothing is added
 pub grows-none : (point : List ℤ) (stands : Lit → Bool) (has : List Lit → Bool) (lits : List Lit) → has lits ≡ true → Grows point stands has lits lits
-grows-none point stands has lits h = record { more = []; is = sym (append-nil lits); stand = refl; hold = refl; now = h }
+grows-none point stands has lits h = record { more = []; is = sym (append-nil lits); stand = refl; hold = refl; once = refl; now = h }
 
 -- other tests
 pub grows-so : (point : List ℤ) (p q : Lit → Bool) (h k : List Lit → Bool) (old new : List Lit) → ((lit : Lit) → p lit ≡ true → q lit ≡ true) → (h new ≡ true → k new ≡ true) → Grows point p h old new → Grows point q k old new
-grows-so point p q h k old new f g grown = record { more = grown.more; is = grown.is; stand = all_weaken p q f grown.more grown.stand; hold = grown.hold; now = g grown.now }
+grows-so point p q h k old new f g grown = record { more = grown.more; is = grown.is; stand = all_weaken p q f grown.more grown.stand; hold = grown.hold; once = grown.once; now = g grown.now }
 
 -- twice: what the first needs stays
 pub grows-on : (point : List ℤ) (p q r : Lit → Bool) (h k l : List Lit → Bool) (a b c : List Lit) → ((lit : Lit) → p lit ≡ true → r lit ≡ true) → ((lit : Lit) → q lit ≡ true → r lit ≡ true)
@@ -41,6 +52,7 @@ grows-on point p q r h k l a b c f g stays joins first second = record {
   is = second.is ∙ ap (λ (xs : List Lit). xs ++ second.more) first.is ∙ append_assoc a first.more second.more;
   stand = list_all-append r first.more second.more ∙ from_both _ _ (all_weaken p r f first.more first.stand) (all_weaken q r g second.more second.stand);
   hold = list_all-append (lit_truth point) first.more second.more ∙ from_both _ _ first.hold second.hold;
+  once = are_new-append a first.more second.more ∙ from_both (are_new a first.more) _ first.once (ap (λ (xs : List Lit). are_new xs second.more) (sym first.is) ∙ second.once);
   now = joins (ap h second.is ∙ stays b second.more first.now) second.now;
 }
 
@@ -61,12 +73,13 @@ by-one point stands has x xs a b c stays first second =
 pub added-old : (point : List ℤ) (lit : Lit) (lits : List Lit) → is_among lits lit ≡ true → IsAdded point lit lits lits
 added-old point lit lits h = grows-none point (λ other. same_lit other lit) (λ ls. is_among ls lit) lits h
 
-pub added-new : (point : List ℤ) (lit : Lit) (lits : List Lit) → lit_truth point lit ≡ true → IsAdded point lit lits (lits ++ lit ∷ [])
-added-new point lit lits h = record {
+pub added-new : (point : List ℤ) (lit : Lit) (lits : List Lit) → is_among lits lit ≡ false → lit_truth point lit ≡ true → IsAdded point lit lits (lits ++ lit ∷ [])
+added-new point lit lits other h = record {
   more = lit ∷ [];
   is = refl;
   stand = from_both (same_lit lit lit) true (lit-same lit) refl;
   hold = from_both (lit_truth point lit) true h refl;
+  once = from_both (not (is_among lits lit)) true (ap not other) refl;
   now = list_any-append (same_lit lit) lits (lit ∷ []) ∙ either_right (is_among lits lit) _ (either_left (same_lit lit lit) false (lit-same lit));
 }
 

@@ -1,6 +1,6 @@
 -- Literals that are true at a point and imply, of a clause, its guard, a cube on its head and a frame on its body
 -- (Komuravelli, Gurfinkel and Chaki, "SMT-based model checking for recursive programs", section 4).
-use Rattle.std.specs.Prelude.{◌≡◌, ◌&&◌, ◌||◌, ◌==◌, ◌++◌, ℕ, List, ℤ, Bool, true, length, nat_le, not}
+use Rattle.std.specs.Prelude.{◌≡◌, ◌&&◌, ◌||◌, ◌==◌, ◌++◌, ℕ, List, [], ◌∷◌, ℤ, Bool, true, length, nat_le, not}
 use Rattle.std.specs.List.{list_all}
 use Rattle.lin_atoms.specs.Truth.{lit_truth}
 use Rattle.lin_atoms.specs.declared.lit.Lit.{Lit}
@@ -37,7 +37,12 @@ all_fit_on k es atom = list_all (fits_on k atom) es
 abbrev pub all_known_on : ℕ → List Framed → Atom → List Lit → Bool
 all_known_on k es atom lits = list_all (λ e. is_known_on k atom e lits) es
 
--- literals of the guard, then of the cube at the head, then of the frame on the body, that are true at the point and cover all of these
+-- each of these is another one than those before it
+abbrev pub are_new : List Lit → List Lit → Bool
+are_new before [] = true
+are_new before (lit ∷ more) = not (is_among before lit) && are_new (before ++ lit ∷ []) more
+
+-- literals of the guard, then of the cube at the head, then of the frame on the body, that are true at the point and cover all of these, each once
 pub record IsAreaOf (clause : Clause) (cube : List Lit) (es : List Framed) (k : ℕ) (point : List ℤ) (lits : List Lit) : Type 0 where
   pub guard_lits : List Lit
   pub cube_lits : List Lit
@@ -47,6 +52,7 @@ pub record IsAreaOf (clause : Clause) (cube : List Lit) (es : List Framed) (k : 
   pub of_cube : list_all (is_among (cube_at (args_of clause.head) cube)) cube_lits ≡ true
   pub of_frame : list_all (is_of_frame es k clause.atoms) frame_lits ≡ true
   pub hold : list_all (lit_truth point) lits ≡ true
+  pub once : are_new [] lits ≡ true
   pub guard : cover lits clause.guard ≡ true
   pub head : list_all (is_among lits) (cube_at (args_of clause.head) cube) ≡ true
   pub known : list_all (λ atom. all_known_on k es atom lits) clause.atoms ≡ true

@@ -1,6 +1,6 @@
 -- What a book keeps over steps of its own.
-use Rattle.std.proofs.Common.{◌≡◌, ℕ, ◌+◌, ◌<◌, List, [], ◌∷◌, ◌++◌, length, refl, ap, sym, ◌∙◌, subst, arith}
-use Rattle.std.proofs.lemmas.List.{length_push}
+use Rattle.std.proofs.Common.{◌≡◌, ℕ, ◌+◌, ◌<◌, ◌≤◌, List, [], ◌∷◌, ◌++◌, length, take, refl, ap, sym, ◌∙◌, subst, arith}
+use Rattle.std.proofs.lemmas.List.{length_push, take-append-le, take-take, take_all}
 use Rattle.book_rules.specs.Effects.{after}
 use Rattle.book_rules.specs.Walks.{AllOf}
 use Rattle.book_rules.proofs.ListLemmas.{all_of-push}
@@ -15,8 +15,19 @@ use Rattle.search_strategy.proofs.ThinLemmas.{thin-after}
 use Rattle.book_loop.specs.Runs.{IsOwn}
 use Rattle.book_loop.specs.machinery.Steps.{IsFurther}
 
+-- a list begins with itself, with what it was before it grew, and with what that began with
+
+itself : (xs : List Entry) → take (length xs) xs ≡ xs
+itself xs = take_all (length xs) xs (omega arith)
+
+begun : (xs ys more : List Entry) → ys ≡ xs ++ more → take (length xs) ys ≡ xs
+begun xs ys more is = ap (take (length xs)) is ∙ take-append-le (length xs) xs more (omega arith) ∙ itself xs
+
+begun-then : (xs ys zs : List Entry) → length xs ≤ length ys → take (length xs) ys ≡ xs → take (length ys) zs ≡ ys → take (length xs) zs ≡ xs
+begun-then xs ys zs long first second = sym (take-take (length xs) (length ys) zs long) ∙ ap (take (length xs)) second ∙ first
+
 pub further-none : (nodes : ℕ) (b : Contents) → IsFurther nodes b b
-further-none nodes b = record { system = refl; given = refl; thin = λ h. h; own = λ h. h; longer = omega arith }
+further-none nodes b = record { system = refl; given = refl; thin = λ h. h; own = λ h. h; longer = omega arith; begins = itself b.journal }
 
 pub further-then : (nodes : ℕ) (b c d : Contents) → IsFurther nodes b c → IsFurther nodes c d → IsFurther nodes b d
 further-then nodes b c d first second =
@@ -28,6 +39,7 @@ further-then nodes b c d first second =
       thin = λ h. second.thin (first.thin h);
       own = λ h. second.own (first.own h);
       longer = omega (arith, one, two);
+      begins = begun-then b.journal c.journal d.journal one first.begins second.begins;
     }
 
 pub grown : (b c : Contents) (entry : Entry) → c.journal ≡ b.journal ++ entry ∷ [] → length b.journal < length c.journal
@@ -46,4 +58,5 @@ further-step nodes b c step is system given journal counts thin =
       thin = λ h. thin-after b c step is h thin;
       own = λ h. subst (AllOf (IsOwn nodes)) (sym journal) (all_of-push (IsOwn nodes) b.journal entry h (record { worker = refl; counts = counts }));
       longer = omega (arith, more);
+      begins = begun b.journal c.journal (entry ∷ []) journal;
     }

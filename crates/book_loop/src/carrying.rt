@@ -1,17 +1,17 @@
 //! An older lemma that is lifted in place of a copy of it.
 
-ghost use Rattle.std.specs.Prelude.{◌<◌, length, IfOk};
+ghost use Rattle.std.specs.Prelude.{IfOk};
 ghost use Rattle.search_strategy.specs.machinery.Steps.{AreFor, IsOffered};
 ghost use Rattle.book_loop.specs.machinery.Steps.{HasTaken, IsFurther};
 
 use crate::taking::offer;
-use base::{Copied, Memory};
+use base::Memory;
 use chc_core::Book;
-use search_strategy::{LIFTS_OLDER, equal};
-use step_rules::{LemmaPart, LiftPart, Step};
+use search_strategy::{LIFTS_OLDER, lift_by, older};
+use step_rules::{LemmaPart, Step};
 
 /// Lifts the lemma from this level to the next with the part's proofs, if the book takes it.
-fn lift_by(
+fn lift_once(
     book: &mut Book,
     id: u32,
     from: u32,
@@ -22,28 +22,20 @@ fn lift_by(
     ensures further { IsFurther nodes book.old book.new }
     ensures taken { IfOk result (HasTaken book.old book.new) }
 {
-    let alloc = book.lend().alloc;
-    let proofs = part.proofs.copy(alloc)?;
-    let step = Step::LiftStep(LiftPart {
-        lemma: id,
-        from,
-        proofs,
-    });
+    let step = lift_by(book.lend().alloc, part, id, from)?;
     offer(book, step, nodes)
 }
 
-/// Lifts the lemma level by level up to the part's, as far as the book takes it. The proofs of the part
-/// prove each of these lifts: what they use is in the frame below the part's level, and so in each lower
-/// frame, or is the lemma itself, which is in the frame of its level.
-fn carry(book: &mut Book, id: u32, part: &LemmaPart, nodes: u32) -> Result<bool, Memory>
-    requires there { id < length book.old.frames.lemmas }
-    requires proofs { AreFor book.old.system part.now.proofs }
+/// Lifts the lemma level by level from this one up to the part's, as far as the book takes it. Whether it
+/// took any.
+fn carry(book: &mut Book, id: u32, level: u32, part: &LemmaPart, nodes: u32) -> Result<bool, Memory>
+    requires { AreFor book.old.system part.now.proofs }
     ensures further { IsFurther nodes book.old book.new }
     ensures taken { IfOk result (HasTaken book.old book.new) }
 {
     let mut taken = false;
-    for from in book.frames().level_of(id)..part.level {
-        if !lift_by(book, id, from, part, nodes)? {
+    for from in level..part.level {
+        if !lift_once(book, id, from, part, nodes)? {
             return Ok(taken);
         }
         taken = true;
@@ -60,8 +52,8 @@ fn carry_older(book: &mut Book, part: &LemmaPart, nodes: u32) -> Result<bool, Me
     if !LIFTS_OLDER {
         return Ok(false);
     }
-    match equal(book.frames(), part) {
-        Some(id) => carry(book, id, part, nodes),
+    match older(book.frames(), part) {
+        Some((id, level)) => carry(book, id, level, part, nodes),
         None => Ok(false),
     }
 }

@@ -1,10 +1,9 @@
 //! The search of one worker over a book (Hoder and Bjorner, "Generalized property directed
-//! reachability"): turn after turn serves an obligation, until the book has ended.
+//! reachability"): turn after turn offers a small step or serves an obligation, until the book has ended.
 #![tactic(auto)]
 
 mod carrying;
 mod jobs;
-mod lift_pass;
 mod running;
 mod taking;
 

@@ -1,53 +1,75 @@
 //! Turn after turn.
 
-ghost use Rattle.std.specs.Prelude.{◌≡◌, ◌≤◌, ◌<◌, ◌+◌, None, length, IfOk, OnOk, IsSome};
+ghost use Rattle.std.specs.Prelude.{◌≡◌, ◌≤◌, ◌<◌, ◌+◌, None, length, take, IfOk, IfSome, OnOk, IsSome};
 ghost use Rattle.book_rules.specs.Legal.{end};
 ghost use Rattle.book_rules.specs.Walks.{AllOf};
 ghost use Rattle.chc_core.specs.Views.{standing_of, state_of};
 ghost use Rattle.obligation_turn.specs.Turns.{IsThin};
-ghost use Rattle.obligation_turn.specs.Workspaces.{IsWorkspaceFor};
 ghost use Rattle.search_strategy.specs.Runs.{CanRun};
-ghost use Rattle.search_strategy.specs.machinery.Steps.{IsTaken};
+ghost use Rattle.search_strategy.specs.machinery.Steps.{IsOffered, IsTaken};
+ghost use Rattle.search_mind.specs.Minds.{IsMindFor};
 ghost use Rattle.book_loop.specs.Runs.{IsOwn};
-ghost use Rattle.book_loop.specs.machinery.Steps.{IsFurther};
+ghost use Rattle.book_loop.specs.machinery.Steps.{HasTaken, IsFurther};
 
 use crate::carrying::lift_older;
 use crate::jobs::next_job;
-use crate::lift_pass::lift_after;
-use crate::taking::{WORKER, has_ended, lend, take};
+use crate::taking::{WORKER, has_ended, lend, offer, take};
 use base::Memory;
 use chc_core::Book;
-use guess_all::{Hints, hints_of};
-use obligation_turn::{Workspace, turn_in};
-use search_learn::improved;
-use search_strategy::{pass_of, strategy_of};
+use search_mind::Mind;
+use search_strategy::pass_of;
 use step_rules::Step;
 
-/// The step of the next turn. A lemma is first made more general and raised.
-fn next_step(
-    book: &Book,
-    hints: &mut Hints,
-    nodes: u32,
-    work: &mut Workspace,
-) -> Result<Step, Memory>
+/// The next small step, if there is one.
+fn small_step(book: &Book, mind: &mut Mind, nodes: u32) -> Result<Option<Step>, Memory>
     requires can_run { CanRun book.now.system }
     requires some { 0 < nodes }
     requires goes_on { end (state_of book.now) ≡ None }
     requires thin { IsThin (standing_of book.now) }
-    requires work { IsWorkspaceFor book.now.system work.old }
+    requires mind { IsMindFor book.now.system mind.old }
+    ensures offered { IfOk result (λ found. IfSome found (IsOffered book.now.system nodes)) }
+    ensures mind { OnOk result (IsMindFor book.now.system mind.new) }
+{
+    let lent = lend(book);
+    let found = mind.small_step(&lent, nodes)?;
+    Ok(found)
+}
+
+/// Offers the next small step, if there is one. Whether the book has taken it.
+fn step_on(book: &mut Book, mind: &mut Mind, nodes: u32) -> Result<bool, Memory>
+    requires can_run { CanRun book.old.system }
+    requires some { 0 < nodes }
+    requires goes_on { end (state_of book.old) ≡ None }
+    requires thin { IsThin (standing_of book.old) }
+    requires mind { IsMindFor book.old.system mind.old }
+    ensures further { IsFurther nodes book.old book.new }
+    ensures taken { IfOk result (HasTaken book.old book.new) }
+    ensures mind { OnOk result (IsMindFor book.old.system mind.new) }
+{
+    match small_step(book, mind, nodes)? {
+        Some(step) => offer(book, step, nodes),
+        None => Ok(false),
+    }
+}
+
+/// The step for the obligation that is asked next. A lemma is first made more general and raised.
+fn next_step(book: &Book, mind: &mut Mind, nodes: u32) -> Result<Step, Memory>
+    requires can_run { CanRun book.now.system }
+    requires some { 0 < nodes }
+    requires goes_on { end (state_of book.now) ≡ None }
+    requires thin { IsThin (standing_of book.now) }
+    requires mind { IsMindFor book.now.system mind.old }
     ensures taken { IfOk result (IsTaken (standing_of book.now) nodes) }
-    ensures work { OnOk result (IsWorkspaceFor book.now.system work.new) }
+    ensures mind { OnOk result (IsMindFor book.now.system mind.new) }
 {
     let job = next_job(book);
     let lent = lend(book);
-    hints.renew(lent.alloc, lent.system, lent.level, lent.spent)?;
-    let step = turn_in(&lent, job, nodes, work)?;
-    let served = improved(&lent, step, Some(hints), nodes, strategy_of(WORKER))?;
-    Ok(served)
+    let step = mind.serve(&lent, job, nodes)?;
+    Ok(step)
 }
 
 /// The book takes the step. In place of a lemma whose cube an older one has, that one is lifted.
-fn serve(book: &mut Book, step: Step, nodes: u32) -> Result<(), Memory>
+fn take_turn(book: &mut Book, step: Step, nodes: u32) -> Result<(), Memory>
     requires goes_on { end (state_of book.old) ≡ None }
     requires taken { IsTaken (standing_of book.old) nodes step }
     ensures further { IsFurther nodes book.old book.new }
@@ -59,30 +81,40 @@ fn serve(book: &mut Book, step: Step, nodes: u32) -> Result<(), Memory>
     take(book, step, nodes)
 }
 
-/// One turn: a step for the obligation that is asked next, and the lifts that come with it. A journal
-/// has at most an entry for each unit, and one for each obligation that was stalled.
-fn advance(
-    book: &mut Book,
-    hints: &mut Hints,
-    nodes: u32,
-    work: &mut Workspace,
-) -> Result<(), Memory>
+/// Serves the obligation that is asked next.
+fn serve(book: &mut Book, mind: &mut Mind, nodes: u32) -> Result<(), Memory>
     requires can_run { CanRun book.old.system }
     requires some { 0 < nodes }
     requires goes_on { end (state_of book.old) ≡ None }
     requires thin { IsThin (standing_of book.old) }
-    requires work { IsWorkspaceFor book.old.system work.old }
+    requires mind { IsMindFor book.old.system mind.old }
     ensures further { IsFurther nodes book.old book.new }
-    ensures work { OnOk result (IsWorkspaceFor book.old.system work.new) }
+    ensures mind { OnOk result (IsMindFor book.old.system mind.new) }
     ensures grown { OnOk result (length book.old.journal < length book.new.journal) }
-    ensures room { OnOk result (length book.new.journal ≤ book.new.given + book.new.given + 1) }
 {
-    let step = next_step(book, hints, nodes, work)?;
+    let step = next_step(book, mind, nodes)?;
     let pass = pass_of(book.level(), &step);
-    serve(book, step, nodes)?;
-    lift_after(book, pass, nodes, work)?;
-    book.is_replayed();
+    take_turn(book, step, nodes)?;
+    mind.begin(pass);
     Ok(())
+}
+
+/// One turn: a small step, or where there is none that the book takes, a step for the obligation that is
+/// asked next. A journal has at most an entry for each unit, and one for each obligation that was stalled.
+fn advance(book: &mut Book, mind: &mut Mind, nodes: u32) -> Result<(), Memory>
+    requires can_run { CanRun book.old.system }
+    requires some { 0 < nodes }
+    requires goes_on { end (state_of book.old) ≡ None }
+    requires thin { IsThin (standing_of book.old) }
+    requires mind { IsMindFor book.old.system mind.old }
+    ensures further { IsFurther nodes book.old book.new }
+    ensures mind { OnOk result (IsMindFor book.old.system mind.new) }
+    ensures grown { OnOk result (length book.old.journal < length book.new.journal) }
+{
+    if step_on(book, mind, nodes)? {
+        return Ok(());
+    }
+    serve(book, mind, nodes)
 }
 
 /// Goes on with a book until it has ended. Each turn spends a unit or stalls an obligation, so it comes
@@ -98,12 +130,12 @@ pub fn search(book: &mut Book, nodes: u32) -> Result<(), Memory>
     ensures given { book.new.given ≡ book.old.given }
     ensures own { AllOf (IsOwn nodes) book.new.journal }
     ensures thin { IsThin (standing_of book.new) }
+    ensures begins { take (length book.old.journal) book.new.journal ≡ book.old.journal }
 {
-    let lent = book.lend();
-    let mut hints = hints_of(lent.alloc, lent.system)?;
-    let mut work = Workspace::new(book.lend().alloc);
+    let mut mind = Mind::new(book.lend().alloc, WORKER);
     'turns: while !has_ended(book) {
-        advance(book, &mut hints, nodes, &mut work)?;
+        advance(book, &mut mind, nodes)?;
+        book.is_replayed();
     }
     Ok(())
 }

@@ -26,8 +26,8 @@ use Rattle.book_rules.specs.Same.{same_form}
 use Rattle.book_rules.specs.Steps.{IsSeen, Shows, accepts_used, meets, Carries, Step}
 use Rattle.book_rules.specs.Rules.{Broken, rule, broken}
 use Rattle.book_rules.specs.Legal.{IsLegal}
-use Rattle.book_rules.specs.Examples.{is_3, is_number, at_variable, counting, next_clause, not_3, after_raise}
-use Rattle.book_rules.specs.Cases.{above_3, after_stall, asked, at_least_3, at_level, at_most_9, below_cube, below_lits, below_model, both_proofs, bounded, eight_reaches_nine, fact_1, is_value, kept_9, learnt_2, lift_3, not_2, not_3_used, not_9, open_7, open_below, open_of, query_2, raise_past, raised_with, stall_2, through_next}
+use Rattle.book_rules.specs.Examples.{is_3, is_number, at_variable, counting, first_clause, next_clause, not_3, after_raise}
+use Rattle.book_rules.specs.Cases.{above_3, after_stall, asked, at_least_3, at_level, at_most_9, below_cube, below_lits, below_model, both_proofs, bounded, derive_0, eight_reaches_nine, fact_1, is_value, kept_9, learnt_2, lift_3, not_2, not_3_used, not_9, open_7, open_below, open_of, query_2, raise_past, raised_with, stall_2, strengthen_by, through_next}
 use Rattle.book_rules.proofs.ListLemmas.{both_true, from_both, either_is}
 use Rattle.book_rules.proofs.FormLemmas.{cover-Literal, stands-Literal}
 use Rattle.book_rules.proofs.EqualLemmas.{forms_equal}
@@ -45,6 +45,14 @@ zero_to_one = record { clause = next_clause; there = refl; instance = record { w
 
 pub fact_is_legal : IsLegal counting asked (fact_1 (0 ∷ []) (Some 1))
 fact_is_legal = record { goes_on = refl; carries = zero_to_one; unbroken = refl }
+
+-- Derive
+
+zero_first : IsSeen counting (record { clause = 0; point = pos 0 ∷ [] })
+zero_first = record { clause = first_clause; there = refl; instance = record { whole = refl; guard = truth-Literal (pos 0 ∷ []) (is_number 0 (pos 0)) }; short = refl }
+
+pub derive_is_legal : IsLegal counting learnt_2 derive_0
+derive_is_legal = record { goes_on = refl; carries = zero_first; unbroken = refl }
 
 -- Lift
 
@@ -68,6 +76,11 @@ shows_next clause point there instance used =
 
 pub lift_is_legal : IsLegal counting learnt_2 (lift_3 1 both_proofs)
 lift_is_legal = record { goes_on = refl; carries = (shows_first, (shows_next, tt)); unbroken = refl }
+
+-- Strengthen
+
+pub strengthen_is_legal : IsLegal counting learnt_2 (strengthen_by not_3 2 both_proofs)
+strengthen_is_legal = record { goes_on = refl; carries = (shows_first, (shows_next, tt)); unbroken = refl }
 
 -- Raise
 

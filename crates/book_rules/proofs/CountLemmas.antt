@@ -10,7 +10,7 @@ use Rattle.book_rules.specs.declared.by.By.TheVariants.{Obligation as ByObligati
 use Rattle.book_rules.specs.declared.end.End.TheVariants.{Spent}
 use Rattle.book_rules.specs.Walks.{on}
 use Rattle.book_rules.specs.Frames.{Framed}
-use Rattle.book_rules.specs.State.{Obligation, State, opening, holds, is_live, unless_live}
+use Rattle.book_rules.specs.State.{Fact, Obligation, State, opening, holds, is_live, unless_live}
 use Rattle.book_rules.specs.Steps.{OpenStep, Step}
 use Rattle.book_rules.specs.OpenRules.{parent_of, atom_of}
 use Rattle.book_rules.specs.LemmaRules.{closes, lifted_of}
@@ -147,6 +147,12 @@ counts-lemma s e cause =
     one_unit s (written 1 (record s { lemmas = s.lemmas ++ e ∷ []; obligations = closed })) refl refl refl (one_longer (length (s.lemmas ++ e ∷ [])) (length s.lemmas) (length-append s.lemmas (e ∷ []))) (low (length s.facts))
     (as_many (length closed) (length s.obligations) (length-close cause (s.entries + 1) [] s.obligations)) (low s.level) (marks-close cause (s.entries + 1) [] s.obligations)
 
+counts-fact : (s : State) (new : Fact) (cause : Obligation → Bool) → IsSpentSince s (written 1 (record s { facts = s.facts ++ new ∷ []; obligations = close_from cause (s.entries + 1) [] s.obligations }))
+counts-fact s new cause =
+    let closed = close_from cause (s.entries + 1) [] s.obligations in
+    one_unit s (written 1 (record s { facts = s.facts ++ new ∷ []; obligations = closed })) refl refl refl (low (length s.lemmas)) (one_longer (length (s.facts ++ new ∷ [])) (length s.facts) (length-append s.facts (new ∷ [])))
+    (as_many (length closed) (length s.obligations) (length-close cause (s.entries + 1) [] s.obligations)) (low s.level) (marks-close cause (s.entries + 1) [] s.obligations)
+
 counts-lift : (s : State) (number : ℕ) (found : Option Framed) → IsSpentSince s (written 1 (lifted_with s number found))
 counts-lift s number None = one_unit s (written 1 s) refl refl refl (low (length s.lemmas)) (low (length s.facts)) (low (length s.obligations)) (low s.level) refl
 counts-lift s number (Some e) =
@@ -165,11 +171,7 @@ counts-stall s number (Some o) is live fresh =
 pub counts-after : (sys : Clauses) (s : State) (step : Step) → broken sys s step ≡ None → IsSpentSince s (after sys s step)
 counts-after sys s (Step.Opens o) h = counts-open s o (parent_of s o) (atom_of sys o)
 counts-after sys s (Step.Learns l) h = counts-lemma s (record { lemma = l.lemma; level = l.level }) (closes l.lemma l.level)
-counts-after sys s (Step.Records f) h =
-    let cause : Obligation → Bool = λ o. holds o (concluded sys f) in
-    let new = fact_of sys s f in
-    one_unit s (after sys s (Step.Records f)) refl refl refl (low (length s.lemmas)) (one_longer (length (s.facts ++ new ∷ [])) (length s.facts) (length-append s.facts (new ∷ [])))
-    (as_many (length (close_from cause (s.entries + 1) [] s.obligations)) (length s.obligations) (length-close cause (s.entries + 1) [] s.obligations)) (low s.level) (marks-close cause (s.entries + 1) [] s.obligations)
+counts-after sys s (Step.Records f) h = counts-fact s (fact_of sys s f.seen f.premises) (λ o. holds o (concluded sys f.seen))
 counts-after sys s (Step.Lifts l) h = counts-lift s l.lemma (lifted_of s l)
 counts-after sys s (Step.Raises r) h =
     let raised_os = raised_tree (s.entries + 1) (s.level + 1 + 1) s.obligations in
@@ -182,6 +184,8 @@ counts-after sys s (Step.Stalls t) h =
     let r53 = unbroken 53 (rule_53 sys s t) _ r52.1 in
     let r54 = unbroken 54 (rule_54 s t) _ r53.1 in
     counts-stall s t.target (target_of s t) refl r50.0 r54.0
+counts-after sys s (Step.Derives f) h = counts-fact s (fact_of sys s f.seen f.premises) (λ o. holds o (concluded sys f.seen))
+counts-after sys s (Step.Strengthens l) h = counts-lemma s (record { lemma = l.lemma; level = l.level }) (closes l.lemma l.level)
 
 -- journals
 
@@ -247,6 +251,8 @@ within-after sys s (Step.Records f) room = one_spent s s (refl, refl) room
 within-after sys s (Step.Lifts l) room = one_spent s (lifted_with s l.lemma (lifted_of s l)) (spent-lift s l.lemma (lifted_of s l)) room
 within-after sys s (Step.Raises r) room = one_spent s s (refl, refl) room
 within-after sys s (Step.Stalls t) room = none_spent s (stalled_with s t.target (slice_get s.obligations t.target)) (spent-stall s t.target (slice_get s.obligations t.target)) room
+within-after sys s (Step.Derives f) room = one_spent s s (refl, refl) room
+within-after sys s (Step.Strengthens l) room = one_spent s s (refl, refl) room
 
 pub within-replay : (sys : Clauses) (s : State) (steps : List Step) → s.spent ≤ s.given → AreLegal sys s steps → (replay sys s steps).spent ≤ (replay sys s steps).given
 within-replay sys s [] within legal = within

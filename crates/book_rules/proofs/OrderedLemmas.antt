@@ -15,17 +15,17 @@ use Rattle.book_rules.specs.Walks.{AllOf, has, on, first_told, first_number}
 use Rattle.book_rules.specs.Instances.{Ground, atom_at, body_at, head_at}
 use Rattle.book_rules.specs.Frames.{Lemma, Framed, accepts, excludes, in_frame}
 use Rattle.book_rules.specs.State.{Fact, Obligation, State, opening, holds, holds_of, is_live, same_conclusion, unless_live}
-use Rattle.book_rules.specs.Steps.{IsSeen, OpenStep, LemmaStep, FactStep, LiftStep, Step, Carries}
+use Rattle.book_rules.specs.Steps.{IsSeen, Seen, OpenStep, LiftStep, Step, Carries}
 use Rattle.book_rules.specs.OpenRules.{parent_of, clause_of, atom_of, tuple_of, rule_1, rule_2, rule_3, rule_4, rule_5, rule_6, shut_out}
-use Rattle.book_rules.specs.LemmaRules.{closes, rule_10, rule_30, rule_31, level_is, lifted_of}
-use Rattle.book_rules.specs.FactRules.{concluded, rule_20, rule_21}
+use Rattle.book_rules.specs.LemmaRules.{closes, rule_30, rule_31, level_is, lifted_of, unless_level}
+use Rattle.book_rules.specs.FactRules.{concluded, if_recorded}
 use Rattle.book_rules.specs.Rules.{broken}
 use Rattle.book_rules.specs.Effects.{after, written, opened_with, child_of, learnt, lifted_with, recorded, fact_of, stalled_with}
 use Rattle.book_rules.specs.Legal.{replay, AreLegal}
 use Rattle.book_rules.specs.Kept.{AreInRange, AreDistinct, IsPlaced, IsOrdered, ArePlaced}
 use Rattle.book_rules.proofs.ListLemmas.{both_true, from_both, both_false, all_weaken, all_of-map, all_of-push, all_of-set, untold_passes, none_told, cond_none, unless_none, any_false}
 use Rattle.book_rules.proofs.FrameLemmas.{above}
-use Rattle.book_rules.proofs.SoundLemmas.{unbroken}
+use Rattle.book_rules.proofs.SoundLemmas.{derive-recordable, fact-recordable, lemma-learnable, strengthen-learnable, unbroken}
 use Rattle.book_rules.proofs.TreeLemmas.{placed_at, hung-push, Stays, hung-closed, hung-raised, hung-set}
 
 -- tests over lists that grow or change in one place
@@ -182,20 +182,20 @@ ordered-open sys s o ordered seen r1 r2 r4 r5 r6 (Some p) there (Some atom) is =
       hung = hung-push s.lemmas s.facts [] s.obligations (child_of o p atom) ordered.hung (λ some live. child_placed sys s o p seen.clause atom there seen.there atom_there r1 r2 r4 r5 r6);
     }
 
--- Lemma, Lift, Fact, Stall
+-- Lemma and Strengthen, Lift, Fact and Derive, Stall
 
-ordered-lemma : (s : State) (l : LemmaStep) → IsOrdered s → rule_10 s l ≡ None → IsOrdered (written 1 (learnt s l))
-ordered-lemma s l ordered r10 =
-    let e : Framed = record { lemma = l.lemma; level = l.level } in
-    let both = both_true (nat_le 1 l.level) (nat_le l.level s.level) (unless_none (nat_le 1 l.level && nat_le l.level s.level) (ByLevel s.level) None r10).0 in
+ordered-lemma : (s : State) (lemma : Lemma) (level : ℕ) → IsOrdered s → unless_level s level ≡ None → IsOrdered (written 1 (learnt s lemma level))
+ordered-lemma s lemma level ordered leveled =
+    let e : Framed = record { lemma = lemma; level = level } in
+    let both = both_true (nat_le 1 level) (nat_le level s.level) (unless_none (nat_le 1 level && nat_le level s.level) (ByLevel s.level) None leveled).0 in
     let t0 = both.0 in
     let t1 = both.1 in
-    let low : 1 ≤ l.level = grind (arith, nat_tests, t0) in
-    let high : l.level ≤ s.level = grind (arith, nat_tests, t1) in
+    let low : 1 ≤ level = grind (arith, nat_tests, t0) in
+    let high : level ≤ s.level = grind (arith, nat_tests, t1) in
     record {
       levels = all_of-push (λ (x : Framed). (1 ≤ x.level) × (x.level ≤ s.level)) s.lemmas e ordered.levels (low, high);
       distinct = ordered.distinct;
-      hung = hung-closed s.lemmas (s.lemmas ++ e ∷ []) s.facts s.facts (closes l.lemma l.level) (s.entries + 1) (stays-lemma s.lemmas s.facts l.lemma l.level) s.obligations ordered.hung;
+      hung = hung-closed s.lemmas (s.lemmas ++ e ∷ []) s.facts s.facts (closes lemma level) (s.entries + 1) (stays-lemma s.lemmas s.facts lemma level) s.obligations ordered.hung;
     }
 
 ordered-lift : (s : State) (l : LiftStep) (found : Option Framed) → slice_get s.lemmas l.lemma ≡ found → IsOrdered s → level_is l.lemma l.from found ≡ None → rule_31 s l ≡ None → IsOrdered (written 1 (lifted_with s l.lemma found))
@@ -211,13 +211,13 @@ ordered-lift s l (Some e) is ordered level r31 =
       hung = hung-closed s.lemmas (slice_set s.lemmas l.lemma (above e)) s.facts s.facts (closes e.lemma (e.level + 1)) (s.entries + 1) (stays-lift s.lemmas s.facts l.lemma e) s.obligations ordered.hung;
     }
 
-ordered-fact : (sys : Clauses) (s : State) (f : FactStep) → IsOrdered s → rule_21 sys s f ≡ None → IsOrdered (written 1 (recorded sys s f))
-ordered-fact sys s f ordered r21 =
-    let new = fact_of sys s f in
+ordered-fact : (sys : Clauses) (s : State) (seen : Seen) (premises : List ℕ) → IsOrdered s → if_recorded sys s seen ≡ None → IsOrdered (written 1 (recorded sys s seen premises))
+ordered-fact sys s seen premises ordered fresh =
+    let new = fact_of sys s seen premises in
     record {
       levels = ordered.levels;
-      distinct = distinct-push s.facts new ordered.distinct (untold_passes ByFact (λ (old : Fact). same_conclusion old.conclusion (concluded sys f)) s.facts r21);
-      hung = hung-closed s.lemmas s.lemmas s.facts (s.facts ++ new ∷ []) (λ o. holds o (concluded sys f)) (s.entries + 1) (stays-fact s.lemmas s.facts new) s.obligations ordered.hung;
+      distinct = distinct-push s.facts new ordered.distinct (untold_passes ByFact (λ (old : Fact). same_conclusion old.conclusion (concluded sys seen)) s.facts fresh);
+      hung = hung-closed s.lemmas s.lemmas s.facts (s.facts ++ new ∷ []) (λ o. holds o (concluded sys seen)) (s.entries + 1) (stays-fact s.lemmas s.facts new) s.obligations ordered.hung;
     }
 
 ordered-stall : (s : State) (number : ℕ) (found : Option Obligation) → slice_get s.obligations number ≡ found → IsOrdered s → IsOrdered (written 0 (stalled_with s number found))
@@ -235,16 +235,16 @@ ordered-after sys s (Step.Opens o) ordered carries h =
     let r5 = unbroken 5 (rule_5 sys s o) _ r4.1 in
     let r6 = unbroken 6 (rule_6 sys s o) _ r5.1 in
     ordered-open sys s o ordered carries.0 r1.0 r2.0 r4.0 r5.0 r6.0 (parent_of s o) refl (atom_of sys o) refl
-ordered-after sys s (Step.Learns l) ordered carries h = ordered-lemma s l ordered (unbroken 10 (rule_10 s l) _ h).0
-ordered-after sys s (Step.Records f) ordered carries h =
-    let r20 = unbroken 20 (rule_20 sys s f) _ h in
-    ordered-fact sys s f ordered (unbroken 21 (rule_21 sys s f) _ r20.1).0
+ordered-after sys s (Step.Learns l) ordered carries h = ordered-lemma s l.lemma l.level ordered (lemma-learnable sys s l h).leveled
+ordered-after sys s (Step.Records f) ordered carries h = ordered-fact sys s f.seen f.premises ordered (fact-recordable sys s f h).new
 ordered-after sys s (Step.Lifts l) ordered carries h =
     let r30 = unbroken 30 (rule_30 s l) _ h in
     ordered-lift s l (lifted_of s l) refl ordered r30.0 (unbroken 31 (rule_31 s l) _ r30.1).0
 ordered-after sys s (Step.Raises r) ordered carries h =
     record { levels = higher s.level s.lemmas ordered.levels; distinct = ordered.distinct; hung = hung-raised s.lemmas s.facts (s.entries + 1) (s.level + 1 + 1) s.obligations }
 ordered-after sys s (Step.Stalls t) ordered carries h = ordered-stall s t.target (slice_get s.obligations t.target) refl ordered
+ordered-after sys s (Step.Derives f) ordered carries h = ordered-fact sys s f.seen f.premises ordered (derive-recordable sys s f h).new
+ordered-after sys s (Step.Strengthens l) ordered carries h = ordered-lemma s l.lemma l.level ordered (strengthen-learnable sys s l h).leveled
 
 pub ordered-replay : (sys : Clauses) (s : State) (steps : List Step) → IsOrdered s → AreLegal sys s steps → IsOrdered (replay sys s steps)
 ordered-replay sys s [] ordered legal = ordered

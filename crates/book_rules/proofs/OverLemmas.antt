@@ -14,6 +14,7 @@ use Rattle.clause_form.specs.declared.clause.Clause.{Clause}
 use Rattle.clause_form.specs.Kept.{Keeps}
 use Rattle.clause_form.proofs.Public.{keeps, keeps_atom}
 use Rattle.cube_forms.specs.Cubes.{cube_is_below, tuple_at}
+use Rattle.book_rules.specs.declared.by.By.TheVariants.{Step as ByStep}
 use Rattle.book_rules.specs.Walks.{AllOf, has, on}
 use Rattle.book_rules.specs.Frames.{Framed}
 use Rattle.book_rules.specs.Queries.{args_of}
@@ -21,11 +22,14 @@ use Rattle.book_rules.specs.Proofs.{is_head}
 use Rattle.book_rules.specs.State.{Obligation, State, opening}
 use Rattle.book_rules.specs.Steps.{OpenStep, Step}
 use Rattle.book_rules.specs.OpenRules.{clause_of, tuple_of}
+use Rattle.book_rules.specs.StrengthenRules.{rule_80}
+use Rattle.book_rules.specs.Rules.{broken}
 use Rattle.book_rules.specs.Effects.{after, child_of}
-use Rattle.book_rules.specs.Legal.{replay}
+use Rattle.book_rules.specs.Legal.{AreLegal, replay}
 use Rattle.book_rules.specs.Reached.{has_places_of, have_places}
 use Rattle.book_rules.specs.Places.{places_of, is_over, is_over_atom, has_places, shown_has_places, obligation_fits, AreOver}
-use Rattle.book_rules.proofs.ListLemmas.{both_true, from_both, all_at, all_of-at, all_tested, all_weaken}
+use Rattle.book_rules.proofs.ListLemmas.{both_true, from_both, all_at, all_of-at, all_tested, all_weaken, unless_none}
+use Rattle.book_rules.proofs.SoundLemmas.{unbroken}
 use Rattle.book_rules.proofs.StepLemmas.{ChildHas, LemmaHas, steady-after, lemmas-after}
 
 same_number : (n m : ℕ) → n ≡ m → (n == m) ≡ true
@@ -66,27 +70,32 @@ child_over sys s (Step.Records f) system places = tt
 child_over sys s (Step.Lifts l) system places = tt
 child_over sys s (Step.Raises r) system places = tt
 child_over sys s (Step.Stalls t) system places = tt
+child_over sys s (Step.Derives f) system places = tt
+child_over sys s (Step.Strengthens l) system places = tt
 
 abbrev LemmaFits : Clauses → Framed → Type 0
 LemmaFits sys e = is_over sys.preds e.lemma.pred e.lemma.cube ≡ true
 
-lemma_over : (sys : Clauses) (step : Step) → has_places sys step ≡ true → LemmaHas (LemmaFits sys) step
-lemma_over sys (Step.Opens o) places = tt
-lemma_over sys (Step.Learns l) places = (both_true (is_over sys.preds l.lemma.pred l.lemma.cube) (list_all (shown_has_places sys) l.proofs) places).0
-lemma_over sys (Step.Records f) places = tt
-lemma_over sys (Step.Lifts l) places = tt
-lemma_over sys (Step.Raises r) places = tt
-lemma_over sys (Step.Stalls t) places = tt
+-- a step brings it, or, for a Strengthen, a rule asks it
+lemma_over : (sys : Clauses) (s : State) (step : Step) → has_places sys step ≡ true → broken sys s step ≡ None → LemmaHas (LemmaFits sys) step
+lemma_over sys s (Step.Opens o) places legal = tt
+lemma_over sys s (Step.Learns l) places legal = (both_true (is_over sys.preds l.lemma.pred l.lemma.cube) (list_all (shown_has_places sys) l.proofs) places).0
+lemma_over sys s (Step.Records f) places legal = tt
+lemma_over sys s (Step.Lifts l) places legal = tt
+lemma_over sys s (Step.Raises r) places legal = tt
+lemma_over sys s (Step.Stalls t) places legal = tt
+lemma_over sys s (Step.Derives f) places legal = tt
+lemma_over sys s (Step.Strengthens l) places legal = (unless_none (is_over sys.preds l.lemma.pred l.lemma.cube) ByStep None (unbroken 80 (rule_80 sys l) _ legal).0).0
 
-pub over-after : (sys : Clauses) (s : State) (step : Step) → is_system sys ≡ true → AreOver sys s → has_places sys step ≡ true → AreOver sys (after sys s step)
-over-after sys s step system over places = record {
-  lemmas = lemmas-after (LemmaFits sys) (λ e level h. h) sys s step over.lemmas (lemma_over sys step places);
+pub over-after : (sys : Clauses) (s : State) (step : Step) → is_system sys ≡ true → AreOver sys s → has_places sys step ≡ true → broken sys s step ≡ None → AreOver sys (after sys s step)
+over-after sys s step system over places legal = record {
+  lemmas = lemmas-after (LemmaFits sys) (λ e level h. h) sys s step over.lemmas (lemma_over sys s step places legal);
   obligations = steady-after (Fits sys) (λ o level closed stalled h. h) sys s step over.obligations (child_over sys s step system places);
 }
 
-pub over-replay : (sys : Clauses) (s : State) (steps : List Step) → is_system sys ≡ true → AreOver sys s → AllOf (λ step. has_places sys step ≡ true) steps → AreOver sys (replay sys s steps)
-over-replay sys s [] system over places = over
-over-replay sys s (step ∷ steps) system over places = over-replay sys (after sys s step) steps system (over-after sys s step system over places.0) places.1
+pub over-replay : (sys : Clauses) (s : State) (steps : List Step) → is_system sys ≡ true → AreOver sys s → AllOf (λ step. has_places sys step ≡ true) steps → AreLegal sys s steps → AreOver sys (replay sys s steps)
+over-replay sys s [] system over places legal = over
+over-replay sys s (step ∷ steps) system over places legal = over-replay sys (after sys s step) steps system (over-after sys s step system over places.0 (legal.0).unbroken) places.1 legal.1
 
 pub over-opening : (sys : Clauses) (units : ℕ) → AreOver sys (opening units)
 over-opening sys units = record { lemmas = tt; obligations = (refl, tt) }

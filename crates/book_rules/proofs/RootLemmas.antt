@@ -12,11 +12,11 @@ use Rattle.book_rules.specs.Walks.{AllOf, has}
 use Rattle.book_rules.specs.Instances.{Ground}
 use Rattle.book_rules.specs.Frames.{Lemma, Framed, accepts}
 use Rattle.book_rules.specs.State.{Fact, Obligation, State, opening, root_at, holds, holds_of, is_live, is_of}
-use Rattle.book_rules.specs.Steps.{OpenStep, FactStep, Step}
+use Rattle.book_rules.specs.Steps.{OpenStep, Seen, Step}
 use Rattle.book_rules.specs.OpenRules.{parent_of, atom_of}
 use Rattle.book_rules.specs.LemmaRules.{closes, lifted_of}
 use Rattle.book_rules.specs.FactRules.{concluded}
-use Rattle.book_rules.specs.Effects.{after, written, closed_at, is_closing, close_from, opened_with, child_of, lifted_with, recorded, fact_of, raised_tree, stalled_with}
+use Rattle.book_rules.specs.Effects.{after, written, closed_at, is_closing, close_from, learnt, opened_with, child_of, lifted_with, recorded, fact_of, raised_tree, stalled_with}
 use Rattle.book_rules.specs.Legal.{replay}
 use Rattle.book_rules.specs.Kept.{IsPlaced, AreHung, IsOrdered}
 use Rattle.book_rules.specs.Rooted.{IsRoot, false_is_recorded, AreRooted, IsRooted}
@@ -147,12 +147,15 @@ rooted-lift : (s : State) (number : ℕ) (found : Option Framed) → IsRooted s 
 rooted-lift s number None r = r
 rooted-lift s number (Some e) r = rooted-close (s.level + 1) s.facts s.facts (closes e.lemma (e.level + 1)) (s.entries + 1) s.obligations (λ h. h) (λ o none h. absurd (no_lemma_closes e.lemma (e.level + 1) o none h)) r
 
-rooted-fact : (sys : Clauses) (s : State) (f : FactStep) → IsRooted s → IsRooted (written 1 (recorded sys s f))
-rooted-fact sys s f r =
-    let new = fact_of sys s f in
+rooted-lemma : (s : State) (lemma : Lemma) (level : ℕ) → IsRooted s → IsRooted (written 1 (learnt s lemma level))
+rooted-lemma s lemma level r = rooted-close (s.level + 1) s.facts s.facts (closes lemma level) (s.entries + 1) s.obligations (λ h. h) (λ o none h. absurd (no_lemma_closes lemma level o none h)) r
+
+rooted-fact : (sys : Clauses) (s : State) (seen : Seen) (premises : List ℕ) → IsRooted s → IsRooted (written 1 (recorded sys s seen premises))
+rooted-fact sys s seen premises r =
+    let new = fact_of sys s seen premises in
     let test : Fact → Bool = λ g. is_none g.conclusion in
-    rooted-close (s.level + 1) s.facts (s.facts ++ new ∷ []) (λ o. holds o (concluded sys f)) (s.entries + 1) s.obligations (any-left test s.facts new)
-    (λ o none h. any-last test s.facts new (root_holds_false o (concluded sys f) none h)) r
+    rooted-close (s.level + 1) s.facts (s.facts ++ new ∷ []) (λ o. holds o (concluded sys seen)) (s.entries + 1) s.obligations (any-left test s.facts new)
+    (λ o none h. any-last test s.facts new (root_holds_false o (concluded sys seen) none h)) r
 
 rooted-stall : (s : State) (number : ℕ) (found : Option Obligation) → slice_get s.obligations number ≡ found → IsRooted s → IsRooted (written 0 (stalled_with s number found))
 rooted-stall s number None is r = r
@@ -160,11 +163,13 @@ rooted-stall s number (Some o) is r = rooted-mark (s.level + 1) s.facts s.obliga
 
 pub rooted-after : (sys : Clauses) (s : State) (step : Step) → IsRooted s → IsRooted (after sys s step)
 rooted-after sys s (Step.Opens o) r = rooted-open s o (parent_of s o) (atom_of sys o) r
-rooted-after sys s (Step.Learns l) r = rooted-close (s.level + 1) s.facts s.facts (closes l.lemma l.level) (s.entries + 1) s.obligations (λ h. h) (λ o none h. absurd (no_lemma_closes l.lemma l.level o none h)) r
-rooted-after sys s (Step.Records f) r = rooted-fact sys s f r
+rooted-after sys s (Step.Learns l) r = rooted-lemma s l.lemma l.level r
+rooted-after sys s (Step.Records f) r = rooted-fact sys s f.seen f.premises r
 rooted-after sys s (Step.Lifts l) r = rooted-lift s l.lemma (lifted_of s l) r
 rooted-after sys s (Step.Raises x) r = rooted-raised (s.level + 1) (s.level + 1 + 1) (s.entries + 1) s.facts s.obligations r
 rooted-after sys s (Step.Stalls t) r = rooted-stall s t.target (slice_get s.obligations t.target) refl r
+rooted-after sys s (Step.Derives f) r = rooted-fact sys s f.seen f.premises r
+rooted-after sys s (Step.Strengthens l) r = rooted-lemma s l.lemma l.level r
 
 pub rooted-replay : (sys : Clauses) (s : State) (steps : List Step) → IsRooted s → IsRooted (replay sys s steps)
 rooted-replay sys s [] r = r

@@ -5,13 +5,13 @@ use Rattle.std.specs.Prelude.{Option, slice_get, slice_set}
 use Rattle.clause_form.specs.System.{Clauses}
 use Rattle.clause_form.specs.declared.atom.Atom.{Atom}
 use Rattle.book_rules.specs.Walks.{AllOf}
-use Rattle.book_rules.specs.Frames.{Framed}
+use Rattle.book_rules.specs.Frames.{Framed, Lemma}
 use Rattle.book_rules.specs.State.{Fact, Obligation, State, holds, is_live}
-use Rattle.book_rules.specs.Steps.{OpenStep, Step}
+use Rattle.book_rules.specs.Steps.{OpenStep, Seen, Step}
 use Rattle.book_rules.specs.OpenRules.{parent_of, atom_of}
 use Rattle.book_rules.specs.LemmaRules.{closes, lifted_of}
 use Rattle.book_rules.specs.FactRules.{concluded}
-use Rattle.book_rules.specs.Effects.{after, closed_at, is_closing, close_from, child_of, opened_with, lifted_with, fact_of, raised_tree, stalled_with}
+use Rattle.book_rules.specs.Effects.{after, closed_at, is_closing, close_from, child_of, learnt, opened_with, lifted_with, fact_of, raised_tree, recorded, stalled_with}
 use Rattle.book_rules.proofs.ListLemmas.{all_of-push, all_of-set, all_of-at}
 
 -- obligations
@@ -48,6 +48,8 @@ ChildHas P sys s (Step.Records f) = Unit {0}
 ChildHas P sys s (Step.Lifts l) = Unit {0}
 ChildHas P sys s (Step.Raises r) = Unit {0}
 ChildHas P sys s (Step.Stalls t) = Unit {0}
+ChildHas P sys s (Step.Derives f) = Unit {0}
+ChildHas P sys s (Step.Strengthens l) = Unit {0}
 
 steady-open : (P : Obligation → Type 0) (s : State) (o : OpenStep) (parent : Option Obligation) (atom : Option Atom) → AllOf P s.obligations → ((p : Obligation) (a : Atom) → parent ≡ Some p → atom ≡ Some a → P (child_of o p a))
     → AllOf P (opened_with s o parent atom).obligations
@@ -63,23 +65,33 @@ steady-stall : (P : Obligation → Type 0) → IsSteady P → (s : State) (numbe
 steady-stall P steady s number None is h = h
 steady-stall P steady s number (Some o) is h = steady-mark P steady s.obligations number o is h
 
+steady-learnt : (P : Obligation → Type 0) → IsSteady P → (s : State) (lemma : Lemma) (level : ℕ) → AllOf P s.obligations → AllOf P (learnt s lemma level).obligations
+steady-learnt P steady s lemma level h = steady-close P steady (closes lemma level) (s.entries + 1) [] s.obligations h
+
+steady-recorded : (P : Obligation → Type 0) → IsSteady P → (sys : Clauses) (s : State) (seen : Seen) (premises : List ℕ) → AllOf P s.obligations → AllOf P (recorded sys s seen premises).obligations
+steady-recorded P steady sys s seen premises h = steady-close P steady (λ o. holds o (concluded sys seen)) (s.entries + 1) [] s.obligations h
+
 pub steady-after : (P : Obligation → Type 0) → IsSteady P → (sys : Clauses) (s : State) (step : Step) → AllOf P s.obligations → ChildHas P sys s step → AllOf P (after sys s step).obligations
 steady-after P steady sys s (Step.Opens o) h child = steady-open P s o (parent_of s o) (atom_of sys o) h child
-steady-after P steady sys s (Step.Learns l) h child = steady-close P steady (closes l.lemma l.level) (s.entries + 1) [] s.obligations h
-steady-after P steady sys s (Step.Records f) h child = steady-close P steady (λ o. holds o (concluded sys f)) (s.entries + 1) [] s.obligations h
+steady-after P steady sys s (Step.Learns l) h child = steady-learnt P steady s l.lemma l.level h
+steady-after P steady sys s (Step.Records f) h child = steady-recorded P steady sys s f.seen f.premises h
 steady-after P steady sys s (Step.Lifts l) h child = steady-lift P steady s l.lemma (lifted_of s l) h
 steady-after P steady sys s (Step.Raises r) h child = steady-raised P steady (s.entries + 1) (s.level + 1 + 1) s.obligations h
 steady-after P steady sys s (Step.Stalls t) h child = steady-stall P steady s t.target (slice_get s.obligations t.target) refl h
+steady-after P steady sys s (Step.Derives f) h child = steady-recorded P steady sys s f.seen f.premises h
+steady-after P steady sys s (Step.Strengthens l) h child = steady-learnt P steady s l.lemma l.level h
 
 -- facts
 
 abbrev pub FactHas : (Fact → Type 0) → Clauses → State → Step → Type 0
 FactHas P sys s (Step.Opens o) = Unit {0}
 FactHas P sys s (Step.Learns l) = Unit {0}
-FactHas P sys s (Step.Records f) = P (fact_of sys s f)
+FactHas P sys s (Step.Records f) = P (fact_of sys s f.seen f.premises)
 FactHas P sys s (Step.Lifts l) = Unit {0}
 FactHas P sys s (Step.Raises r) = Unit {0}
 FactHas P sys s (Step.Stalls t) = Unit {0}
+FactHas P sys s (Step.Derives f) = P (fact_of sys s f.seen f.premises)
+FactHas P sys s (Step.Strengthens l) = Unit {0}
 
 facts-open : (P : Fact → Type 0) (s : State) (o : OpenStep) (parent : Option Obligation) (atom : Option Atom) → AllOf P s.facts → AllOf P (opened_with s o parent atom).facts
 facts-open P s o None atom h = h
@@ -97,10 +109,12 @@ facts-stall P s number (Some o) h = h
 pub facts-after : (P : Fact → Type 0) (sys : Clauses) (s : State) (step : Step) → AllOf P s.facts → FactHas P sys s step → AllOf P (after sys s step).facts
 facts-after P sys s (Step.Opens o) h new = facts-open P s o (parent_of s o) (atom_of sys o) h
 facts-after P sys s (Step.Learns l) h new = h
-facts-after P sys s (Step.Records f) h new = all_of-push P s.facts (fact_of sys s f) h new
+facts-after P sys s (Step.Records f) h new = all_of-push P s.facts (fact_of sys s f.seen f.premises) h new
 facts-after P sys s (Step.Lifts l) h new = facts-lift P s l.lemma (lifted_of s l) h
 facts-after P sys s (Step.Raises r) h new = h
 facts-after P sys s (Step.Stalls t) h new = facts-stall P s t.target (slice_get s.obligations t.target) h
+facts-after P sys s (Step.Derives f) h new = all_of-push P s.facts (fact_of sys s f.seen f.premises) h new
+facts-after P sys s (Step.Strengthens l) h new = h
 
 -- lemmas
 
@@ -111,6 +125,8 @@ LemmaHas P (Step.Records f) = Unit {0}
 LemmaHas P (Step.Lifts l) = Unit {0}
 LemmaHas P (Step.Raises r) = Unit {0}
 LemmaHas P (Step.Stalls t) = Unit {0}
+LemmaHas P (Step.Derives f) = Unit {0}
+LemmaHas P (Step.Strengthens l) = P (record { lemma = l.lemma; level = l.level })
 
 lemmas-open : (P : Framed → Type 0) (s : State) (o : OpenStep) (parent : Option Obligation) (atom : Option Atom) → AllOf P s.lemmas → AllOf P (opened_with s o parent atom).lemmas
 lemmas-open P s o None atom h = h
@@ -132,3 +148,5 @@ lemmas-after P steady sys s (Step.Records f) h new = h
 lemmas-after P steady sys s (Step.Lifts l) h new = lemmas-lift P steady s l.lemma (lifted_of s l) refl h
 lemmas-after P steady sys s (Step.Raises r) h new = h
 lemmas-after P steady sys s (Step.Stalls t) h new = lemmas-stall P s t.target (slice_get s.obligations t.target) h
+lemmas-after P steady sys s (Step.Derives f) h new = h
+lemmas-after P steady sys s (Step.Strengthens l) h new = all_of-push P s.lemmas (record { lemma = l.lemma; level = l.level }) h new

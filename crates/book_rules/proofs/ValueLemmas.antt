@@ -11,7 +11,7 @@ use Rattle.cube_forms.specs.Cubes.{tuple_at}
 use Rattle.book_rules.specs.Walks.{on}
 use Rattle.book_rules.specs.Instances.{atom_at, head_at}
 use Rattle.book_rules.specs.State.{Fact, Obligation, State, opening}
-use Rattle.book_rules.specs.Steps.{IsSeen, FactStep, Step, Carries}
+use Rattle.book_rules.specs.Steps.{IsSeen, Seen, Step, Carries}
 use Rattle.book_rules.specs.FactRules.{concluded}
 use Rattle.book_rules.specs.Effects.{after, fact_of}
 use Rattle.book_rules.specs.Legal.{AreLegal, replay}
@@ -32,11 +32,11 @@ head_short : (point : List ℤ) (head : Option Atom) → list_all is_short point
 head_short point None h = refl
 head_short point (Some atom) h = tuple_short point atom.args h
 
-new_short : (sys : Clauses) (s : State) (f : FactStep) → IsSeen sys f.seen → fact_is_short (fact_of sys s f) ≡ true
-new_short sys s f seen =
+new_short : (sys : Clauses) (s : State) (of : Seen) (premises : List ℕ) → IsSeen sys of → fact_is_short (fact_of sys s of premises) ≡ true
+new_short sys s of premises seen =
     let clause = seen.clause in
-    let is : concluded sys f ≡ head_at f.seen.point clause = ap (λ (found : Option Clause). on found (λ (c : Clause). head_at f.seen.point c)) seen.there in
-    from_both (list_all is_short f.seen.point) _ seen.short (ap conclusion_is_short is ∙ head_short f.seen.point clause.head seen.short)
+    let is : concluded sys of ≡ head_at of.point clause = ap (λ (found : Option Clause). on found (λ (c : Clause). head_at of.point c)) seen.there in
+    from_both (list_all is_short of.point) _ seen.short (ap conclusion_is_short is ∙ head_short of.point clause.head seen.short)
 
 abbrev HasShortPoint : Obligation → Type 0
 HasShortPoint o = list_all is_short o.point ≡ true
@@ -48,14 +48,18 @@ child_short sys s (Step.Records f) carries = tt
 child_short sys s (Step.Lifts l) carries = tt
 child_short sys s (Step.Raises r) carries = tt
 child_short sys s (Step.Stalls t) carries = tt
+child_short sys s (Step.Derives f) carries = tt
+child_short sys s (Step.Strengthens l) carries = tt
 
 fact_short : (sys : Clauses) (s : State) (step : Step) → Carries sys step → FactHas (λ (f : Fact). fact_is_short f ≡ true) sys s step
 fact_short sys s (Step.Opens o) carries = tt
 fact_short sys s (Step.Learns l) carries = tt
-fact_short sys s (Step.Records f) carries = new_short sys s f carries
+fact_short sys s (Step.Records f) carries = new_short sys s f.seen f.premises carries
 fact_short sys s (Step.Lifts l) carries = tt
 fact_short sys s (Step.Raises r) carries = tt
 fact_short sys s (Step.Stalls t) carries = tt
+fact_short sys s (Step.Derives f) carries = new_short sys s f.seen f.premises carries
+fact_short sys s (Step.Strengthens l) carries = tt
 
 pub short-after : (sys : Clauses) (s : State) (step : Step) → AreShort s → Carries sys step → AreShort (after sys s step)
 short-after sys s step short carries = record {

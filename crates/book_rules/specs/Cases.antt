@@ -85,6 +85,30 @@ both_proofs = through_first ∷ through_next not_3 not_2.cube ∷ []
 abbrev pub after_lift : State
 after_lift = after counting learnt_2 (lift_3 1 both_proofs)
 
+-- Derive: 0 and 1 are reached, whether an obligation asks for them or not
+abbrev pub derive_0 : Step
+derive_0 = Step.Derives (record { seen = record { clause = 0; point = pos 0 ∷ [] }; premises = [] })
+
+abbrev pub derive_1 : List ℕ → Step
+derive_1 premises = Step.Derives (record { seen = record { clause = 1; point = pos 0 ∷ pos 1 ∷ [] }; premises = premises })
+
+abbrev pub after_derive : State
+after_derive = after counting asked (derive_1 (0 ∷ []))
+
+-- Strengthen: not 3 within 2, beside the same lemma within 1
+abbrev pub strengthen_by : Lemma → ℕ → List Shown → Step
+strengthen_by lemma level proofs = Step.Strengthens (record { lemma = lemma; level = level; proofs = proofs })
+
+abbrev pub after_strengthen : State
+after_strengthen = after counting learnt_2 (strengthen_by not_3 2 both_proofs)
+
+-- a lemma about a predicate that isn't there, and about a place that isn't
+abbrev pub of_another : Lemma
+of_another = record { pred = 1; cube = [] }
+
+abbrev pub too_wide : Lemma
+too_wide = record { pred = 0; cube = is_number 1 (negsuc 2) ∷ [] }
+
 -- Raise: not 9 stays at level 1, since 8 reaches 9
 abbrev pub kept_9 : List Framed → State
 kept_9 more = record { level = 2; lemmas = at_level 1 not_9 ∷ at_level 2 not_3 ∷ more; facts = []; obligations = root_at 3 ∷ asks 2 0 2 (pos 3) (negsuc 2) ∷ []; given = 50000; spent = 9; entries = 9 }

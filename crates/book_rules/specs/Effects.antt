@@ -3,12 +3,12 @@ use Rattle.std.specs.Prelude.{ℕ, suc, ◌+◌, ◌-◌, max, List, [], ◌∷�
 use Rattle.clause_form.specs.System.{Clauses}
 use Rattle.clause_form.specs.declared.atom.Atom.{Atom}
 use Rattle.book_rules.specs.Walks.{has}
-use Rattle.book_rules.specs.Frames.{Framed}
+use Rattle.book_rules.specs.Frames.{Framed, Lemma}
 use Rattle.book_rules.specs.LemmaRules.{closes, lifted_of}
 use Rattle.book_rules.specs.FactRules.{concluded}
 use Rattle.book_rules.specs.OpenRules.{parent_of, atom_of, tuple_of}
 use Rattle.book_rules.specs.State.{Fact, Obligation, State, holds, is_live}
-use Rattle.book_rules.specs.Steps.{OpenStep, LemmaStep, FactStep, LiftStep, StallStep, Step}
+use Rattle.book_rules.specs.Steps.{OpenStep, LiftStep, StallStep, Seen, Step}
 
 -- the entry is written; every entry but Stall is one unit
 abbrev pub written : ℕ → State → State
@@ -46,9 +46,9 @@ opened_with s o (Some parent) (Some atom) = record s { obligations = s.obligatio
 abbrev pub opened : Clauses → State → OpenStep → State
 opened sys s o = opened_with s o (parent_of s o) (atom_of sys o)
 
--- Lemma: it is added, and closes the obligations whose points it shuts out
-abbrev pub learnt : State → LemmaStep → State
-learnt s l = record s { lemmas = s.lemmas ++ (record { lemma = l.lemma; level = l.level }) ∷ []; obligations = close (closes l.lemma l.level) s }
+-- Lemma and Strengthen: the lemma is added, and closes the obligations whose points it shuts out
+abbrev pub learnt : State → Lemma → ℕ → State
+learnt s lemma level = record s { lemmas = s.lemmas ++ (record { lemma = lemma; level = level }) ∷ []; obligations = close (closes lemma level) s }
 
 -- Lift: its level is one more, and it closes as a lemma of that level does
 abbrev pub lifted_with : State → ℕ → Option Framed → State
@@ -58,7 +58,7 @@ lifted_with s number (Some e) = record s { lemmas = slice_set s.lemmas number (r
 abbrev pub lifted : State → LiftStep → State
 lifted s l = lifted_with s l.lemma (lifted_of s l)
 
--- Fact: the conclusion is recorded with its instance and premises, and closes the obligations that hold it
+-- Fact and Derive: the conclusion is recorded with its instance and premises, and closes the obligations that hold it
 
 abbrev pub height_at : Option Fact → ℕ
 height_at None = 0
@@ -69,11 +69,11 @@ abbrev pub greatest_height : List Fact → List ℕ → ℕ
 greatest_height facts [] = 0
 greatest_height facts (p ∷ premises) = max (height_at (slice_get facts p)) (greatest_height facts premises)
 
-abbrev pub fact_of : Clauses → State → FactStep → Fact
-fact_of sys s f = record { conclusion = concluded sys f; clause = f.seen.clause; point = f.seen.point; premises = f.premises; height = suc (greatest_height s.facts f.premises) }
+abbrev pub fact_of : Clauses → State → Seen → List ℕ → Fact
+fact_of sys s seen premises = record { conclusion = concluded sys seen; clause = seen.clause; point = seen.point; premises = premises; height = suc (greatest_height s.facts premises) }
 
-abbrev pub recorded : Clauses → State → FactStep → State
-recorded sys s f = record s { facts = s.facts ++ fact_of sys s f ∷ []; obligations = close (λ o. holds o (concluded sys f)) s }
+abbrev pub recorded : Clauses → State → Seen → List ℕ → State
+recorded sys s seen premises = record s { facts = s.facts ++ fact_of sys s seen premises ∷ []; obligations = close (λ o. holds o (concluded sys seen)) s }
 
 -- Raise: N is one greater, all obligations but the root are closed, and the root is at N + 1
 abbrev pub raised_tree : ℕ → ℕ → List Obligation → List Obligation
@@ -93,8 +93,10 @@ stalled s t = stalled_with s t.target (slice_get s.obligations t.target)
 
 abbrev pub after : Clauses → State → Step → State
 after sys s (Step.Opens o) = written 1 (opened sys s o)
-after sys s (Step.Learns l) = written 1 (learnt s l)
-after sys s (Step.Records f) = written 1 (recorded sys s f)
+after sys s (Step.Learns l) = written 1 (learnt s l.lemma l.level)
+after sys s (Step.Records f) = written 1 (recorded sys s f.seen f.premises)
 after sys s (Step.Lifts l) = written 1 (lifted s l)
 after sys s (Step.Raises r) = written 1 (raised s)
 after sys s (Step.Stalls t) = written 0 (stalled s t)
+after sys s (Step.Derives f) = written 1 (recorded sys s f.seen f.premises)
+after sys s (Step.Strengthens l) = written 1 (learnt s l.lemma l.level)

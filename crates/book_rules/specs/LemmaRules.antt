@@ -1,5 +1,5 @@
 -- The rules of Lemma and of Lift, by their numbers: what breaks each of them, if anything.
-use Rattle.std.specs.Prelude.{ℕ, ◌+◌, ◌-◌, Bool, ◌&&◌, nat_le, nat_lt, ◌==◌, Option, Some, None, if◌then◌else◌, slice_get}
+use Rattle.std.specs.Prelude.{ℕ, List, ◌+◌, ◌-◌, Bool, ◌&&◌, nat_le, nat_lt, ◌==◌, Option, Some, None, if◌then◌else◌, slice_get}
 use Rattle.clause_form.specs.System.{Clauses}
 use Rattle.cube_forms.specs.Cubes.{cube_holds}
 use Rattle.book_rules.specs.declared.by.By.{By}
@@ -8,19 +8,32 @@ use Rattle.book_rules.specs.Walks.{on}
 use Rattle.book_rules.specs.Frames.{Lemma, Framed}
 use Rattle.book_rules.specs.Proofs.{unshown, misused}
 use Rattle.book_rules.specs.State.{Obligation, State, is_of, unless_live}
-use Rattle.book_rules.specs.Steps.{LemmaStep, LiftStep}
+use Rattle.book_rules.specs.Steps.{LemmaStep, LiftStep, Shown}
+
+-- what a step is asked for that adds a lemma at a level: the level is from 1 to N
+
+abbrev pub unless_level : State → ℕ → Option By
+unless_level s level = if nat_le 1 level && nat_le level s.level then None else Some (ByLevel s.level)
+
+-- each clause of that head has a proof of this lemma
+abbrev pub unproved : Clauses → Lemma → ℕ → List Shown → Option By
+unproved sys lemma level proofs = unshown sys (level - 1) (Some lemma) proofs
+
+-- each used lemma is in F(level - 1), or this lemma on its own predicate
+abbrev pub unfounded : Clauses → List Framed → Lemma → ℕ → List Shown → Option By
+unfounded sys es lemma level proofs = misused sys es (level - 1) (Some lemma) proofs
 
 -- 10: the level is from 1 to N
 abbrev pub rule_10 : State → LemmaStep → Option By
-rule_10 s l = if nat_le 1 l.level && nat_le l.level s.level then None else Some (ByLevel s.level)
+rule_10 s l = unless_level s l.level
 
 -- 11: each clause of that head has a proof of this lemma
 abbrev pub rule_11 : Clauses → LemmaStep → Option By
-rule_11 sys l = unshown sys (l.level - 1) (Some l.lemma) l.proofs
+rule_11 sys l = unproved sys l.lemma l.level l.proofs
 
 -- 12: each used lemma is in F(level - 1), or this lemma on its own predicate
 abbrev pub rule_12 : Clauses → State → LemmaStep → Option By
-rule_12 sys s l = misused sys s.lemmas (l.level - 1) (Some l.lemma) l.proofs
+rule_12 sys s l = unfounded sys s.lemmas l.lemma l.level l.proofs
 
 -- 13: the target is live
 abbrev pub rule_13 : State → LemmaStep → Option By

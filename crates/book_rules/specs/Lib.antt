@@ -12,6 +12,8 @@ pub mod LemmaRules
 pub mod FactRules
 pub mod RaiseRules
 pub mod StallRules
+pub mod Places
+pub mod StrengthenRules
 pub mod Rules
 pub mod Effects
 pub mod Legal
@@ -20,7 +22,6 @@ pub mod Reached
 pub mod Rooted
 pub mod Counts
 pub mod Values
-pub mod Places
 pub mod Hanging
 pub mod Openings
 pub mod Examples

@@ -49,7 +49,8 @@ why_has_places sys (Why.Unknown clause used left) = list_all (used_has_places sy
 abbrev pub no_lift_has_places : Clauses → NoLift → Bool
 no_lift_has_places sys k = is_over_atom sys.preds (head_of sys (why_clause k.why)) k.cube && why_has_places sys k.why
 
--- each cube and lemma of a step is over its predicate: what a step has to bring before its rules are tried
+-- each cube and lemma of a step is over its predicate: what a step has to bring before its rules are tried. That the lemma of a
+-- Strengthen is, a rule asks
 abbrev pub has_places : Clauses → Step → Bool
 has_places sys (Step.Opens o) = is_over_atom sys.preds (atom_of sys o) o.cube
 has_places sys (Step.Learns l) = is_over sys.preds l.lemma.pred l.lemma.cube && list_all (shown_has_places sys) l.proofs
@@ -57,6 +58,8 @@ has_places sys (Step.Records f) = true
 has_places sys (Step.Lifts l) = list_all (shown_has_places sys) l.proofs
 has_places sys (Step.Raises r) = list_all (shown_has_places sys) r.closed && list_all (no_lift_has_places sys) r.kept
 has_places sys (Step.Stalls t) = list_all (used_has_places sys t.clause) t.used
+has_places sys (Step.Derives f) = true
+has_places sys (Step.Strengthens l) = list_all (shown_has_places sys) l.proofs
 
 -- an obligation's predicate is there, with each place of its cube, and its point has a value for each place; false has none
 abbrev pub obligation_fits : List (List Sort) → Obligation → Bool

@@ -76,6 +76,17 @@ pub record StallStep : Type 0 where
   pub used : List Used
   pub evidence : Left
 
+-- a tuple that no obligation asks for
+pub record DeriveStep : Type 0 where
+  pub seen : Seen
+  pub premises : List ℕ
+
+-- a lemma that no obligation asks for
+pub record StrengthenStep : Type 0 where
+  pub lemma : Lemma
+  pub level : ℕ
+  pub proofs : List Shown
+
 pub data Step : Type 0 where
   Opens : OpenStep → Step
   Learns : LemmaStep → Step
@@ -83,6 +94,8 @@ pub data Step : Type 0 where
   Lifts : LiftStep → Step
   Raises : RaiseStep → Step
   Stalls : StallStep → Step
+  Derives : DeriveStep → Step
+  Strengthens : StrengthenStep → Step
 
 -- what the tokens stand for
 
@@ -138,3 +151,5 @@ Carries sys (Records f) = IsSeen sys f.seen
 Carries sys (Lifts l) = AllOf (Shows sys) l.proofs
 Carries sys (Raises r) = AllOf (Shows sys) r.closed × AllOf (λ k. IsWhy sys k.cube k.why) r.kept
 Carries sys (Stalls s) = IsLeft s.evidence
+Carries sys (Derives f) = IsSeen sys f.seen
+Carries sys (Strengthens l) = AllOf (Shows sys) l.proofs

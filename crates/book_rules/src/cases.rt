@@ -11,7 +11,7 @@ ghost use Rattle.book_rules.specs.Rules.{broken};
 ghost use Rattle.book_rules.specs.Legal.{IsLegal, end};
 ghost use Rattle.book_rules.specs.Steps.{Carries, Opens};
 ghost use Rattle.book_rules.specs.Examples.{counting, after_raise, after_lemma, not_3, through_first};
-ghost use Rattle.book_rules.specs.Cases.{above_3, after_fact, after_lift, after_stall, all_stalled, asked, asks, at_least_3, at_level, at_most_9, bare_below, both_proofs, bounded, eight_reaches_nine, fact_0_again, fact_1, fact_2, four_others, is_value, kept_9, learn_9, learnt_2, left_over, lift_3, not_3_used, not_8, not_9, open_7, open_below, open_of, query_2, raise_past, raised_with, reaches, stall_2, stall_at, three_is_reached, through_next};
+ghost use Rattle.book_rules.specs.Cases.{above_3, after_derive, after_fact, after_lift, after_stall, after_strengthen, all_stalled, asked, asks, at_least_3, at_level, at_most_9, bare_below, both_proofs, bounded, derive_0, derive_1, eight_reaches_nine, fact_0_again, fact_1, fact_2, four_others, is_value, kept_9, learn_9, learnt_2, left_over, lift_3, not_3_used, not_8, not_9, of_another, open_7, open_below, open_of, query_2, raise_past, raised_with, reaches, stall_2, stall_at, strengthen_by, three_is_reached, through_next, too_wide};
 
 /// A Fact with a premise and a target, a Lift, a Raise past a lemma that stays behind, a Stall
 /// with whatever evidence there is, as with that of one split, and an Open of a child are legal.
@@ -70,6 +70,28 @@ pub fn raises_and_stalls_break_rules()
     ensures other_head { broken counting asked (stall_at 2 2) ≡ Some (52, ByStep) }
     ensures above { broken counting asked (stall_2 ((record { atom = 0; cube = not_9.cube }) ∷ []) (Nodes 1)) ≡ Some (53, ByClause 1) }
     ensures again { broken counting after_stall (stall_2 not_3_used (Nodes 1)) ≡ Some (54, ByObligation 2) }
+{}
+
+/// A Derive and a Strengthen for no obligation, which are legal, each of their rules broken once, and
+/// what they make of the book. A lemma may be used in its own proof.
+pub fn steps_for_no_obligation()
+    ensures derive { IsLegal counting learnt_2 derive_0 }
+    ensures strengthen { IsLegal counting learnt_2 (strengthen_by not_3 2 both_proofs) }
+    ensures no_premise { broken counting asked (derive_1 []) ≡ Some (70, ByStep) }
+    ensures not_there { broken counting learnt_2 (derive_1 (0 ∷ [])) ≡ Some (70, ByStep) }
+    ensures recorded { broken counting asked derive_0 ≡ Some (71, ByFact 0) }
+    ensures no_predicate { broken counting learnt_2 (strengthen_by of_another 1 []) ≡ Some (80, ByStep) }
+    ensures no_place { broken counting learnt_2 (strengthen_by too_wide 1 []) ≡ Some (80, ByStep) }
+    ensures too_low { broken counting learnt_2 (strengthen_by not_3 0 both_proofs) ≡ Some (81, ByLevel 2) }
+    ensures too_high { broken counting learnt_2 (strengthen_by not_3 3 both_proofs) ≡ Some (81, ByLevel 2) }
+    ensures unshown { broken counting learnt_2 (strengthen_by not_3 2 (through_first ∷ [])) ≡ Some (82, ByClause 1) }
+    ensures above { broken counting learnt_2 (strengthen_by not_3 2 (through_first ∷ through_next not_3 not_9.cube ∷ [])) ≡ Some (83, ByClause 1) }
+    ensures own { broken counting learnt_2 (strengthen_by not_3 2 (through_first ∷ through_next not_3 not_3.cube ∷ [])) ≡ None }
+    ensures closes { map (λ o. o.closed) after_derive.obligations ≡ None ∷ Some 10 ∷ None ∷ Some 10 ∷ [] }
+    ensures heights { map (λ f. f.height) after_derive.facts ≡ 1 ∷ 2 ∷ [] }
+    ensures shuts_out { map (λ o. o.closed) after_strengthen.obligations ≡ None ∷ Some 10 ∷ [] }
+    ensures levels { map (λ e. e.level) after_strengthen.lemmas ≡ 1 ∷ 1 ∷ 2 ∷ [] }
+    ensures units { after_derive.spent ∷ after_strengthen.spent ∷ [] ≡ 10 ∷ 10 ∷ [] }
 {}
 
 /// A Fact closes the obligation that holds it with the one that hangs under it, and not their

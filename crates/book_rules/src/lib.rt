@@ -18,6 +18,7 @@ pub use by::By;
 pub use cases::{
     a_point_is_no_area, lemmas_and_facts_break_rules, more_effects_and_ends,
     more_legal_steps_are_there, opens_break_rules, raises_and_stalls_break_rules,
+    steps_for_no_obligation,
 };
 pub use end::End;
 pub use examples::{legal_steps_are_there, other_steps_break_a_rule, steps_have_their_effects};

@@ -2,7 +2,6 @@
 use Rattle.std.proofs.Common.{◌≡◌, ℕ, ◌≤◌, ◌^◌, List, length, ap, sym, refl, ◌∙◌}
 use Rattle.std.specs.Prelude.{Option, Some, None, Result, Ok, Err}
 use Rattle.std.specs.List.{AllByRecursion}
-use Rattle.term_tree.specs.Arena.{IsArena}
 use Rattle.term_tree.specs.declared.refusal.Refusal.{Refusal}
 use Rattle.term_tree.specs.declared.refusal.Checked.{Checked}
 use Rattle.sort_check.specs.Checked.{IsCheckedText}
@@ -59,8 +58,8 @@ module _ (limits : Limits) (bytes : List ℕ) (checked : Checked) (short : lengt
         level = found.level;
       }
 
-  pub told : IsArena checked.script.terms.nodes → (answer : Answer) → IsToldOf limits checked answer → IsAnswerTo limits bytes answer
+  pub told : (answer : Answer) → IsToldOf limits checked answer → IsAnswerTo limits bytes answer
   unfolding book_for
-  told arena (Refused refusal line) h = (illegal checked short arena text h.0, h.1)
-  told arena (Answered book counts printed) h = (record { book = book_for book counts.items h.0; ended_by = h.1; ended = h.2; answer = h.3 }, h.0.counted)
-  told arena (Unfinished book counts) h = (book_for book counts.items h, h.counted)
+  told (Refused refusal line) h = (illegal checked short text h.0, h.1)
+  told (Answered book counts printed) h = (record { book = book_for book counts.items h.0; ended_by = h.1; ended = h.2; answer = h.3 }, h.0.counted)
+  told (Unfinished book counts) h = (book_for book counts.items h, h.counted)

@@ -64,7 +64,7 @@ answered_only not_both limits (Some bytes) read b status h same = λ refusal ref
 has_system : (limits : Limits) (read : List ℕ) (b : Contents) → IsBookFor limits read b → HasNoSystem read → ⊥
 has_system limits read b h none =
     let s = h.is_script in
-    none (record { script = h.script; stop = None }) b.system h.of.arena (s.trees, s.stop, s.reading, record { commands = h.commands; outcome_is = s.legal; script = h.spelled }) h.of.system
+    none (record { script = h.script; stop = None }) b.system (s.trees, s.stop, s.reading, record { commands = h.commands; outcome_is = s.legal; script = h.spelled }) h.of.system
 
 pub answered_system : (limits : Limits) (left : Option (List ℕ)) (read : List ℕ) (b : Contents) (status : Status) → IsBookFor limits read b → IfSome left (λ bytes. read ≡ bytes)
     → IfSome left (λ bytes. HasNoSystem bytes → status ≢ Status.Answered)
@@ -73,7 +73,7 @@ answered_system limits (Some bytes) read b status h same = λ none e. has_system
 
 not_refused : (bytes : List ℕ) (refusal : Refusal) → IsInputRefused bytes refusal → IsUnrefused bytes → ⊥
 not_refused bytes refusal (too_long long is) h = let short = h.short in omega (arith, short, long)
-not_refused bytes refusal (illegal checked short arena is read) h = h.legal checked refusal arena is read
+not_refused bytes refusal (illegal checked short is read) h = h.legal checked refusal is read
 
 -- what has no refusal is not refused
 pub refused_only : (left : Option (List ℕ)) (refusal : Refusal) (status : Status) → IfSome left (λ bytes. IsInputRefused bytes refusal) → IfSome left (λ bytes. IsUnrefused bytes → status ≢ Status.Refused)

@@ -15,6 +15,7 @@ use Rattle.book_rules.specs.Walks.{AllOf}
 use Rattle.chc_core.specs.Contents.{Contents}
 use Rattle.chc_core.specs.Views.{state_of}
 use Rattle.shared_book.specs.Runs.{IsEntry}
+use Rattle.worker_pool.specs.Counts.{counts_of}
 use Rattle.book_answers.specs.Answers.{HasNoLowFalse, HasText, IsBookOf}
 use Rattle.book_answers.specs.Wanting.{wanting_text}
 use Rattle.answer_text.specs.Lines.{error_text}
@@ -36,6 +37,7 @@ pub record IsBookFor (limits : Limits) (bytes : List ℕ) (b : Contents) : Type 
 
 -- how many of its entries each worker wrote
 pub record AreCounts (limits : Limits) (b : Contents) (counts : List ℕ) : Type 0 where
+  pub by : counts ≡ counts_of limits.workers b.journal
   pub each : length counts ≡ limits.workers
   pub all : sum counts ≡ length b.journal
 

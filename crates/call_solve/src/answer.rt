@@ -8,6 +8,7 @@ ghost use Rattle.book_rules.specs.Legal.{end};
 ghost use Rattle.book_rules.specs.Walks.{AllOf};
 ghost use Rattle.chc_core.specs.Views.{state_of};
 ghost use Rattle.shared_book.specs.Runs.{IsEntry};
+ghost use Rattle.worker_pool.specs.Counts.{counts_of};
 ghost use Rattle.call_words.specs.Properties.{IsInRange};
 ghost use Rattle.call_solve.specs.machinery.Answers.{IsAnswerTo, IsSearched, IsToldOf};
 
@@ -53,6 +54,7 @@ fn left(alloc: Global, checked: &Checked, outcome: Outcome, limits: Limits) -> A
     requires given { outcome.book.given ≡ limits.units }
     requires entries { AllOf (IsEntry limits.workers limits.nodes) outcome.book.journal }
     requires end { outcome.end ≡ end (state_of outcome.book) }
+    requires by { outcome.counts.items ≡ counts_of limits.workers outcome.book.journal }
     requires each { vec_len outcome.counts ≡ limits.workers }
     requires counts { sum outcome.counts.items ≡ length outcome.book.journal }
     ensures { IsSearched limits checked.now result }

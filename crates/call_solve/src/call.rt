@@ -50,7 +50,7 @@ impl Drop for Report {
 }
 
 /// Solves the script that the source gives, by as many workers as the limits say and within them, and
-/// writes one text into the sink. Each worker passes the gate before each of its turns.
+/// writes one text into the sink. Of several workers each passes the gate before each of its turns.
 ///
 /// Where a source or sink does not tell its bytes, the clauses on these say nothing.
 pub fn solve_call<W: Threads + Wait + Sync, S: Source, K: Sink, G: Gate>(
@@ -76,7 +76,8 @@ pub fn solve_call<W: Threads + Wait + Sync, S: Source, K: Sink, G: Gate>(
     ensures refuses_all { IfSome result.refusal (ReadsInput (S.left source.old) result.read.items) }
     ensures refusal { IsSome result.refusal ↔ (result.status ≡ Status.Refused) }
 
-    // Both exactly: of bytes that have no refusal none is told, and bytes that are no script, or have no system of clauses, are not answered.
+    // Both exactly: of bytes that have no refusal none is told, and bytes that are no script, or have no system of clauses, are not answered. However the terms of a script are numbered, its clauses
+    // are the same (`texts_have_one_system` in `clause_readings`).
     ensures answers_scripts { IfSome (S.left source.old) (λ bytes. IsUnrefused bytes → result.status ≢ Status.Refused) }
     ensures refuses_others { IfSome (S.left source.old) (λ bytes. (refusal : Refusal) → IsRefused bytes refusal → result.status ≢ Status.Answered) }
     ensures refuses_shapes { IfSome (S.left source.old) (λ bytes. HasNoSystem bytes → result.status ≢ Status.Answered) }

@@ -26,7 +26,7 @@ use Rattle.answer_text.specs.Reading.{Defined, Reply, reply}
 use Rattle.answer_text.specs.Reading.Reply.{model, refutation}
 use Rattle.answer_text.specs.declared.answer.Answer.{Answer}
 use Rattle.answer_text.specs.declared.answer.Answer.TheVariants.{Sat, Unsat, Unknown}
-use Rattle.answer_laws.proofs.FormulaLemmas.{AreRight, IsRight, reply_right}
+use Rattle.answer_laws.proofs.FormulaLemmas.{AreRight, IsRight, all_read, reply_right}
 use Rattle.clause_normal.proofs.MadeLemmas.{subterm_most}
 use Rattle.chc_checker.specs.Verdicts.{IsCheckable}
 use Rattle.chc_checker.specs.machinery.Reading.{AreFit, HasFittingDivisors, IsFit}
@@ -108,7 +108,7 @@ checkable script (Sat es) text fit spells = by spells.claimed spells.spelled spe
     by : (claimed : Reply) → reply text spells.stop script.preds spells.trees ≡ Ok claimed → IsReply claimed (Sat es) → IsCheckable script (Sat es)
     by (model rs) is are =
         each_formed text script.preds 0 script.preds rs es (λ k p there. ap (λ (i : ℕ). slice_get script.preds i) (let n : 0 + k ≡ k = omega arith in n) ∙ there)
-        (reply_right text script.preds spells.stop spells.trees rs is) are (fit es refl)
+        (reply_right text script.preds spells.stop spells.trees rs (all_read text 0 0 spells.trees spells.reading.0 spells.reading.1) is) are (fit es refl)
     by (refutation lines) is are = absurd are
 checkable script (Unsat lines) text fit spells = tt
 checkable script (Unknown level cause) text fit spells = by spells.claimed spells.is

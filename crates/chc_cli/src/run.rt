@@ -31,8 +31,8 @@ use worker_pool::Gate;
 
 /// The program: it carries out the words after the program's name over what the source gives, and
 /// writes one text into the sink. A call of `solve` solves a script by as many workers as the words say,
-/// of which each passes the gate before each of its turns; a call of `check` checks the answer that
-/// stands behind a script; and a call of `gen` solves the script that a depth and a seed give.
+/// and several pass the gate before each of their turns; a call of `check` checks the answer that stands
+/// behind a script; and a call of `gen` solves the script that a depth and a seed give.
 ///
 /// Where a source or sink does not tell its bytes, the clauses on these say nothing.
 pub fn chc_run<W: Threads + Wait + Sync, S: Source, K: Sink, G: Gate>(
@@ -65,7 +65,8 @@ pub fn chc_run<W: Threads + Wait + Sync, S: Source, K: Sink, G: Gate>(
     ensures refuses_all { IfSome result.refusal (ReadsInput (S.left source.old) result.read.items) }
     ensures refusal { IsSome result.refusal ↔ (result.status ≡ Status.Refused) }
 
-    // Both exactly for `solve`: of bytes that have no refusal none is told, and bytes that are no script, or have no system of clauses, are not answered.
+    // Both exactly for `solve`: of bytes that have no refusal none is told, and bytes that are no script, or have no system of clauses, are not answered. These speak of every way in which the terms
+    // of a script may be numbered; one tells it for all (`one_reading_is_enough` in `printed_laws`).
     ensures answers_scripts { (limits : Limits) → IsCall (map string_bytes words.now) limits
         → IfSome (S.left source.old) (λ bytes. IsUnrefused bytes → result.status ≢ Status.Refused) }
     ensures refuses_others { (limits : Limits) → IsCall (map string_bytes words.now) limits
@@ -73,7 +74,8 @@ pub fn chc_run<W: Threads + Wait + Sync, S: Source, K: Sink, G: Gate>(
     ensures refuses_shapes { (limits : Limits) → IsCall (map string_bytes words.now) limits
         → IfSome (S.left source.old) (λ bytes. HasNoSystem bytes → result.status ≢ Status.Answered) }
 
-    // And for `check`: of an input whose script has no refusal none is told, and where it is refused by the rules of commands, or has no system of clauses, no verdict is.
+    // And for `check`: of an input whose script has no refusal none is told, and where it is refused by the rules of commands, or has no system of clauses, no verdict is. Here, too, one reading of the
+    // script tells it for all, and a verdict of `valid` holds of each (`valid_verdicts_hold`).
     ensures checks_scripts { (nodes : ℕ) → IsCheckCall (map string_bytes words.now) nodes
         → IfSome (S.left source.old) (λ bytes. IsUnrefusedCheck bytes → result.status ≢ Status.Refused) }
     ensures checks_no_others { (nodes : ℕ) → IsCheckCall (map string_bytes words.now) nodes

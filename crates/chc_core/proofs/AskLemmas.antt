@@ -1,5 +1,5 @@
 -- What the code reads for each step is there, and an Open's obligation is the rules' child.
-use Rattle.std.proofs.Common.{◌≡◌, ℕ, ℤ, ◌-◌, ◌<◌, ◌≤◌, List, length, get_or, true, Some, None, ap, ap₂, sym, ◌∙◌, subst, arith}
+use Rattle.std.proofs.Common.{◌≡◌, ℕ, ℤ, ◌-◌, ◌<◌, ◌≤◌, List, length, get_or, Bool, true, Some, None, ap, ap₂, sym, ◌∙◌, subst, arith}
 use Rattle.std.specs.Prelude.{Option, is_some, slice_get}
 use Rattle.std.proofs.lemmas.List.{length-map}
 use Rattle.std.proofs.lemmas.Option.{slice_get-get_or, slice_get_within}
@@ -12,22 +12,21 @@ use Rattle.obligation_tree.specs.Nodes.{is_live_at, node_at}
 use Rattle.obligation_tree.specs.declared.obligation.Obligation.{Obligation as Asked}
 use Rattle.book_rules.specs.declared.by.By.TheVariants.{Step as ByStep}
 use Rattle.book_rules.specs.Effects.{child_of}
-use Rattle.book_rules.specs.FactRules.{are_facts_of, concluded, rule_20}
+use Rattle.book_rules.specs.FactRules.{are_facts_of, concluded}
 use Rattle.book_rules.specs.Instances.{Ground, body_at, head_at}
 use Rattle.book_rules.specs.OpenRules.{atom_of, parent_of}
 use Rattle.book_rules.specs.State.{Obligation, is_live}
+use Rattle.book_rules.specs.Steps.{Seen}
 use Rattle.book_rules.specs.Walks.{has, on}
 use Rattle.book_rules.proofs.ListLemmas.{unless_none}
-use Rattle.book_rules.proofs.SoundLemmas.{unbroken}
-use Rattle.step_rules.specs.Taken.{open_of, record_of}
+use Rattle.step_rules.specs.Taken.{open_of}
 use Rattle.step_rules.specs.Views.{fresh_of, obligation_of, obligations_of}
-use Rattle.step_rules.specs.declared.fact_step.part.FactPart.{FactPart}
 use Rattle.step_rules.specs.declared.open_step.part.OpenPart.{OpenPart}
-use Rattle.step_rules.specs.declared.step.Step.TheVariants.{FactStep, OpenStep}
+use Rattle.step_rules.specs.declared.step.Step.TheVariants.{OpenStep}
 use Rattle.step_rules.proofs.ViewLemmas.{obligation_of-at}
 use Rattle.chc_core.specs.Contents.{Contents}
 use Rattle.chc_core.specs.Views.{state_of}
-use Rattle.chc_core.specs.machinery.Making.{CanTake}
+use Rattle.chc_core.specs.machinery.Making.{CanRecord, CanTake}
 use Rattle.chc_core.proofs.LawLemmas.{has-there}
 use Rattle.chc_core.proofs.MadeLemmas.{atom-there}
 use Rattle.chc_core.proofs.MakingLemmas.{can_open}
@@ -101,18 +100,16 @@ asked-pred b o asked can child =
     let c = can_open b o can in
     ap is_some (ap (λ (x : Obligation). x.pred) (child c.parent c.atom c.there (atom-there b o c.clause c.atom c.of_clause c.of_atom)))
 
--- Fact: the clause is there, and the conclusion is its head
+-- Fact and Derive: the clause is there, and the conclusion is its head
 
-pub fact-clause-within : (b : Contents) (f : FactPart) → CanTake b (FactStep f) → (record_of f).seen.clause < length b.system.clauses
-fact-clause-within b f can =
-    let s = state_of b in
-    let plain = record_of f in
-    let fits = (unless_none (has (slice_get b.system.clauses plain.seen.clause) (λ (clause : Clause). are_facts_of s.facts plain.premises (body_at plain.seen.point clause))) ByStep None (unbroken 20 (rule_20 b.system s plain) _ can.unbroken).0).0 in
-    let found = has-there (slice_get b.system.clauses plain.seen.clause) (λ (clause : Clause). are_facts_of s.facts plain.premises (body_at plain.seen.point clause)) fits in
-    slice_get_within b.system.clauses plain.seen.clause found.0 found.1
+pub fact-clause-within : (b : Contents) (seen : Seen) (premises : List ℕ) → CanRecord b seen premises → seen.clause < length b.system.clauses
+fact-clause-within b seen premises can =
+    let test : Clause → Bool = λ clause. are_facts_of (state_of b).facts premises (body_at seen.point clause) in
+    let found = has-there (slice_get b.system.clauses seen.clause) test (unless_none (has (slice_get b.system.clauses seen.clause) test) ByStep None can.premised).0 in
+    slice_get_within b.system.clauses seen.clause found.0 found.1
 
-pub concluded-is : (b : Contents) (f : FactPart) (clause : Clause) (told : Option Ground) → slice_get b.system.clauses (record_of f).seen.clause ≡ Some clause → told ≡ head_at (record_of f).seen.point clause → told ≡ concluded b.system (record_of f)
-concluded-is b f clause told there is = is ∙ sym (ap (λ (found : Option Clause). on found (λ (c : Clause). head_at (record_of f).seen.point c)) there)
+pub concluded-is : (b : Contents) (seen : Seen) (clause : Clause) (told : Option Ground) → slice_get b.system.clauses seen.clause ≡ Some clause → told ≡ head_at seen.point clause → told ≡ concluded b.system seen
+concluded-is b seen clause told there is = is ∙ sym (ap (λ (found : Option Clause). on found (λ (c : Clause). head_at seen.point c)) there)
 
 pub asked-lives : (b : Contents) (o : OpenPart) (asked : Asked) → CanTake b (OpenStep o)
     → ((parent : Obligation) (atom : Atom) → parent_of (state_of b) (open_of o) ≡ Some parent → atom_of b.system (open_of o) ≡ Some atom → fresh_of asked ≡ child_of (open_of o) parent atom) → is_live_at b.tree.nodes asked.parent ≡ true

@@ -150,7 +150,7 @@ kept-book b m entry can for legal places made =
       replayed = journal.0;
       legal = journal.1;
       made = all_of-push (λ (e : Entry). IsMadeFor b.system e.step) b.journal entry kept.made for;
-      over = subst (AreOver b.system) (sym (made.state entry)) (over-after b.system (state_of b) (step_of entry.step) kept.system kept.over places);
+      over = subst (AreOver b.system) (sym (made.state entry)) (over-after b.system (state_of b) (step_of entry.step) kept.system kept.over places can.unbroken);
       preds = made.preds ∙ kept.preds;
       false_last = made.last;
     }

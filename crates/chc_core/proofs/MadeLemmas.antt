@@ -6,6 +6,7 @@ use Rattle.std.proofs.lemmas.Bool.{eq-eqb}
 use Rattle.std.proofs.lemmas.List.{get_or_append_left, length-map, length_push, map-append}
 use Rattle.std.proofs.lemmas.Option.{get_or_from_slice_get, slice_get-map}
 use mathlib.Core.Bool.{true≢false}
+use Rattle.lin_atoms.specs.declared.lit.Lit.{Lit}
 use Rattle.clause_form.specs.declared.atom.Atom.{Atom}
 use Rattle.clause_form.specs.declared.clause.Clause.{Clause}
 use Rattle.lemma_frames.specs.Frames.{Lemmas, lemma_of, level_of, lifted, pred_of as lemma_pred}
@@ -18,29 +19,27 @@ use Rattle.obligation_tree.specs.declared.obligation.Obligation.{Obligation as A
 use Rattle.book_rules.specs.declared.by.By.TheVariants.{Fact as ByFact}
 use Rattle.book_rules.specs.declared.end.End.TheVariants.{Unsat}
 use Rattle.book_rules.specs.Effects.{after, child_of, close_from, lifted_with, opened_with, raised, stalled_with, written, learnt, recorded, greatest_height}
-use Rattle.book_rules.specs.FactRules.{concluded, rule_20, rule_21}
+use Rattle.book_rules.specs.FactRules.{concluded}
 use Rattle.book_rules.specs.Frames.{Framed}
 use Rattle.book_rules.specs.Instances.{Ground}
-use Rattle.book_rules.specs.Legal.{sat, spent, stuck, unsat}
+use Rattle.book_rules.specs.Legal.{end, sat, spent, stuck, unsat}
 use Rattle.book_rules.specs.LemmaRules.{closes}
 use Rattle.book_rules.specs.OpenRules.{atom_of, parent_of}
 use Rattle.book_rules.specs.Rooted.{AreRooted}
 use Rattle.book_rules.specs.Same.{same_tuple}
 use Rattle.book_rules.specs.State.{Fact, Obligation, State, holds, same_conclusion}
+use Rattle.book_rules.specs.Steps.{Seen}
 use Rattle.book_rules.specs.Walks.{AllOf, on, or_else}
 use Rattle.book_rules.proofs.EqualLemmas.{tuples_equal}
 use Rattle.book_rules.proofs.ListLemmas.{both_false, from_both, neither, true_not_false, untold_passes}
-use Rattle.book_rules.proofs.SoundLemmas.{unbroken}
-use Rattle.step_rules.specs.Taken.{learn_of, open_of, record_of, step_of}
+use Rattle.step_rules.specs.Taken.{open_of, step_of}
 use Rattle.step_rules.specs.Views.{ground_conclusion, facts_of, framed_at, framed_of, fresh_of, lemmas_of, obligation_of, obligations_of}
-use Rattle.step_rules.specs.declared.fact_step.part.FactPart.{FactPart}
-use Rattle.step_rules.specs.declared.lemma_step.part.LemmaPart.{LemmaPart}
 use Rattle.step_rules.specs.declared.lift_step.part.LiftPart.{LiftPart}
 use Rattle.step_rules.specs.declared.open_step.part.OpenPart.{OpenPart}
 use Rattle.step_rules.specs.declared.raise_step.part.RaisePart.{RaisePart}
 use Rattle.step_rules.specs.declared.stall_step.part.StallPart.{StallPart}
 use Rattle.step_rules.specs.declared.step.Step.{Step}
-use Rattle.step_rules.specs.declared.step.Step.TheVariants.{OpenStep, LemmaStep, FactStep, LiftStep, RaiseStep, StallStep}
+use Rattle.step_rules.specs.declared.step.Step.TheVariants.{OpenStep, LiftStep, RaiseStep, StallStep}
 use Rattle.step_rules.specs.Falsity.{IsLastFalse}
 use Rattle.step_rules.proofs.ViewLemmas.{fact_of-at, facts-push, framed_of-at, lemmas-lifted, lemmas-push, length-facts, obligation_of-at, obligations-marked, obligations-push}
 use Rattle.chc_core.specs.Contents.{Contents}
@@ -48,7 +47,7 @@ use Rattle.chc_core.specs.Views.{state_of}
 use Rattle.chc_core.specs.declared.entry.Entry.{Entry}
 use Rattle.chc_core.specs.declared.made.Made.{Made}
 use Rattle.chc_core.specs.machinery.Books.{IsBook}
-use Rattle.chc_core.specs.machinery.Making.{CanTake, IsMadeBy, or_old, with_made}
+use Rattle.chc_core.specs.machinery.Making.{CanLearn, CanRecord, CanTake, IsMadeBy, IsMadeInto, or_old, with_made}
 use Rattle.chc_core.proofs.BookLemmas.{room, rooted}
 use Rattle.chc_core.proofs.ClosingLemmas.{IsBareRoot, closes-fact, closes-lemma, closes-raise}
 use Rattle.chc_core.proofs.LawLemmas.{at-number}
@@ -109,15 +108,21 @@ pub record IsMadeOf (b : Contents) (m : Made) (frames : Lemmas) (facts : List Ke
   pub facts_are : or_old m.facts b.facts ≡ facts
   pub tree_is : m.tree ≡ record b.tree { nodes = nodes }
 
-made-is : (b : Contents) (step : Step) (m : Made) (frames : Lemmas) (facts : List KeptFact) (nodes : List Node) (s : State) → IsMadeOf b m frames facts nodes → s ≡ after b.system (state_of b) (step_of step)
+made-into : (b : Contents) (m : Made) (frames : Lemmas) (facts : List KeptFact) (nodes : List Node) (s : State) → IsMadeOf b m frames facts nodes
     → m.level ≡ s.level → lemmas_of frames.lemmas ≡ s.lemmas → facts_of facts ≡ s.facts → obligations_of nodes ≡ s.obligations → b.given ≡ s.given → m.spent ≡ s.spent → length b.journal + 1 ≡ s.entries
-    → frames.preds ≡ b.frames.preds → IsLastFalse facts → IsMadeBy b step m
-made-is b step m frames facts nodes s made same level lemmas facts_are obligations given spent entries preds last = record {
-  state = λ entry. made-state b m entry s level (ap (λ (f : Lemmas). lemmas_of f.lemmas) made.frames_are ∙ lemmas) (ap facts_of made.facts_are ∙ facts_are) (ap (λ (t : Tree). obligations_of t.nodes) made.tree_is ∙ obligations) given spent entries ∙ same;
+    → frames.preds ≡ b.frames.preds → IsLastFalse facts → IsMadeInto b s m
+made-into b m frames facts nodes s made level lemmas facts_are obligations given spent entries preds last = record {
+  state = λ entry. made-state b m entry s level (ap (λ (f : Lemmas). lemmas_of f.lemmas) made.frames_are ∙ lemmas) (ap facts_of made.facts_are ∙ facts_are) (ap (λ (t : Tree). obligations_of t.nodes) made.tree_is ∙ obligations) given spent entries;
   claims = ap (λ (t : Tree). t.claims) made.tree_is;
   preds = ap (λ (f : Lemmas). f.preds) made.frames_are ∙ preds;
   last = subst IsLastFalse (sym made.facts_are) last;
 }
+
+made-is : (b : Contents) (step : Step) (m : Made) (frames : Lemmas) (facts : List KeptFact) (nodes : List Node) (s : State) → IsMadeOf b m frames facts nodes → s ≡ after b.system (state_of b) (step_of step)
+    → m.level ≡ s.level → lemmas_of frames.lemmas ≡ s.lemmas → facts_of facts ≡ s.facts → obligations_of nodes ≡ s.obligations → b.given ≡ s.given → m.spent ≡ s.spent → length b.journal + 1 ≡ s.entries
+    → frames.preds ≡ b.frames.preds → IsLastFalse facts → IsMadeBy b step m
+made-is b step m frames facts nodes s made same level lemmas facts_are obligations given spent entries preds last =
+    subst (λ (x : State). IsMadeInto b x m) same (made-into b m frames facts nodes s made level lemmas facts_are obligations given spent entries preds last)
 
 -- Open
 
@@ -136,18 +141,18 @@ made-open b o m asked can child made level spent =
     let pushed = obligations-push b.tree.nodes (fresh asked) ∙ ap (λ (x : Obligation). obligations_of b.tree.nodes ++ x ∷ []) (child c.parent c.atom c.there there) in
     made-is b (OpenStep o) m b.frames b.facts (b.tree.nodes ++ fresh asked ∷ []) s made same level refl refl pushed refl spent refl refl (can.kept).false_last
 
--- Lemma
+-- Lemma and Strengthen
 
-pub made-lemma : (b : Contents) (l : LemmaPart) (m : Made) → CanTake b (LemmaStep l)
-    → IsMadeOf b m (record b.frames { lemmas = b.frames.lemmas ++ (record { pred = l.pred; level = l.level; lemma = l.lemma }) ∷ [] }) b.facts (after_lemma l.pred l.level l.lemma (length b.journal + 1) b.tree.nodes)
-    → m.level ≡ b.level → m.spent ≡ b.spent + 1 → IsMadeBy b (LemmaStep l) m
-made-lemma b l m can made level spent =
-    let frames : Lemmas = record b.frames { lemmas = b.frames.lemmas ++ (record { pred = l.pred; level = l.level; lemma = l.lemma }) ∷ [] } in
-    let nodes = after_lemma l.pred l.level l.lemma (length b.journal + 1) b.tree.nodes in
-    made-is b (LemmaStep l) m frames b.facts nodes (written 1 (learnt (state_of b) (learn_of l))) made refl level (lemmas-push b.frames.lemmas (record { pred = l.pred; level = l.level; lemma = l.lemma })) refl
-    (closes-lemma l.pred l.level l.lemma (length b.journal + 1) b.tree.nodes) refl spent refl refl (can.kept).false_last
+pub made-lemma : (b : Contents) (pred : ℕ) (lemma : List Lit) (level : ℕ) (m : Made) → CanLearn b pred
+    → IsMadeOf b m (record b.frames { lemmas = b.frames.lemmas ++ (record { pred = pred; level = level; lemma = lemma }) ∷ [] }) b.facts (after_lemma pred level lemma (length b.journal + 1) b.tree.nodes)
+    → m.level ≡ b.level → m.spent ≡ b.spent + 1 → IsMadeInto b (written 1 (learnt (state_of b) (record { pred = pred; cube = lemma }) level)) m
+made-lemma b pred lemma level m can made same spent =
+    let frames : Lemmas = record b.frames { lemmas = b.frames.lemmas ++ (record { pred = pred; level = level; lemma = lemma }) ∷ [] } in
+    let nodes = after_lemma pred level lemma (length b.journal + 1) b.tree.nodes in
+    made-into b m frames b.facts nodes (written 1 (learnt (state_of b) (record { pred = pred; cube = lemma }) level)) made same (lemmas-push b.frames.lemmas (record { pred = pred; level = level; lemma = lemma })) refl
+    (closes-lemma pred level lemma (length b.journal + 1) b.tree.nodes) refl spent refl refl (can.kept).false_last
 
--- Fact
+-- Fact and Derive
 
 bare-others : (nodes : List Node) → AllOf (λ (o : Obligation). is_some o.pred ≡ true) (obligations_of nodes) → AllOf IsBareRoot nodes
 bare-others [] all = tt
@@ -177,10 +182,10 @@ fact-tuple : (facts : List KeptFact) (n : ℕ) (f : KeptFact) → slice_get fact
 fact-tuple facts n f there = get_or_from_slice_get (map (λ (g : KeptFact). g.tuple) facts) n f.tuple [] (slice_get-map (λ (g : KeptFact). g.tuple) facts n ∙ ap (option_map (λ (g : KeptFact). g.tuple)) there)
 
 -- before the end no fact is false
-all-some : (b : Contents) (step : Step) → CanTake b step → (n : ℕ) → n < length b.facts → is_some (pred_of b.facts n) ≡ true
-all-some b step can n within =
+all-some : (b : Contents) → end (state_of b) ≡ None → (n : ℕ) → n < length b.facts → is_some (pred_of b.facts n) ≡ true
+all-some b goes n within =
     let s = state_of b in
-    let no_false = untold_passes Unsat (λ (f : Fact). is_none f.conclusion) s.facts (neither (unsat s) (or_else (sat s) (or_else (spent s) (stuck s))) can.goes_on).0 in
+    let no_false = untold_passes Unsat (λ (f : Fact). is_none f.conclusion) s.facts (neither (unsat s) (or_else (sat s) (or_else (spent s) (stuck s))) goes).0 in
     let at = at-number b.facts n within in
     let some = none-at (λ (f : Fact). is_none f.conclusion) s.facts n _ no_false (fact_of-at b.facts n at.0 at.1) in
     ap is_some (fact-pred b.facts n at.0 at.1) ∙ by (at.0).pred (at.0).tuple some where
@@ -188,27 +193,24 @@ all-some b step can n within =
       by None tuple h = absurd (true≢false h)
       by (Some p) tuple h = refl
 
-last-false : (b : Contents) (step : Step) (f : KeptFact) → CanTake b step → IsLastFalse (b.facts ++ f ∷ [])
-last-false b step f can n within =
+last-false : (b : Contents) (f : KeptFact) → end (state_of b) ≡ None → IsLastFalse (b.facts ++ f ∷ [])
+last-false b f goes n within =
     let long = length_push b.facts f in
     let below : n < length b.facts = omega (arith, within, long) in
     let preds_long = length-map b.facts (λ (g : KeptFact). g.pred) in
     let old : pred_of (b.facts ++ f ∷ []) n ≡ pred_of b.facts n = ap (λ (ps : List (Option ℕ)). get_or ps n None) (map-append (λ (g : KeptFact). g.pred) b.facts (f ∷ [])) ∙ get_or_append_left (map (λ (g : KeptFact). g.pred) b.facts) (f.pred ∷ []) None n (omega (arith, below, preds_long)) in
-    ap is_some old ∙ all-some b step can n below
+    ap is_some old ∙ all-some b goes n below
 
 same-itself : (c : Option Ground) → same_conclusion c c ≡ true
 same-itself None = refl
 same-itself (Some a) = from_both (a.0 == a.0) (same_tuple a.1 a.1) (eq-eqb a.0 a.0 refl) ((tuples_equal a.1 a.1).1 refl)
 
 -- the conclusion isn't recorded
-pub not-recorded : (b : Contents) (f : FactPart) (pred : Option ℕ) (tuple : List ℤ) → CanTake b (FactStep f) → ground_conclusion pred tuple ≡ concluded b.system (record_of f) → (n : ℕ) → Concludes b.facts n pred tuple → ⊥
-not-recorded b f pred tuple can head n is =
+pub not-recorded : (b : Contents) (seen : Seen) (premises : List ℕ) (pred : Option ℕ) (tuple : List ℤ) → CanRecord b seen premises → ground_conclusion pred tuple ≡ concluded b.system seen → (n : ℕ) → Concludes b.facts n pred tuple → ⊥
+not-recorded b seen premises pred tuple can head n is =
     let s = state_of b in
-    let plain = record_of f in
-    let told = concluded b.system plain in
-    let r20 = unbroken 20 (rule_20 b.system s plain) _ can.unbroken in
-    let r21 = unbroken 21 (rule_21 b.system s plain) _ r20.1 in
-    let none = untold_passes ByFact (λ (old : Fact). same_conclusion old.conclusion told) s.facts r21.0 in
+    let told = concluded b.system seen in
+    let none = untold_passes ByFact (λ (old : Fact). same_conclusion old.conclusion told) s.facts can.new in
     let at = at-number b.facts n is.0 in
     let other = none-at (λ (old : Fact). same_conclusion old.conclusion told) s.facts n _ none (fact_of-at b.facts n at.0 at.1) in
     let pred_is : (at.0).pred ≡ pred = sym (fact-pred b.facts n at.0 at.1) ∙ is.1 in
@@ -216,17 +218,15 @@ not-recorded b f pred tuple can head n is =
     let same : ground_conclusion (at.0).pred (at.0).tuple ≡ told = ap₂ ground_conclusion pred_is tuple_is ∙ head in
     true≢false (sym (same-itself told) ∙ ap (λ (c : Option Ground). same_conclusion c told) (sym same) ∙ other)
 
-pub made-fact : (b : Contents) (f : FactPart) (m : Made) (pred : Option ℕ) (tuple : List ℤ) → CanTake b (FactStep f) → ground_conclusion pred tuple ≡ concluded b.system (record_of f)
-    → IsMadeOf b m b.frames (b.facts ++ (record { clause = (record_of f).seen.clause; point = (record_of f).seen.point; premises = f.premises; pred = pred; tuple = tuple }) ∷ []) (after_fact pred tuple (length b.journal + 1) b.tree.nodes)
-    → m.level ≡ b.level → m.spent ≡ b.spent + 1 → IsMadeBy b (FactStep f) m
-made-fact b f m pred tuple can head made level spent =
-    let plain = record_of f in
-    let new : KeptFact = record { clause = plain.seen.clause; point = plain.seen.point; premises = f.premises; pred = pred; tuple = tuple } in
-    let told = concluded b.system plain in
+pub made-fact : (b : Contents) (seen : Seen) (premises : List ℕ) (m : Made) (pred : Option ℕ) (tuple : List ℤ) → CanRecord b seen premises → ground_conclusion pred tuple ≡ concluded b.system seen
+    → IsMadeOf b m b.frames (b.facts ++ (record { clause = seen.clause; point = seen.point; premises = premises; pred = pred; tuple = tuple }) ∷ []) (after_fact pred tuple (length b.journal + 1) b.tree.nodes)
+    → m.level ≡ b.level → m.spent ≡ b.spent + 1 → IsMadeInto b (written 1 (recorded b.system (state_of b) seen premises)) m
+made-fact b seen premises m pred tuple can head made level spent =
+    let new : KeptFact = record { clause = seen.clause; point = seen.point; premises = premises; pred = pred; tuple = tuple } in
     let nodes = after_fact pred tuple (length b.journal + 1) b.tree.nodes in
-    let facts = facts-push b.facts new ∙ ap (λ (c : Option Ground). facts_of b.facts ++ (record { conclusion = c; clause = plain.seen.clause; point = plain.seen.point; premises = f.premises; height = suc (greatest_height (facts_of b.facts) f.premises) }) ∷ []) head in
+    let facts = facts-push b.facts new ∙ ap (λ (c : Option Ground). facts_of b.facts ++ (record { conclusion = c; clause = seen.clause; point = seen.point; premises = premises; height = suc (greatest_height (facts_of b.facts) premises) }) ∷ []) head in
     let closed = closes-fact pred tuple (length b.journal + 1) b.tree.nodes (bare-roots (b.level + 1) (facts_of b.facts) b.tree.nodes (rooted b can.kept)) ∙ ap (λ (c : Option Ground). close_from (λ (o : Obligation). holds o c) (length b.journal + 1) [] (obligations_of b.tree.nodes)) head in
-    made-is b (FactStep f) m b.frames (b.facts ++ new ∷ []) nodes (written 1 (recorded b.system (state_of b) plain)) made refl level refl facts closed refl spent refl refl (last-false b (FactStep f) new can)
+    made-into b m b.frames (b.facts ++ new ∷ []) nodes (written 1 (recorded b.system (state_of b) seen premises)) made level refl facts closed refl spent refl refl (last-false b new can.goes_on)
 
 -- Lift
 

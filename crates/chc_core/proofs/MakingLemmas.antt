@@ -1,5 +1,5 @@
 -- What each step makes is the rules' effect.
-use Rattle.std.proofs.Common.{◌≡◌, ℕ, ◌+◌, ◌<◌, ◌≤◌, List, length, true, cond, ◌&&◌, Some, None, refl, ap, sym, ◌∙◌, subst, arith}
+use Rattle.std.proofs.Common.{◌≡◌, ℕ, ◌+◌, ◌<◌, ◌≤◌, List, length, Bool, true, cond, ◌&&◌, Some, None, refl, ap, sym, ◌∙◌, subst, arith}
 use Rattle.std.specs.Prelude.{Option, ℤ, is_none, nat_le, nat_lt, ◌==◌, option_map, slice_get}
 use Rattle.std.specs.List.{All}
 use Rattle.std.proofs.lemmas.Bool.{eqb-true}
@@ -16,29 +16,34 @@ use Rattle.book_rules.specs.declared.by.By.{By}
 use Rattle.book_rules.specs.declared.by.By.TheVariants.{Entry, Lemma as ByLemma, Level as ByLevel, Obligation as ByObligation, Step as ByStep}
 use Rattle.book_rules.specs.OpenRules.{atom_fits, clause_fits, clause_of, parent_of, rule_1, rule_2, rule_3}
 use Rattle.book_rules.specs.Proofs.{is_head}
-use Rattle.book_rules.specs.FactRules.{are_facts_of, rule_20}
+use Rattle.book_rules.specs.FactRules.{are_facts_of}
 use Rattle.book_rules.specs.Frames.{Framed}
 use Rattle.book_rules.specs.Instances.{body_at}
 use Rattle.book_rules.specs.LemmaRules.{closes, level_is, lifted_of, rule_10, rule_11, rule_12, rule_13, rule_14, rule_30, rule_31}
-use Rattle.book_rules.specs.Places.{obligation_fits, places_of}
+use Rattle.book_rules.specs.Places.{is_over, obligation_fits, places_of}
 use Rattle.book_rules.specs.StallRules.{rule_50}
+use Rattle.book_rules.specs.StrengthenRules.{rule_80}
+use Rattle.book_rules.specs.Steps.{Seen}
 use Rattle.book_rules.specs.State.{Obligation, is_live, is_of, unless_live}
 use Rattle.book_rules.specs.Walks.{has, on}
 use Rattle.book_rules.proofs.CountLemmas.{has_a_unit}
 use Rattle.book_rules.proofs.ListLemmas.{all_of-at, both_true, cond_none, unless_none}
-use Rattle.book_rules.proofs.SoundLemmas.{unbroken}
+use Rattle.book_rules.proofs.SoundLemmas.{derive-recordable, fact-recordable, unbroken}
 use Rattle.chc_core.specs.Contents.{Contents}
-use Rattle.step_rules.specs.Taken.{learn_of, lift_of, open_of, record_of, stall_of}
+use Rattle.step_rules.specs.Taken.{derive_of, learn_of, lift_of, open_of, record_of, stall_of, strengthen_of}
+use Rattle.step_rules.specs.Tokens.{seen_of}
 use Rattle.chc_core.specs.Views.{state_of}
 use Rattle.step_rules.specs.Views.{framed_at, framed_of, lemmas_of, obligation_of, obligations_of}
 use Rattle.step_rules.specs.declared.open_step.part.OpenPart.{OpenPart}
 use Rattle.step_rules.specs.declared.lemma_step.part.LemmaPart.{LemmaPart}
+use Rattle.step_rules.specs.declared.derive_step.part.DerivePart.{DerivePart}
 use Rattle.step_rules.specs.declared.fact_step.part.FactPart.{FactPart}
 use Rattle.step_rules.specs.declared.lift_step.part.LiftPart.{LiftPart}
 use Rattle.step_rules.specs.declared.stall_step.part.StallPart.{StallPart}
+use Rattle.step_rules.specs.declared.strengthen_step.part.StrengthenPart.{StrengthenPart}
 use Rattle.step_rules.specs.declared.step.Step.{Step}
-use Rattle.step_rules.specs.declared.step.Step.TheVariants.{OpenStep, LemmaStep, FactStep, LiftStep, StallStep}
-use Rattle.chc_core.specs.machinery.Making.{CanTake}
+use Rattle.step_rules.specs.declared.step.Step.TheVariants.{OpenStep, LemmaStep, FactStep, LiftStep, StallStep, DeriveStep, StrengthenStep}
+use Rattle.chc_core.specs.machinery.Making.{CanLearn, CanRecord, CanTake}
 use Rattle.chc_core.proofs.BookLemmas.{room}
 use Rattle.chc_core.proofs.LawLemmas.{has-there, premises-there}
 use Rattle.step_rules.proofs.Public.{framed_of-at, length-facts}
@@ -113,14 +118,39 @@ can_learn b l can =
     let there = pred-there b.system.preds l.pred target.pred of_pred target.cube target.point fits in
     subst (λ (n : ℕ). l.pred < n) (sym can.kept.preds) there
 
--- Fact: the clause and the premises are there, and the conclusion isn't
-pub can_record : (b : Contents) (f : FactPart) → CanTake b (FactStep f) → All (λ p. p < length b.facts) f.premises
-can_record b f can =
+pub learn-can : (b : Contents) (l : LemmaPart) → CanTake b (LemmaStep l) → CanLearn b l.pred
+learn-can b l can = record { kept = can.kept; goes_on = can.goes_on; there = can_learn b l can }
+
+-- Strengthen: a rule asks that its predicate is there
+over-there : (preds : List (List Sort)) (pred : ℕ) (cube : List Lit) → is_over preds pred cube ≡ true → pred < length preds
+over-there preds pred cube over = by (slice_get preds pred) refl over where
+  by : (found : Option (List Sort)) → slice_get preds pred ≡ found → has (option_map (λ (sorts : List Sort). length sorts) found) (λ n. cube_is_below n cube) ≡ true → pred < length preds
+  by None none h = absurd (cc)
+  by (Some sorts) some h = slice_get_within preds pred sorts some
+
+pub strengthen-can : (b : Contents) (l : StrengthenPart) → CanTake b (StrengthenStep l) → CanLearn b l.pred
+strengthen-can b l can =
+    let over = (unless_none (is_over b.system.preds l.pred l.lemma) ByStep None (unbroken 80 (rule_80 b.system (strengthen_of l)) _ can.unbroken).0).0 in
+    record { kept = can.kept; goes_on = can.goes_on; there = subst (λ (n : ℕ). l.pred < n) (sym can.kept.preds) (over-there b.system.preds l.pred l.lemma over) }
+
+-- Fact and Derive: the clause and the premises are there, and the conclusion isn't
+
+pub fact-can : (b : Contents) (f : FactPart) → CanTake b (FactStep f) → CanRecord b (seen_of f.seen) f.premises
+fact-can b f can =
+    let may = fact-recordable b.system (state_of b) (record_of f) can.unbroken in
+    record { kept = can.kept; goes_on = can.goes_on; premised = may.premised; new = may.new }
+
+pub derive-can : (b : Contents) (f : DerivePart) → CanTake b (DeriveStep f) → CanRecord b (seen_of f.seen) f.premises
+derive-can b f can =
+    let may = derive-recordable b.system (state_of b) (derive_of f) can.unbroken in
+    record { kept = can.kept; goes_on = can.goes_on; premised = may.premised; new = may.new }
+
+pub can_record : (b : Contents) (seen : Seen) (premises : List ℕ) → CanRecord b seen premises → All (λ p. p < length b.facts) premises
+can_record b seen premises can =
     let s = state_of b in
-    let plain = record_of f in
-    let fits = (unless_none (has (slice_get b.system.clauses plain.seen.clause) (λ (clause : Clause). are_facts_of s.facts plain.premises (body_at plain.seen.point clause))) ByStep None (unbroken 20 (rule_20 b.system s plain) _ can.unbroken).0).0 in
-    let found = has-there (slice_get b.system.clauses plain.seen.clause) (λ (clause : Clause). are_facts_of s.facts plain.premises (body_at plain.seen.point clause)) fits in
-    subst (λ (n : ℕ). All (λ p. p < n) f.premises) (length-facts b.facts) (premises-there s.facts f.premises (body_at plain.seen.point found.0) found.2)
+    let test : Clause → Bool = λ clause. are_facts_of s.facts premises (body_at seen.point clause) in
+    let found = has-there (slice_get b.system.clauses seen.clause) test (unless_none (has (slice_get b.system.clauses seen.clause) test) ByStep None can.premised).0 in
+    subst (λ (n : ℕ). All (λ p. p < n) premises) (length-facts b.facts) (premises-there s.facts premises (body_at seen.point found.0) found.2)
 
 -- Lift: the lemma is there at that level, below the book's
 pub can_lift : (b : Contents) (l : LiftPart) → CanTake b (LiftStep l) → (l.lemma < length b.frames.lemmas) × (level_of b.frames.lemmas l.lemma ≡ l.from) × (l.from < b.level)

@@ -35,7 +35,7 @@ use Rattle.book_rules.proofs.ListLemmas.{both_true, from_both}
 use Rattle.step_rules.specs.Taken.{AreProjected, IsMadeFor, step_of}
 use Rattle.step_rules.specs.Tokens.{all_no_lifts, all_shown, all_used, goal_of, left_of, no_lift_of, seen_of, shown_of, used_of, why_of}
 use Rattle.step_rules.specs.declared.step.Step.{Step}
-use Rattle.step_rules.specs.declared.step.Step.TheVariants.{OpenStep, LemmaStep, FactStep, LiftStep, RaiseStep, StallStep}
+use Rattle.step_rules.specs.declared.step.Step.TheVariants.{OpenStep, LemmaStep, FactStep, LiftStep, RaiseStep, StallStep, DeriveStep, StrengthenStep}
 
 -- an instance
 pub seen-is : (sys : Clauses) (seen : SeenToken) → is_seen sys seen ≡ true → IsSeen sys (seen_of seen)
@@ -144,3 +144,5 @@ carries sys (FactStep f) made area = seen-is sys f.seen made
 carries sys (LiftStep l) made area = all-shown sys l.proofs made
 carries sys (RaiseStep r) made area = (all-shown sys r.closed made.0, all-kept sys r.kept made.1)
 carries sys (StallStep t) made area = t.evidence.given_up
+carries sys (DeriveStep f) made area = seen-is sys f.seen made
+carries sys (StrengthenStep l) made area = all-shown sys l.proofs made

@@ -80,6 +80,8 @@ fn is_projected(step: &Step)
         Step::LiftStep(_) => {}
         Step::RaiseStep(_) => {}
         Step::StallStep(_) => {}
+        Step::DeriveStep(_) => {}
+        Step::StrengthenStep(_) => {}
     }
 }
 

@@ -21,5 +21,6 @@ pub use laws::{heights_agree, steps_are_a_derivation, tokens_carry_their_facts};
 pub use refused::Refused;
 pub use snapshot::Snapshot;
 pub use step_rules::{
-    FactPart, LemmaPart, LiftPart, OpenPart, RaisePart, StallPart, Step, has_places,
+    DerivePart, FactPart, LemmaPart, LiftPart, OpenPart, RaisePart, StallPart, Step,
+    StrengthenPart, has_places,
 };

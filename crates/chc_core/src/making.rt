@@ -2,7 +2,7 @@
 
 ghost use Rattle.std.specs.Prelude.{◌≡◌, ◌+◌, [], length, Some, None, IfOk};
 ghost use Rattle.clause_form.specs.declared.atom.Atom.{Atom as PlainAtom};
-ghost use Rattle.book_rules.specs.Effects.{child_of};
+ghost use Rattle.book_rules.specs.Effects.{child_of, learnt, recorded, written};
 ghost use Rattle.book_rules.specs.Instances.{head_at};
 ghost use Rattle.book_rules.specs.OpenRules.{atom_of, parent_of};
 ghost use Rattle.book_rules.specs.State.{Obligation as PlainObligation};
@@ -10,17 +10,19 @@ ghost use Rattle.chc_tokens.specs.Kept.{seen_point};
 ghost use Rattle.step_rules.specs.Taken.{open_of};
 ghost use Rattle.chc_core.specs.Views.{state_of};
 ghost use Rattle.step_rules.specs.Views.{ground_conclusion, fresh_of};
-ghost use Rattle.step_rules.specs.declared.step.Step.TheVariants.{OpenStep, LemmaStep, FactStep, LiftStep, RaiseStep, StallStep};
-ghost use Rattle.chc_core.specs.machinery.Making.{CanTake, IsMadeBy};
+ghost use Rattle.step_rules.specs.declared.step.Step.TheVariants.{OpenStep, LiftStep, RaiseStep, StallStep};
+ghost use Rattle.step_rules.specs.Tokens.{seen_of};
+ghost use Rattle.chc_core.specs.machinery.Making.{CanLearn, CanRecord, CanTake, IsMadeBy, IsMadeInto};
 
 use crate::made::Made;
 use crate::parts::Parts;
 use base::{Copied, Items, Memory};
+use chc_tokens::Seen;
 use clause_form::Clause;
-use cube_forms::Tuple;
+use cube_forms::{Lemma, Tuple};
 use derivations::Fact;
 use obligation_tree::{Cause, Obligation};
-use step_rules::{FactPart, LemmaPart, LiftPart, OpenPart, RaisePart, StallPart, Step};
+use step_rules::{LiftPart, OpenPart, RaisePart, StallPart, Step};
 
 /// The number that the next entry gets.
 pub(crate) fn next_number(parts: &Parts) -> u64
@@ -67,19 +69,15 @@ fn opened(parts: &Parts, step: &OpenPart) -> Result<Made, Memory>
     })
 }
 
-/// Lemma: it is added, and closes what it excludes.
-fn learnt(parts: &Parts, step: &LemmaPart) -> Result<Made, Memory>
-    requires { CanTake parts.now (LemmaStep step.now) }
-    ensures { IfOk result (λ m. IsMadeBy parts.now (LemmaStep step.now) m) }
+/// Lemma and Strengthen: the lemma is added, and closes what it excludes.
+fn learnt(parts: &Parts, pred: u32, lemma: &Lemma, level: u32) -> Result<Made, Memory>
+    requires { CanLearn parts.now pred }
+    ensures { IfOk result (λ m. IsMadeInto parts.now (written 1 (learnt (state_of parts.now) (record { pred = pred; cube = lemma.now }) level)) m) }
 {
     let mut frames = parts.frames.share()?;
-    frames.add(step.pred, step.lemma.copy(parts.alloc)?, step.level)?;
+    frames.add(pred, lemma.copy(parts.alloc)?, level)?;
     let mut tree = parts.tree.share()?;
-    let cause = Cause::Lemma {
-        pred: step.pred,
-        level: step.level,
-        lemma: &step.lemma,
-    };
+    let cause = Cause::Lemma { pred, level, lemma };
     tree.close_by(cause, next_number(parts))?;
     Ok(Made {
         level: parts.level,
@@ -91,30 +89,26 @@ fn learnt(parts: &Parts, step: &LemmaPart) -> Result<Made, Memory>
 }
 
 /// The head's predicate, none for false, and its tuple, empty then.
-fn concluded(
-    parts: &Parts,
-    step: &FactPart,
-    clause: &Clause,
-) -> Result<(Option<u32>, Tuple), Memory>
-    ensures head { IfOk result (λ c. ground_conclusion c.0 c.1 ≡ head_at (seen_point step.now.seen) clause.now) }
+fn concluded(parts: &Parts, seen: &Seen, clause: &Clause) -> Result<(Option<u32>, Tuple), Memory>
+    ensures head { IfOk result (λ c. ground_conclusion c.0 c.1 ≡ head_at (seen_point seen.now) clause.now) }
     ensures bare { IfOk result (λ c. c.0 ≡ None → c.1 ≡ []) }
 {
     match &clause.head {
         Some(atom) => {
-            let tuple = Tuple::at(parts.alloc, step.seen.point(), atom.args.as_slice())?;
+            let tuple = Tuple::at(parts.alloc, seen.point(), atom.args.as_slice())?;
             Ok((Some(atom.pred), tuple))
         }
         None => Ok((None, Tuple::from_slice(parts.alloc, &[])?)),
     }
 }
 
-/// Fact: the conclusion is recorded, and closes what holds it.
-fn recorded(parts: &Parts, step: &FactPart) -> Result<Made, Memory>
-    requires { CanTake parts.now (FactStep step.now) }
-    ensures { IfOk result (λ m. IsMadeBy parts.now (FactStep step.now) m) }
+/// Fact and Derive: the conclusion is recorded, and closes what holds it.
+fn recorded(parts: &Parts, seen: &Seen, premises: &Items<u32>) -> Result<Made, Memory>
+    requires { CanRecord parts.now (seen_of seen.now) premises.now }
+    ensures { IfOk result (λ m. IsMadeInto parts.now (written 1 (recorded parts.now.system (state_of parts.now) (seen_of seen.now) premises.now)) m) }
 {
-    let clause = parts.system.get().clause(step.seen.clause() as usize);
-    let (pred, tuple) = concluded(parts, step, clause)?;
+    let clause = parts.system.get().clause(seen.clause() as usize);
+    let (pred, tuple) = concluded(parts, seen, clause)?;
     let mut tree = parts.tree.share()?;
     let cause = Cause::Fact {
         pred,
@@ -123,9 +117,9 @@ fn recorded(parts: &Parts, step: &FactPart) -> Result<Made, Memory>
     tree.close_by(cause, next_number(parts))?;
     let mut facts = parts.facts.share()?;
     facts.add(Fact {
-        clause: step.seen.clause(),
-        point: Items::from_slice(parts.alloc, step.seen.point())?,
-        premises: step.premises.copy(parts.alloc)?,
+        clause: seen.clause(),
+        point: Items::from_slice(parts.alloc, seen.point())?,
+        premises: premises.copy(parts.alloc)?,
         pred,
         tuple,
     })?;
@@ -202,10 +196,12 @@ pub(crate) fn made_of(parts: &Parts, step: &Step) -> Result<Made, Memory>
 {
     match step {
         Step::OpenStep(step) => opened(parts, step),
-        Step::LemmaStep(step) => learnt(parts, step),
-        Step::FactStep(step) => recorded(parts, step),
+        Step::LemmaStep(step) => learnt(parts, step.pred, &step.lemma, step.level),
+        Step::FactStep(step) => recorded(parts, &step.seen, &step.premises),
         Step::LiftStep(step) => lifted(parts, step),
         Step::RaiseStep(step) => raised(parts, step),
         Step::StallStep(step) => stalled(parts, step),
+        Step::DeriveStep(step) => recorded(parts, &step.seen, &step.premises),
+        Step::StrengthenStep(step) => learnt(parts, step.pred, &step.lemma, step.level),
     }
 }

@@ -1,6 +1,5 @@
 -- What is told of an input: a script, a line that is the marker, and an answer.
 use Rattle.std.specs.Prelude.{◌≡◌, ℕ, List, length, take, drop, Ok, Err, ◌⊎◌}
-use Rattle.term_tree.specs.Arena.{IsArena}
 use Rattle.term_tree.specs.declared.refusal.Checked.{Checked}
 use Rattle.term_tree.specs.declared.refusal.Refusal.{Refusal}
 use Rattle.sort_check.specs.Checked.{IsCheckedText}
@@ -22,7 +21,6 @@ IsParted input script answer = IsCut input script answer ⊎ (HasNoMarker input 
 -- the checker's reading of the script's bytes
 pub record IsReadAs (input : List ℕ) (script answer : ℕ) (checked : Checked) : Type 0 where
   pub parted : IsParted input script answer
-  pub arena : IsArena checked.script.terms.nodes
   pub read : IsCheckedText (take script input) checked
 
 -- the script is refused, before the answer is looked at

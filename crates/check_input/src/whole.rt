@@ -2,7 +2,6 @@
 
 ghost use Rattle.std.specs.Prelude.{◌≡◌, ◌<◌, ◌≤◌, length, Ok, IfOk};
 ghost use Rattle.base.specs.Limits.{most_bytes};
-ghost use Rattle.term_tree.specs.Arena.{IsArena};
 ghost use Rattle.horn_shape.specs.Clause.{IsLegalScript};
 ghost use Rattle.sort_check.specs.Checked.{IsCheckedText};
 ghost use Rattle.clause_form.specs.System.{Clauses};
@@ -22,7 +21,6 @@ use term_tree::Checked;
 /// The script of a text, up to the first command that is illegal by itself.
 fn checked(alloc: Global, text: &[u8]) -> Result<Checked, Memory>
     requires { length text.now ≤ most_bytes }
-    ensures arena { IfOk result (λ checked. IsArena checked.script.terms.nodes) }
     ensures legal { IfOk result (λ checked. IsLegalScript checked.script) }
     ensures read { IfOk result (IsCheckedText text.now) }
 {

@@ -116,6 +116,9 @@ fn in_order(
     ensures { IfOk result (λ numbers. AreAsked sys.now pred k numbers.items) }
 {
     let mut numbers = asked_clauses(alloc, sys, pred, k)?;
+    if trees.len() == 0 {
+        return Ok(numbers);
+    }
     numbers.sort_by_key(|number| trees_for(trees, *number))?;
     Ok(numbers)
 }

@@ -45,13 +45,13 @@ pub record AreAssertionsMatched (matched : ℕ → ℕ → Type 0) (script other
   pub offset : a.offset ≡ b.offset
   pub command : a.command ≡ b.command
 
-numbers_length : (matched : ℕ → ℕ → Type 0) (xs bs : List ℕ) → AreNumbersMatched matched xs bs → length xs ≡ length bs
+pub numbers_length : (matched : ℕ → ℕ → Type 0) (xs bs : List ℕ) → AreNumbersMatched matched xs bs → length xs ≡ length bs
 numbers_length matched [] [] h = refl
 numbers_length matched [] (b ∷ bs) h = absurd h
 numbers_length matched (a ∷ xs) [] h = absurd h
 numbers_length matched (a ∷ xs) (b ∷ bs) h = ap suc (numbers_length matched xs bs h.1)
 
-atoms_length : (matched : ℕ → ℕ → Type 0) (xs bs : List AtomUse) → AreAtomsMatched matched xs bs → length xs ≡ length bs
+pub atoms_length : (matched : ℕ → ℕ → Type 0) (xs bs : List AtomUse) → AreAtomsMatched matched xs bs → length xs ≡ length bs
 atoms_length matched [] [] h = refl
 atoms_length matched [] (b ∷ bs) h = absurd h
 atoms_length matched (a ∷ xs) [] h = absurd h
@@ -101,7 +101,7 @@ module _ (matched : ℕ → ℕ → Type 0) (s t : Script) (both : AreScriptsMat
         (same_auxiliary_sorts matched s.terms.nodes t.terms.nodes both.arena both.other_arena both.like (names_of s ours) (names_of t theirs) named (sorting s) (sorting t) sorts
         (auxiliaries s ours) (auxiliaries t theirs) placed)
 
-    same_normal : normal_clause s ours ≡ normal_clause t theirs
+    pub same_normal : normal_clause s ours ≡ normal_clause t theirs
     same_normal =
         let made : ℕ → List Sort → List Atom → Form → Option Atom → Clause =
         λ user vs atoms guard head. record { assertion = index; user = user; sorts = vs; atoms = atoms; guard = guard; head = head } in

@@ -70,7 +70,7 @@ module _ (matched : ℕ → ℕ → Type 0) (nodes others : List Node) (arena : 
   values : (a b : ℕ) → matched a b → constant_value nodes a ≡ constant_value others b
   values a b is = ap (λ (k : Option ℤ). unwrap_or k (pos 0)) (same_constant nodes others matched arena other_arena like a b is)
 
-  forms : (a b : ℕ) → matched a b → (sign : Bool) → formula sorts naming nodes a sign ≡ formula other_sorts other_naming others b sign
+  pub forms : (a b : ℕ) → matched a b → (sign : Bool) → formula sorts naming nodes a sign ≡ formula other_sorts other_naming others b sign
   forms = same_formula matched naming other_naming named nodes others arena other_arena like (reading_of sorts naming nodes) (reading_of other_sorts other_naming others)
       (record { sorts = sorted; bit = bits; linear = linears })
 

@@ -9,6 +9,6 @@ mod needing;
 mod rounds;
 mod walking;
 
-pub use guess_table::{Met, Walk};
+pub use guess_table::{Met, Walk, Wanted};
 pub use rounds::Bounds;
 pub use walking::walked;

@@ -9,7 +9,9 @@ use base::Memory;
 use clause_form::System;
 use clause_index::IndexedSystem;
 use cube_forms::Cube;
-use guess_table::{Bound, Met, Needs, Size, Table, Walk, cubes_at, raise_by, table_of};
+use guess_table::{
+    Bound, Met, Needs, Size, Table, Walk, Wanted, cubes_at, raise_by, table_of, wanted_of,
+};
 use lin_atoms::Lin;
 use std::alloc::Global;
 use std::marker::Model;
@@ -243,6 +245,19 @@ impl Bounds {
         match &self.found {
             Some(found) => cubes_at(alloc, found.bounds.as_slice(), &found.needs, pred, point),
             None => Ok(Vec::new(alloc)),
+        }
+    }
+
+    /// The lemmas of the bounds that are needed to refute each query, where the bounds do: those that rest on the
+    /// fewest others come before them. All of them hold together, as far as is known.
+    pub fn wanted(&self, alloc: Global) -> Result<Vec<Wanted>, Memory>
+        ensures { is_safe self.now ≡ false → IfOk result (λ wanted. wanted.items ≡ []) }
+    {
+        match &self.found {
+            Some(found) if found.needs.is_safe => {
+                wanted_of(alloc, found.bounds.as_slice(), &found.needs)
+            }
+            _ => Ok(Vec::new(alloc)),
         }
     }
 }

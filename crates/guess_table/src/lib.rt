@@ -19,6 +19,7 @@ mod raising;
 mod successors;
 mod table;
 mod tightening;
+mod wanted;
 
 pub use arms::{Arm, arms_of};
 pub use bound::{Bound, Limit, Memo, Use, first_of, stands};
@@ -33,3 +34,4 @@ pub use raising::{MOST_RISES, are_reached, raise_at, raise_by};
 pub use successors::{push_least, successor_goal};
 pub use table::{Size, Table, table_of};
 pub use tightening::{content, divided, tightened};
+pub use wanted::{Wanted, wanted_of};

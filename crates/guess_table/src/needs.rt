@@ -5,7 +5,7 @@ use base::Memory;
 use std::alloc::Global;
 
 /// The rank of what rests on itself.
-const MOST_RANK: u32 = 20;
+pub(crate) const MOST_RANK: u32 = 20;
 
 /// What is needed.
 #[derive(Drop)]

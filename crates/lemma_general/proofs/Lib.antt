@@ -6,3 +6,4 @@ pub mod MetLemmas
 pub mod AskLemmas
 pub mod PassLemmas
 pub mod TakeLemmas
+pub mod StrengthenLemmas

@@ -1,6 +1,6 @@
--- What a lemma made more general is, and a lemma carried to a higher level (Bradley, "SAT-based model checking without unrolling",
+-- What a lemma made more general is, a lemma carried to a higher level, and one that enters for no obligation (Bradley, "SAT-based model checking without unrolling",
 -- section 4, on literals that are dropped; Hoder and Bjorner, "Generalized property directed reachability", section 3, on levels).
-use Rattle.std.specs.Prelude.{◌≡◌, ◌<◌, ◌≤◌, ◌-◌, ◌+◌, ◌⊎◌, ◌++◌, ◌∷◌, [], ℕ, List, Option, Some, None, length, take, drop, true, false}
+use Rattle.std.specs.Prelude.{◌≡◌, ◌<◌, ◌≤◌, ◌-◌, ◌+◌, ◌⊎◌, ◌++◌, ◌∷◌, [], ℕ, List, Bool, ◌&&◌, not, nat_le, Option, Some, None, length, take, drop, true, false}
 use Rattle.lin_atoms.specs.Algebra.{negated}
 use Rattle.lin_atoms.specs.declared.lit.Lit.{Lit}
 use Rattle.lin_atoms.specs.declared.lit.Lit.TheVariants.{Le, Eq, Div, NDiv}
@@ -8,7 +8,7 @@ use Rattle.lemma_frames.specs.Frames.{lemma_of, level_of, pred_of}
 use Rattle.chc_tokens.specs.declared.goal.Goal.TheVariants.{Holds}
 use Rattle.chc_tokens.specs.declared.seeing.Seen.{Seen}
 use Rattle.book_rules.specs.Areas.{is_wide}
-use Rattle.book_rules.specs.Places.{has_places}
+use Rattle.book_rules.specs.Places.{has_places, is_over}
 use Rattle.book_rules.specs.Rules.{broken}
 use Rattle.clause_queries.specs.Answers.{IsHit, IsLost}
 use Rattle.clause_queries.specs.declared.lost.Lost.{Lost}
@@ -16,7 +16,8 @@ use Rattle.step_rules.specs.Standing.{Standing, standing_state}
 use Rattle.step_rules.specs.Taken.{IsMadeFor, step_of}
 use Rattle.step_rules.specs.declared.lemma_step.part.LemmaPart.{LemmaPart}
 use Rattle.step_rules.specs.declared.lift_step.part.LiftPart.{LiftPart}
-use Rattle.step_rules.specs.declared.step.Step.TheVariants.{LemmaStep, LiftStep}
+use Rattle.step_rules.specs.declared.strengthen_step.part.StrengthenPart.{StrengthenPart}
+use Rattle.step_rules.specs.declared.step.Step.TheVariants.{LemmaStep, LiftStep, StrengthenStep}
 
 -- a Lemma that breaks no rule of the book; its tokens were made for the book's system, and its cube is over its predicate, with
 -- coefficients below 2 ^ 54 in magnitude
@@ -87,3 +88,22 @@ pub record IsLiftOf (b : Standing) (id : ℕ) (part : LiftPart) : Type 0 where
 abbrev pub IsLiftFound : Standing → ℕ → ℕ → Option LiftPart → Type 0
 IsLiftFound b nodes id (Some part) = IsLiftOf b id part
 IsLiftFound b nodes id None = IsAgainst b (pred_of b.frames.lemmas id) (level_of b.frames.lemmas id) nodes (lemma_of b.frames.lemmas id)
+
+-- whether a lemma may enter at a level: the book has it, the lemma is over the predicate, and its coefficients are below 2 ^ 54 in magnitude
+abbrev pub may_enter : Standing → ℕ → ℕ → List Lit → Bool
+may_enter b pred level cube = ((nat_le 1 level && nat_le level b.level) && is_over b.system.preds pred cube) && not (is_wide cube)
+
+-- a Strengthen with this lemma at this level, which breaks no rule
+pub record IsStrengthenOf (b : Standing) (on at : ℕ) (cube : List Lit) (part : StrengthenPart) : Type 0 where
+  pub unbroken : broken b.system (standing_state b) (step_of (StrengthenStep part)) ≡ None
+  pub made : IsMadeFor b.system (StrengthenStep part)
+  pub places : has_places b.system (step_of (StrengthenStep part)) ≡ true
+  pub thin : is_wide part.lemma ≡ false
+  pub pred : part.pred ≡ on
+  pub lemma : part.lemma ≡ cube
+  pub level : part.level ≡ at
+
+-- a Strengthen; none only where the lemma may not enter, or something stands against it under the frame below
+abbrev pub IsStrengthenFound : Standing → ℕ → ℕ → ℕ → List Lit → Option StrengthenPart → Type 0
+IsStrengthenFound b nodes pred level cube (Some part) = IsStrengthenOf b pred level cube part
+IsStrengthenFound b nodes pred level cube None = (may_enter b pred level cube ≡ false) ⊎ IsAgainst b pred (level - 1) nodes cube

@@ -11,9 +11,11 @@ mod lemma_lift;
 mod own;
 mod raising;
 mod showing;
+mod strengthening;
 mod trying;
 
 pub use dropping::generalise;
 pub use lemma_lift::{lift, lift_in};
 pub use raising::raise;
+pub use strengthening::strengthen;
 pub use trying::Tries;

@@ -25,7 +25,7 @@ pub struct Tries {
 }
 
 /// Whether the predicate is there, and has each place of the cube.
-fn is_over(sys: &IndexedSystem, pred: u32, cube: &Cube) -> bool
+pub(crate) fn is_over(sys: &IndexedSystem, pred: u32, cube: &Cube) -> bool
     ensures { result ≡ is_over sys.now.preds pred cube.now }
 {
     match sys.preds().get(pred as usize) {

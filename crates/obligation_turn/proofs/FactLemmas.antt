@@ -57,18 +57,18 @@ recorded b job nodes seen premises goes leaf hit are =
     let point = seen_point seen in
     let instance = hit.instance in
     let same : instance.clause ≡ clause = (let both = sym instance.there ∙ there in cc) in
-    let head : concluded b.system f ≡ head_at point clause = ap (λ (found : Option Clause). on found (λ (c : Clause). head_at point c)) there in
+    let head : concluded b.system f.seen ≡ head_at point clause = ap (λ (found : Option Clause). on found (λ (c : Clause). head_at point c)) there in
     let headed = (both_true (is_head o.pred clause.head) _ hit.at.asked).0 in
-    let held : holds o (concluded b.system f) ≡ true =
+    let held : holds o (concluded b.system f.seen) ≡ true =
     ap (holds o) head ∙ ap (λ (c : Clause). holds o (head_at point c)) (sym same) ∙ job-held b job instance.clause point (ap (λ (c : Clause). is_head o.pred c.head) same ∙ headed) instance.head in
     let r20 = passed (has (slice_get b.system.clauses (seen_clause seen)) (λ (c : Clause). are_facts_of s.facts premises (body_at point c))) ByStep
     (has-of (slice_get b.system.clauses (seen_clause seen)) clause (λ (c : Clause). are_facts_of s.facts premises (body_at point c)) there are) in
-    let r21 = none-mapped ByFact (λ (old : Fact). same_conclusion old.conclusion (concluded b.system f)) s.facts
-    (none-so (λ (old : Fact). same_conclusion old.conclusion (concluded b.system f)) (λ (old : Fact). holds o old.conclusion)
-    (λ old h. ap (holds o) (conclusion-is old.conclusion (concluded b.system f) h) ∙ held) s.facts (factless b job goes leaf)) in
+    let r21 = none-mapped ByFact (λ (old : Fact). same_conclusion old.conclusion (concluded b.system f.seen)) s.facts
+    (none-so (λ (old : Fact). same_conclusion old.conclusion (concluded b.system f.seen)) (λ (old : Fact). holds o old.conclusion)
+    (λ old h. ap (holds o) (conclusion-is old.conclusion (concluded b.system f.seen) h) ∙ held) s.facts (factless b job goes leaf)) in
     let r22 = job-live b job leaf in
     let r23 : rule_23 b.system s f ≡ None =
-    told-of (slice_get s.obligations job) o (λ (p : Obligation). cond (holds p (concluded b.system f)) None (Some (ByObligation job))) (job-there b job leaf) (passed (holds o (concluded b.system f)) (ByObligation job) held) in
+    told-of (slice_get s.obligations job) o (λ (p : Obligation). cond (holds p (concluded b.system f.seen)) None (Some (ByObligation job))) (job-there b job leaf) (passed (holds o (concluded b.system f.seen)) (ByObligation job) held) in
     record {
       unbroken = kept 20 (rule_20 b.system s f) _ r20 (kept 21 (rule_21 b.system s f) _ r21 (kept 22 (rule_22 b.system s f) _ r22 (kept 23 (rule_23 b.system s f) None r23 refl)));
       made = instance.seen_is;
@@ -77,4 +77,5 @@ recorded b job nodes seen premises goes leaf hit are =
       counts = tt;
       thin = tt;
       serves = refl;
+      sought = tt;
     }

@@ -61,6 +61,7 @@ learnt b job nodes pred proofs goes leaf some are =
       counts = tt;
       thin = job-thin b job goes leaf;
       serves = refl;
+      sought = tt;
     }
 
 -- the same of what the code has in hand

@@ -46,7 +46,7 @@ use Rattle.step_rules.specs.Standing.{Standing, standing_state}
 use Rattle.step_rules.specs.Taken.{lift_of}
 use Rattle.step_rules.specs.Tokens.{all_no_lifts, all_used, left_of, no_lift_of, seen_of, why_of}
 use Rattle.step_rules.specs.declared.lift_step.part.LiftPart.{LiftPart}
-use Rattle.obligation_turn.specs.Turns.{GoesOn, WhyCounts}
+use Rattle.obligation_turn.specs.Turns.{AreSought, GoesOn, IsWhySought, WhyCounts}
 use Rattle.obligation_turn.specs.machinery.Lifts.{AreKept, ArePairs, IsKeptAt, IsLegalLift, IsPair}
 use Rattle.obligation_turn.proofs.BodyLemmas.{body-accepted, body-inside}
 use Rattle.obligation_turn.proofs.ProvedLemmas.{proved, uses-may, uses-over}
@@ -118,6 +118,7 @@ kept-broken b nodes id seen token goes within hit cube_is why_is no_lift =
       pair = subst (IsPair sys s (id, e)) is_plain (record { of_lemma = of_lemma; inside = inside; known = refl });
       places = subst (λ (k' : PlainNoLift). no_lift_has_places sys k' ≡ true) is_plain places;
       counts = subst (WhyCounts nodes) (sym why_is) tt;
+      sought = subst (IsWhySought b nodes id) (sym why_is) tt;
     }
 
 pub kept-unknown : (b : Standing) (nodes id : ℕ) (lost : Lost) (token : NoLiftToken) → GoesOn b → id < length b.frames.lemmas
@@ -148,6 +149,7 @@ kept-unknown b nodes id lost token goes within is cube_is why_is no_lift =
       pair = subst (IsPair sys s (id, e)) is_plain (record { of_lemma = of_lemma; inside = refl; known = passed (all_may_use sys (lemmas_of fs) k None n (all_used lost.used)) (ByLemma id) may });
       places = subst (λ (x : PlainNoLift). no_lift_has_places sys x ≡ true) is_plain places;
       counts = subst (WhyCounts nodes) (sym why_is) up.counts;
+      sought = subst (IsWhySought b nodes id) (sym why_is) is;
     }
 
 -- a lemma that is implied goes up
@@ -208,6 +210,12 @@ pairs-push sys s [] (x ∷ ks) e k are is = absurd are
 pairs-push sys s (y ∷ es) [] e k are is = absurd are
 pairs-push sys s (y ∷ es) (x ∷ ks) e k are is = (are.0, pairs-push sys s es ks e k are.1 is)
 
+sought-push : (b : Standing) (nodes : ℕ) (es : List (ℕ × Framed)) (ks : List NoLiftToken) (e : ℕ × Framed) (k : NoLiftToken) → ArePairs b.system (standing_state b) es (all_no_lifts ks) → AreSought b nodes es ks → IsWhySought b nodes e.0 (kept_why k) → AreSought b nodes (es ++ e ∷ []) (ks ++ k ∷ [])
+sought-push b nodes [] [] e k are h is = (is, tt)
+sought-push b nodes [] (x ∷ ks) e k are h is = absurd are
+sought-push b nodes (y ∷ es) [] e k are h is = absurd are
+sought-push b nodes (y ∷ es) (x ∷ ks) e k are h is = (h.0, sought-push b nodes es ks e k are.1 h.1 is)
+
 -- what stands below the next number
 below-next : (b : Standing) (id : ℕ) (low : Bool) → id < length b.frames.lemmas → nat_lt (level_of b.frames.lemmas id) b.level ≡ low
     → below_from b.level 0 (take (id + 1) (lemmas_of b.frames.lemmas)) ≡ below_from b.level 0 (take id (lemmas_of b.frames.lemmas)) ++ cond {A = List (ℕ × Framed)} low ((id, framed_at b.frames.lemmas id) ∷ []) []
@@ -227,7 +235,7 @@ append-none [] = refl
 append-none (x ∷ xs) = ap (λ ys. x ∷ ys) (append-none xs)
 
 pub none-kept : (b : Standing) (nodes : ℕ) (kept : List NoLiftToken) → kept ≡ [] → AreKept b nodes 0 kept
-none-kept b nodes kept is = subst (AreKept b nodes 0) (sym is) (record { no_lifts = tt; pairs = tt; places = refl; counts = tt })
+none-kept b nodes kept is = subst (AreKept b nodes 0) (sym is) (record { no_lifts = tt; pairs = tt; places = refl; counts = tt; sought = tt })
 
 pub kept-above : (b : Standing) (nodes id : ℕ) (kept : List NoLiftToken) → id < length b.frames.lemmas → nat_lt (level_of b.frames.lemmas id) b.level ≡ false → AreKept b nodes id kept → AreKept b nodes (id + 1) kept
 kept-above b nodes id kept within high are = record {
@@ -235,6 +243,7 @@ kept-above b nodes id kept within high are = record {
   pairs = subst (λ (es : List (ℕ × Framed)). ArePairs b.system (standing_state b) es (all_no_lifts kept)) (sym (below-next b id false within high ∙ append-none (below_from b.level 0 (take id (lemmas_of b.frames.lemmas))))) are.pairs;
   places = are.places;
   counts = are.counts;
+  sought = subst (λ (es : List (ℕ × Framed)). AreSought b nodes es kept) (sym (below-next b id false within high ∙ append-none (below_from b.level 0 (take id (lemmas_of b.frames.lemmas))))) are.sought;
 }
 
 pub kept-below : (b : Standing) (nodes id : ℕ) (kept : List NoLiftToken) (token : NoLiftToken) (new : List NoLiftToken) → id < length b.frames.lemmas → nat_lt (level_of b.frames.lemmas id) b.level ≡ true → new ≡ kept ++ token ∷ [] → IsKeptAt b nodes id token → AreKept b nodes id kept → AreKept b nodes (id + 1) new
@@ -248,5 +257,7 @@ kept-below b nodes id kept token new within low is one are =
       places = ap (list_all (no_lift_has_places b.system)) more ∙ list_all-append (no_lift_has_places b.system) (all_no_lifts kept) (no_lift_of token ∷ [])
           ∙ from_both _ _ are.places (from_both (no_lift_has_places b.system (no_lift_of token)) true one.places refl);
       counts = all_of-push (λ (k : NoLiftToken). WhyCounts nodes (kept_why k)) kept token are.counts one.counts;
+      sought = subst (λ (es : List (ℕ × Framed)). AreSought b nodes es (kept ++ token ∷ [])) (sym (below-next b id true within low))
+          (sought-push b nodes (below_from b.level 0 (take id (lemmas_of b.frames.lemmas))) kept (id, framed_at b.frames.lemmas id) token are.pairs are.sought one.sought);
     } in
     subst (AreKept b nodes (id + 1)) (sym is) pushed

@@ -276,6 +276,7 @@ opens b job nodes number seen atom cube area goes leaf system hit at missing cov
       counts = tt;
       thin = new.thin;
       serves = (refl, clause, there, covers);
+      sought = tt;
     }
 
 -- the same of what the code has in hand

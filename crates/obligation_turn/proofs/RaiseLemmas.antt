@@ -27,7 +27,7 @@ use Rattle.step_rules.specs.Tokens.{all_no_lifts, all_shown}
 use Rattle.step_rules.specs.declared.lift_step.part.LiftPart.{LiftPart}
 use Rattle.step_rules.specs.declared.raise_step.part.RaisePart.{RaisePart}
 use Rattle.step_rules.specs.declared.step.Step.TheVariants.{LiftStep, RaiseStep}
-use Rattle.obligation_turn.specs.Turns.{GoesOn, IsOpenLeaf, IsTurn}
+use Rattle.obligation_turn.specs.Turns.{AreSought, GoesOn, IsOpenLeaf, IsTurn}
 use Rattle.obligation_turn.specs.machinery.Jobs.{AreJobProofs, goal_by, job_of}
 use Rattle.obligation_turn.specs.machinery.Lifts.{AreKept, ArePairs, IsLegalLift}
 use Rattle.obligation_turn.proofs.JobLemmas.{root-level}
@@ -61,6 +61,7 @@ lifted b job nodes closed part goes leaf none are legal = record {
   counts = tt;
   thin = tt;
   serves = (none, root-refuted b closed (root-proved b job closed goes leaf none are));
+  sought = tt;
 }
 
 -- a Raise
@@ -113,4 +114,5 @@ raised b job nodes n closed tokens goes leaf none are past keeps =
       counts = keeps.counts;
       thin = tt;
       serves = (none, root-refuted b closed is);
+      sought = subst (λ (es : List Framed). AreSought b nodes (below_from b.level 0 es) tokens) all keeps.sought;
     }

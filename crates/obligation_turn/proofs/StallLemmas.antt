@@ -95,4 +95,5 @@ stalled b job nodes lost goes leaf is =
       counts = up.counts;
       thin = tt;
       serves = refl;
+      sought = is;
     }

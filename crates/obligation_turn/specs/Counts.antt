@@ -7,7 +7,7 @@ use Rattle.chc_tokens.specs.declared.why.Why.{Why}
 use Rattle.chc_tokens.specs.declared.why.Why.TheVariants.{Broken, Unknown}
 use Rattle.book_rules.specs.Walks.{AllOf}
 use Rattle.step_rules.specs.declared.step.Step.{Step}
-use Rattle.step_rules.specs.declared.step.Step.TheVariants.{OpenStep, LemmaStep, FactStep, LiftStep, RaiseStep, StallStep}
+use Rattle.step_rules.specs.declared.step.Step.TheVariants.{OpenStep, LemmaStep, FactStep, LiftStep, RaiseStep, StallStep, DeriveStep, StrengthenStep}
 
 -- what keeps a lemma from being lifted: an instance, or a query that was given up
 abbrev pub WhyCounts : ℕ → Why → Type 0
@@ -22,3 +22,5 @@ StepCounts nodes (FactStep f) = Unit {0}
 StepCounts nodes (LiftStep l) = Unit {0}
 StepCounts nodes (RaiseStep r) = AllOf (λ k. WhyCounts nodes (kept_why k)) r.kept
 StepCounts nodes (StallStep t) = CountsTo nodes (given_evidence t.evidence)
+StepCounts nodes (DeriveStep f) = Unit {0}
+StepCounts nodes (StrengthenStep l) = Unit {0}

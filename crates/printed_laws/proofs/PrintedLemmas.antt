@@ -29,6 +29,7 @@ use Rattle.call_words.specs.declared.limits.Limits.{Limits}
 use Rattle.call_solve.specs.Headline.{Answers, IsAnswered, IsBookFor}
 use Rattle.printed_laws.specs.Printed.{IsPrinted, Says, IsSolvedBy}
 use Rattle.printed_laws.specs.Printed.Says.{sat, unsat, unknown}
+use Rattle.printed_laws.proofs.ReadingLemmas.{said_of_each}
 
 same_rest : (held text other : List ℕ) → held ++ text ≡ held ++ other → text ≡ other
 same_rest [] text other h = h
@@ -120,7 +121,8 @@ module _ (accepted : AcceptedLaw) (same : SameLaw) (solution : SolutionLaw) (spe
         script = book.script;
         is_script = book.is_script;
         spelled = book.spelled;
-        says = says limits bytes b text book h.ended_by found.answer found.answers found.printed;
+        says = λ others other is_script spelled. said_of_each bytes text book.commands book.script book.is_script book.spelled others other is_script spelled
+            (says limits bytes b text book h.ended_by found.answer found.answers found.printed);
       }
 
   pub printed : (limits : Limits) (read : List ℕ) (book : Option Contents) (held text : List ℕ) → Answers limits read book (Some held) (Some (held ++ text)) → IsPrinted read text

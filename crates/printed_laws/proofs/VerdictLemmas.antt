@@ -2,8 +2,12 @@
 use Rattle.std.proofs.Common.{◌≡◌, ℕ, List, sym, subst, ◌∙◌, ⊎_elim}
 use Rattle.std.specs.Prelude.{ℤ, Option, None, Some}
 use Rattle.term_tree.specs.declared.definition.Definition.{Definition}
+use Rattle.term_tree.specs.declared.script.Pred.{Pred}
 use Rattle.term_tree.specs.declared.script.Script.{Script}
 use Rattle.term_tree.specs.Solution.{IsSolution}
+use Rattle.clause_form.specs.declared.clause.Clause.{Clause}
+use Rattle.clause_normal.specs.Normal.{normal_clause}
+use Rattle.clause_laws.specs.Defined.{breaking_wide}
 use Rattle.answer_text.specs.declared.answer.Answer.{Answer}
 use Rattle.answer_text.specs.declared.answer.Answer.TheVariants.{Sat, Unsat, Unknown}
 use Rattle.answer_text.specs.declared.answer.Line.{Line}
@@ -28,6 +32,11 @@ abbrev pub SolvedLaw : Type 0
 SolvedLaw = (script : Script) (text : List ℕ) (definitions others : List Definition) → IsSolution script definitions → Spells script.preds text (Sat definitions) → Spells script.preds text (Sat others)
     → IsSolution script others
 
+-- and they ask the same of each clause
+abbrev pub AsksLaw : Type 0
+AsksLaw = (preds : List Pred) (text : List ℕ) (definitions others : List Definition) (clause : Clause) → Spells preds text (Sat definitions) → Spells preds text (Sat others)
+    → breaking_wide definitions clause ≡ breaking_wide others clause
+
 module _ (script : Script) (text : List ℕ) (definitions : List Definition) (spells : Spells script.preds text (Sat definitions)) where
   -- it has no fault
   no_fault : {A : Type 0} (offset : ℕ) → IsBad script.preds text offset → A
@@ -50,16 +59,17 @@ module _ (script : Script) (text : List ℕ) (definitions : List Definition) (sp
   no_place : (found : Option ℕ) (offset : ℕ) → found ≡ None → found ≡ Some offset → ⊥
   no_place found offset none some = let e : (let o : Option ℕ = None in o) ≡ Some offset = sym none ∙ some in absurd (cc)
 
-  no_byte_of : (nodes offset : ℕ) (answer : Answer) → ((others : List Definition) → Spells script.preds text (Sat others) → HaveRoomUnder script others) → Spells script.preds text answer
-      → Says nodes script answer (Wrong (Byte offset)) → ⊥
-  no_byte_of nodes offset (Sat others) room reads says = no_place _ offset (room others reads says.reached.index says.clause says.reached.is) says.wide
-  no_byte_of nodes offset (Unsat lines) room reads says = absurd says
-  no_byte_of nodes offset (Unknown level cause) room reads says = absurd says
+  no_byte_of : (nodes offset : ℕ) (answer : Answer) → AsksLaw → HaveRoomUnder script definitions → Spells script.preds text answer → Says nodes script answer (Wrong (Byte offset)) → ⊥
+  no_byte_of nodes offset (Sat others) asks room reads says =
+      no_place (breaking_wide definitions (normal_clause script says.clause)) offset (room says.reached.index says.clause says.reached.is)
+      (asks script.preds text definitions others (normal_clause script says.clause) spells reads ∙ says.wide)
+  no_byte_of nodes offset (Unsat lines) asks room reads says = absurd says
+  no_byte_of nodes offset (Unknown level cause) asks room reads says = absurd says
 
   -- definitions under which every number has room are wrong at no byte
-  pub no_byte : (nodes offset : ℕ) (verdict : Verdict) → ((others : List Definition) → Spells script.preds text (Sat others) → HaveRoomUnder script others) → Judges nodes script text verdict → verdict ≡ Wrong (Byte offset) → ⊥
-  no_byte nodes offset verdict room judges is =
+  pub no_byte : (nodes offset : ℕ) (verdict : Verdict) → AsksLaw → HaveRoomUnder script definitions → Judges nodes script text verdict → verdict ≡ Wrong (Byte offset) → ⊥
+  no_byte nodes offset verdict asks room judges is =
       ⊎_elim
-      (λ told. no_byte_of nodes offset told.0 room told.1 told.3)
+      (λ told. no_byte_of nodes offset told.0 asks room told.1 told.3)
       (λ bad. no_fault bad.0 bad.1)
       (subst (Judges nodes script text) is judges)

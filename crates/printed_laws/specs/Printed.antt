@@ -45,10 +45,10 @@ pub data Says (script : Script) (text : List ℕ) : Type 0 where
   unsat : (rest : List ℕ) → text ≡ codes "unsat\n" ++ rest → IsDerivationText script text → Says script text
   unknown : IsLevelText script text → Says script text
 
--- of the script that the bytes spell
+-- of each script that the bytes spell, and there is one: it is one but for how its terms are numbered
 pub record IsPrinted (bytes : List ℕ) (text : List ℕ) : Type 0 where
   pub commands : List Command
   pub script : Script
   pub is_script : IsScript bytes commands
   pub spelled : IsScriptOf commands script
-  pub says : Says script text
+  pub says : (others : List Command) (other : Script) → IsScript bytes others → IsScriptOf others other → Says other text

@@ -1,3 +1,4 @@
+pub mod JobLemmas
 mod OlderLemmas
 pub mod StepLemmas
 pub mod SystemLemmas

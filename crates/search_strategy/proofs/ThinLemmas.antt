@@ -10,7 +10,7 @@ use Rattle.book_rules.proofs.StepLemmas.{ChildHas, LemmaHas, lemmas-after, stead
 use Rattle.step_rules.specs.Taken.{step_of}
 use Rattle.step_rules.specs.Views.{framed_of, obligation_of}
 use Rattle.step_rules.specs.declared.step.Step.{Step}
-use Rattle.step_rules.specs.declared.step.Step.TheVariants.{OpenStep, LemmaStep, FactStep, LiftStep, RaiseStep, StallStep}
+use Rattle.step_rules.specs.declared.step.Step.TheVariants.{OpenStep, LemmaStep, FactStep, LiftStep, RaiseStep, StallStep, DeriveStep, StrengthenStep}
 use Rattle.chc_core.specs.Contents.{Contents}
 use Rattle.chc_core.specs.Views.{standing_of, state_of}
 use Rattle.obligation_turn.specs.Turns.{IsThin, StepIsThin}
@@ -46,6 +46,8 @@ lemma_new (FactStep f) h = tt
 lemma_new (LiftStep l) h = tt
 lemma_new (RaiseStep r) h = tt
 lemma_new (StallStep t) h = tt
+lemma_new (DeriveStep f) h = tt
+lemma_new (StrengthenStep l) h = h
 
 child_new : (sys : Clauses) (s : State) (step : Step) → StepIsThin step → ChildHas ThinObligation sys s (step_of step)
 child_new sys s (OpenStep o) h = λ parent atom there is. h
@@ -54,6 +56,8 @@ child_new sys s (FactStep f) h = tt
 child_new sys s (LiftStep l) h = tt
 child_new sys s (RaiseStep r) h = tt
 child_new sys s (StallStep t) h = tt
+child_new sys s (DeriveStep f) h = tt
+child_new sys s (StrengthenStep l) h = tt
 
 thin_step : (sys : Clauses) (s : State) (step : Step) → IsThinState s → StepIsThin step → IsThinState (after sys s (step_of step))
 thin_step sys s step h new = record {

@@ -1,3 +1,4 @@
+pub mod Jobs
 pub mod Older
 pub mod Runs
 pub mod machinery

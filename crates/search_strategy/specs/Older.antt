@@ -1,5 +1,5 @@
 -- Which of the lemmas that a book has is the best to take beside one that is learnt.
-use Rattle.std.specs.Prelude.{◌≡◌, ◌<◌, ◌≤◌, ◌⊎◌, ℕ, ℤ, List, true, nat_lt, if◌then◌else◌, Option, Some, None}
+use Rattle.std.specs.Prelude.{◌≡◌, ◌<◌, ◌≤◌, ◌⊎◌, ℕ, ℤ, List, length, true, nat_lt, if◌then◌else◌, Option, Some, None}
 use Rattle.cube_forms.specs.Cubes.{cube_holds}
 use Rattle.lemma_frames.specs.Frames.{lemma_of, level_of, pred_of}
 use Rattle.lemma_frames.specs.declared.framed.Framed.{Framed}
@@ -14,10 +14,6 @@ pub record IsLower (lemmas : List Framed) (part : LemmaPart) (n : ℕ) : Type 0 
 abbrev pub Excludes : List Framed → LemmaPart → List ℤ → ℕ → Type 0
 Excludes lemmas part tuple n = IsLower lemmas part n × (cube_holds tuple (lemma_of lemmas n) ≡ true)
 
--- one that has the same cube
-abbrev pub HasCube : List Framed → LemmaPart → ℕ → Type 0
-HasCube lemmas part n = IsLower lemmas part n × (lemma_of lemmas n ≡ part.lemma)
-
 -- of a higher level, or of the same level and no older
 abbrev pub IsNoWorse : List Framed → ℕ → ℕ → Type 0
 IsNoWorse lemmas best n = (level_of lemmas n < level_of lemmas best) ⊎ ((level_of lemmas n ≡ level_of lemmas best) × (n ≤ best))
@@ -31,3 +27,11 @@ better_of lemmas (Some best) n = if nat_lt (level_of lemmas n) (level_of lemmas 
 abbrev pub IsBest : List Framed → (ℕ → Type 0) → ℕ → Option ℕ → Type 0
 IsBest lemmas fits k None = (n : ℕ) → n < k → fits n → ⊥
 IsBest lemmas fits k (Some best) = (best < k) × fits best × ((n : ℕ) → n < k → fits n → IsNoWorse lemmas best n)
+
+-- the number and the level of a lemma that has the cube of a lemma to be learnt, on its predicate and at a lower level
+pub record IsOlder (lemmas : List Framed) (part : LemmaPart) (id level : ℕ) : Type 0 where
+  pub there : id < length lemmas
+  pub pred : pred_of lemmas id ≡ part.pred
+  pub lemma : lemma_of lemmas id ≡ part.lemma
+  pub level_is : level_of lemmas id ≡ level
+  pub lower : level < part.level

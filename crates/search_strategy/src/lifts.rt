@@ -65,7 +65,7 @@ fn is_below(lent: &Lent, id: u32, least: u32) -> bool
 
 /// The Lift of the lemma by one level, if it is of at least a level, below that of the book, and the
 /// frame of its own implies it.
-pub fn lift_of(
+fn lift_of(
     lent: &Lent,
     id: u32,
     least: u32,

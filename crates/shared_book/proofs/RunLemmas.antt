@@ -1,21 +1,17 @@
 -- What the book of a run keeps over claims and entries.
-use Rattle.std.proofs.Common.{◌≡◌, ℕ, ◌+◌, List, [], ◌∷◌, ◌++◌, map, length, false, refl, ap, sym, ◌∙◌, subst}
+use Rattle.std.proofs.Common.{◌≡◌, ℕ, ◌+◌, List, [], ◌∷◌, ◌++◌, length, ap, sym, ◌∙◌, subst}
 use Rattle.std.specs.Prelude.{Option, Some, None, IfSome}
 use Rattle.std.proofs.lemmas.List.{length_push}
 use Rattle.clause_form.specs.System.{Clauses}
-use Rattle.book_rules.specs.Areas.{is_wide}
 use Rattle.book_rules.specs.Effects.{after}
-use Rattle.book_rules.specs.Frames.{AreGood, Framed}
+use Rattle.book_rules.specs.Frames.{AreGood}
 use Rattle.book_rules.specs.Instances.{instances}
 use Rattle.book_rules.specs.Legal.{AreLegal, replay}
-use Rattle.book_rules.specs.State.{Obligation, State, opening}
+use Rattle.book_rules.specs.State.{opening}
 use Rattle.book_rules.specs.Walks.{AllOf}
 use Rattle.book_rules.proofs.ListLemmas.{all_of-push}
-use Rattle.book_rules.proofs.StepLemmas.{ChildHas, LemmaHas, lemmas-after, steady-after}
 use Rattle.step_rules.specs.Taken.{step_of}
-use Rattle.step_rules.specs.Views.{framed_of, obligation_of}
 use Rattle.step_rules.specs.declared.step.Step.{Step}
-use Rattle.step_rules.specs.declared.step.Step.TheVariants.{OpenStep, LemmaStep, FactStep, LiftStep, RaiseStep, StallStep}
 use Rattle.chc_core.specs.Contents.{Contents}
 use Rattle.chc_core.specs.Openings.{opening_of}
 use Rattle.chc_core.specs.Views.{standing_of, state_of, steps_of}
@@ -23,62 +19,10 @@ use Rattle.chc_core.specs.declared.entry.Entry.{Entry}
 use Rattle.clause_queries.specs.Answers.{AreFew}
 use Rattle.obligation_turn.specs.Turns.{IsThin, StepIsThin}
 use Rattle.step_rules.specs.declared.lemma_step.part.LemmaPart.{LemmaPart}
-use Rattle.shared_book.specs.Locks.{IsOlder, with_claims}
+use Rattle.search_strategy.specs.Older.{IsOlder}
+use Rattle.search_strategy.proofs.ThinLemmas.{thin-after}
+use Rattle.shared_book.specs.Locks.{with_claims}
 use Rattle.shared_book.specs.Runs.{IsEntry, IsOlderInRun, IsRunBook}
-
--- thin cubes
-
-all_map : {X Y : Type 0} (P : Y → Type 0) (f : X → Y) (xs : List X) → AllOf (λ x. P (f x)) xs → AllOf P (map f xs)
-all_map P f [] h = tt
-all_map P f (x ∷ xs) h = (h.0, all_map P f xs h.1)
-
-all_unmap : {X Y : Type 0} (P : Y → Type 0) (f : X → Y) (xs : List X) → AllOf P (map f xs) → AllOf (λ x. P (f x)) xs
-all_unmap P f [] h = tt
-all_unmap P f (x ∷ xs) h = (h.0, all_unmap P f xs h.1)
-
-abbrev ThinLemma : Framed → Type 0
-ThinLemma e = is_wide e.lemma.cube ≡ false
-
-abbrev ThinObligation : Obligation → Type 0
-ThinObligation o = is_wide o.cube ≡ false
-
-record IsThinState (s : State) : Type 0 where
-  lemmas : AllOf ThinLemma s.lemmas
-  obligations : AllOf ThinObligation s.obligations
-
-thin_state : (b : Contents) → IsThin (standing_of b) → IsThinState (state_of b)
-thin_state b h = record { lemmas = all_map ThinLemma framed_of b.frames.lemmas h.lemmas; obligations = all_map ThinObligation obligation_of b.tree.nodes h.obligations }
-
-state_thin : (b : Contents) → IsThinState (state_of b) → IsThin (standing_of b)
-state_thin b h = record { lemmas = all_unmap ThinLemma framed_of b.frames.lemmas h.lemmas; obligations = all_unmap ThinObligation obligation_of b.tree.nodes h.obligations }
-
-lemma_new : (step : Step) → StepIsThin step → LemmaHas ThinLemma (step_of step)
-lemma_new (OpenStep o) h = tt
-lemma_new (LemmaStep l) h = h
-lemma_new (FactStep f) h = tt
-lemma_new (LiftStep l) h = tt
-lemma_new (RaiseStep r) h = tt
-lemma_new (StallStep t) h = tt
-
-child_new : (sys : Clauses) (s : State) (step : Step) → StepIsThin step → ChildHas ThinObligation sys s (step_of step)
-child_new sys s (OpenStep o) h = λ parent atom there is. h
-child_new sys s (LemmaStep l) h = tt
-child_new sys s (FactStep f) h = tt
-child_new sys s (LiftStep l) h = tt
-child_new sys s (RaiseStep r) h = tt
-child_new sys s (StallStep t) h = tt
-
-thin_step : (sys : Clauses) (s : State) (step : Step) → IsThinState s → StepIsThin step → IsThinState (after sys s (step_of step))
-thin_step sys s step h new = record {
-  lemmas = lemmas-after ThinLemma (λ e level k. k) sys s (step_of step) h.lemmas (lemma_new step new);
-  obligations = steady-after ThinObligation (λ o level closed stalled k. k) sys s (step_of step) h.obligations (child_new sys s step new);
-}
-
-thin-after : (b c : Contents) (step : Step) → state_of c ≡ after b.system (state_of b) (step_of step) → IsThin (standing_of b) → StepIsThin step → IsThin (standing_of c)
-thin-after b c step is h new = state_thin c (subst IsThinState (sym is) (thin_step b.system (state_of b) step (thin_state b h) new))
-
-pub thin-opening : (b : Contents) (units : ℕ) → state_of b ≡ opening units → IsThin (standing_of b)
-thin-opening b units is = state_thin b (subst IsThinState (sym is) (record { lemmas = tt; obligations = (refl, tt) }))
 
 -- claims and entries
 

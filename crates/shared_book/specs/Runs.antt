@@ -9,7 +9,7 @@ use Rattle.clause_queries.specs.Answers.{AreFew}
 use Rattle.obligation_turn.specs.Counts.{StepCounts}
 use Rattle.obligation_turn.specs.Turns.{IsThin}
 use Rattle.step_rules.specs.declared.lemma_step.part.LemmaPart.{LemmaPart}
-use Rattle.shared_book.specs.Locks.{IsOlder}
+use Rattle.search_strategy.specs.Older.{IsOlder}
 
 -- an entry of one of the workers, who are numbered from 1; evidence that counts inner nodes counts those that the run allows
 pub record IsEntry (workers nodes : ℕ) (entry : Entry) : Type 0 where

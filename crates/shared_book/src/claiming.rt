@@ -1,20 +1,23 @@
 //! Which obligation a worker claims.
 
-ghost use Rattle.std.specs.Prelude.{◌≡◌, ◌<◌, ◌≤◌, None, true, length, IfOk, IfSome, OnErr, OnOk};
+ghost use Rattle.std.specs.Prelude.{◌≡◌, ◌<◌, ◌≤◌, None, Some, if◌then◌else◌, length, IfOk, IfSome, OnErr, OnOk};
 ghost use Rattle.book_rules.specs.Legal.{end};
-ghost use Rattle.obligation_tree.specs.Claims.{most_workers};
+ghost use Rattle.obligation_tree.specs.Claims.{is_held_by_another, most_workers};
 ghost use Rattle.obligation_tree.specs.Nodes.{is_stalled_in, leaf_numbers, node_at, IsLiveLeaf};
 ghost use Rattle.chc_core.specs.Views.{standing_of, state_of};
 ghost use Rattle.clause_queries.specs.Answers.{AreFew};
 ghost use Rattle.obligation_turn.specs.Turns.{IsOpenLeaf, IsThin};
+ghost use Rattle.search_strategy.specs.Jobs.{IsFirst};
+ghost use Rattle.search_strategy.specs.machinery.Choosing.{first_of, next_first};
 ghost use Rattle.shared_book.specs.Jobs.{AreHeld, IsFree};
 ghost use Rattle.shared_book.specs.Locks.{claimed_by, with_claims};
-ghost use Rattle.shared_book.specs.machinery.Choices.{IsChosen, LeavesNone};
+ghost use Rattle.shared_book.specs.machinery.Choices.{IsChosen, is_out};
 
 use crate::job::Job;
 use crate::run::Run;
 use base::Memory;
 use chc_core::{Book, Snapshot};
+use search_strategy::is_before;
 
 /// The live obligations without live children, in order of number.
 fn leaves_of(snapshot: &Snapshot) -> &[u32]
@@ -31,22 +34,15 @@ fn is_stalled(snapshot: &Snapshot, id: u32) -> bool
     snapshot.tree().is_stalled(id)
 }
 
-/// The obligation's level.
-fn level_of(snapshot: &Snapshot, id: u32) -> u32
-    requires { id < length snapshot.now.tree.nodes }
-{
-    snapshot.tree().obligation(id).level
-}
-
-/// Whether the obligation is of a lower level than the best so far, if there is one.
-fn is_lower(snapshot: &Snapshot, best: Option<u32>, id: u32) -> bool
+/// Whether the obligation is asked before the first so far, if there is one.
+fn comes_before(snapshot: &Snapshot, best: Option<u32>, id: u32) -> bool
     requires best { IfSome best (λ n. n < length snapshot.now.tree.nodes) }
     requires id { id < length snapshot.now.tree.nodes }
-    ensures { best ≡ None → result ≡ true }
+    ensures { first_of snapshot.now.tree.nodes best id ≡ (if result then Some id else best) }
 {
     match best {
         None => true,
-        Some(first) => level_of(snapshot, id) < level_of(snapshot, first),
+        Some(first) => is_before(snapshot.tree(), id, first),
     }
 }
 
@@ -63,13 +59,13 @@ fn claim_open(
     requires chosen { IsChosen snapshot.now worker best book.old }
     requires leaf { IsOpenLeaf (standing_of snapshot.now) id }
     ensures chosen { IsChosen snapshot.now worker result book.new }
-    ensures none { result ≡ None → LeavesNone snapshot.now worker best id }
+    ensures is { result ≡ (if is_held_by_another id worker snapshot.now.tree.claims then best else Some id) }
 {
     let is_free = book.claim(id, worker);
     if is_free { Some(id) } else { best }
 }
 
-/// The same where it is better than the best so far.
+/// The same where it is asked before the first so far.
 fn with_open(
     book: &mut Book,
     snapshot: &Snapshot,
@@ -82,9 +78,9 @@ fn with_open(
     requires chosen { IsChosen snapshot.now worker best book.old }
     requires leaf { IsOpenLeaf (standing_of snapshot.now) id }
     ensures chosen { IsChosen snapshot.now worker result book.new }
-    ensures none { result ≡ None → LeavesNone snapshot.now worker best id }
+    ensures is { result ≡ (if is_held_by_another id worker snapshot.now.tree.claims then best else first_of snapshot.now.tree.nodes best id) }
 {
-    if is_lower(snapshot, best, id) {
+    if comes_before(snapshot, best, id) {
         claim_open(book, snapshot, best, id, worker)
     } else {
         best
@@ -104,7 +100,7 @@ fn with_leaf(
     requires chosen { IsChosen snapshot.now worker best book.old }
     requires leaf { IsLiveLeaf snapshot.now.tree.nodes id }
     ensures chosen { IsChosen snapshot.now worker result book.new }
-    ensures none { result ≡ None → LeavesNone snapshot.now worker best id }
+    ensures is { result ≡ next_first snapshot.now.tree.nodes (is_out snapshot.now worker) best id }
 {
     if is_stalled(snapshot, id) {
         best
@@ -120,6 +116,7 @@ fn claim_best(book: &mut Book, snapshot: &Snapshot, worker: u32) -> Option<u32>
     requires last { worker ≤ most_workers }
     requires same { book.old ≡ snapshot.now }
     ensures chosen { IsChosen snapshot.now worker result book.new }
+    ensures first { IfSome result (IsFirst snapshot.now.tree.nodes (IsFree snapshot.now worker)) }
     ensures none { result ≡ None → AreHeld snapshot.now worker }
 {
     let mut best = None;
@@ -140,7 +137,7 @@ pub(crate) fn job_of<R: Run>(book: &mut Book, worker: u32) -> Result<Option<Job<
     requires thin { IsThin (standing_of book.old) }
     ensures none { IfOk result (λ answer. answer ≡ None → AreHeld book.old worker) }
     ensures unclaimed { IfOk result (λ answer. answer ≡ None → book.new ≡ book.old) }
-    ensures free { IfOk result (λ answer. IfSome answer (λ job. IsFree book.old worker job.obligation)) }
+    ensures first { IfOk result (λ answer. IfSome answer (λ job. IsFirst book.old.tree.nodes (IsFree book.old worker) job.obligation)) }
     ensures snapshot { IfOk result (λ answer. IfSome answer (λ job. job.snapshot ≡ book.old)) }
     ensures claimed { IfOk result (λ answer. IfSome answer (λ job. book.new ≡ claimed_by job.obligation worker book.old)) }
     ensures kept { OnOk result (book.new ≡ with_claims book.new.tree.claims book.old) }

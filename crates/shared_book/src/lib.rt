@@ -7,7 +7,6 @@
 mod claiming;
 mod job;
 mod locked;
-mod older;
 mod over;
 mod run;
 mod share;

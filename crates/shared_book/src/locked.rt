@@ -15,17 +15,19 @@ ghost use Rattle.obligation_turn.specs.Counts.{StepCounts};
 ghost use Rattle.obligation_turn.specs.Turns.{IsThin, StepIsThin};
 ghost use Rattle.step_rules.specs.Taken.{IsMadeFor, step_of};
 ghost use Rattle.shared_book.specs.Jobs.{AreHeld, IsFree};
-ghost use Rattle.shared_book.specs.Locks.{AreReleased, IsOlder, claimed_by, released_by, with_claims};
+ghost use Rattle.search_strategy.specs.Jobs.{IsFirst};
+ghost use Rattle.search_strategy.specs.Older.{IsOlder};
+ghost use Rattle.shared_book.specs.Locks.{AreReleased, claimed_by, released_by, with_claims};
 ghost use Rattle.shared_book.specs.Runs.{IsEntry, IsRunBook};
 
 use crate::claiming::job_of;
 use crate::job::Job;
-use crate::older::older;
 use crate::over::Over;
 use crate::run::Run;
 use crate::share::Share;
 use crate::taking::{commit_released, release_all};
 use chc_core::{Book, Refused};
+use search_strategy::older;
 use std::marker::Model;
 use std::sync::ledger;
 use step_rules::{LemmaPart, Step};
@@ -161,9 +163,9 @@ impl<R: Run> Locked<R> {
 
     /// What the worker does next: `Ended` exactly where the book has that end, `WorkerMemory` exactly
     /// where it has none and want of memory was noted. Else `None` exactly where another worker holds
-    /// every live leaf that isn't stalled, and otherwise a job, claimed for this worker. The claim is all
-    /// that changes, and only with a job. The job's book is no older than the worker's own entries, and
-    /// the share says that nothing was offered for it.
+    /// every live leaf that isn't stalled, and otherwise a job, claimed for this worker: of the others the
+    /// oldest of the lowest level. The claim is all that changes, and only with a job. The job's book is
+    /// no older than the worker's own entries, and the share says that nothing was offered for it.
     pub fn next_job(&mut self, share: &mut Share<R>) -> Result<Option<Job<R>>, Over>
         ensures ended { (e : BookEnd) → IsErrOf result (Over.Ended e) → end (state_of self.old.book) ≡ Some e }
         ensures noted { IsErrOf result Over.WorkerMemory → (end (state_of self.old.book) ≡ None) × (self.old.noted ≡ true) }
@@ -171,7 +173,7 @@ impl<R: Run> Locked<R> {
         ensures asked { OnOk result ((end (state_of self.old.book) ≡ None) × (self.old.noted ≡ false)) }
         ensures none { IfOk result (λ answer. answer ≡ None → AreHeld self.old.book share.old.worker) }
         ensures unclaimed { IfOk result (λ answer. answer ≡ None → self.new ≡ self.old) }
-        ensures free { IfOk result (λ answer. IfSome answer (λ job. IsFree self.old.book share.old.worker job.obligation)) }
+        ensures first { IfOk result (λ answer. IfSome answer (λ job. IsFirst self.old.book.tree.nodes (IsFree self.old.book share.old.worker) job.obligation)) }
         ensures snapshot { IfOk result (λ answer. IfSome answer (λ job. job.snapshot ≡ self.old.book)) }
         ensures claimed { IfOk result (λ answer. IfSome answer (λ job. self.new ≡ record self.old { book = claimed_by job.obligation share.old.worker self.old.book })) }
         ensures length { IfOk result (λ answer. IfSome answer (λ job. share.old.count ≤ length job.snapshot.journal)) }

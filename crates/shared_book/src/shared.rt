@@ -8,6 +8,8 @@ ghost use Rattle.obligation_tree.specs.Claims.{most_workers};
 ghost use Rattle.obligation_turn.specs.Counts.{StepCounts};
 ghost use Rattle.obligation_turn.specs.Turns.{IsThin, StepIsThin};
 ghost use Rattle.step_rules.specs.Taken.{IsMadeFor, step_of};
+ghost use Rattle.search_strategy.specs.Jobs.{IsFirst};
+ghost use Rattle.shared_book.specs.Jobs.{IsFree};
 ghost use Rattle.shared_book.specs.Runs.{IsEntry, IsOlderInRun};
 
 use crate::job::Job;
@@ -15,7 +17,7 @@ use crate::locked::Locked;
 use crate::over::Over;
 use crate::run::Run;
 use crate::share::Share;
-use crate::tally::{gather, write_counts};
+use crate::tally::gather;
 use base::Memory;
 use chc_core::{Book, Refused};
 use std::alloc::Global;
@@ -101,9 +103,11 @@ impl<R: Run> SharedBook<R> {
         answer
     }
 
-    /// What the worker does next, as `Locked::next_job` answers it. It may wait while other workers hold
-    /// all live leaves that aren't stalled.
+    /// What the worker does next, as `Locked::next_job` answers it: of the live leaves that aren't stalled
+    /// and that no other worker holds, the oldest of the lowest level. It may wait while others hold all
+    /// of them.
     pub fn take_job(&self, rt: &impl Wait, share: &mut Share<R>) -> Result<Job<R>, Over>
+        ensures first { IfOk result (λ job. IsFirst job.snapshot.tree.nodes (IsFree job.snapshot share.old.worker) job.obligation) }
         ensures length { IfOk result (λ job. share.old.count ≤ length job.snapshot.journal) }
         ensures count { share.new.count ≡ share.old.count }
         ensures worker { share.new.worker ≡ share.old.worker }
@@ -135,22 +139,18 @@ impl<R: Run> SharedBook<R> {
         locked.older(part)
     }
 
-    /// The book, once all workers are done, and each one's count. The counts sum to the length of the
-    /// journal.
-    pub fn into_book(self, shares: Vec<Share<R>>, counts: &mut [u64]) -> Book
+    /// The book, once all workers are done. The shares' counts sum to the length of the journal.
+    pub fn into_book(self, shares: Vec<Share<R>>) -> Book
         requires all { vec_len shares ≡ R.workers }
         requires each { R.parts ≡ R.workers }
         requires some { 0 < vec_len shares }
-        requires places { length counts.old ≡ vec_len shares }
-        ensures counts { counts.new ≡ map (λ share. share.count) shares.items }
-        ensures sum { sum counts.new ≡ length result.journal }
+        ensures sum { sum (map (λ share. share.count) shares.items) ≡ length result.journal }
         ensures system { result.system ≡ R.system }
         ensures given { result.given ≡ R.units }
         ensures entries { AllOf (IsEntry R.workers R.nodes) result.journal }
         ensures thin { IsThin (standing_of result) }
     {
         let SharedBook { lock, .. } = self;
-        write_counts(shares.as_slice(), counts);
         let all = gather(shares);
         lock.into_inner().into_book(all)
     }

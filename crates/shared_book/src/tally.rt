@@ -1,20 +1,10 @@
 //! The shares of a run that is over, put together.
 
-ghost use Rattle.std.specs.Prelude.{◌≡◌, ◌<◌, length, map, sum, vec_len};
+ghost use Rattle.std.specs.Prelude.{◌≡◌, ◌<◌, map, sum, vec_len};
 
 use crate::run::Run;
 use crate::share::Share;
 use std::sync::ledger;
-
-/// Writes each share's count, in order.
-pub(crate) fn write_counts<R: Run>(shares: &[Share<R>], counts: &mut [u64])
-    requires { length counts.old ≡ length shares.now }
-    ensures { counts.new ≡ map (λ share. share.count) shares.now }
-{
-    for at in 0..shares.len() {
-        counts[at] = shares[at].count();
-    }
-}
 
 /// The tokens of all shares as one.
 pub(crate) fn gather<R: Run>(shares: Vec<Share<R>>) -> ledger::Share<R>

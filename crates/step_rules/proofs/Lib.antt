@@ -11,4 +11,5 @@ pub mod RaiseLemmas
 pub mod PlaceLemmas
 pub mod QueryLemmas
 pub mod AskLemmas
+pub mod ShownLemmas
 pub mod Public

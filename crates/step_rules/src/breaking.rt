@@ -2,13 +2,17 @@
 //! numbers.
 
 ghost use Rattle.std.specs.Prelude.{◌≡◌, IfOk, true};
-ghost use Rattle.book_rules.specs.Rules.{broken, broken_fact, broken_lemma, broken_lift, broken_open, broken_raise, broken_stall};
+ghost use Rattle.book_rules.specs.Rules.{broken, broken_derive, broken_fact, broken_lemma, broken_lift, broken_open, broken_raise, broken_stall, broken_strengthen};
 ghost use Rattle.book_rules.specs.Places.{has_places};
-ghost use Rattle.step_rules.specs.Taken.{record_of, learn_of, lift_of, open_of, raise_of, stall_of, step_of};
+ghost use Rattle.step_rules.specs.Taken.{derive_of, record_of, learn_of, lift_of, open_of, raise_of, stall_of, step_of, strengthen_of};
 ghost use Rattle.step_rules.specs.Standing.{standing_state};
 ghost use Rattle.step_rules.specs.declared.step.Step.TheVariants.{StallStep};
 ghost use Rattle.step_rules.specs.Standing.{IsStanding};
 
+use crate::derive_step::part::DerivePart;
+use crate::derive_step::rules::{
+    derive_rule_70_premises_are_body, derive_rule_71_conclusion_is_new,
+};
 use crate::fact_step::part::FactPart;
 use crate::fact_step::rules::{
     fact_rule_20_premises_are_body, fact_rule_21_conclusion_is_new, fact_rule_22_target_is_live,
@@ -49,6 +53,11 @@ use crate::stall_step::rules::{
     stall_rule_54_target_is_not_stalled,
 };
 use crate::step::Step;
+use crate::strengthen_step::part::StrengthenPart;
+use crate::strengthen_step::rules::{
+    strengthen_rule_80_lemma_is_over_predicate, strengthen_rule_81_level_is_in_book,
+    strengthen_rule_82_each_clause_has_proof, strengthen_rule_83_used_lemmas_are_below,
+};
 use base::Memory;
 use book_rules::By;
 
@@ -197,6 +206,40 @@ fn broken_stall(parts: &Lent, step: &StallPart) -> Result<Option<(u8, By)>, Memo
     Ok(None)
 }
 
+/// Of a Derive.
+fn broken_derive(parts: &Lent, step: &DerivePart) -> Result<Option<(u8, By)>, Memory>
+    requires kept { IsStanding parts.now }
+    ensures { IfOk result (λ b. b ≡ broken_derive parts.now.system (standing_state parts.now) (derive_of step.now)) }
+{
+    if let Some(by) = derive_rule_70_premises_are_body(parts, step)? {
+        return Ok(Some((70, by)));
+    }
+    if let Some(by) = derive_rule_71_conclusion_is_new(parts, step)? {
+        return Ok(Some((71, by)));
+    }
+    Ok(None)
+}
+
+/// Of a Strengthen.
+fn broken_strengthen(parts: &Lent, step: &StrengthenPart) -> Result<Option<(u8, By)>, Memory>
+    requires kept { IsStanding parts.now }
+    ensures { IfOk result (λ b. b ≡ broken_strengthen parts.now.system (standing_state parts.now) (strengthen_of step.now)) }
+{
+    if let Some(by) = strengthen_rule_80_lemma_is_over_predicate(parts, step) {
+        return Ok(Some((80, by)));
+    }
+    if let Some(by) = strengthen_rule_81_level_is_in_book(parts, step) {
+        return Ok(Some((81, by)));
+    }
+    if let Some(by) = strengthen_rule_82_each_clause_has_proof(parts, step)? {
+        return Ok(Some((82, by)));
+    }
+    if let Some(by) = strengthen_rule_83_used_lemmas_are_below(parts, step)? {
+        return Ok(Some((83, by)));
+    }
+    Ok(None)
+}
+
 /// The number of the first rule that the step breaks, and what breaks it.
 pub fn broken_step(parts: &Lent, step: &Step) -> Result<Option<(u8, By)>, Memory>
     requires kept { IsStanding parts.now }
@@ -210,5 +253,7 @@ pub fn broken_step(parts: &Lent, step: &Step) -> Result<Option<(u8, By)>, Memory
         Step::LiftStep(step) => broken_lift(parts, step),
         Step::RaiseStep(step) => broken_raise(parts, step),
         Step::StallStep(step) => broken_stall(parts, step),
+        Step::DeriveStep(step) => broken_derive(parts, step),
+        Step::StrengthenStep(step) => broken_strengthen(parts, step),
     }
 }

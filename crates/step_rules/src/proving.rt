@@ -1,7 +1,8 @@
-ghost use Rattle.std.specs.Prelude.{◌≡◌, ◌<◌, ◌^◌, length, None};
+ghost use Rattle.std.specs.Prelude.{◌≡◌, ◌<◌, ◌^◌, length, None, true};
 ghost use Rattle.std.specs.List.{list_any};
+ghost use Rattle.std.specs.Bool.{OnTrue};
 ghost use Rattle.book_rules.specs.Proofs.{all_may_use, is_proof_of, may_use, misused, needs, unshown};
-ghost use Rattle.step_rules.specs.Tokens.{all_shown, all_used, used_of};
+ghost use Rattle.step_rules.specs.Tokens.{all_shown, all_used, shown_of, used_of};
 ghost use Rattle.cube_rules.specs.Views.{lemmas_of};
 ghost use Rattle.step_rules.specs.machinery.Claims.{claim_of};
 
@@ -19,16 +20,45 @@ fn needs(k: u32, claim: &Claim, clause: &Clause) -> bool
     is_head(claim.pred(), &clause.head) && (k > 0 || clause.atoms.len() == 0)
 }
 
-/// Whether one of the proofs is of the claim, through the clause of that number.
+/// Whether the proof is of the claim, through the clause of that number.
+fn is_proof(claim: &Claim, number: u32, proof: &Shown) -> bool
+    ensures { result ≡ is_proof_of (claim_of claim.now) number (shown_of proof.now) }
+{
+    proof.clause() == number && claim.is_goal(proof.goal())
+}
+
+/// Whether one of the proofs is.
 fn is_proved(claim: &Claim, number: u32, proofs: &[Shown]) -> bool
     ensures { result ≡ list_any (is_proof_of (claim_of claim.now) number) (all_shown proofs.now) }
 {
     for proof in proofs {
-        if proof.clause() == number && claim.is_goal(proof.goal()) {
+        if is_proof(claim, number, proof) {
             return true;
         }
     }
     false
+}
+
+/// Whether the one at a place is.
+fn is_proved_at(claim: &Claim, number: u32, proofs: &[Shown], at: usize) -> bool
+    ensures { OnTrue result (list_any (is_proof_of (claim_of claim.now) number) (all_shown proofs.now) ≡ true) }
+{
+    match proofs.get(at) {
+        Some(proof) => is_proof(claim, number, proof),
+        None => false,
+    }
+}
+
+/// The same as `is_proved`. Proofs mostly come in the order of their clauses, so the next one is looked
+/// at first.
+fn is_proved_next(claim: &Claim, number: u32, proofs: &[Shown], next: &mut usize) -> bool
+    ensures { result ≡ list_any (is_proof_of (claim_of claim.now) number) (all_shown proofs.now) }
+{
+    if is_proved_at(claim, number, proofs, *next) {
+        *next = next.saturating_add(1);
+        return true;
+    }
+    is_proved(claim, number, proofs)
 }
 
 /// The first clause that needs a proof of the claim and has none.
@@ -36,9 +66,10 @@ pub(crate) fn unshown(sys: &System, k: u32, claim: &Claim, proofs: &[Shown]) -> 
     requires { length sys.now.clauses < 2 ^ 32 }
     ensures { result ≡ unshown sys.now k (claim_of claim.now) (all_shown proofs.now) }
 {
+    let mut next: usize = 0;
     for (number, clause) in sys.clauses().iter().enumerate() {
         let id = number as u32;
-        if needs(k, claim, clause) && !is_proved(claim, id, proofs) {
+        if needs(k, claim, clause) && !is_proved_next(claim, id, proofs, &mut next) {
             return Some(By::Clause(id));
         }
     }

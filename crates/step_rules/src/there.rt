@@ -11,7 +11,7 @@ use clause_form::{Atom, System};
 use cube_forms::Cube;
 
 /// Whether the predicate is there, and has each place of the cube.
-fn is_over(sys: &System, pred: u32, cube: &Cube) -> bool
+pub(crate) fn is_over(sys: &System, pred: u32, cube: &Cube) -> bool
     ensures { result ≡ is_over sys.now.preds pred cube.now }
 {
     match sys.preds().get(pred as usize) {
@@ -112,7 +112,7 @@ fn all_kept_fit(sys: &System, kept: &[NoLift]) -> bool
 }
 
 /// Whether the step's cubes and lemmas name only places that their predicates have, which are there:
-/// what `Book::commit` asks.
+/// what `Book::commit` asks. That the lemma of a Strengthen does, rule 80 asks.
 pub fn has_places(sys: &System, step: &Step) -> bool
     ensures { result ≡ has_places sys.now (step_of step.now) }
 {
@@ -128,5 +128,7 @@ pub fn has_places(sys: &System, step: &Step) -> bool
             all_shown_fit(sys, raise.closed.as_slice()) && all_kept_fit(sys, raise.kept.as_slice())
         }
         Step::StallStep(stall) => all_used_fit(sys, stall.clause, stall.used.as_slice()),
+        Step::DeriveStep(_) => true,
+        Step::StrengthenStep(strengthen) => all_shown_fit(sys, strengthen.proofs.as_slice()),
     }
 }

@@ -3,7 +3,9 @@
 ghost use Rattle.std.specs.Prelude.{◌≡◌};
 
 use base::Copied;
-use chc_core::{FactPart, LemmaPart, LiftPart, OpenPart, RaisePart, StallPart, Step};
+use chc_core::{
+    DerivePart, FactPart, LemmaPart, LiftPart, OpenPart, RaisePart, StallPart, Step, StrengthenPart,
+};
 use std::alloc::Global;
 use std::process::Abort;
 
@@ -71,6 +73,26 @@ fn stall(rt: &impl Abort, alloc: Global, part: &StallPart) -> StallPart
     }
 }
 
+fn derive(rt: &impl Abort, alloc: Global, part: &DerivePart) -> DerivePart
+    ensures { result ≡ part.now }
+{
+    DerivePart {
+        seen: part.seen.copy(alloc).expect(rt, "memory"),
+        premises: part.premises.copy(alloc).expect(rt, "memory"),
+    }
+}
+
+fn strengthen(rt: &impl Abort, alloc: Global, part: &StrengthenPart) -> StrengthenPart
+    ensures { result ≡ part.now }
+{
+    StrengthenPart {
+        pred: part.pred,
+        lemma: part.lemma.copy(alloc).expect(rt, "memory"),
+        level: part.level,
+        proofs: part.proofs.copy(alloc).expect(rt, "memory"),
+    }
+}
+
 /// The same step, as another book can take it.
 pub(crate) fn copied(rt: &impl Abort, alloc: Global, step: &Step) -> Step
     ensures { result ≡ step.now }
@@ -82,5 +104,7 @@ pub(crate) fn copied(rt: &impl Abort, alloc: Global, step: &Step) -> Step
         Step::LiftStep(part) => Step::LiftStep(lift(rt, alloc, part)),
         Step::RaiseStep(part) => Step::RaiseStep(raise(rt, alloc, part)),
         Step::StallStep(part) => Step::StallStep(stall(rt, alloc, part)),
+        Step::DeriveStep(part) => Step::DeriveStep(derive(rt, alloc, part)),
+        Step::StrengthenStep(part) => Step::StrengthenStep(strengthen(rt, alloc, part)),
     }
 }

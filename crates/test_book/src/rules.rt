@@ -2,6 +2,7 @@
 //! by a step that breaks nothing before it. No book is let go, since that costs a proof.
 
 use crate::clauses::counting;
+use crate::replays::{are_as_long, replayed};
 use crate::turns::{Told, Turn, run};
 use chc_core::{By, End};
 use std::mem;
@@ -71,6 +72,42 @@ fn facts_have_their_rules(rt: HostRuntime) {
     let mut book = counting(&rt, rt.alloc(), 50_000);
     run(&rt, rt.alloc(), &mut book, &FACTS);
     mem::forget(book);
+}
+
+/// Facts and lemmas that no obligation asks for: each rule of theirs, and each taken. The lemmas close
+/// the obligation that they shut out.
+const FOR_NONE: [(Turn, Told); 18] = [
+    (Turn::Raise(false, 0, 0), Told::Taken(1)),
+    (Turn::Other(0, 0, 3), Told::Taken(2)),
+    (Turn::Further(0, 0), Told::Rule(70, By::Step)),
+    (Turn::First, Told::Taken(3)),
+    (Turn::First, Told::Rule(71, By::Fact(0))),
+    (Turn::Zero(None), Told::Rule(21, By::Fact(0))),
+    (Turn::Further(0, 0), Told::Taken(4)),
+    (Turn::Strengthen(1, 3, 1, 1), Told::Rule(80, By::Step)),
+    (Turn::Strengthen(0, 3, 0, 1), Told::Rule(81, By::Level(1))),
+    (Turn::Strengthen(0, 3, 2, 1), Told::Rule(81, By::Level(1))),
+    (Turn::Strengthen(0, 3, 1, 0), Told::Rule(82, By::Clause(0))),
+    (Turn::Strengthen(0, 3, 1, 1), Told::Taken(5)),
+    (Turn::Other(1, 0, 3), Told::Rule(1, By::Entry(5))),
+    (Turn::Raise(true, 0, 0), Told::Taken(6)),
+    (Turn::Strengthen(0, 3, 2, 1), Told::Rule(82, By::Clause(1))),
+    (Turn::Strengthen(0, 3, 2, 2), Told::Rule(83, By::Clause(1))),
+    (Turn::Strengthen(0, 2, 1, 1), Told::Taken(7)),
+    (Turn::Strengthen(0, 3, 2, 2), Told::Taken(8)),
+];
+
+#[test]
+fn steps_for_no_obligation_are_taken(rt: HostRuntime) {
+    let mut book = counting(&rt, rt.alloc(), 50_000);
+    run(&rt, rt.alloc(), &mut book, &FOR_NONE);
+    assert!(rt; book.units() == 8);
+    assert!(rt; book.facts().count() == 2);
+    assert!(rt; book.frames().count() == 3);
+    let again = replayed(&rt, rt.alloc(), &book);
+    assert!(rt; are_as_long(&book, &again));
+    mem::forget(book);
+    mem::forget(again);
 }
 
 /// A root that is stalled, and then the book.

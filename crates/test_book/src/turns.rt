@@ -17,8 +17,8 @@ use crate::tokens::{
 };
 use base::{Copied, Items};
 use chc_core::{
-    Book, By, End, FactPart, LemmaPart, LiftPart, OpenPart, RaisePart, Refused, StallPart, Step,
-    has_places,
+    Book, By, DerivePart, End, FactPart, LemmaPart, LiftPart, OpenPart, RaisePart, Refused,
+    StallPart, Step, StrengthenPart, has_places,
 };
 use chc_tokens::{NoLift, Shown, Used};
 use clause_form::System;
@@ -62,6 +62,12 @@ pub(crate) enum Turn {
     Stall(u32, i64, i64),
     /// A Stall by the first clause, for an obligation of that value.
     Choice(u32, i64),
+    /// The Derive p(0) by the first clause.
+    First,
+    /// A Derive by the second clause: the value before, and its fact.
+    Further(i64, u32),
+    /// A Strengthen 'not this value' of a predicate at a level, shown as a Lemma is.
+    Strengthen(u32, i64, u32, u32),
 }
 
 // opens
@@ -225,6 +231,42 @@ pub(crate) fn fact(
     })
 }
 
+fn derive(
+    rt: &impl Abort,
+    alloc: Global,
+    sys: &System,
+    clause: u32,
+    values: &[i64],
+    premises: &[u32],
+) -> Step
+    ensures { IsMadeFor sys.now result }
+{
+    let premises = Items::from_slice(alloc, premises).expect(rt, "memory");
+    Step::DeriveStep(DerivePart {
+        seen: instance(rt, alloc, sys, clause, values),
+        premises,
+    })
+}
+
+fn strengthen(
+    rt: &impl Abort,
+    alloc: Global,
+    sys: &System,
+    pred: u32,
+    value: i64,
+    level: u32,
+    shown: u32,
+) -> Step
+    ensures { IsMadeFor sys.now result }
+{
+    Step::StrengthenStep(StrengthenPart {
+        pred,
+        lemma: not(rt, alloc, value),
+        level,
+        proofs: proofs(rt, alloc, sys, value, shown),
+    })
+}
+
 fn lift(rt: &impl Abort, alloc: Global, sys: &System, lemma: u32, from: u32, value: i64) -> Step
     ensures { IsMadeFor sys.now result }
 {
@@ -352,6 +394,14 @@ fn step(rt: &impl Abort, alloc: Global, sys: &System, turn: Turn) -> Step
         Turn::Unknown(value, other) => raise_unknown(rt, alloc, sys, value, other),
         Turn::Stall(target, value, other) => stall_last(rt, alloc, target, value, other),
         Turn::Choice(target, value) => stall_first(rt, alloc, target, value),
+        Turn::First => derive(rt, alloc, sys, 0, &[0], &[]),
+        Turn::Further(value, premise) => {
+            let values = [value, value.wrapping_add(1)];
+            derive(rt, alloc, sys, 1, &values, &[premise])
+        }
+        Turn::Strengthen(pred, value, level, shown) => {
+            strengthen(rt, alloc, sys, pred, value, level, shown)
+        }
     }
 }
 

@@ -13,7 +13,8 @@ use std::alloc::Global;
 use std::mem;
 use std::process::Abort;
 
-/// The letter of a step: an Open, a Lemma, a Fact, a lift (U), a Raise or a Stall.
+/// The letter of a step: an Open, a Lemma, a Fact, a lift (U), a Raise, a Stall, a Derive, or a lemma that
+/// tightens a frame (T).
 pub(crate) fn letter(step: &Step) -> &'static str {
     match step {
         Step::OpenStep(_) => "O",
@@ -22,11 +23,13 @@ pub(crate) fn letter(step: &Step) -> &'static str {
         Step::LiftStep(_) => "U",
         Step::RaiseStep(_) => "R",
         Step::StallStep(_) => "S",
+        Step::DeriveStep(_) => "D",
+        Step::StrengthenStep(_) => "T",
     }
 }
 
 /// The letters of all entries.
-pub(crate) fn letters(rt: &impl Abort, alloc: Global, book: &Book) -> String {
+fn letters(rt: &impl Abort, alloc: Global, book: &Book) -> String {
     let mut told = String::new(alloc);
     for before in 0..book.length() {
         let entry = book.entry(before + 1);

@@ -41,6 +41,14 @@ fn move_all<R: Run, W: Wait + Abort>(
     made
 }
 
+/// Asserts that each worker has written so many entries.
+fn have_counts<R: Run>(rt: &impl Abort, shares: &[Share<R>], expected: &[u64]) {
+    assert!(rt; shares.len() == expected.len(), "a count for each worker");
+    for at in 0..shares.len() {
+        assert!(rt; shares[at].count() == expected[at], "a worker's entries");
+    }
+}
+
 /// A run of the given number of workers.
 fn run<R: Run, W: Wait + Abort>(
     rt: &W,
@@ -64,14 +72,14 @@ fn run<R: Run, W: Wait + Abort>(
     requires few { AreFew book.system }
     requires thin { IsThin (standing_of book) }
 {
-    let mut counts = vec![in alloc; 0; workers as usize].expect(rt, "memory");
     let (shared, mut shares) = SharedBook::<R>::new(alloc, blank, book, workers).expect(
         rt, "memory",
     );
     let made = move_all(rt, alloc, &shared, shares.as_mut_slice(), rows);
-    let book = shared.into_book(shares, counts.as_mut_slice());
+    have_counts(rt, shares.as_slice(), expected);
+    assert!(rt; shares.len() == workers as usize, "a share of each worker");
+    let book = shared.into_book(shares);
     is_written(rt, &book, made.as_slice());
-    assert!(rt; counts.as_slice() == expected, "each worker's entries");
 }
 
 /// p of 0, and p of 1 gives false.

@@ -42,6 +42,8 @@ pub(crate) fn numbers(step: &Step) -> (u32, u64, u64) {
         Step::LiftStep(part) => (4, u64::from(part.lemma), u64::from(part.from)),
         Step::RaiseStep(part) => (5, part.closed.len() as u64, part.kept.len() as u64),
         Step::StallStep(part) => (6, u64::from(part.target), u64::from(part.clause)),
+        Step::DeriveStep(part) => (7, part.premises.len() as u64, u64::from(part.seen.clause())),
+        Step::StrengthenStep(part) => (8, u64::from(part.pred), u64::from(part.level)),
     }
 }
 

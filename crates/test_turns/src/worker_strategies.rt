@@ -1,6 +1,5 @@
 //! Runs of workers with their strategies.
 
-use crate::journals::{letters, searched};
 use crate::worker_runs::{check_counts, height_of_false, solved};
 use chc_core::End;
 use search_strategy::strategy_of;
@@ -13,20 +12,6 @@ const LONG: &str =
 /// Two counters that move together, from different numbers; the second one never passes the first one.
 const TOGETHER: &str =
     "(set-logic HORN)(declare-fun p (Int Int) Bool)(assert (p 7 3))(assert (forall ((x Int) (y Int)) (=> (p x y) (p (+ x 2) (+ y 2)))))(assert (forall ((x Int) (y Int)) (=> (and (p x y) (< 40 y) (< x y)) false)))(check-sat)";
-
-#[test]
-fn one_worker_alone_goes_the_way_of_the_search(rt: HostRuntime) {
-    for (shows, text) in [("a long way", LONG), ("two counters", TOGETHER)] {
-        let outcome = solved(&rt, rt.alloc(), text, 1, &FreeGate);
-        let told = letters(&rt, rt.alloc(), &outcome.book);
-        let book = searched(&rt, rt.alloc(), text);
-        let alone = letters(&rt, rt.alloc(), &book);
-        assert!(&rt;
-            told.as_str() == alone.as_str(),
-            "{shows}: {told} and {alone}"
-        );
-    }
-}
 
 #[test]
 fn workers_of_other_strategies_come_to_the_same_end(rt: HostRuntime) {

@@ -1,3 +1,5 @@
+pub mod AloneLemmas
+pub mod CountLemmas
 pub mod OfferLemmas
 pub mod SeenLemmas
 pub mod SendLemmas

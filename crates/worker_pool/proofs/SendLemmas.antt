@@ -1,8 +1,9 @@
 -- A book may go to another thread, part by part: what it shares with its snapshots may be shared between threads. So it may be
 -- shared behind its lock.
 use denote.RattleType.{RattleType}
-use denote.Param.Send.{IsSend, IsSync, plain_send, recorded_send, recorded_sync, sendable, struct_send, struct_sync, view_send}
+use denote.Param.Send.{IsSend, IsSync, enum_send, enum_sync, plain_send, recorded_send, recorded_sync, sendable, struct_send, struct_sync, view_send}
 use denote.Struct.Declared.{shape}
+use denote.Enum.Declared.{shape as enum_shape}
 use denote.Struct.Tuple.{TupleAt, field_at, type_at}
 use mathlib.Core.List.{List, [], ◌∷◌}
 use mir.Syntax.{Sym}
@@ -36,6 +37,7 @@ use Rattle.std.proofs.sync.Condvar.TheSendSync as condvar
 use Rattle.std.proofs.sync.Mutex.TheSendSync as mutex
 use Rattle.std.proofs.sync.ledger.Book.TheSendSync as ledger_book
 use Rattle.std.proofs.vec.Vec.TheSendSync as vec
+use Rattle.step_rules.proofs.derive_step.part.DerivePart.TheSendSync as derive_part
 use Rattle.step_rules.proofs.fact_step.part.FactPart.TheSendSync as fact_part
 use Rattle.step_rules.proofs.open_step.part.OpenPart.TheSendSync as open_part
 use Rattle.clause_form.specs.contracts.system.System.{the_row as system_row}
@@ -45,6 +47,7 @@ use Rattle.cube_forms.specs.contracts.table.Table.{the_row as table_row}
 use Rattle.chc_core.specs.contracts.book.Book.{the_row as book_row}
 use Rattle.chc_core.specs.contracts.entry.Entry.{the_row as entry_row}
 use Rattle.chc_core.specs.contracts.parts.Parts.{the_row as parts_row}
+use Rattle.step_rules.specs.contracts.step.Step as step
 use Rattle.shared_book.specs.contracts.locked.Locked as Locked
 use Rattle.shared_book.specs.contracts.locked.Locked.TheInside as inside
 use Rattle.shared_book.specs.contracts.shared.SharedBook as SharedBook
@@ -111,6 +114,10 @@ ruleset crossings = (
   global.the_send,
   global.the_field_sync,
   global.the_sync,
+  derive_part.the_field_send,
+  derive_part.the_send,
+  derive_part.the_field_sync,
+  derive_part.the_sync,
   fact_part.the_field_send,
   fact_part.the_send,
   fact_part.the_field_sync,
@@ -125,11 +132,25 @@ ruleset crossings = (
   sendable,
 )
 
+-- each kind of step by itself: the search over all of them at once breaks off
+
+step_field-send : IsSend (step.the_field).row
+step_field-send = enum_send (enum_shape step.the_type) ((search crossings depth 60 fits 20000, tt), ((search crossings depth 60 fits 20000, tt), ((search crossings depth 60 fits 20000, tt), ((search crossings depth 60 fits 20000, tt), ((search crossings depth 60 fits 20000, tt), ((search crossings depth 60 fits 20000, tt), ((search crossings depth 60 fits 20000, tt), ((search crossings depth 60 fits 20000, tt), tt))))))))
+
+step-send : IsSend step.the_row
+step-send = recorded_send (step.the_field).row _ _ (step.the_type).to_one step_field-send
+
+step_field-sync : IsSync (step.the_field).row
+step_field-sync = enum_sync (enum_shape step.the_type) ((search crossings depth 60 fits 20000, tt), ((search crossings depth 60 fits 20000, tt), ((search crossings depth 60 fits 20000, tt), ((search crossings depth 60 fits 20000, tt), ((search crossings depth 60 fits 20000, tt), ((search crossings depth 60 fits 20000, tt), ((search crossings depth 60 fits 20000, tt), ((search crossings depth 60 fits 20000, tt), tt))))))))
+
+step-sync : IsSync step.the_row
+step-sync = recorded_sync (step.the_field).row _ _ (step.the_type).to_one step_field-sync
+
 entry-send : IsSend entry_row
-entry-send = search crossings depth 60 fits 20000
+entry-send = search (step_field-send, step-send, Crossing.crosses, sendable) depth 60 fits 20000
 
 entry-sync : IsSync entry_row
-entry-sync = search crossings depth 60 fits 20000
+entry-sync = search (step_field-sync, step-sync, Crossing.crosses, sendable) depth 60 fits 20000
 
 journal-send : IsSend (table_row entry_row)
 journal-send = table.the_send entry_row entry-send entry-sync

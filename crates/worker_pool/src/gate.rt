@@ -1,4 +1,5 @@
-/// Where each worker passes before a turn. A test may hold workers there; a run needs it for nothing.
+/// Where each of several workers passes before a turn. A test may hold workers there; a run needs it for
+/// nothing. One worker alone passes none.
 pub trait Gate: Sync {
     /// The worker of this number is about to begin its turn of this number; both count from 1.
     fn pass(&self, worker: u32, turn: u64);

@@ -1,22 +1,22 @@
 //! Steps that are offered to the shared book, from the snapshot that they were made on.
 
-ghost use Rattle.std.specs.Prelude.{◌≡◌, ◌≤◌, ◌+◌, true, if◌then◌else◌, nat_lt, IfOk, OnErr, OnOk};
+ghost use Rattle.std.specs.Prelude.{◌≡◌, ◌≤◌, ◌+◌, true, false, if◌then◌else◌, nat_lt, IfOk, OnErr, OnOk};
 ghost use Rattle.chc_tokens.specs.Tokens.{is_seen};
 ghost use Rattle.step_rules.specs.declared.step.Step.TheVariants.{LemmaStep, OpenStep};
 ghost use Rattle.obligation_turn.specs.Turns.{GoesOn};
 ghost use Rattle.search_strategy.specs.machinery.Steps.{AreFor, IsOffered};
 
 use crate::siblings::{Opened, atoms_of, opened_by, sibling};
-use base::{Copied, Memory};
+use base::Memory;
 use chc_core::Refused;
-use search_strategy::LIFTS_OLDER;
+use search_strategy::{LIFTS_OLDER, lift_by};
 use shared_book::{Run, Share, SharedBook};
 use std::sync::Wait;
-use step_rules::{LemmaPart, Lent, LiftPart, OpenPart, Step};
+use step_rules::{LemmaPart, Lent, OpenPart, Step};
 
 /// Whether the book takes the step: it doesn't where it has ended, or where the step breaks a rule by
 /// what others did meanwhile.
-fn offer<R: Run>(
+pub(crate) fn offer<R: Run>(
     rt: &impl Wait,
     shared: &SharedBook<R>,
     share: &mut Share<R>,
@@ -49,6 +49,8 @@ fn offer_sibling<R: Run>(
     requires system { lent.now.system ≡ R.system }
     requires seen { is_seen lent.now.system from.now.seen ≡ true }
     ensures grows { share.old.count ≤ share.new.count }
+    ensures one { share.new.count ≤ share.old.count + 1 }
+    ensures none { IfOk result (λ offered. offered ≡ false → share.new.count ≡ share.old.count) }
     ensures worker { share.new.worker ≡ share.old.worker }
     ensures offered { share.old.has_offered ≡ true → share.new.has_offered ≡ true }
 {
@@ -75,6 +77,7 @@ fn offer_siblings<R: Run>(
     requires system { lent.now.system ≡ R.system }
     requires seen { is_seen lent.now.system from.now.seen ≡ true }
     ensures grows { share.old.count ≤ share.new.count }
+    ensures few { share.new.count ≤ share.old.count + most }
     ensures worker { share.new.worker ≡ share.old.worker }
     ensures offered { share.old.has_offered ≡ true → share.new.has_offered ≡ true }
 {
@@ -101,12 +104,10 @@ fn offer_open<R: Run>(
     requires open { IsOffered R.system R.nodes (OpenStep part) }
     ensures taken { IfOk result (λ taken. taken ≡ nat_lt share.old.count share.new.count) }
     ensures grows { share.old.count ≤ share.new.count }
+    ensures few { share.new.count ≤ share.old.count + 1 + most }
     ensures worker { share.new.worker ≡ share.old.worker }
     ensures offered { OnOk result (share.new.has_offered ≡ true) }
 {
-    if most == 0 {
-        return offer(rt, shared, share, Step::OpenStep(part));
-    }
     let from = opened_by(lent.alloc, &part)?;
     let taken = offer(rt, shared, share, Step::OpenStep(part))?;
     if taken {
@@ -131,18 +132,12 @@ fn offer_lift<R: Run>(
     ensures worker { share.new.worker ≡ share.old.worker }
     ensures offered { OnOk result (share.new.has_offered ≡ true) }
 {
-    let proofs = part.proofs.copy(lent.alloc)?;
-    let step = Step::LiftStep(LiftPart {
-        lemma: id,
-        from,
-        proofs,
-    });
+    let step = lift_by(lent.alloc, part, id, from)?;
     offer(rt, shared, share, step)
 }
 
 /// Lifts the lemma level by level from this one up to the part's, as far as the book takes it; whether
-/// it took any. The proofs of the part prove each of these lifts: what they use is in the frame below the
-/// part's level, and so in each lower frame, or is the lemma itself, which is in the frame of its level.
+/// it took any.
 fn carry<R: Run>(
     rt: &impl Wait,
     lent: &Lent,

@@ -1,4 +1,4 @@
-//! A run: workers over one book, until it has ended.
+//! A run: one worker or several over one book, until it has ended.
 
 ghost use Rattle.std.specs.Prelude.{◌≡◌, ◌<◌, [], length, replicate, sum, true, vec_len, None, IfOk};
 ghost use Rattle.book_rules.specs.Legal.{end};
@@ -9,11 +9,14 @@ ghost use Rattle.obligation_turn.specs.Turns.{IsThin};
 ghost use Rattle.search_strategy.specs.Runs.{CanRun};
 ghost use Rattle.shared_book.specs.Runs.{IsEntry};
 ghost use Rattle.worker_pool.specs.Allowed.{AreAllowed};
+ghost use Rattle.worker_pool.specs.Counts.{counts_of};
 
+use crate::counting::write_counts;
 use crate::gate::Gate;
 use crate::limits::Limits;
 use crate::working::work;
 use base::Memory;
+use book_loop::search;
 use chc_core::{Book, End};
 use clause_form::System;
 use search_strategy::begin;
@@ -47,21 +50,31 @@ fn zeros(alloc: Global, workers: u32) -> Result<Vec<u64>, Memory>
     Ok(counts)
 }
 
-/// What a run leaves, of its book.
-fn left_by(book: Book, counts: Vec<u64>, wanted: bool) -> Outcome
+/// What a run leaves, of its book: each worker's entries are counted.
+fn left_by(book: Book, workers: u32, counts: Vec<u64>, memory: bool) -> Outcome
+    requires unended { end (state_of book) ≡ None → memory ≡ true }
+    requires each { vec_len counts ≡ workers }
     ensures end { result.end ≡ end (state_of book) }
     ensures unended { result.end ≡ None → result.memory ≡ true }
     ensures book { result.book ≡ book }
-    ensures counts { result.counts ≡ counts }
+    ensures counts { result.counts.items ≡ counts_of workers book.journal }
 {
+    let mut counts = counts;
+    write_counts(&book, workers, counts.as_mut_slice());
     let end = book.end();
-    let memory = wanted || end.is_none();
     Outcome {
         end,
         memory,
         book,
         counts,
     }
+}
+
+/// Whether a worker noted want of memory, or left the book without an end.
+fn is_wanting(book: &Book, noted: bool) -> bool
+    ensures { end (state_of book.now) ≡ None → result ≡ true }
+{
+    noted || book.end().is_none()
 }
 
 /// All workers work until they are done, each with its share.
@@ -111,10 +124,9 @@ fn run<R: Run + Send + Sync, W: Threads + Wait + Sync, G: Gate>(
     ensures thin { IfOk result (λ outcome. IsThin (standing_of outcome.book)) }
     ensures end { IfOk result (λ outcome. outcome.end ≡ end (state_of outcome.book)) }
     ensures unended { IfOk result (λ outcome. outcome.end ≡ None → outcome.memory ≡ true) }
-    ensures each { IfOk result (λ outcome. vec_len outcome.counts ≡ limits.workers) }
-    ensures counts { IfOk result (λ outcome. sum outcome.counts.items ≡ length outcome.book.journal) }
+    ensures counts { IfOk result (λ outcome. outcome.counts.items ≡ counts_of limits.workers outcome.book.journal) }
 {
-    let mut counts = zeros(alloc, limits.workers)?;
+    let counts = zeros(alloc, limits.workers)?;
     let (shared, mut shares) = SharedBook::<R>::new(alloc, blank, book, limits.workers)?;
     let wanted = AtomicBool::new(false);
     all_work(
@@ -126,11 +138,56 @@ fn run<R: Run + Send + Sync, W: Threads + Wait + Sync, G: Gate>(
         gate,
         &wanted,
     );
-    let book = shared.into_book(shares, counts.as_mut_slice());
-    Ok(left_by(book, counts, wanted.load(Ordering::SeqCst)))
+    let book = shared.into_book(shares);
+    let memory = is_wanting(&book, wanted.load(Ordering::SeqCst));
+    Ok(left_by(book, limits.workers, counts, memory))
 }
 
-/// The book that these clauses open, as the workers leave it once it has ended or memory was wanted.
+/// The book that these clauses open, as one worker leaves it that searches it alone: with an end, unless
+/// memory was wanted. It waits for nobody, and so it returns.
+pub fn solve_alone(alloc: Global, system: System, limits: Limits) -> Result<Outcome, Memory>
+    requires can_run { CanRun system }
+    requires allowed { AreAllowed limits }
+    requires one { limits.workers ≡ 1 }
+    ensures system { IfOk result (λ outcome. outcome.book.system ≡ system) }
+    ensures given { IfOk result (λ outcome. outcome.book.given ≡ limits.units) }
+    ensures entries { IfOk result (λ outcome. AllOf (IsEntry limits.workers limits.nodes) outcome.book.journal) }
+    ensures thin { IfOk result (λ outcome. IsThin (standing_of outcome.book)) }
+    ensures end { IfOk result (λ outcome. outcome.end ≡ end (state_of outcome.book)) }
+    ensures unended { IfOk result (λ outcome. outcome.end ≡ None → outcome.memory ≡ true) }
+    ensures counts { IfOk result (λ outcome. outcome.counts.items ≡ counts_of limits.workers outcome.book.journal) }
+{
+    let counts = zeros(alloc, limits.workers)?;
+    let mut book = begin(alloc, system, limits.units)?;
+    let memory = search(&mut book, limits.nodes).is_err();
+    Ok(left_by(book, limits.workers, counts, memory))
+}
+
+/// The same by several workers, who share the book.
+fn solve_together<W: Threads + Wait + Sync, G: Gate>(
+    rt: &W,
+    alloc: Global,
+    system: System,
+    limits: Limits,
+    gate: &G,
+) -> Result<Outcome, Memory>
+    requires can_run { CanRun system }
+    requires allowed { AreAllowed limits }
+    ensures system { IfOk result (λ outcome. outcome.book.system ≡ system) }
+    ensures given { IfOk result (λ outcome. outcome.book.given ≡ limits.units) }
+    ensures entries { IfOk result (λ outcome. AllOf (IsEntry limits.workers limits.nodes) outcome.book.journal) }
+    ensures thin { IfOk result (λ outcome. IsThin (standing_of outcome.book)) }
+    ensures end { IfOk result (λ outcome. outcome.end ≡ end (state_of outcome.book)) }
+    ensures unended { IfOk result (λ outcome. outcome.end ≡ None → outcome.memory ≡ true) }
+    ensures counts { IfOk result (λ outcome. outcome.counts.items ≡ counts_of limits.workers outcome.book.journal) }
+{
+    let book = begin(alloc, system, limits.units)?;
+    let blank = Blank::new(u64::from(limits.workers));
+    run::<Brand, W, G>(rt, alloc, blank, book, limits, gate)
+}
+
+/// The book that these clauses open, as the workers leave it once it has ended or memory was wanted, and
+/// how many of its entries each of them wrote. One worker searches it alone.
 pub fn solve<W: Threads + Wait + Sync, G: Gate>(
     rt: &W,
     alloc: Global,
@@ -146,10 +203,14 @@ pub fn solve<W: Threads + Wait + Sync, G: Gate>(
     ensures thin { IfOk result (λ outcome. IsThin (standing_of outcome.book)) }
     ensures end { IfOk result (λ outcome. outcome.end ≡ end (state_of outcome.book)) }
     ensures unended { IfOk result (λ outcome. outcome.end ≡ None → outcome.memory ≡ true) }
+    ensures by { IfOk result (λ outcome. outcome.counts.items ≡ counts_of limits.workers outcome.book.journal) }
     ensures each { IfOk result (λ outcome. vec_len outcome.counts ≡ limits.workers) }
     ensures counts { IfOk result (λ outcome. sum outcome.counts.items ≡ length outcome.book.journal) }
 {
-    let book = begin(alloc, system, limits.units)?;
-    let blank = Blank::new(u64::from(limits.workers));
-    run::<Brand, W, G>(rt, alloc, blank, book, limits, gate)
+    if limits.workers == 1 {
+        let alone = solve_alone(alloc, system, limits)?;
+        return Ok(alone);
+    }
+    let together = solve_together(rt, alloc, system, limits, gate)?;
+    Ok(together)
 }

@@ -1,21 +1,54 @@
 //! A worker's turns, one after another.
 
 ghost use Rattle.std.specs.Prelude.{◌≡◌, ◌<◌, true, IfOk, OnOk};
-ghost use Rattle.obligation_turn.specs.Workspaces.{IsWorkspaceFor};
+ghost use Rattle.obligation_turn.specs.Turns.{GoesOn, IsOpenLeaf};
+ghost use Rattle.search_mind.specs.Minds.{IsMindFor};
 
 use crate::gate::Gate;
 use crate::limits::Limits;
-use crate::offering::offer_turn;
-use crate::turning::{Mind, go_on, next_step, pass_after};
+use crate::offering::{offer, offer_turn};
 use base::Memory;
-use search_strategy::strategy_of;
+use search_mind::Mind;
+use search_strategy::pass_of;
 use shared_book::{Job, Over, Run, Share, SharedBook};
 use std::alloc::Global;
 use std::sync::Wait;
 use std::sync::atomic::{AtomicBool, Ordering};
+use step_rules::Lent;
 
-/// The work of a turn on its job, and the steps that come of it.
+/// How many further body atoms of an instance a worker asks at the most. They give other workers
+/// something to do.
+const SIBLINGS: u32 = 3;
+
+/// The work of a turn on the obligation of its job, and the steps that come of it.
 fn serve<R: Run>(
+    rt: &impl Wait,
+    lent: &Lent,
+    shared: &SharedBook<R>,
+    share: &mut Share<R>,
+    job: u32,
+    nodes: u32,
+    mind: &mut Mind,
+) -> Result<(), Memory>
+    requires goes_on { GoesOn lent.now }
+    requires system { lent.now.system ≡ R.system }
+    requires leaf { IsOpenLeaf lent.now job }
+    requires some { 0 < nodes }
+    requires nodes { nodes ≡ R.nodes }
+    requires mind { IsMindFor R.system mind.old }
+    ensures mind { OnOk result (IsMindFor R.system mind.new) }
+    ensures offered { OnOk result (share.new.has_offered ≡ true) }
+{
+    let step = mind.serve(lent, job, nodes)?;
+    let pass = pass_of(lent.level, &step);
+    if offer_turn(rt, lent, shared, share, step, SIBLINGS)? {
+        mind.begin(pass);
+    }
+    Ok(())
+}
+
+/// The work of a turn: a small step, or where there is none, the work on its job.
+fn turn<R: Run>(
     rt: &impl Wait,
     shared: &SharedBook<R>,
     share: &mut Share<R>,
@@ -25,16 +58,18 @@ fn serve<R: Run>(
 ) -> Result<(), Memory>
     requires some { 0 < nodes }
     requires nodes { nodes ≡ R.nodes }
-    requires work { IsWorkspaceFor R.system mind.old.work }
-    ensures work { OnOk result (IsWorkspaceFor R.system mind.new.work) }
+    requires mind { IsMindFor R.system mind.old }
+    ensures mind { OnOk result (IsMindFor R.system mind.new) }
     ensures offered { OnOk result (share.new.has_offered ≡ true) }
 {
     let lent = job.lend();
-    let step = next_step(&lent, job.obligation(), nodes, mind)?;
-    let pass = pass_after(&lent, &step, mind);
-    let taken = offer_turn(rt, &lent, shared, share, step, mind.siblings)?;
-    go_on(mind, taken, pass);
-    Ok(())
+    match mind.small_step(&lent, nodes)? {
+        Some(step) => {
+            let _taken = offer(rt, shared, share, step)?;
+            Ok(())
+        }
+        None => serve(rt, &lent, shared, share, job.obligation(), nodes, mind),
+    }
 }
 
 /// One turn; whether there was a job for it.
@@ -47,25 +82,19 @@ fn advance<R: Run>(
 ) -> Result<bool, Memory>
     requires some { 0 < nodes }
     requires nodes { nodes ≡ R.nodes }
-    requires work { IsWorkspaceFor R.system mind.old.work }
-    ensures work { OnOk result (IsWorkspaceFor R.system mind.new.work) }
+    requires mind { IsMindFor R.system mind.old }
+    ensures mind { OnOk result (IsMindFor R.system mind.new) }
     ensures offered { IfOk result (λ had_job. had_job ≡ true → share.new.has_offered ≡ true) }
 {
     match shared.take_job(rt, share) {
         Ok(job) => {
-            serve(rt, shared, share, job, nodes, mind)?;
+            turn(rt, shared, share, job, nodes, mind)?;
             Ok(true)
         }
         Err(Over::Memory) => Err(Memory),
         Err(Over::Ended(_)) => Ok(false),
         Err(Over::WorkerMemory) => Ok(false),
     }
-}
-
-/// How many further body atoms of an instance each of so many workers asks at the most. They give other
-/// workers something to do; one worker alone asks the atoms one after the other.
-fn siblings_for(workers: u32) -> u32 {
-    if workers > 1 { 3 } else { 0 }
 }
 
 /// Works turn after turn, until the book has ended or a worker wanted memory.
@@ -81,15 +110,11 @@ pub(crate) fn work<R: Run, W: Wait, G: Gate>(
     requires some { 0 < limits.nodes }
     requires nodes { limits.nodes ≡ R.nodes }
 {
-    let mut mind = Mind::new(
-        alloc,
-        siblings_for(limits.workers),
-        strategy_of(share.worker()),
-    );
-    let mut turn: u64 = 0;
+    let mut mind = Mind::new(alloc, share.worker());
+    let mut turn_number: u64 = 0;
     for _ in rt.forever() {
-        turn = turn.saturating_add(1);
-        gate.pass(share.worker(), turn);
+        turn_number = turn_number.saturating_add(1);
+        gate.pass(share.worker(), turn_number);
         match advance(rt, shared, share, limits.nodes, &mut mind) {
             Ok(true) => {}
             Ok(false) => return,

@@ -9,14 +9,15 @@ use Rattle.cube_forms.specs.Cubes.{lemma_at}
 use Rattle.book_rules.specs.Areas.{cover, is_among, stands_in}
 use Rattle.book_rules.specs.Frames.{Framed}
 use Rattle.book_rules.specs.Same.{same_lit}
-use Rattle.area_literals.specs.Areas.{all_known_on, is_known_on, is_on}
+use Rattle.area_literals.specs.Areas.{all_known_on, are_new, is_known_on, is_on}
 
--- literals were added, each of which passes a test and is true at the point; and now the list passes a test
+-- literals were added that weren't there, each of which passes a test and is true at the point; and now the list passes a test
 pub record Grows (point : List ℤ) (stands : Lit → Bool) (has : List Lit → Bool) (old new : List Lit) : Type 0 where
   pub more : List Lit
   pub is : new ≡ old ++ more
   pub stand : list_all stands more ≡ true
   pub hold : list_all (lit_truth point) more ≡ true
+  pub once : are_new old more ≡ true
   pub now : has new ≡ true
 
 -- literals of some of these items were added, and now the list has what it needs for each

@@ -1,7 +1,8 @@
 -- The obligations that may be asked.
-use Rattle.std.specs.Prelude.{◌≡◌, ℕ, List, Bool, true, false, Option, None}
+use Rattle.std.specs.Prelude.{◌≡◌, ℕ, List, Bool, true, false}
+use Rattle.std.specs.List.{list_all}
 use Rattle.obligation_tree.specs.declared.node.Node.{Node}
-use Rattle.obligation_tree.specs.Nodes.{is_stalled_in, node_at, IsLiveLeaf}
+use Rattle.obligation_tree.specs.Nodes.{is_stalled_in, leaf_numbers, node_at, IsLiveLeaf}
 
 -- whether the obligation of a number is stalled
 abbrev pub is_stalled : List Node → ℕ → Bool
@@ -12,10 +13,6 @@ pub record IsJob (nodes : List Node) (n : ℕ) : Type 0 where
   pub is_leaf : IsLiveLeaf nodes n
   pub unmarked : is_stalled nodes n ≡ false
 
--- none is found only where none was, and this one is stalled
-pub record IsNone (nodes : List Node) (best : Option ℕ) (n : ℕ) : Type 0 where
-  pub none : best ≡ None
-  pub stalled : is_stalled nodes n ≡ true
-
-abbrev pub LeavesNone : List Node → Option ℕ → ℕ → Option ℕ → Type 0
-LeavesNone nodes best n result = result ≡ None → IsNone nodes best n
+-- all live ones without live children are stalled
+abbrev pub AreStalled : List Node → Type 0
+AreStalled nodes = list_all (is_stalled nodes) (leaf_numbers nodes) ≡ true

@@ -1,5 +1,5 @@
 -- What the entries of steps that the book takes add to its journal.
-use Rattle.std.specs.Prelude.{◌≡◌, ◌<◌, ◌≤◌, ℕ, Bool, true, false, length}
+use Rattle.std.specs.Prelude.{◌≡◌, ◌<◌, ◌≤◌, ℕ, Bool, true, false, length, take}
 use Rattle.book_rules.specs.Walks.{AllOf}
 use Rattle.chc_core.specs.Contents.{Contents}
 use Rattle.chc_core.specs.Views.{standing_of}
@@ -13,6 +13,7 @@ pub record IsFurther (nodes : ℕ) (old new : Contents) : Type 0 where
   pub thin : IsThin (standing_of old) → IsThin (standing_of new)
   pub own : AllOf (IsOwn nodes) old.journal → AllOf (IsOwn nodes) new.journal
   pub longer : length old.journal ≤ length new.journal
+  pub begins : take (length old.journal) new.journal ≡ old.journal
 
 -- whether it took any
 abbrev pub HasTaken : Contents → Contents → Bool → Type 0

@@ -15,8 +15,7 @@ use Rattle.book_rules.specs.Rules.{broken}
 use Rattle.book_rules.specs.State.{State}
 use Rattle.book_rules.specs.Steps.{NoLift as PlainNoLift}
 use Rattle.book_rules.specs.Walks.{AllOf}
-use Rattle.clause_queries.specs.Answers.{AreProofs, IsLost}
-use Rattle.clause_queries.specs.declared.lost.Lost.{Lost}
+use Rattle.clause_queries.specs.Answers.{AreProofs}
 use Rattle.step_rules.specs.Standing.{Standing, standing_state}
 use Rattle.step_rules.specs.Taken.{IsMadeFor, step_of}
 use Rattle.step_rules.specs.Tokens.{all_no_lifts, no_lift_of}
@@ -24,16 +23,14 @@ use Rattle.step_rules.specs.Views.{framed_at, lemmas_of}
 use Rattle.step_rules.specs.declared.lift_step.part.LiftPart.{LiftPart}
 use Rattle.step_rules.specs.declared.step.Step.TheVariants.{LiftStep}
 use Rattle.book_rules.specs.Places.{has_places}
-use Rattle.obligation_turn.specs.Turns.{WhyCounts}
+use Rattle.obligation_turn.specs.Turns.{AreSought, IsWhySought, WhyCounts}
+pub use Rattle.obligation_turn.specs.Turns.{IsLostOf}
 pub use Rattle.obligation_turn.specs.Workspaces.{IsFoundOf, IsHitOf}
 use Rattle.obligation_turn.specs.declared.root_steps.Lifted.{Lifted}
 use Rattle.obligation_turn.specs.declared.root_steps.Lifted.TheVariants.{Lift, Kept}
 
 abbrev pub AreProofsOf : Standing → ℕ → List Shown → Type 0
 AreProofsOf b id proofs = AreProofs b.system b.frames.lemmas (Some (pred_of b.frames.lemmas id)) (Holds (lemma_of b.frames.lemmas id)) (level_of b.frames.lemmas id) proofs
-
-abbrev pub IsLostOf : Standing → ℕ → ℕ → Lost → Type 0
-IsLostOf b nodes id lost = IsLost b.system b.frames.lemmas (Some (pred_of b.frames.lemmas id)) (Holds (lemma_of b.frames.lemmas id)) (level_of b.frames.lemmas id) nodes lost
 
 -- a lemma and what keeps it, as the rules of a Raise want them: of the lemma, through a clause of its head, with the body in F of its level
 pub record IsPair (sys : Clauses) (s : State) (e : ℕ × Framed) (k : PlainNoLift) : Type 0 where
@@ -54,6 +51,7 @@ pub record IsKeptAt (b : Standing) (nodes id : ℕ) (kept : NoLift) : Type 0 whe
   pub pair : IsPair b.system (standing_state b) (id, framed_at b.frames.lemmas id) (no_lift_of kept)
   pub places : no_lift_has_places b.system (no_lift_of kept) ≡ true
   pub counts : WhyCounts nodes (kept_why kept)
+  pub sought : IsWhySought b nodes id (kept_why kept)
 
 -- what was found of the lemmas below this number
 pub record AreKept (b : Standing) (nodes n : ℕ) (kept : List NoLift) : Type 0 where
@@ -61,6 +59,7 @@ pub record AreKept (b : Standing) (nodes n : ℕ) (kept : List NoLift) : Type 0 
   pub pairs : ArePairs b.system (standing_state b) (below_from b.level 0 (take n (lemmas_of b.frames.lemmas))) (all_no_lifts kept)
   pub places : list_all (no_lift_has_places b.system) (all_no_lifts kept) ≡ true
   pub counts : AllOf (λ k. WhyCounts nodes (kept_why k)) kept
+  pub sought : AreSought b nodes (below_from b.level 0 (take n (lemmas_of b.frames.lemmas))) kept
 
 -- a Lift that breaks no rule
 pub record IsLegalLift (b : Standing) (part : LiftPart) : Type 0 where

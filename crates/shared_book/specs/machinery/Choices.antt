@@ -1,5 +1,5 @@
 -- The leaves of a book, and which has been claimed so far.
-use Rattle.std.specs.Prelude.{◌≡◌, ◌||◌, ℕ, Bool, true, Option, Some, None}
+use Rattle.std.specs.Prelude.{◌≡◌, ◌||◌, ℕ, Bool, Option, Some, None}
 use Rattle.obligation_tree.specs.Claims.{is_held_by_another}
 use Rattle.obligation_tree.specs.Nodes.{is_stalled_in, node_at}
 use Rattle.chc_core.specs.Contents.{Contents}
@@ -14,8 +14,3 @@ is_out b worker id = is_stalled_in (node_at b.tree.nodes id) || is_held_by_anoth
 abbrev pub IsChosen : Contents → ℕ → Option ℕ → Contents → Type 0
 IsChosen b worker None now = now ≡ b
 IsChosen b worker (Some id) now = IsFree b worker id × (now ≡ claimed_by id worker b)
-
--- none is chosen only where none was, and this one is out
-pub record LeavesNone (b : Contents) (worker : ℕ) (best : Option ℕ) (id : ℕ) : Type 0 where
-  pub none : best ≡ None
-  pub out : is_out b worker id ≡ true

@@ -31,7 +31,7 @@ unknown_told sys s o p = on (clause_of sys o) (λ clause. first_told (unknown s.
 
 -- by rule 23, of the target of that number
 abbrev pub unholding_told : Clauses → FactStep → ℕ → Obligation → Option By
-unholding_told sys f id o = if holds o (concluded sys f) then None else Some (ByObligation id)
+unholding_told sys f id o = if holds o (concluded sys f.seen) then None else Some (ByObligation id)
 
 -- by rules 52, 53 and 54, of a target
 abbrev pub unfit_told : Clauses → StallStep → Obligation → Option By

@@ -1,19 +1,16 @@
 //! The rules of Lemma. Each answers what breaks it, if anything.
 
-ghost use Rattle.std.specs.Prelude.{◌≡◌, ◌==◌, ◌<◌, ◌^◌, length, Some, None, IfOk};
-ghost use Rattle.book_rules.specs.Proofs.{unshown};
+ghost use Rattle.std.specs.Prelude.{◌≡◌, ◌<◌, ◌^◌, length, IfOk};
 ghost use Rattle.book_rules.specs.LemmaRules.{closes, rule_10, rule_11, rule_12, rule_13, rule_14};
 ghost use Rattle.step_rules.specs.Taken.{learn_of, learnt_of};
 ghost use Rattle.step_rules.specs.Views.{fresh_of};
 ghost use Rattle.step_rules.specs.Standing.{standing_state};
-ghost use Rattle.step_rules.specs.machinery.Claims.{claim_of};
 
-use crate::claim::Claim;
+use crate::learning::{unfounded, unless_level, unproved};
 use crate::lemma_step::part::LemmaPart;
 use crate::lent::Lent;
-use crate::levels::{below, unless_live};
-use crate::proving::{misused, unshown};
-use base::{Copied, Memory};
+use crate::levels::unless_live;
+use base::Memory;
 use book_rules::By;
 use obligation_tree::Obligation;
 
@@ -21,17 +18,7 @@ use obligation_tree::Obligation;
 pub(crate) fn lemma_rule_10_level_is_in_book(parts: &Lent, step: &LemmaPart) -> Option<By>
     ensures { result ≡ rule_10 (standing_state parts.now) (learn_of step.now) }
 {
-    if step.level >= 1 && step.level <= parts.level {
-        return None;
-    }
-    Some(By::Level(parts.level))
-}
-
-/// The lemma, as what is claimed.
-fn learnt(parts: &Lent, step: &LemmaPart) -> Result<Claim, Memory>
-    ensures { IfOk result (λ claim. claim_of claim ≡ Some (learnt_of step.now)) }
-{
-    Ok(Claim::Holds(step.pred, step.lemma.copy(parts.alloc)?))
+    unless_level(parts, step.level)
 }
 
 /// 11: each clause of that head has a proof of this lemma.
@@ -42,9 +29,8 @@ pub(crate) fn lemma_rule_11_each_clause_has_proof(
     requires { length parts.now.system.clauses < 2 ^ 32 }
     ensures { IfOk result (λ by. by ≡ rule_11 parts.now.system (learn_of step.now)) }
 {
-    let claim = learnt(parts, step)?;
-    let k = below(step.level);
-    Ok(unshown(parts.system.plain(), k, &claim, step.proofs.as_slice()))
+    let proofs = step.proofs.as_slice();
+    unproved(parts, step.pred, &step.lemma, step.level, proofs)
 }
 
 /// 12: each used lemma is in the frame of the level below, or this lemma on its own predicate.
@@ -54,10 +40,8 @@ pub(crate) fn lemma_rule_12_used_lemmas_are_below(
 ) -> Result<Option<By>, Memory>
     ensures { IfOk result (λ by. by ≡ rule_12 parts.now.system (standing_state parts.now) (learn_of step.now)) }
 {
-    let claim = learnt(parts, step)?;
-    let k = below(step.level);
-    let (sys, proofs) = (parts.system.plain(), step.proofs.as_slice());
-    Ok(misused(sys, parts.frames, k, &claim, proofs))
+    let proofs = step.proofs.as_slice();
+    unfounded(parts, step.pred, &step.lemma, step.level, proofs)
 }
 
 /// 13: the target is live.

@@ -1,31 +1,29 @@
-use Rattle.std.proofs.Common.{sym, subst, arith}
-use Rattle.clause_form.specs.System.{Clauses}
-use Rattle.obligation_turn.specs.Workspaces.{IsWorkspaceFor}
+use Rattle.std.proofs.Common.{◌≡◌, ◌<◌, length, None, sym, subst}
+use Rattle.book_rules.specs.Legal.{end}
+use Rattle.chc_core.specs.Contents.{Contents}
+use Rattle.chc_core.specs.Views.{standing_of, state_of}
+use Rattle.obligation_turn.specs.Turns.{IsThin}
 use Rattle.search_strategy.specs.Runs.{CanRun}
+use Rattle.search_mind.specs.Minds.{IsMindFor}
+use Rattle.book_loop.specs.machinery.Steps.{HasTaken}
 use Rattle.book_loop.proofs.FurtherLemmas.{further-then}
-use Rattle.book_loop.proofs.StepLemmas.{room}
 use Rattle.book_loop.proofs.running.advance.Goals as goal
 
-pub lift_after-requires-clause-can_run : goal.lift_after-requires-clause-can_run
-lift_after-requires-clause-can_run c = subst CanRun (sym c.in_ok-serve.ensures.further.system) c.requires.can_run
+pub serve-requires-clause-can_run : goal.serve-requires-clause-can_run
+serve-requires-clause-can_run c = subst CanRun (sym c.in_ok-step_on.ensures.further.system) c.requires.can_run
 
-pub lift_after-requires-clause-thin : goal.lift_after-requires-clause-thin
-lift_after-requires-clause-thin c = c.in_ok-serve.ensures.further.thin c.requires.thin
+pub serve-requires-clause-goes_on : goal.serve-requires-clause-goes_on
+serve-requires-clause-goes_on c =
+    let same = subst (HasTaken c.args.book.now c.step_on.new.book) c.if-branch.false c.in_ok-step_on.ensures.taken in
+    subst (λ (b : Contents). end (state_of b) ≡ None) (sym same) c.requires.goes_on
 
-pub lift_after-requires-clause-work : goal.lift_after-requires-clause-work
-lift_after-requires-clause-work c = subst (λ (sys : Clauses). IsWorkspaceFor sys c.next_step.new.work) (sym c.in_ok-serve.ensures.further.system) c.in_ok-step.ensures.work
+pub serve-requires-clause-thin : goal.serve-requires-clause-thin
+serve-requires-clause-thin c = c.in_ok-step_on.ensures.further.thin c.requires.thin
+
+pub serve-requires-clause-mind : goal.serve-requires-clause-mind
+serve-requires-clause-mind c =
+    let same = subst (HasTaken c.args.book.now c.step_on.new.book) c.if-branch.false c.in_ok-step_on.ensures.taken in
+    subst (λ (b : Contents). IsMindFor b.system c.step_on.new.mind) (sym same) c.in_ok-step_on.ensures.mind
 
 pub returns-clause-further : goal.returns-clause-further
-returns-clause-further c = further-then c.args.nodes c.args.book.now c.serve.new.book c.lift_after.new.book c.in_ok-serve.ensures.further c.in_ok-lift_after.ensures.further
-
-pub returns-clause-grown : goal.returns-clause-grown
-returns-clause-grown c =
-    let one = c.in_ok-serve.ensures.grown in
-    let two = c.in_ok-lift_after.ensures.further.longer in
-    omega (arith, one, two)
-
-pub returns-clause-room : goal.returns-clause-room
-returns-clause-room c = room c.lift_after.new.book c.is_replayed.ensures.replayed c.is_replayed.ensures.legal
-
-pub returns-clause-work : goal.returns-clause-work
-returns-clause-work c = subst (λ (sys : Clauses). IsWorkspaceFor sys c.lift_after.new.work) c.in_ok-serve.ensures.further.system c.in_ok-lift_after.ensures.work
+returns-clause-further c = further-then c.args.nodes c.args.book.now c.step_on.new.book c.serve.new.book c.in_ok-step_on.ensures.further c.serve.ensures.further

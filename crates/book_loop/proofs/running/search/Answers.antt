@@ -1,12 +1,13 @@
 use Rattle.std.proofs.Common.{sym, subst, arith}
 use Rattle.clause_form.specs.System.{Clauses}
-use Rattle.obligation_turn.specs.Workspaces.{IsWorkspaceFor}
 use Rattle.search_strategy.specs.Runs.{CanRun}
+use Rattle.search_mind.specs.Minds.{IsMindFor}
 use Rattle.book_loop.proofs.FurtherLemmas.{further-none, further-then}
+use Rattle.book_loop.proofs.StepLemmas.{room}
 use Rattle.book_loop.proofs.running.search.Goals as goal
 
 pub turns-init : goal.turns-init
-turns-init c = record { further = further-none c.args.nodes c.args.book.now; work = c.new-work.ensures (c.args.book.now).system }
+turns-init c = record { further = further-none c.args.nodes c.args.book.now; mind = c.new-mind.ensures (c.args.book.now).system }
 
 pub advance-requires-clause-can_run : goal.advance-requires-clause-can_run
 advance-requires-clause-can_run c = subst CanRun (sym c.turns.invariant.further.system) c.requires.can_run
@@ -14,13 +15,13 @@ advance-requires-clause-can_run c = subst CanRun (sym c.turns.invariant.further.
 pub advance-requires-clause-thin : goal.advance-requires-clause-thin
 advance-requires-clause-thin c = c.turns.invariant.further.thin c.requires.thin
 
-pub advance-requires-clause-work : goal.advance-requires-clause-work
-advance-requires-clause-work c = subst (λ (sys : Clauses). IsWorkspaceFor sys c.turns.work) (sym c.turns.invariant.further.system) c.turns.invariant.work
+pub advance-requires-clause-mind : goal.advance-requires-clause-mind
+advance-requires-clause-mind c = subst (λ (sys : Clauses). IsMindFor sys c.turns.mind) (sym c.turns.invariant.further.system) c.turns.invariant.mind
 
 pub turns-preserved : goal.turns-preserved
 turns-preserved c = record {
   further = further-then c.args.nodes c.args.book.now c.turns.book c.advance.new.book c.turns.invariant.further c.in_ok-advance.ensures.further;
-  work = subst (λ (sys : Clauses). IsWorkspaceFor sys c.advance.new.work) c.turns.invariant.further.system c.in_ok-advance.ensures.work;
+  mind = subst (λ (sys : Clauses). IsMindFor sys c.advance.new.mind) c.turns.invariant.further.system c.in_ok-advance.ensures.mind;
 }
 
 pub turns-smaller : goal.turns-smaller
@@ -28,5 +29,5 @@ turns-smaller c =
     let done = c.in_ok-advance.ensures in
     let grown = done.grown in
     let given = done.further.given in
-    let room = done.room in
-    omega (arith, grown, given, room)
+    let full = room c.advance.new.book c.is_replayed.ensures.replayed c.is_replayed.ensures.legal in
+    omega (arith, grown, given, full)

@@ -1,5 +1,5 @@
 use Rattle.std.proofs.Common.{◌+◌, ◌-◌, length}
-use Rattle.obligation_turn.specs.Workspaces.{IsWorkspaceFor}
+use Rattle.search_mind.specs.Minds.{IsMindFor}
 use Rattle.book_loop.specs.machinery.Steps.{IsFurther}
 use Rattle.book_loop.proofs.running.search.Given as goal
 
@@ -7,7 +7,7 @@ use Rattle.book_loop.proofs.running.search.Given as goal
 abbrev pub invariant-turns : goal.invariant-turns
 invariant-turns l = record {
   further : IsFurther l.nodes l.initial.book l.book;
-  work : IsWorkspaceFor (l.initial.book).system l.work;
+  mind : IsMindFor (l.initial.book).system l.mind;
 }
 
 -- the entries for which there is room

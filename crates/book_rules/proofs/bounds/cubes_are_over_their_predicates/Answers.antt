@@ -5,7 +5,7 @@ pub returns-clause-over : goal.returns-clause-over
 returns-clause-over c = over-replay
 
 pub returns-clause-step : goal.returns-clause-step
-returns-clause-step c = over-after
+returns-clause-step c = λ sys s step system over places legal. over-after sys s step system over places legal.unbroken
 
 pub returns-clause-first : goal.returns-clause-first
 returns-clause-first c = over-opening

@@ -10,4 +10,4 @@ answer_of-requires-clause-legal g c =
 
 pub returns : goal.returns
 returns g c =
-    told c.args.limits c.args.read.now c.in_ok-checked.checked c.requires.short c.in_ok-checked.ensures c.is_arena.ensures.arena c.in_ok-answer.answer c.in_ok-answer.ensures
+    told c.args.limits c.args.read.now c.in_ok-checked.checked c.requires.short c.in_ok-checked.ensures c.in_ok-answer.answer c.in_ok-answer.ensures

@@ -3,5 +3,5 @@ use Rattle.clause_readings.proofs.laws.texts_have_one_system.Goals as goal
 
 pub returns : goal.returns
 returns c = record {
-  system = λ text checked other arena other_arena x y. one_system text checked other arena other_arena x y;
+  system = λ text checked other x y. one_system text checked other x y;
 }

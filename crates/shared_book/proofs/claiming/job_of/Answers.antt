@@ -3,6 +3,7 @@ use Rattle.book_rules.specs.Legal.{end}
 use Rattle.chc_core.specs.Contents.{Contents}
 use Rattle.chc_core.specs.Views.{standing_of, state_of}
 use Rattle.obligation_turn.specs.Turns.{IsThin}
+use Rattle.search_strategy.specs.Jobs.{IsFirst}
 use Rattle.shared_book.specs.Jobs.{AreHeld, Asked, IsFree}
 use Rattle.shared_book.specs.Locks.{claimed_by, with_claims}
 use Rattle.shared_book.proofs.claiming.job_of.Goals as goal
@@ -18,9 +19,10 @@ new-requires g c =
       leaf = c.in-Some.ensures.chosen.0.leaf;
     }
 
-pub returns-in-Some-clause-free : goal.returns-in-Some-clause-free
-returns-in-Some-clause-free g c =
-    subst (λ (a : Asked). IsFree c.args.book.now c.args.worker a.obligation) (sym c.new.ensures) (subst (λ (b : Contents). IsFree b c.args.worker c.in-Some.obligation) c.in_ok-snapshot.ensures c.in-Some.ensures.chosen.0)
+pub returns-in-Some-clause-first : goal.returns-in-Some-clause-first
+returns-in-Some-clause-first g c =
+    subst (λ (a : Asked). IsFirst c.args.book.now.tree.nodes (IsFree c.args.book.now c.args.worker) a.obligation) (sym c.new.ensures)
+    (subst (λ (b : Contents). IsFirst b.tree.nodes (IsFree b c.args.worker) c.in-Some.obligation) c.in_ok-snapshot.ensures c.in-Some.ensures.first)
 
 pub returns-in-Some-clause-snapshot : goal.returns-in-Some-clause-snapshot
 returns-in-Some-clause-snapshot g c = ap (λ (a : Asked). a.snapshot) c.new.ensures ∙ c.in_ok-snapshot.ensures

@@ -3,6 +3,7 @@ use Rattle.std.specs.Prelude.{IfSome}
 use Rattle.book_rules.specs.Legal.{end}
 use Rattle.chc_core.specs.Contents.{Contents}
 use Rattle.chc_core.specs.Views.{state_of}
+use Rattle.search_strategy.specs.Jobs.{IsFirst}
 use Rattle.shared_book.specs.Jobs.{AreHeld, Asked, IsFree}
 use Rattle.shared_book.specs.Locks.{Behind, claimed_by}
 use Rattle.shared_book.specs.Runs.{IsRunBook}
@@ -52,8 +53,9 @@ returns-clause-none g c = subst (λ (l : Behind). c.in_ok-answer.answer ≡ None
 pub returns-clause-unclaimed : goal.returns-clause-unclaimed
 returns-clause-unclaimed g c = λ isnt. same-behind c.job_of.new.book c.self.inside.book c.self.inside.noted _ _ (c.in_ok-answer.ensures.unclaimed isnt) c.audit.ensures.total ∙ c.self.view_is
 
-pub returns-clause-free : goal.returns-clause-free
-returns-clause-free g c = subst (λ (l : Behind). IfSome c.in_ok-answer.answer (λ (job : Asked). IsFree l.book c.args.share.now.worker job.obligation)) c.self.view_is c.in_ok-answer.ensures.free
+pub returns-clause-first : goal.returns-clause-first
+returns-clause-first g c =
+    subst (λ (l : Behind). IfSome c.in_ok-answer.answer (λ (job : Asked). IsFirst l.book.tree.nodes (IsFree l.book c.args.share.now.worker) job.obligation)) c.self.view_is c.in_ok-answer.ensures.first
 
 pub returns-clause-snapshot : goal.returns-clause-snapshot
 returns-clause-snapshot g c = subst (λ (l : Behind). IfSome c.in_ok-answer.answer (λ (job : Asked). job.snapshot ≡ l.book)) c.self.view_is c.in_ok-answer.ensures.snapshot

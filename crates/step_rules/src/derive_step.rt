@@ -1,0 +1,4 @@
+//! A Derive: what it says, and the rules that it must keep.
+
+pub(crate) mod part;
+pub(crate) mod rules;
