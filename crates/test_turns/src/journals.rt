@@ -71,12 +71,12 @@ fn each_turn_writes_an_entry(rt: HostRuntime) {
         (
             "false itself",
             "(set-logic HORN)(assert false)(check-sat)",
-            "F",
+            "D",
         ),
         (
-            "eight body atoms are opened one after the other",
+            "eight tuples by the runner, and false from them",
             EIGHT,
-            "ROFOFOFOFOFOFOFOFF",
+            "DDDDDDDDD",
         ),
         (
             "an obligation whose only query is given up stalls",
