@@ -5,7 +5,7 @@ use crate::runs::{SMALL, check_start, run};
 
 /// What a case shows, the units, the script, and the first line of its answer.
 const CASES: &str = "\
-    a counter of laps of ten steps, whose counterexample has 16: bounds by the number of a step§\
+    a counter of laps of ten steps, whose counterexample has 16: clauses are run forward§\
         100§\
         (set-logic HORN)(declare-fun p (Int Int) Bool)(assert (p 0 0))(assert (forall ((x Int) (l Int)) (=> (and (p x l) (< x 9)) (p (+ x 1) l))))(assert (forall ((x Int) (l Int)) (=> (and (p x l) (>= x 9)) (p 0 (+ l 1)))))(assert (forall ((x Int) (l Int)) (=> (and (p x l) (>= x 5) (= l 1)) false)))(check-sat)§\
         unsat\n¶\
