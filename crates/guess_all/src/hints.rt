@@ -2,9 +2,8 @@
 
 ghost use Rattle.std.specs.Prelude.{◌≡◌, true, false, None, Some, is_some, IfOk, IfSome, IsOk, OnOk, OnErr};
 ghost use Rattle.guess_bounds.specs.Rounds.{IsRenewed, are_due};
-ghost use Rattle.guess_all.specs.Hinted.{is_broken, is_wanted, unhinted};
+ghost use Rattle.guess_all.specs.Hinted.{is_broken, unhinted};
 
-use crate::paces::{Pace, paced_at, paces_of};
 use base::Memory;
 use clause_form::System;
 use clause_index::IndexedSystem;
@@ -21,10 +20,8 @@ use std::marker::Model;
 pub struct Hints {
     hulls: Hulls,
     bounds: Bounds,
-    /// What running clauses forward met, once that was wanted.
+    /// What running clauses forward met, from the first round on.
     walk: Option<Walk>,
-    /// What the number of a tuple's step says of it, by the same, where false follows from one of them.
-    paces: Vec<Pace>,
 }
 
 /// Contracts see the rounds of the bounds, and whether false follows from what running clauses forward met.
@@ -46,7 +43,6 @@ pub fn hints_of(alloc: Global, sys: &IndexedSystem) -> Result<Hints, Memory>
         hulls: hulls_of(alloc, sys.plain())?,
         bounds: Bounds::new(),
         walk: None,
-        paces: Vec::new(alloc),
     })
 }
 
@@ -93,15 +89,11 @@ impl Hints {
         if let Some(met) = self.walk.take() {
             return Ok(met);
         }
-        let met = walked(alloc, sys)?;
-        if met.is_broken {
-            self.paces = paces_of(alloc, sys.plain(), &met)?;
-        }
-        Ok(met)
+        walked(alloc, sys)
     }
 
     /// Looks for bounds that hold together, where the level of the book and the units that were spent say
-    /// so. From the first level on it is known what running clauses forward meets.
+    /// so. Clauses are run forward for the first round.
     pub fn renew(
         &mut self,
         alloc: Global,
@@ -109,37 +101,21 @@ impl Hints {
         level: u32,
         units: u32,
     ) -> Result<(), Memory>
-        ensures early { is_wanted level units self.old ≡ false → IsOk result × (self.new ≡ self.old) }
-        ensures walked { is_wanted level units self.old ≡ true → OnOk result (is_some self.new.broken ≡ true) }
+        ensures waits { are_due level units self.old.rounds ≡ false → IsOk result × (self.new ≡ self.old) }
+        ensures walked { are_due level units self.old.rounds ≡ true → OnOk result (is_some self.new.broken ≡ true) }
         ensures kept { OnOk result (IfSome self.old.broken (λ b. self.new.broken ≡ Some b)) }
         ensures renewed { are_due level units self.old.rounds ≡ true → OnOk result (IsRenewed (is_broken self.new) units self.old.rounds self.new.rounds) }
-        ensures waits { are_due level units self.old.rounds ≡ false → self.new.rounds ≡ self.old.rounds }
         ensures err { OnErr result (self.new.rounds ≡ self.old.rounds) }
     {
-        let are_due = self.bounds.are_due(level, units);
-        if !are_due && (level == 0 || self.walk.is_some()) {
+        if !self.bounds.are_due(level, units) {
             return Ok(());
         }
         let met = self.walk(alloc, sys)?;
-        if are_due {
-            let shared = shared_forms(alloc, sys.plain(), &self.hulls, &met)?;
-            self.bounds
-                .renew(alloc, sys, shared.as_slice(), &met, level, units)?;
-        }
+        let shared = shared_forms(alloc, sys.plain(), &self.hulls, &met)?;
+        self.bounds
+            .renew(alloc, sys, shared.as_slice(), &met, level, units)?;
         self.walk = Some(met);
         Ok(())
-    }
-
-    /// Cubes that hold the point, and in which no tuple of the predicate lies within so many steps, as far
-    /// as is known.
-    pub fn paced(
-        &self,
-        alloc: Global,
-        pred: u32,
-        point: &[i64],
-        steps: u32,
-    ) -> Result<Vec<Cube>, Memory> {
-        paced_at(alloc, self.paces.as_slice(), pred, point, steps)
     }
 
     /// The bounds that were found so far.

@@ -48,33 +48,6 @@ pub fn try_bounds(lent: &Lent, tries: &mut Tries, hints: &Hints, nodes: u32) -> 
     Ok(taken)
 }
 
-/// The same by what the number of a tuple's step says of it.
-fn paced_for(lent: &Lent, part: &LemmaPart, hints: &Hints) -> Result<Vec<Cube>, Memory> {
-    if part.target >= lent.tree.count() {
-        return Ok(Vec::new(lent.alloc));
-    }
-    let obligation = lent.tree.obligation(part.target);
-    hints.paced(
-        lent.alloc,
-        part.pred,
-        obligation.point.as_slice(),
-        part.level,
-    )
-}
-
-/// Puts a lemma of a cube in its place that needs more steps than its level allows for, as far as running
-/// clauses forward told, if the frame below implies one; whether it does.
-pub fn try_paces(lent: &Lent, tries: &mut Tries, hints: &Hints, nodes: u32) -> Result<bool, Memory>
-    requires goes_on { GoesOn lent.now }
-    requires some { 0 < nodes }
-    requires trying { IsTrying lent.now tries.old }
-    ensures { OnOk result (IsTrying lent.now tries.new) }
-{
-    let cubes = paced_for(lent, tries.part(), hints)?;
-    let taken = try_each(lent, tries, cubes.as_slice(), nodes)?;
-    Ok(taken)
-}
-
 /// The cube of these literals, with those of another one behind them, each once.
 fn joined(alloc: Global, lits: &[Lit], last: &[Lit]) -> Result<Option<Cube>, Memory> {
     let mut made = Vec::new(alloc);

@@ -6,7 +6,7 @@ ghost use Rattle.lemma_general.specs.Generals.{IsLearnt};
 ghost use Rattle.lemma_general.specs.Tries.{IsTrying};
 ghost use Rattle.search_strategy.specs.machinery.Steps.{IsTaken};
 
-use crate::excluding::{narrow, try_bounds, try_paces};
+use crate::excluding::{narrow, try_bounds};
 use crate::proposing::{propose, propose_alike, propose_hulls};
 use crate::tidying::tidy;
 use crate::widening::widen;
@@ -46,33 +46,14 @@ fn again(lent: &Lent, tries: &mut Tries, nodes: u32) -> Result<bool, Memory>
     }
 }
 
-/// Whether a cube that needs more steps than the part's level allows for stands in its place.
-fn paced(lent: &Lent, tries: &mut Tries, hints: Option<&Hints>, nodes: u32) -> Result<bool, Memory>
-    requires goes_on { GoesOn lent.now }
-    requires some { 0 < nodes }
-    requires trying { IsTrying lent.now tries.old }
-    ensures { OnOk result (IsTrying lent.now tries.new) }
-{
-    match hints {
-        Some(hints) if TRIES_BOUNDS => {
-            let shown = try_paces(lent, tries, hints, nodes)?;
-            Ok(shown)
-        }
-        _ => Ok(false),
-    }
-}
-
-/// Whether a cube that is known holds at the part's level, and so stands in its place: one that needs more
-/// steps, that of an old lemma, or one that bounds exclude.
+/// Whether a cube that is known holds at the part's level, and so stands in its place: that of an old
+/// lemma, or one that bounds exclude.
 fn ready(lent: &Lent, tries: &mut Tries, hints: Option<&Hints>, nodes: u32) -> Result<bool, Memory>
     requires goes_on { GoesOn lent.now }
     requires some { 0 < nodes }
     requires trying { IsTrying lent.now tries.old }
     ensures { OnOk result (IsTrying lent.now tries.new) }
 {
-    if paced(lent, tries, hints, nodes)? {
-        return Ok(true);
-    }
     if again(lent, tries, nodes)? {
         return Ok(true);
     }

@@ -10,7 +10,7 @@ mod shrinking;
 mod tidying;
 mod widening;
 
-pub use excluding::{narrow, try_bounds, try_paces};
+pub use excluding::{narrow, try_bounds};
 pub use learning::improved;
 pub use proposing::{propose, propose_alike, propose_hulls};
 pub use tidying::tidy;

@@ -1,4 +1,5 @@
 pub mod JobLemmas
+mod LiftLemmas
 mod OlderLemmas
 pub mod StepLemmas
 pub mod SystemLemmas

@@ -1,4 +1,5 @@
 pub mod Jobs
+pub mod Lifts
 pub mod Older
 pub mod Runs
 pub mod machinery

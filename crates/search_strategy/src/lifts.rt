@@ -1,11 +1,10 @@
 //! Lemmas that are lifted after a step for the root.
 
-ghost use Rattle.std.specs.Prelude.{◌≡◌, ◌<◌, length, IfOk, IfSome};
-ghost use Rattle.std.specs.Bool.{OnTrue};
-ghost use Rattle.lemma_frames.specs.Frames.{level_of};
+ghost use Rattle.std.specs.Prelude.{◌≡◌, ◌<◌, ◌↔◌, length, min, IfOk, IfSome, IsTrue, MatchOption};
 ghost use Rattle.obligation_turn.specs.Turns.{GoesOn};
 ghost use Rattle.obligation_turn.specs.Workspaces.{IsWorkspaceFor};
-ghost use Rattle.search_strategy.specs.machinery.Passes.{pass_of};
+ghost use Rattle.search_strategy.specs.Lifts.{AllStay, IsFirstLift, IsNextLift, MayLift};
+ghost use Rattle.search_strategy.specs.machinery.Passes.{IsLiftAt, pass_of};
 ghost use Rattle.search_strategy.specs.machinery.Steps.{IsTaken};
 
 use base::Memory;
@@ -45,7 +44,8 @@ pub fn pass_of(level: u32, step: &Step) -> Option<Pass>
 /// How many inner nodes a guess is worth, or a lift after a step.
 pub fn few(nodes: u32) -> u32
     requires { 0 < nodes }
-    ensures { 0 < result }
+    ensures is { result ≡ min nodes 200 }
+    ensures some { 0 < result }
 {
     if nodes < GUESS_NODES {
         nodes
@@ -57,7 +57,7 @@ pub fn few(nodes: u32) -> u32
 /// Whether the lemma of that number is of at least a level, and below that of the book.
 fn is_below(lent: &Lent, id: u32, least: u32) -> bool
     requires { id < length lent.now.frames.lemmas }
-    ensures { OnTrue result (level_of lent.now.frames.lemmas id < lent.now.level) }
+    ensures { IsTrue result ↔ MayLift lent.now least id }
 {
     let level = lent.frames.level_of(id);
     least <= level && level < lent.level
@@ -76,6 +76,7 @@ fn lift_of(
     requires some { 0 < nodes }
     requires there { id < length lent.now.frames.lemmas }
     requires work { IsWorkspaceFor lent.now.system work.old }
+    ensures lifted { IfOk result (IsLiftAt lent.now (min nodes 200) least id) }
     ensures taken { IfOk result (λ found. IfSome found (IsTaken lent.now nodes)) }
     ensures work { IsWorkspaceFor lent.now.system work.new }
 {
@@ -99,6 +100,7 @@ fn first_lift(
     requires goes_on { GoesOn lent.now }
     requires some { 0 < nodes }
     requires work { IsWorkspaceFor lent.now.system work.old }
+    ensures first { IfOk result (λ found. MatchOption found (AllStay lent.now (min nodes 200) pass) (λ lift. IsFirstLift lent.now (min nodes 200) pass lift.0 lift.1)) }
     ensures taken { IfOk result (λ found. IfSome found (λ lift. IsTaken lent.now nodes lift.1)) }
     ensures work { IsWorkspaceFor lent.now.system work.new }
 {
@@ -121,6 +123,7 @@ pub fn next_lift(
     requires goes_on { GoesOn lent.now }
     requires some { 0 < nodes }
     requires work { IsWorkspaceFor lent.now.system work.old }
+    ensures next { IfOk result (IsNextLift lent.now (min nodes 200) pass.old pass.new) }
     ensures taken { IfOk result (λ found. IfSome found (IsTaken lent.now nodes)) }
     ensures work { IsWorkspaceFor lent.now.system work.new }
 {

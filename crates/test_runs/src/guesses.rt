@@ -5,7 +5,7 @@ use crate::runs::{SMALL, check_start, run};
 
 /// What a case shows, the units, the script, and the first line of its answer.
 const CASES: &str = "\
-    a counter of laps of ten steps, whose counterexample has 16: bounds by the number of a step§\
+    a counter of laps of ten steps, whose counterexample has 16: clauses are run forward§\
         100§\
         (set-logic HORN)(declare-fun p (Int Int) Bool)(assert (p 0 0))(assert (forall ((x Int) (l Int)) (=> (and (p x l) (< x 9)) (p (+ x 1) l))))(assert (forall ((x Int) (l Int)) (=> (and (p x l) (>= x 9)) (p 0 (+ l 1)))))(assert (forall ((x Int) (l Int)) (=> (and (p x l) (>= x 5) (= l 1)) false)))(check-sat)§\
         unsat\n¶\
@@ -16,6 +16,10 @@ const CASES: &str = "\
     a loop in a loop whose counter keeps up with the outer one: a bound beside literals of a cube§\
         60§\
         (set-logic HORN)(declare-fun p (Int Int Int) Bool)(declare-fun q (Int Int Int Int) Bool)(assert (forall ((n Int)) (=> (<= 0 n) (p 0 n 0))))(assert (forall ((i Int) (n Int) (c Int)) (=> (and (p i n c) (< i n)) (q i i n c))))(assert (forall ((i Int) (j Int) (n Int) (c Int)) (=> (and (q i j n c) (< j n)) (q i (+ j 1) n (+ c 1)))))(assert (forall ((i Int) (j Int) (n Int) (c Int)) (=> (and (q i j n c) (>= j n)) (p (+ i 1) n c))))(assert (forall ((i Int) (n Int) (c Int)) (=> (and (p i n c) (>= i n) (< c n)) false)))(check-sat)§\
+        sat\n¶\
+    a chain of three loops of 40 turns each: needed bounds enter at once§\
+        60§\
+        (set-logic HORN)(declare-fun p (Int) Bool)(declare-fun q (Int Int) Bool)(declare-fun r (Int Int Int) Bool)(assert (p 0))(assert (forall ((x0 Int)) (=> (and (p x0) (< x0 40)) (p (+ x0 1)))))(assert (forall ((x0 Int)) (=> (and (p x0) (>= x0 40)) (q x0 0))))(assert (forall ((x0 Int) (x1 Int)) (=> (and (q x0 x1) (< x1 40)) (q x0 (+ x1 1)))))(assert (forall ((x0 Int) (x1 Int)) (=> (and (q x0 x1) (>= x1 40)) (r x0 x1 0))))(assert (forall ((x0 Int) (x1 Int) (x2 Int)) (=> (and (r x0 x1 x2) (< x2 40)) (r x0 x1 (+ x2 1)))))(assert (forall ((x0 Int) (x1 Int) (x2 Int)) (=> (and (r x0 x1 x2) (> (+ x0 x1 x2) 120)) false)))(check-sat)§\
         sat\n";
 
 #[test]
@@ -29,5 +33,5 @@ fn guesses_end_searches_in_few_units(rt: HostRuntime) {
             tried = tried.saturating_add(1);
         }
     }
-    assert!(rt; tried == 3);
+    assert!(rt; tried == 4);
 }

@@ -11,9 +11,10 @@ ghost use Rattle.test_turns.specs.Led.{AreThin, HaveThin, IsFree, IsGiven, IsOn}
 
 use base::Memory;
 use chc_core::{Book, Step};
+use cube_forms::Lemma;
 use cube_rules::is_wide;
 use lemma_frames::Frames;
-use lemma_general::{generalise, lift, raise};
+use lemma_general::{generalise, lift, raise, strengthen};
 use obligation_tree::Tree;
 use obligation_turn::turn;
 use step_rules::LemmaPart;
@@ -174,4 +175,37 @@ pub(crate) fn stays(book: &Book, id: u32) -> Result<bool, Memory>
     let lent = book.lend();
     let found = lift(&lent, id, NODES)?;
     Ok(found.is_none())
+}
+
+/// The step that adds the lemma at the level, if there is one.
+fn entry_of(book: &Book, pred: u32, lemma: &Lemma, level: u32) -> Result<Option<Step>, Memory>
+    requires { IsOn book.now }
+    ensures { IfOk result (λ found. IfSome found (IsGiven (standing_of book.now))) }
+{
+    let _facts = book.facts();
+    let lent = book.lend();
+    match strengthen(&lent, pred, lemma, level, NODES)? {
+        Some(part) => Ok(Some(Step::StrengthenStep(part))),
+        None => Ok(None),
+    }
+}
+
+/// Adds the lemma at the level, for no obligation: whether the book took the step, where there is one.
+pub(crate) fn enter(
+    book: &mut Book,
+    pred: u32,
+    lemma: &Lemma,
+    level: u32,
+) -> Result<Option<bool>, Memory>
+    requires { CanRun book.old.system }
+    ensures { CanRun book.new.system }
+{
+    if !is_on(book) {
+        return Ok(None);
+    }
+    let step = entry_of(book, pred, lemma, level)?;
+    match step {
+        Some(step) => Ok(Some(take(book, step))),
+        None => Ok(None),
+    }
 }

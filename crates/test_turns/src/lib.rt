@@ -1,10 +1,13 @@
 //! Turns over small scripts: what is read and asked of their clauses, and guessed of them; the step of a
-//! first turn, and the journal of a whole search; lemmas that are made more general and raised; what the
+//! first turn, and the journal of a whole search; lemmas that are made more general and raised,
+//! and lemmas that enter for no obligation; what the
 //! calls of a shared book answer; and runs of one and of several workers. It has nothing but tests.
 #![tactic(auto)]
 
 #[cfg(test)]
 mod asking;
+#[cfg(test)]
+mod entered_lemmas;
 #[cfg(test)]
 mod first_steps;
 #[cfg(test)]

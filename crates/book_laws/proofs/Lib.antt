@@ -1,0 +1,2 @@
+mod GrowthLemmas
+mod StaleLemmas
