@@ -63,7 +63,7 @@ fn check_source<W: Threads + Wait + Abort + Sync>(
 #[test]
 fn a_source_that_fails_at_any_turn_is_status_3_and_nothing_is_written(rt: HostRuntime) {
     let checked = checked(&rt, rt.alloc());
-    for (command, input, turns) in [("solve", COUNTER, 10), ("check", checked.as_str(), 20)] {
+    for (command, input, turns) in [("solve", COUNTER, 10u64), ("check", checked.as_str(), 20)] {
         for before in 0..turns.saturating_add(1) {
             let turn = before.saturating_add(1);
             check_source(&rt, rt.alloc(), command, input, turns, turn);
