@@ -6,8 +6,9 @@
 # level that was closed, at most LEVEL where that is given. How many runs ended in each way is printed, and
 # how many answered as ever although a request was refused: fewer than LEAST of these are a fault.
 #
-# Several workers ask for memory in another order each time, so how many requests there are is taken from each
-# run, and it goes on up to the most that were seen; the scripts that are given then must have one answer.
+# Several workers ask for memory in another order each time, and not equally often, so how many requests there are
+# is taken from each run: with one worker the first run that has fewer is the end, with several the tenth
+# in a row. The scripts that several are given must have one answer.
 # WORDS are other words, as `check`, for inputs of such a call, or `gen --depth 1 --seed 1`, which reads none.
 # CHC names a program to be run in place of the one that ./chc builds.
 set -e
@@ -18,6 +19,8 @@ nodes=${NODES:-3}
 workers=${WORKERS:-1}
 level=${LEVEL:-}
 least=${LEAST:-0}
+last=1
+[ "$workers" -eq 1 ] || last=10
 words=${WORDS:-solve --workers $workers --units $units --nodes $nodes}
 [ -x "$program" ] || "$top/chc" solve </dev/null >/dev/null || [ -x "$program" ]
 work=$(mktemp -d)
@@ -49,15 +52,16 @@ count_wanting() {
 for script in "$@"; do
     run "$script" 0 whole
     wanted=$status
-    most=$requests
     number=1
+    row=0
     lines=0
     levels=0
     answers=0
     unrefused=0
-    while [ "$number" -le "$most" ]; do
+    while [ "$row" -lt "$last" ]; do
         run "$script" "$number" part
-        [ "$requests" -le "$most" ] || most=$requests
+        row=$((row + 1))
+        [ "$requests" -lt "$number" ] || row=0
         if [ "$status" -eq 5 ]; then
             count_wanting || { echo "$script: request $number: status 5 with another text"; exit 1; }
         elif [ "$status" -ne "$wanted" ] || ! cmp -s "$work/part" "$work/whole"; then
@@ -70,6 +74,6 @@ for script in "$@"; do
         fi
         number=$((number + 1))
     done
-    echo "$script: $((number - 1)) requests refused in turn: $lines times the error line, $levels times a level, $answers times status $wanted as ever although one was refused, $unrefused times without so many"
+    echo "$script: $((number - 1 - unrefused)) requests refused in turn: $lines times the error line, $levels times a level, $answers times status $wanted as ever although one was refused, and $unrefused runs without so many"
     [ "$answers" -ge "$least" ] || { echo "$script: fewer than $least answers"; exit 1; }
 done

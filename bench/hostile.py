@@ -5,11 +5,13 @@ late, and not with more memory than the text is worth.
 Each text is made at full and at half size. For each this prints the size, the status, the seconds of processor
 time and the peak of memory, and how much longer the full size takes. It fails where a run ends otherwise
 than it must, where twice the size takes more than 2.5 times as long (times below 0.1 s count as that), where a run takes
-more than 60 bytes of memory a byte of text, besides 32 MiB, or more than 5 s of processor time. A number, `--seed`,
+more than 60 bytes of memory a byte of text, besides 32 MiB and what this script itself has, which the system counts for
+a child until it has more, or more than 5 s of processor time. A number, `--seed`,
 chooses names, numerals and values. With words it runs the texts whose names have one of these: `bench/hostile.py let not`."""
 
 import argparse
 import random
+import resource
 import sys
 import tempfile
 from typing import NamedTuple
@@ -82,10 +84,10 @@ def many_bound(_, size):
 
 
 def wide_clause(seed, size):
-    """A clause of 64 body atoms, so many variables of its own and as many that stand for choices."""
+    """A clause of 64 body atoms, so many variables of its own and as many that stand for arguments."""
     some = random.Random(seed)
     variables = [f"y{number}" for number in range(size)]
-    terms = [f"(ite (< {it} {some.randrange(1000)}) {it} {some.randrange(1000)})" for it in variables]
+    terms = [f"(+ {it} {some.randrange(1000)})" for it in variables]
     each = size // 64
     atoms = [f"(p {' '.join(terms[at * each:(at + 1) * each])})" for at in range(64)]
     front = f"(declare-fun p ({'Int ' * each}) Bool){DECLARED}"
@@ -157,9 +159,9 @@ CASES = [
     Case("nested not", 1998, nested(DECLARED + "(assert (=> ", "(not ", "true", ")", " q))"), always(0, "sat\n")),
     Case("nested and", 1998, nested(DECLARED + "(assert (=> ", "(and ", "true", ")", " q))"), always(0, "sat\n")),
     Case("nested sum", 1997, nested("(declare-fun p (Int) Bool)(assert (forall ((y Int)) (p ", "(+ ", "y", " 1)", ")))"), always(0, "sat\n")),
-    Case("nested let", 1998, nested(DECLARED + "(assert ", "(let ((z true)) ", "q", ")", ")"), always(0, "sat\n")),
+    Case("nested let", 1997, nested(DECLARED + "(assert ", "(let ((z true)) ", "q", ")", ")"), always(0, "sat\n")),
     Case("nested forall", 1024, many_bound, always(0, "sat\n")),
-    Case("too many variables", 1998, many_bound, None),
+    Case("too many variables", 1997, many_bound, None),
     Case("clause", 1024, wide_clause, always(0, "sat\n")),
     Case("distinct", 62, distinct, always(0, "sat\n")),
     *(Case(f"byte {ord(byte)}", TEXT, bytes_of(byte), end) for byte, end in ONE_BYTE.items()),
@@ -182,8 +184,9 @@ def run_case(case, seed, size, words):
         faults.append(f"ends with status {ran.status} and {ran.output[:80]!r}" + (f" ({ran.limit})" if ran.limit else ""))
     if ran.seconds > MOST_SECONDS:
         faults.append(f"takes {ran.seconds:.1f} s")
-    if ran.peak > BYTES_BESIDES + BYTES_A_BYTE * len(text):
-        faults.append(f"takes {(ran.peak - BYTES_BESIDES) / len(text):.0f} bytes of memory a byte")
+    besides = max(BYTES_BESIDES, resource.getrusage(resource.RUSAGE_SELF).ru_maxrss * 1024)
+    if ran.peak > besides + BYTES_A_BYTE * len(text):
+        faults.append(f"takes {(ran.peak - besides) / len(text):.0f} bytes of memory a byte")
     print(f"{case.name:20} {size:9} {len(text):9} bytes: status {ran.status}, {ran.seconds:7.3f} s, {ran.peak / 2**20:7.1f} MiB", flush=True)
     return ran.seconds, faults
 

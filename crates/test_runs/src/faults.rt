@@ -72,6 +72,7 @@ fn a_source_that_fails_at_any_turn_is_status_3_and_nothing_is_written(rt: HostRu
 }
 
 /// A run, and what comes of it where nothing fails.
+#[derive(Drop)]
 struct Call<'a> {
     words: &'a [&'a str],
     input: &'a str,
