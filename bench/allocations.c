@@ -1,5 +1,5 @@
-/* Refuses one allocation of a program: the one whose number, from 1, stands in REFUSED. It is loaded
-   before the C library. What it counts at the end goes to the file that COUNTED names. */
+/* Refuses one allocation of a program: the one whose number, from 1, stands in REFUSED, whichever thread asks
+   for it. It is loaded before the C library. What it counts at the end goes to the file that COUNTED names. */
 #define _GNU_SOURCE
 #include <dlfcn.h>
 #include <stdio.h>
@@ -7,7 +7,8 @@
 #include <sys/syscall.h>
 #include <unistd.h>
 
-static unsigned long count;
+/* Counted by all threads at once. */
+static _Atomic unsigned long count;
 static unsigned long refused;
 static const char *counted;
 
@@ -43,13 +44,11 @@ void _exit(int status) {
 void *malloc(size_t size) {
     if (!next_malloc)
         next_malloc = dlsym(RTLD_NEXT, "malloc");
-    count++;
-    return count == refused ? NULL : next_malloc(size);
+    return ++count == refused ? NULL : next_malloc(size);
 }
 
 void *realloc(void *old, size_t size) {
     if (!next_realloc)
         next_realloc = dlsym(RTLD_NEXT, "realloc");
-    count++;
-    return count == refused ? NULL : next_realloc(old, size);
+    return ++count == refused ? NULL : next_realloc(old, size);
 }

@@ -1,12 +1,11 @@
 //! From a depth and a seed to what is printed.
 
-ghost use Rattle.std.specs.Prelude.{◌≡◌, ◌≤◌, ◌<◌, ◌^◌, [], IfOk, IsSome};
+ghost use Rattle.std.specs.Prelude.{◌≡◌, ◌≤◌, ◌<◌, ◌^◌, ◌∷◌, [], length, IfOk};
 ghost use Rattle.term_tree.specs.Arena.{IsArena};
 ghost use Rattle.horn_shape.specs.Clause.{IsLegalScript};
 ghost use Rattle.book_answers.specs.Answers.{IsBookOf};
-ghost use Rattle.book_rules.specs.Legal.{end};
 ghost use Rattle.chc_core.specs.Openings.{most_units};
-ghost use Rattle.chc_core.specs.Views.{standing_of, state_of};
+ghost use Rattle.chc_core.specs.Views.{standing_of};
 ghost use Rattle.obligation_turn.specs.Turns.{IsThin};
 ghost use Rattle.call_gen.specs.Summaries.{IsSearchedWith, generated};
 ghost use Rattle.call_gen.specs.Answers.{IsMadeOf};
@@ -22,49 +21,82 @@ use search_strategy::systems_of_scripts_can_be_run;
 use std::alloc::Global;
 use term_tree::Checked;
 
-/// What came of a generated script.
+/// What came of a generated script. The one count is that of the book's entries, which its one worker wrote.
 #[derive(Drop)]
 pub enum Generated {
     /// A book that has ended, and what is printed of it.
-    Answered { book: Book, text: Vec<u8> },
-    /// A book for which memory was wanted before there was anything to print.
-    Unfinished { book: Book },
+    Answered {
+        book: Book,
+        counts: Vec<u64>,
+        text: Vec<u8>,
+    },
+    /// A book for which memory was wanted before there was anything to print: it has no end, or what is
+    /// printed at its end had no room.
+    Unfinished {
+        book: Book,
+        counts: Vec<u64>,
+    },
 }
 
-/// What is printed of a book that has ended.
-fn ended(alloc: Global, checked: &Checked, book: Book, units: u32, nodes: u32) -> Generated
+/// The one count, of the book's entries, in the room for it.
+fn counted(book: &Book, room: Vec<u64>) -> Vec<u64>
+    requires { room.items ≡ 0 ∷ [] }
+    ensures { result.items ≡ length book.now.journal ∷ [] }
+{
+    let mut counts = room;
+    counts[0] = book.length();
+    counts
+}
+
+/// What came of a searched book: what is printed at its end, where it has one, whether or not memory was
+/// wanted before. The room for the count is handed in, so that none is wanted here but for the text.
+fn left(
+    alloc: Global,
+    checked: &Checked,
+    book: Book,
+    room: Vec<u64>,
+    units: u32,
+    nodes: u32,
+) -> Generated
     requires searched { IsSearchedWith checked.now units nodes book }
-    requires ended { IsSome (end (state_of book)) }
+    requires room { room.items ≡ 0 ∷ [] }
     ensures { IsMadeOf checked.now units nodes result }
 {
     let (_units, _nodes) = (units, nodes);
+    let counts = counted(&book, room);
     match book.end() {
         Some(end) => match printed(alloc, checked, &book, end) {
-            Ok(text) => Generated::Answered { book, text },
-            Err(_) => Generated::Unfinished { book },
+            Ok(text) => Generated::Answered { book, counts, text },
+            Err(_) => Generated::Unfinished { book, counts },
         },
-        None => unreachable!(),
+        None => Generated::Unfinished { book, counts },
     }
 }
 
-/// Searches until the book has ended, and then tells what is printed.
-fn searched(alloc: Global, checked: &Checked, book: Book, units: u32, nodes: u32) -> Generated
+/// Searches until the book has ended or memory is wanted, and then goes by the book's end alone: a search
+/// that wants memory behind its last entry has its answer.
+fn searched(
+    alloc: Global,
+    checked: &Checked,
+    book: Book,
+    room: Vec<u64>,
+    units: u32,
+    nodes: u32,
+) -> Generated
     requires of { IsBookOf checked.now book }
     requires given { book.given ≡ units }
     requires thin { IsThin (standing_of book) }
     requires new { book.journal ≡ [] }
+    requires room { room.items ≡ 0 ∷ [] }
     requires some { 0 < nodes }
     ensures { IsMadeOf checked.now units nodes result }
 {
     // A law, which runs nothing: the book's clauses can be searched.
     systems_of_scripts_can_be_run();
     let mut book = book;
-    let found = search(&mut book, nodes);
+    let _wants = search(&mut book, nodes);
     level_holds(checked, &book);
-    match found {
-        Ok(()) => ended(alloc, checked, book, units, nodes),
-        Err(_) => Generated::Unfinished { book },
-    }
+    left(alloc, checked, book, room, units, nodes)
 }
 
 /// The book over the clauses of a generated script, in which nothing is written yet.
@@ -96,7 +128,8 @@ fn opened(
 }
 
 /// Opens a book over the clauses of the script that the depth and the seed give, searches it with one
-/// worker until it has ended, and tells what is printed of it.
+/// worker until it has ended or memory is wanted, and tells what is printed of it. Room for the count is
+/// taken first, so that want of memory behind the search is for the text alone.
 pub fn answer_for(
     alloc: Global,
     depth: u32,
@@ -112,6 +145,7 @@ pub fn answer_for(
 {
     let checked = checked_of(alloc, depth, seed)?;
     let book = opened(alloc, &checked, depth, seed, units)?;
-    let answer = searched(alloc, &checked, book, units, nodes);
+    let room = Vec::from_slice(alloc, &[0])?;
+    let answer = searched(alloc, &checked, book, room, units, nodes);
     Ok(answer)
 }

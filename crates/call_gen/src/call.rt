@@ -61,19 +61,13 @@ pub fn gen_call<K: Sink>(alloc: Global, depth: u32, seed: u32, sink: &mut K) -> 
     ensures memory { result.status ≡ Status.Memory → Appends (wanting_text result.book) (K.held sink.old) (K.held sink.new) }
 {
     match answer_for(alloc, depth, seed, UNITS, NODES) {
-        Ok(found) => written(alloc, found, depth, seed, sink),
+        Ok(found) => written(found, depth, seed, sink),
         Err(_) => wanting(alloc, sink),
     }
 }
 
 /// Writes what came of the script of that depth and seed.
-fn written<K: Sink>(
-    alloc: Global,
-    found: Generated,
-    depth: u32,
-    seed: u32,
-    sink: &mut K,
-) -> Summarised
+fn written<K: Sink>(found: Generated, depth: u32, seed: u32, sink: &mut K) -> Summarised
     requires { IsMadeOf (generated depth seed) default_units default_nodes found }
     ensures few { result.status ≢ Status.WriteFault → result.status ≢ Status.Memory → result.status ≡ Status.Answered }
     ensures answered { result.status ≡ Status.Answered → Summarises depth seed result.book (K.held sink.old) (K.held sink.new) }
@@ -87,21 +81,24 @@ fn written<K: Sink>(
     ensures memory { result.status ≡ Status.Memory → Appends (wanting_text result.book) (K.held sink.old) (K.held sink.new) }
 {
     match found {
-        Generated::Answered { book, text } => answered(alloc, book, text, depth, seed, sink),
-        Generated::Unfinished { book } => unfinished(alloc, book, depth, seed, sink),
+        Generated::Answered { book, counts, text } => {
+            answered(book, counts, text, depth, seed, sink)
+        }
+        Generated::Unfinished { book, counts } => unfinished(book, counts, depth, seed, sink),
     }
 }
 
 /// Writes the summary of a book that has ended.
 fn answered<K: Sink>(
-    alloc: Global,
     book: Book,
+    counts: Vec<u64>,
     text: Vec<u8>,
     depth: u32,
     seed: u32,
     sink: &mut K,
 ) -> Summarised
-    requires { IsGeneratedSummary depth seed book text.items }
+    requires summary { IsGeneratedSummary depth seed book text.items }
+    requires counts { counts.items ≡ length book.journal ∷ [] }
     ensures few { result.status ≢ Status.WriteFault → result.status ≢ Status.Memory → result.status ≡ Status.Answered }
     ensures answered { result.status ≡ Status.Answered → Summarises depth seed result.book (K.held sink.old) (K.held sink.new) }
     ensures book { IfSome result.book (λ b. IsGeneratedBook depth seed b) }
@@ -114,22 +111,24 @@ fn answered<K: Sink>(
     ensures memory { result.status ≡ Status.Memory → Appends (wanting_text result.book) (K.held sink.old) (K.held sink.new) }
 {
     let (_depth, _seed) = (depth, seed);
-    match Vec::from_slice(alloc, &[book.length()]) {
-        Ok(counts) => {
-            let status = status_of(text.as_slice(), Status::Answered, sink);
-            Summarised {
-                status,
-                book: Some(book),
-                counts,
-            }
-        }
-        Err(_) => wanting(alloc, sink),
+    let status = status_of(text.as_slice(), Status::Answered, sink);
+    Summarised {
+        status,
+        book: Some(book),
+        counts,
     }
 }
 
 /// Writes the closed level of a book for which memory was wanted.
-fn unfinished<K: Sink>(alloc: Global, book: Book, depth: u32, seed: u32, sink: &mut K) -> Summarised
-    requires { IsGeneratedBook depth seed book }
+fn unfinished<K: Sink>(
+    book: Book,
+    counts: Vec<u64>,
+    depth: u32,
+    seed: u32,
+    sink: &mut K,
+) -> Summarised
+    requires book { IsGeneratedBook depth seed book }
+    requires counts { counts.items ≡ length book.journal ∷ [] }
     ensures few { result.status ≢ Status.WriteFault → result.status ≢ Status.Memory → result.status ≡ Status.Answered }
     ensures answered { result.status ≡ Status.Answered → Summarises depth seed result.book (K.held sink.old) (K.held sink.new) }
     ensures book { IfSome result.book (λ b. IsGeneratedBook depth seed b) }
@@ -142,18 +141,13 @@ fn unfinished<K: Sink>(alloc: Global, book: Book, depth: u32, seed: u32, sink: &
     ensures memory { result.status ≡ Status.Memory → Appends (wanting_text result.book) (K.held sink.old) (K.held sink.new) }
 {
     let (_depth, _seed) = (depth, seed);
-    match Vec::from_slice(alloc, &[book.length()]) {
-        Ok(counts) => {
-            let mut front = [0; 72];
-            let length = unfinished_lines(book.level(), &mut front);
-            let status = status_of(&front[..length], Status::Memory, sink);
-            Summarised {
-                status,
-                book: Some(book),
-                counts,
-            }
-        }
-        Err(_) => wanting(alloc, sink),
+    let mut front = [0; 72];
+    let length = unfinished_lines(book.level(), &mut front);
+    let status = status_of(&front[..length], Status::Memory, sink);
+    Summarised {
+        status,
+        book: Some(book),
+        counts,
     }
 }
 

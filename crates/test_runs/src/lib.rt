@@ -9,6 +9,8 @@ mod bytes;
 #[cfg(test)]
 mod cases;
 #[cfg(test)]
+mod cuts;
+#[cfg(test)]
 mod faults;
 #[cfg(test)]
 mod free_values;

@@ -192,12 +192,3 @@ fn a_text_has_at_most_2_to_the_24_bytes(rt: HostRuntime) {
     let shows = "one byte more, behind an exit";
     check(&rt, rt.alloc(), shows, text.as_slice(), 1, line.as_str());
 }
-
-#[test]
-fn at_most_2000_lists_are_open(rt: HostRuntime) {
-    let text = repeated(&rt, rt.alloc(), "", "(", 2001, "");
-    let told = "kind 4 Deep at byte 2000 after 0 commands";
-    let line = error_line(&rt, rt.alloc(), told);
-    let shows = "2,001 open lists";
-    check(&rt, rt.alloc(), shows, text.as_bytes(), 1, line.as_str());
-}

@@ -152,3 +152,15 @@ fn a_note_ends_the_run_and_not_the_job(rt: HostRuntime) {
     ];
     check(&rt, rt.alloc(), COUNTED, 100, 2, &rows, &[1, 1]);
 }
+
+#[test]
+fn a_note_does_not_hide_an_end(rt: HostRuntime) {
+    let rows = [
+        (0, Move::Take, Told::Job(0)),
+        (1, Move::Note, Told::Nothing),
+        (0, Move::Commit, Told::Number(1)),
+        (0, Move::Take, Told::Unsat),
+        (1, Move::Take, Told::Unsat),
+    ];
+    check(&rt, rt.alloc(), CONTRADICTS, 100, 2, &rows, &[1, 0]);
+}
