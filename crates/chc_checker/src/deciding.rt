@@ -23,7 +23,7 @@ fn told(decision: Decision) -> Decision
     match decision {
         Decision::Model(point) => Decision::Model(point),
         Decision::Refuted(refuted) => {
-            refuted.is_refuted();
+            refuted.refuted_law();
             Decision::Refuted(refuted)
         }
         Decision::GaveUp(gave_up) => Decision::GaveUp(gave_up),

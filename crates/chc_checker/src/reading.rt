@@ -38,7 +38,7 @@ fn is_fit(definition: &Definition)
     ensures { IsFit definition.now }
 {
     has_number(definition.body);
-    definition.terms.is_arena();
+    definition.terms.arena_law();
     divisors_fit(&definition.terms);
 }
 

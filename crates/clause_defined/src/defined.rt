@@ -93,7 +93,7 @@ pub fn with_tables(
     ensures wide { (offset : ℕ) → IsErrOf result (NormalStop.TooWide offset) → breaking_wide defs.now (normal_clause script.now clause.now) ≡ Some offset }
     ensures count { (offset : ℕ) → IsErrOf result (NormalStop.Count offset) → HasTooManyAt script.now clause.now defs.now offset }
 {
-    script.terms.is_arena();
+    script.terms.arena_law();
     let assertion = assertion_of(script, clause);
     let top = assertion.term;
     let placed = auxiliaries(alloc, script, tables, clause, top)?;

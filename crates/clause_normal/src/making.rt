@@ -61,7 +61,7 @@ pub fn judged(
     ensures count { (offset : ℕ) → IsErrOf result (NormalStop.Count offset) → ⊥ }
     ensures known { OnOk result (AreFound (constant_in tables.now.constants) (naming_by names.now) terms.now.nodes known.new) }
 {
-    terms.is_arena();
+    terms.arena_law();
     match first_wide(alloc, terms, &tables.constants, names, known, top)? {
         None => Ok(()),
         Some(term) => Err(NormalStop::TooWide {
@@ -129,7 +129,7 @@ pub fn auxiliaries(
     ensures { IfOk result (λ ids. ids.items ≡ auxiliaries script.now clause.now) }
 {
     has_number(top);
-    script.terms.is_arena();
+    script.terms.arena_law();
     let ids = places(alloc, &script.terms, &tables.sorts, top)?;
     Ok(ids)
 }
@@ -171,7 +171,7 @@ fn judged_own(
     ensures known { OnOk result (AreFound (constant_in tables.now.constants) (naming_by names.now) script.now.terms.nodes known.new) }
 {
     has_number(top);
-    script.terms.is_arena();
+    script.terms.arena_law();
     if tables.rooms.has_room(top) {
         return Ok(());
     }
@@ -195,7 +195,7 @@ fn judged_apart(
     ensures count { (offset : ℕ) → IsErrOf result (NormalStop.Count offset) → ⊥ }
 {
     has_number(top);
-    script.terms.is_arena();
+    script.terms.arena_law();
     let names = apart_names(alloc, &script.terms, &[], placed)?;
     let mut known = nothing_read(alloc);
     judged(alloc, &script.terms, tables, &names, &mut known, top)
@@ -222,7 +222,7 @@ pub fn made_own(
     ensures { IfOk result (λ made. made ≡ normal_clause script.now clause.now) }
 {
     has_number(top);
-    script.terms.is_arena();
+    script.terms.arena_law();
     let made = made(alloc, &script.terms, tables, names, known, clause, placed)?;
     Ok(made)
 }

@@ -91,7 +91,7 @@ fn read_normal(
     ensures refused { (refusal : Refusal) → IsErrOf result (ClauseStop.Refused refusal) → normal_reading script.now index assertion ≡ Err refusal }
 {
     has_number(assertion.term);
-    script.terms.is_arena();
+    script.terms.arena_law();
     match normal_with(alloc, script, tables, clause) {
         Ok(made) => Ok(made),
         Err(stop) => Err(not_normal(stop, assertion)),

@@ -109,7 +109,7 @@ impl<R: Run> Locked<R> {
         ensures thin { IsThin (standing_of result.now) }
         ensures counted { self.now.total ≡ length result.now.journal }
     {
-        self.book.is_replayed();
+        self.book.replay_law();
         let _frames = self.book.frames();
         &self.book
     }

@@ -37,7 +37,7 @@ pub(crate) fn width(t: &Tableau) -> Result<usize, Memory>
 pub(crate) fn is_in(t: &Tableau, column: usize) -> bool
     ensures { result ≡ is_in t.now.basic column }
 {
-    t.is_table();
+    t.table_law();
     for row in 0..t.rows() {
         if t.basic(row) == column {
             return true;
@@ -51,7 +51,7 @@ pub(crate) fn row_of(t: &Tableau, column: usize) -> usize
     ensures is { result ≡ row_of t.now.basic column }
     ensures within { is_in t.now.basic column ≡ true → result < length t.now.rows }
 {
-    t.is_table();
+    t.table_law();
     for row in 0..t.rows() {
         if t.basic(row) == column {
             return row;
@@ -110,7 +110,7 @@ pub(crate) fn stood_at(t: &Tableau, standings: &[Standing], column: usize) -> i1
     ensures is { result ≡ stood_at (moment t.now standings.now) column }
     ensures long { nat_abs result < long_limit }
 {
-    t.is_table();
+    t.table_law();
     match standings[column] {
         Standing::Basic => 0,
         Standing::AtLower => t.lower(column).unwrap_or(0),
@@ -145,7 +145,7 @@ fn row_value(t: &Tableau, values: &[i128], places: &[usize], row: usize) -> Coor
     requires places { places.now ≡ held values.now }
     ensures { result ≡ coordinate (row_at t.now.rows row) values.now (basic_at t.now.basic row) }
 {
-    t.is_table();
+    t.table_law();
     Coordinate::basic(t.row(row), values, places, t.basic(row))
 }
 

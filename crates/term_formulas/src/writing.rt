@@ -133,7 +133,7 @@ fn of_node(
         (naming_by names.now) (formula_by (constant_in constants.now) (sort_in sorts.now) (naming_by names.now) terms.now.nodes) node.now sign) }
     ensures known { OnOk result (AreFound (constant_in constants.now) (naming_by names.now) terms.now.nodes known.new) }
 {
-    terms.is_arena();
+    terms.arena_law();
     match node {
         Node::True => Ok(truth(sign)),
         Node::False => Ok(truth(!sign)),

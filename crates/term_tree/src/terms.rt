@@ -71,7 +71,7 @@ impl Terms {
     }
 
     /// That each node stands after its parts and has an offset, for a proof that needs it of all nodes.
-    pub fn is_arena(&self)
+    pub fn arena_law(&self)
         ensures arena { IsArena self.now.nodes }
         ensures offsets { length self.now.offsets ≡ length self.now.nodes }
     {

@@ -225,7 +225,7 @@ fn operation(
     ensures is { IfOk result (λ form. form ≡ form_by (constant_in constants.now) (naming_in names.now.own.items names.now.auxiliary) terms.now.nodes id.0) }
     ensures known { OnOk result (AreFound (constant_in constants.now) (naming_in names.now.own.items names.now.auxiliary) terms.now.nodes known.new) }
 {
-    terms.is_arena();
+    terms.arena_law();
     if !is_sum(op) {
         return other_form(alloc, op, names, id);
     }

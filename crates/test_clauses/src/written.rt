@@ -27,7 +27,7 @@ fn judge(rt: &impl Abort, alloc: Global, given: &Given, known: &mut BTreeMap<u32
     ensures known { AreFound (constant_in given.now.constants) (naming_by given.now.names) given.now.terms.nodes known.new }
 {
     assert!(rt; (id.0 as usize) < given.terms.len());
-    given.terms.is_arena();
+    given.terms.arena_law();
     short_constants_are_constants();
     let (terms, constants, names) = (&given.terms, &given.constants, &given.names);
     match first_wide(alloc, terms, constants, names, known, id) {
