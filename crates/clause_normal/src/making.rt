@@ -43,8 +43,8 @@ fn is_too_large(clause: &HornClause, auxiliary: usize) -> bool
         || clause.vars.len() + auxiliary > MOST_VARIABLES
 }
 
-/// That every number in the term has room, or the first of its terms of which one hasn't. The linear
-/// forms that are read are kept.
+/// Judges whether every number in the term has room; if not, `TooWide` tells where the first of its
+/// terms without room starts. The linear forms that are read are kept.
 pub fn judged(
     alloc: Global,
     terms: &Terms,
@@ -109,7 +109,7 @@ pub fn assertion_of(script: &Script, clause: &HornClause) -> Assertion
     script.asserts.as_slice()[clause.assertion as usize]
 }
 
-/// That the number of a term has 32 bits, for a proof that needs it.
+/// The number of a term has 32 bits, for a proof that needs it.
 pub fn has_number(id: TermId)
     ensures { id.0 < 2 ^ 32 }
 {
@@ -150,8 +150,8 @@ pub fn names_of(
     Ok(names)
 }
 
-/// That every number in the assertion has room, or the first term of which one hasn't, where its
-/// variables have their names.
+/// Judges whether every number in the assertion has room, where its variables have their names; if not,
+/// `TooWide` tells where the first term without room starts.
 fn judged_own(
     alloc: Global,
     script: &Script,
@@ -178,7 +178,8 @@ fn judged_own(
     judged(alloc, &script.terms, tables, names, known, top)
 }
 
-/// The same where the variables may be too many for names of their own.
+/// Judges whether every number in the assertion has room, where its variables may be too many for names
+/// of their own; if not, `TooWide` tells where the first term without room starts.
 fn judged_apart(
     alloc: Global,
     script: &Script,
@@ -227,7 +228,9 @@ pub fn made_own(
     Ok(made)
 }
 
-/// The same with what is told of the script's terms.
+/// The normal clause of an assertion, by what is told of the script's terms. `TooWide` tells where the
+/// first term without room starts, and else `Count` where an assertion with too many variables or body
+/// atoms does.
 pub(crate) fn normal_with(
     alloc: Global,
     script: &Script,

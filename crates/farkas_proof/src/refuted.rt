@@ -49,7 +49,7 @@ impl Refuted {
         let _form = &self.form;
     }
 
-    /// The same form and proof.
+    /// A copy of the form with its proof.
     pub fn copy(&self, alloc: Global) -> Result<Refuted, Memory>
         ensures { IfOk result (λ copied. copied ≡ self.now) }
     {

@@ -49,7 +49,7 @@ impl GaveUp {
         &self.evidence
     }
 
-    /// The same form and evidence.
+    /// A copy of the form with its evidence.
     pub fn copy(&self, alloc: Global) -> Result<GaveUp, Memory>
         ensures { IfOk result (λ copied. copied ≡ self.now) }
     {

@@ -45,7 +45,8 @@ fn crossed(t: &Tableau, columns: usize) -> Option<usize>
     None
 }
 
-/// The same, where it isn't known already that no bounds are crossed.
+/// The first column whose bounds are crossed, sought only where it isn't known already that no bounds
+/// are.
 fn crossed_unless(t: &Tableau, columns: usize, ordered: bool) -> Option<usize>
     requires columns { columns ≡ width t.now }
     requires ordered { ordered ≡ true → crossed t.now ≡ None }

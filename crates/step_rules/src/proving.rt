@@ -49,8 +49,8 @@ fn is_proved_at(claim: &Claim, number: u32, proofs: &[Shown], at: usize) -> bool
     }
 }
 
-/// The same as `is_proved`. Proofs mostly come in the order of their clauses, so the next one is looked
-/// at first.
+/// Whether one of the proofs is of the claim, through the clause of that number. Proofs mostly come in
+/// the order of their clauses, so the next one is looked at first.
 fn is_proved_next(claim: &Claim, number: u32, proofs: &[Shown], next: &mut usize) -> bool
     ensures { result ≡ list_any (is_proof_of (claim_of claim.now) number) (all_shown proofs.now) }
 {

@@ -34,7 +34,7 @@ fn is_over_body(sys: &System, clause: u32, number: u32, cube: &Cube) -> bool
     }
 }
 
-/// The same of a head that may be false.
+/// Whether the cube is over the predicate of a head; so too where the head is false.
 fn is_over_atom(sys: &System, atom: &Option<Atom>, cube: &Cube) -> bool
     ensures { result ≡ is_over_atom sys.now.preds atom.now cube.now }
 {
@@ -44,7 +44,8 @@ fn is_over_atom(sys: &System, atom: &Option<Atom>, cube: &Cube) -> bool
     }
 }
 
-/// The same of the head of a clause that may not be there.
+/// Whether the cube is over the predicate of the head of the clause of that number; so too where the
+/// head is false, or the clause isn't there.
 fn is_over_head(sys: &System, clause: u32, cube: &Cube) -> bool
     ensures { result ≡ is_over_atom sys.now.preds (head_of sys.now clause) cube.now }
 {

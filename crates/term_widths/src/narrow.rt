@@ -183,7 +183,7 @@ pub fn narrow_form(
     }
 }
 
-/// The same of a term that a name is bound to, which is kept.
+/// The linear form of a term that a name is bound to and in which no form is wide. The form is kept.
 #[cycle(narrow)]
 fn named_form(
     alloc: Global,
@@ -207,7 +207,8 @@ fn named_form(
     Ok(form)
 }
 
-/// The same by the operator and the arguments of the term of that number.
+/// The linear form of the term of that number, in which none is wide, by its operator and its
+/// arguments.
 #[cycle(narrow)]
 fn operation(
     alloc: Global,

@@ -153,7 +153,7 @@ const GROWN: [Step; 5] = [
     Step::Ask(0, 0, 3, 5),
 ];
 
-/// That tree after these steps.
+/// The tree of `GROWN` after these steps.
 fn grown(rt: &impl Abort, alloc: Global, steps: &[Step]) -> Tree {
     let mut tree = Tree::new(alloc).expect(rt, "memory");
     take_all(rt, alloc, &mut tree, &GROWN);

@@ -58,7 +58,7 @@ pub fn written(rt: &impl Abort, alloc: Global, given: &Given, id: u32, sign: boo
     made.expect(rt, "memory")
 }
 
-/// That no other term has the variable v.
+/// Whether the variable v may stand for the term of that number: no other term has it.
 fn may_stand(v: u32, id: u32) -> bool
     ensures low { result ≡ true → 4 ≤ v }
     ensures same { result ≡ true → v ≡ 4 → id ≡ 8 }
