@@ -93,7 +93,7 @@ pub(crate) fn first_standings(
     ensures is { IfOk result (λ made. made.items ≡ first_standings t.now) }
     ensures legal { IfOk result (λ made. AreStandings t.now made.items) }
 {
-    t.is_table();
+    t.table_law();
     let mut made = outer_standings(alloc, t, columns)?;
     let mut row = t.rows();
     'put: while row > 0 {
@@ -201,7 +201,7 @@ pub(crate) fn coordinates(
     requires { AreStandings t.now standings.now }
     ensures { IfOk result (λ made. made.items ≡ coordinates (moment t.now standings.now)) }
 {
-    t.is_table();
+    t.table_law();
     let values = values(alloc, t, standings)?;
     let values = values.as_slice();
     let places = held(alloc, values)?;
