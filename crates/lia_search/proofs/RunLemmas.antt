@@ -34,9 +34,9 @@ turns-after old s new waiting (Ok turn.Split) same count stack turns = splits-af
 turns-after old s new waiting (Ok (turn.Over end)) same count stack turns = ends-after old s end same turns
 turns-after old s new waiting (Err stop) same count stack turns = tt
 
--- as many inner nodes as are allowed are evidence
-pub spent : (s : Search) → IsSearch s → 0 < s.nodes → s.count ≡ s.nodes → IsEvidence s.form.now (Nodes s.nodes)
-spent s is some all = (some, counted s is s.nodes all)
+-- the inner nodes that were made are evidence
+pub spent : (s : Search) → IsSearch s → 0 < s.count → IsEvidence s.form.now (Nodes s.count)
+spent s is some = (some, counted s is s.count refl)
 
 -- a node is taken off the stack
 pub popped : (s new : Search) (waiting : Open) → IsSearch s → s.stack.items ≡ new.stack.items ++ waiting ∷ [] → new ≡ record s { is_first = new.is_first; stack = new.stack } → Waits new waiting

@@ -136,7 +136,8 @@ fn until_split(alloc: Global, search: &mut Search) -> Result<Turn, Memory>
     Ok(Turn::WentOn)
 }
 
-/// The search goes on until it is over, or has made as many inner nodes as are allowed.
+/// The search goes on until it is over, or has made as many inner nodes as are allowed. The evidence
+/// then has the number that was made, which is exactly the one that is allowed.
 pub(crate) fn run(alloc: Global, search: Search) -> Result<End, Memory>
     requires is { IsSearch search }
     requires none { search.count ≡ 0 }
@@ -156,6 +157,6 @@ pub(crate) fn run(alloc: Global, search: Search) -> Result<End, Memory>
         }
     }
     Ok(End::GivenUp(Evidence::Nodes {
-        nodes: search.nodes,
+        nodes: search.count,
     }))
 }

@@ -1,5 +1,6 @@
 pub mod CoverLemmas
 pub mod EndLemmas
+pub mod FewestLemmas
 pub mod FirstLemmas
 pub mod FlatLemmas
 pub mod MoreLemmas

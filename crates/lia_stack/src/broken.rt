@@ -1,9 +1,10 @@
 //! What a point breaks.
 
-ghost use Rattle.std.specs.Prelude.{◌≡◌, ◌<◌, length, take, slice_get, option_map, Some, IfSome, IsNone, false, true};
+ghost use Rattle.std.specs.Prelude.{◌≡◌, ◌+◌, ◌<◌, length, take, slice_get, option_map, Some, IfSome, IsNone, false, true};
 ghost use Rattle.std.specs.List.{list_all, list_any};
 ghost use Rattle.lin_atoms.specs.Truth.{lit_truth, truth};
 ghost use Rattle.lia_stack.specs.machinery.Opened.{left_lits};
+ghost use Rattle.lia_stack.specs.machinery.Fewest.{IsFewest};
 
 use crate::lent::Lent;
 use crate::waiting::LeftOut;
@@ -53,13 +54,13 @@ pub(crate) fn first_disjunction(cases: &[Lent<Items<Form>>], point: &[i64]) -> O
 }
 
 /// The disjunction at `at`, where it has fewer parts than the one at `known` and is false at the point,
-/// too.
+/// too; and otherwise the one at `known`.
 fn fewer(cases: &[Lent<Items<Form>>], point: &[i64], known: usize, at: usize) -> usize
-    requires known { known < length cases.now }
+    requires known { known < at }
     requires there { at < length cases.now }
-    requires broken { option_map (list_any (truth point.now)) (slice_get cases.now known) ≡ Some false }
-    ensures within { result < length cases.now }
-    ensures broken { option_map (list_any (truth point.now)) (slice_get cases.now result) ≡ Some false }
+    requires fewest { IsFewest point.now cases.now at known }
+    ensures within { result < at + 1 }
+    ensures fewest { IsFewest point.now cases.now (at + 1) result }
 {
     if cases[at].get().len() >= cases[known].get().len() {
         return known;
@@ -75,11 +76,13 @@ fn fewer(cases: &[Lent<Items<Form>>], point: &[i64], known: usize, at: usize) ->
 pub(crate) fn fewest_parts(cases: &[Lent<Items<Form>>], point: &[i64], known: usize) -> usize
     requires within { known < length cases.now }
     requires broken { option_map (list_any (truth point.now)) (slice_get cases.now known) ≡ Some false }
+    requires before { list_all (list_any (truth point.now)) (take known cases.now) ≡ true }
     ensures within { result < length cases.now }
     ensures broken { option_map (list_any (truth point.now)) (slice_get cases.now result) ≡ Some false }
+    ensures fewest { IsFewest point.now cases.now (length cases.now) result }
 {
     let mut found = known;
-    'fewest: for at in 0..cases.len() {
+    'fewest: for at in known + 1..cases.len() {
         found = fewer(cases, point, found, at);
     }
     found

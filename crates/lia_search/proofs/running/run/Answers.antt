@@ -50,5 +50,5 @@ returns c =
     let some = c.requires.some in
     let nodes = i.same.nodes in
     let all : s.count ≡ s.nodes = omega (arith, over, few) in
-    let more : 0 < s.nodes = omega (arith, some, nodes) in
-    ends-after c.args.search s (GivenUp (Nodes s.nodes)) i.same (spent s i.is more all, refl)
+    let more : 0 < s.count = omega (arith, some, nodes, all) in
+    ends-after c.args.search s (GivenUp (Nodes s.count)) i.same (spent s i.is more, all)
