@@ -21,6 +21,10 @@ const MOST_NODES: u32 = 200;
 /// For how many queries one counts that is given up.
 const GIVEN_UP: u32 = 100;
 
+/// A query of a clause with so many variables counts once; of a greater one it counts more often, and has fewer
+/// inner nodes.
+const SMALL: u32 = 64;
+
 /// The most variables of a clause that a query takes.
 const MOST_VARIABLES: u32 = 2_048;
 
@@ -63,6 +67,21 @@ fn ask(alloc: Global, form: Form, vars: u32, nodes: u32) -> Result<Answer, Memor
     Ok(answer_of(alloc, &mut decision))
 }
 
+/// How many queries one of a clause with so many variables counts as: it grows with the square, as a tableau
+/// does.
+fn weight(vars: u32) -> u32 {
+    let times = vars / SMALL;
+    times.saturating_mul(times).max(1)
+}
+
+/// How many inner nodes a query of a clause with so many variables has, where a small one has `nodes`.
+fn nodes_of(vars: u32, nodes: u32) -> u32
+    ensures { 0 < result }
+{
+    let all = nodes.saturating_mul(SMALL);
+    all.checked_div(vars.max(SMALL)).unwrap_or(1).max(1)
+}
+
 /// Asks about a clause, and counts the query.
 fn ask_clause(
     alloc: Global,
@@ -76,12 +95,12 @@ fn ask_clause(
     if *left == 0 {
         return Ok(Answer::GivenUp);
     }
-    *left -= 1;
     let vars = match u32::try_from(clause.sorts.len()) {
         Ok(vars) => vars,
         Err(_) => u32::MAX,
     };
-    let answer = ask(alloc, Form::And(parts), vars, nodes)?;
+    *left = left.saturating_sub(weight(vars));
+    let answer = ask(alloc, Form::And(parts), vars, nodes_of(vars, nodes))?;
     if let Answer::GivenUp = answer {
         *left = left.saturating_sub(GIVEN_UP);
     }
