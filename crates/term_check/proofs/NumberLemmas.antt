@@ -1,8 +1,8 @@
 -- Predicates found by name in a set.
-use Rattle.std.proofs.Common.{◌≡◌, ◌+◌, ℕ, List, [], ◌∷◌, map, length, Bool, true, false, cond, ◌||◌, refl, sym, ap, ◌∙◌, arith, lt-ltb}
+use Rattle.std.proofs.Common.{◌≡◌, ◌+◌, ℕ, List, [], ◌∷◌, map, length, Bool, true, false, cond, not, ◌||◌, refl, sym, ap, ◌∙◌, arith, lt-ltb}
 use Rattle.std.proofs.lemmas.Bool.Decides.{nat_tests}
 use Rattle.std.proofs.lemmas.List.{length-map}
-use Rattle.std.specs.List.{position_or_len, list_any}
+use Rattle.std.specs.List.{position_or_len}
 use Rattle.std.specs.Prelude.{nat_eq, nat_lt, position, suc, Option, None, Some, if◌then◌else◌}
 use Rattle.std.specs.Cmp.Lexicographic.{pointwise}
 use Rattle.std.specs.Str.{bytes_eq}
@@ -28,9 +28,9 @@ names_of preds = map (λ p. p.name.bytes) preds
 
 -- the number that a place gives
 counted : (b : Bool) (n q l : ℕ) (rest : Option ℕ) → rest ≡ cond (nat_lt q l) (Some (n + 1 + q)) None
-    → (if b then Some n else rest) ≡ cond (nat_lt (cond b 0 (1 + q)) (suc l)) (Some (n + cond b 0 (1 + q))) None
+    → (if b then Some n else rest) ≡ cond (nat_lt (cond (not b) (1 + q) 0) (suc l)) (Some (n + cond (not b) (1 + q) 0)) None
 counted true n q l rest h =
-    let first : nat_lt 0 (suc l) ≡ true = lt-ltb (omega arith) in
+    let first : nat_lt 0 (suc l) ≡ true = lt-ltb 0 (suc l) (omega arith) in
     let none : n ≡ n + 0 = omega arith in
     ap Some none ∙ sym (ap (λ t. cond t (Some (n + 0)) None) first)
 counted false n q l rest h =
@@ -48,7 +48,7 @@ number_from n name (p ∷ ps) =
 
 place_named : {K : Type 0} (bytes : K → List ℕ) (name : List ℕ) (ks : List K) → position_or_len (λ k. bytes_eq name (bytes k)) ks ≡ position_or_len (bytes_eq name) (map bytes ks)
 place_named bytes name [] = refl
-place_named bytes name (k ∷ ks) = ap (λ (q : ℕ). cond (bytes_eq name (bytes k)) 0 (1 + q)) (place_named bytes name ks)
+place_named bytes name (k ∷ ks) = ap (λ (q : ℕ). cond (not (bytes_eq name (bytes k))) (1 + q) 0) (place_named bytes name ks)
 
 abbrev place_or_none : ℕ → ℕ → Option ℕ
 place_or_none q l = cond (nat_lt q l) (Some q) None
@@ -56,8 +56,11 @@ place_or_none q l = cond (nat_lt q l) (Some q) None
 -- the number of a predicate is the place of its name among the keys
 pub number_is : {K : Type 0} (bytes : K → List ℕ) (name : List ℕ) (ks : List K) (preds : List Pred) → map bytes ks ≡ names_of preds → position (λ k. bytes_eq name (bytes k)) ks ≡ pred_from 0 name preds
 number_is bytes name ks preds are =
+    let q = position_or_len (bytes_eq name) (names_of preds) in
+    let first : q ≡ 0 + q = omega arith in
     ap (λ (l : ℕ). place_or_none (position_or_len (λ k. bytes_eq name (bytes k)) ks) l) (sym (length-map ks bytes)) ∙ ap (λ (q : ℕ). place_or_none q (length (map bytes ks))) (place_named bytes name ks)
-    ∙ ap (λ (names : List (List ℕ)). place_or_none (position_or_len (bytes_eq name) names) (length names)) are ∙ sym (number_from 0 name preds)
+    ∙ ap (λ (names : List (List ℕ)). place_or_none (position_or_len (bytes_eq name) names) (length names)) are
+    ∙ ap (λ (k : ℕ). cond (nat_lt q (length (names_of preds))) (Some k) None) first ∙ sym (number_from 0 name preds)
 
 -- a name without a number is none of theirs
 pub none_named : (n : ℕ) (name : List ℕ) (preds : List Pred) → pred_from n name preds ≡ None → is_word_among (names_of preds) name ≡ false

@@ -1,4 +1,4 @@
-use Rattle.std.proofs.Common.{◌≡◌, false, List, ℕ, map, sym, ap, ◌∙◌, Bor}
+use Rattle.std.proofs.Common.{◌≡◌, false, List, ℕ, map, sym, ap, ◌∙◌}
 use Rattle.term_check.specs.Words.{is_word_among}
 use Rattle.term_check.proofs.FewLemmas.{among_later}
 use Rattle.term_check.proofs.KeyLemmas.{any_named}
