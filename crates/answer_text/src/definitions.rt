@@ -45,7 +45,7 @@ fn defined(
     }
     match check_formula(alloc, declared.key(), text, term, params.as_slice()) {
         Ok((terms, body)) => {
-            terms.is_arena();
+            terms.arena_law();
             let params = names_of(alloc, params.as_slice())?;
             Ok(Definition {
                 pred: number,
