@@ -1,5 +1,5 @@
 -- Predicates found by name in a map.
-use Rattle.std.proofs.Common.{◌≡◌, ◌+◌, ◌<◌, ℕ, List, [], ◌∷◌, length, Bool, true, false, cond, Some, None, refl, sym, ap, ◌∙◌, arith, Option, if◌then◌else◌}
+use Rattle.std.proofs.Common.{◌≡◌, ◌+◌, ◌<◌, ℕ, List, [], ◌∷◌, length, Bool, true, false, cond, Some, refl, ap, ◌∙◌, arith, Option, if◌then◌else◌}
 use Rattle.std.specs.Map.{lookup}
 use Rattle.keyed_hash.specs.declared.name.NameKey.{NameKey}
 use Rattle.std.specs.Str.{bytes_eq}
