@@ -5,9 +5,9 @@ installed.
 Each script declares 4,096 predicates, binds names by one `let` of an assertion, and uses each of them
 once. The names are of one of two kinds: all begin alike, so that whoever orders them compares as many
 bytes as it can be made to; or all have the same length and the same sum of powers of 31, which many hash
-tables go by, and so whoever has such a table finds them all in one place of it. Half as many names are
-measured too, and the ratio of the two times tells whether time grows with the script alone, whichever
-names are chosen."""
+tables go by, and so whoever has such a table finds them all in one place of it. With `--colliding` the
+names of a file, one a line, are measured too. Half as many names of each kind are measured as well, and
+the ratio of the two times tells whether time grows with the script alone, whichever names are chosen."""
 
 import argparse
 import tempfile
@@ -47,9 +47,15 @@ def main():
     words = argparse.ArgumentParser(description=__doc__, formatter_class=argparse.RawDescriptionHelpFormatter)
     words.add_argument("--names", type=int, default=100_000, help="bound in the longer script")
     words.add_argument("--runs", type=int, default=3, help="of each program")
+    words.add_argument("--colliding", metavar="FILE", help="names, as `colliding.c` makes them")
     words = words.parse_args()
-    for kind, name in (("that begin alike", alike), ("of one sum of powers of 31", colliding)):
-        for names in (words.names // 2, words.names):
+    kinds = [("that begin alike", alike, words.names), ("of one sum of powers of 31", colliding, words.names)]
+    if words.colliding:
+        with open(words.colliding, encoding="ascii") as file:
+            lines = file.read().split()
+        kinds.append(("of a file", lines.__getitem__, len(lines) - PREDICATES))
+    for kind, name, most in kinds:
+        for names in (most // 2, most):
             with tempfile.NamedTemporaryFile("w", encoding="ascii", suffix=".smt2") as file:
                 length = write_script(file, names, name)
                 print(f"{names} bound names {kind} in {length} bytes")

@@ -5,17 +5,18 @@ ghost use Rattle.answer_text.specs.machinery.Places.{AreNumbers};
 ghost use Rattle.answer_text.specs.Reading.{arity};
 
 use base::Memory;
+use indexmap::IndexMap;
+use keyed_hash::{KeyedState, NameKey};
 use std::alloc::Global;
-use std::collections::BTreeMap;
 use std::marker::Model;
 use term_tree::{Pred, Sort};
 
-/// The declared predicates, by number, and each found by its name, in an ordered map, so that no choice
+/// The declared predicates, by number, and each found by its name, by hashes under a key, so that no choice
 /// of names makes it slow.
 #[derive(Drop)]
 pub struct Declared<'a> {
     preds: &'a [Pred],
-    numbers: BTreeMap<&'a [u8], u32>,
+    numbers: IndexMap<NameKey<'a>, u32, KeyedState>,
 }
 
 impl<'a> Model for Declared<'a> {
@@ -31,12 +32,18 @@ impl<'a> Model for Declared<'a> {
 }
 
 impl<'a> Declared<'a> {
-    pub fn new(alloc: Global, preds: &'a [Pred]) -> Result<Declared<'a>, Memory>
+    /// These predicates. Names are hashed under this key.
+    pub fn new(alloc: Global, key: KeyedState, preds: &'a [Pred]) -> Result<Declared<'a>, Memory>
         requires { length preds.now < 2 ^ 32 }
         ensures { IfOk result (λ declared. declared ≡ preds.now) }
     {
-        let numbers = numbers_of(alloc, preds)?;
+        let numbers = numbers_of(alloc, key, preds)?;
         Ok(Declared { preds, numbers })
+    }
+
+    /// The key under which names are hashed.
+    pub fn key(&self) -> KeyedState {
+        *self.numbers.hasher()
     }
 
     /// How many predicates there are.
@@ -51,7 +58,7 @@ impl<'a> Declared<'a> {
         ensures number { result ≡ pred_from 0 name.now self.now }
         ensures within { IfSome result (λ number. number < length self.now) }
     {
-        match self.numbers.get(name) {
+        match self.numbers.get(&NameKey { bytes: name }) {
             Some(number) => Some(*number),
             None => None,
         }
@@ -76,15 +83,20 @@ impl<'a> Declared<'a> {
 }
 
 /// The numbers of the predicates by their names. The first of a name is the last that is put in.
-fn numbers_of<'a>(alloc: Global, preds: &'a [Pred]) -> Result<BTreeMap<&'a [u8], u32>, Memory>
+fn numbers_of<'a>(
+    alloc: Global,
+    key: KeyedState,
+    preds: &'a [Pred],
+) -> Result<IndexMap<NameKey<'a>, u32, KeyedState>, Memory>
     requires { length preds.now < 2 ^ 32 }
     ensures { IfOk result (λ numbers. AreNumbers 0 preds.now numbers.entries) }
 {
-    let mut numbers = BTreeMap::new(alloc);
+    let mut numbers = IndexMap::with_hasher(alloc, key);
     let mut number = preds.len();
     while number > 0 {
         number -= 1;
-        numbers.insert(preds[number].name.bytes.as_slice(), number as u32)?;
+        let bytes = preds[number].name.bytes.as_slice();
+        numbers.insert(NameKey { bytes }, number as u32)?;
     }
     Ok(numbers)
 }

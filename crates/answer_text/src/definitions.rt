@@ -33,11 +33,17 @@ fn defined(
     ensures told { TellsDefinition (defined text.now declared.now number params.now sort.now term.now) result }
     ensures pred { IfOk result (λ definition. definition.pred ≡ number) }
 {
-    let params = parameters(alloc, text, declared.sorts_of(number), params)?;
+    let params = parameters(
+        alloc,
+        declared.key(),
+        text,
+        declared.sorts_of(number),
+        params,
+    )?;
     if !has_sort(text, sort, Sort::Bool) {
         return Err(bad_at(start_of(sort)));
     }
-    match check_formula(alloc, text, term, params.as_slice()) {
+    match check_formula(alloc, declared.key(), text, term, params.as_slice()) {
         Ok((terms, body)) => {
             terms.arena_law();
             let params = names_of(alloc, params.as_slice())?;

@@ -9,6 +9,7 @@ use crate::found::Found;
 use crate::stop::{AnswerStop, bad_at};
 use crate::trees::has_sort;
 use base::{Copied, Items, Memory};
+use keyed_hash::KeyedState;
 use sexp_read::Tree;
 use std::alloc::Global;
 use term_check::{name_of, start_of};
@@ -61,6 +62,7 @@ fn parameter<'a>(
 
 fn parameters_from(
     alloc: Global,
+    key: KeyedState,
     text: &[u8],
     trees: &[Tree],
     sorts: &[Sort],
@@ -69,7 +71,7 @@ fn parameters_from(
     ensures params { Gives (parameters_from text.now [] trees.now sorts.now) result }
     ensures count { IfOk result (λ params. length params ≡ length trees.now) }
 {
-    let mut found = Found::new(alloc);
+    let mut found = Found::new(alloc, key);
     let mut i = 0;
     while i < trees.len() {
         if let Err(stop) = parameter(alloc, text, &mut found, sorts[i], &trees[i]) {
@@ -82,6 +84,7 @@ fn parameters_from(
 
 fn parameters_of(
     alloc: Global,
+    key: KeyedState,
     text: &[u8],
     sorts: &[Sort],
     start: u32,
@@ -93,12 +96,13 @@ fn parameters_of(
     if trees.len() != sorts.len() {
         return Err(bad_at(start));
     }
-    parameters_from(alloc, text, trees, sorts)
+    parameters_from(alloc, key, text, trees, sorts)
 }
 
-/// The parameters of a predicate with arguments of these sorts.
+/// The parameters of a predicate with arguments of these sorts. Names are hashed under the key.
 pub fn parameters(
     alloc: Global,
+    key: KeyedState,
     text: &[u8],
     sorts: &[Sort],
     tree: &Tree,
@@ -109,7 +113,7 @@ pub fn parameters(
     match tree {
         Tree::Leaf { start, .. } => Err(bad_at(*start)),
         Tree::List { items, start, .. } => {
-            let params = parameters_of(alloc, text, sorts, *start, items.as_slice())?;
+            let params = parameters_of(alloc, key, text, sorts, *start, items.as_slice())?;
             Ok(params)
         }
     }

@@ -10,6 +10,7 @@ use crate::declared::Declared;
 use crate::definitions::model;
 use crate::steps::derivation;
 use crate::stop::{AnswerStop, bad_at};
+use keyed_hash::KeyedState;
 use sexp_read::{TextStop, Tree, Trees, read_commands};
 use std::alloc::Global;
 use term_check::{is_symbol, start_of};
@@ -24,7 +25,7 @@ pub fn read_answer(alloc: Global, script: &Script, text: &[u8]) -> Result<Answer
     ensures bad { (offset : ℕ) → IsErrOf result (AnswerStop.BadAnswer offset) → IsBad script.now.preds text.now offset }
 {
     let read = read_commands(alloc, text)?;
-    let declared = Declared::new(alloc, script.preds.as_slice())?;
+    let declared = Declared::new(alloc, KeyedState::of_text(text), script.preds.as_slice())?;
     reply(alloc, text, &declared, &read)
 }
 

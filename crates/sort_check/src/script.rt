@@ -9,6 +9,7 @@ ghost use Rattle.sort_check.specs.State.{IsState};
 
 use crate::state::State;
 use base::Memory;
+use keyed_hash::KeyedState;
 use sexp_read::{Next, Reader, TextStop, Trees};
 use std::alloc::Global;
 use term_check::{Fault, fault};
@@ -33,7 +34,7 @@ pub fn check_script(alloc: Global, text: &[u8], trees: &Trees) -> Result<Checked
     requires reading { IsReading text.now trees.now.trees trees.now.stop }
     ensures { IfOk result (IsChecked text.now trees.now.trees trees.now.stop) }
 {
-    let mut state = State::new(alloc);
+    let mut state = State::new(alloc, KeyedState::of_text(text));
     for tree in trees.trees.as_slice() {
         if let Some(fault) = state.step(alloc, text, tree)? {
             return Ok(state.into_checked(Some(fault)));
@@ -53,7 +54,7 @@ pub fn check_text(alloc: Global, text: &[u8]) -> Result<Checked, Memory>
     requires { length text.now < 2 ^ 32 }
     ensures { IfOk result (IsCheckedText text.now) }
 {
-    let mut state = State::new(alloc);
+    let mut state = State::new(alloc, KeyedState::of_text(text));
     let mut reader = Reader::new(alloc);
     let mut at = 0;
     loop {

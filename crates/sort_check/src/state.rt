@@ -12,6 +12,7 @@ ghost use Rattle.sort_check.specs.State.{IsState, Took};
 use crate::declaration::{declaration_fault, predicate_named};
 use crate::rules::{alone_fault, assert_fault, bool_fault, inform_fault, set_logic_fault};
 use base::{Items, Memory};
+use keyed_hash::KeyedState;
 use sexp_read::Tree;
 use std::alloc::Global;
 use term_check::{Fault, Found, Signature, TermStop, check_term, fault, is_word};
@@ -34,11 +35,12 @@ pub struct State {
 }
 
 impl State {
-    pub fn new(alloc: Global) -> State
+    /// No commands yet. Names are hashed under this key.
+    pub fn new(alloc: Global, key: KeyedState) -> State
         ensures { IsState [] result }
     {
         State {
-            signature: Signature::new(alloc),
+            signature: Signature::new(alloc, key),
             terms: Terms::new(alloc),
             asserts: Vec::new(alloc),
             commands: 0,

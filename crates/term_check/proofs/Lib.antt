@@ -5,6 +5,7 @@ pub mod ConstantLemmas
 pub mod CycleLemmas
 pub mod FewLemmas
 pub mod FormulaLemmas
+pub mod KeyLemmas
 pub mod KnownLemmas
 pub mod LeafLemmas
 pub mod LegalityLemmas
@@ -13,7 +14,6 @@ pub mod MeaningLemmas
 pub mod NameLemmas
 pub mod NodeLemmas
 pub mod NumberLemmas
-pub mod OrderLemmas
 pub mod OutcomeLemmas
 pub mod Public
 pub mod ReadingLemmas

@@ -1,7 +1,6 @@
 -- What the code keeps for itself: no rule cites it.
 pub mod Known
 pub mod Meanings
-pub mod Numbers
 pub mod Reading
 pub mod TellsFormula
 pub mod WordLengths

@@ -12,6 +12,7 @@ use crate::part::Fault;
 use crate::seen::Seen;
 use crate::trees::{name_of, sort_named, start_of};
 use base::{Items, Memory};
+use keyed_hash::KeyedState;
 use sexp_read::Tree;
 use std::alloc::Global;
 use term_tree::{Kind, Sort};
@@ -133,10 +134,15 @@ fn repeated_fault<'a>(seen: &Seen<'a>, name: &[u8], item: &Tree) -> Option<Fault
 }
 
 /// The first name of a `let` that stands in its binder before.
-pub fn let_names_fault(alloc: Global, text: &[u8], items: &[Tree]) -> Result<Option<Fault>, Memory>
+pub fn let_names_fault(
+    alloc: Global,
+    key: KeyedState,
+    text: &[u8],
+    items: &[Tree],
+) -> Result<Option<Fault>, Memory>
     ensures { IfOk result (λ fault. fault ≡ let_names_fault text.now [] items.now) }
 {
-    let mut seen = Seen::with_room(alloc, items.len())?;
+    let mut seen = Seen::with_room(alloc, key, items.len())?;
     for item in items {
         let name = name_bound(text, item);
         if let Some(fault) = repeated_fault(&seen, name, item) {
@@ -160,10 +166,15 @@ fn sort_name_fault(text: &[u8], item: &Tree) -> Option<Fault>
 }
 
 /// The first name of a quantifier that stands in its binder before, or the first sort that is none.
-pub fn variables_fault(alloc: Global, text: &[u8], items: &[Tree]) -> Result<Option<Fault>, Memory>
+pub fn variables_fault(
+    alloc: Global,
+    key: KeyedState,
+    text: &[u8],
+    items: &[Tree],
+) -> Result<Option<Fault>, Memory>
     ensures { IfOk result (λ fault. fault ≡ variables_fault text.now [] items.now) }
 {
-    let mut seen = Seen::with_room(alloc, items.len())?;
+    let mut seen = Seen::with_room(alloc, key, items.len())?;
     for item in items {
         let name = name_bound(text, item);
         if let Some(fault) = repeated_fault(&seen, name, item) {

@@ -9,6 +9,7 @@ use crate::mapped::Mapped;
 use crate::part::Part;
 use crate::scope::{Bound, Meaning};
 use base::Memory;
+use keyed_hash::KeyedState;
 use sexp_read::Tree;
 use std::alloc::Global;
 use std::marker::Model;
@@ -18,7 +19,7 @@ use term_tree::{Name, Sort};
 pub const FEW: usize = 64;
 
 /// The names that are bound around a term, the innermost last. The outermost ones are found by
-/// comparing each, and those after them by their order.
+/// comparing each, and those after them by their hashes.
 pub struct Bindings<'a> {
     few: Vec<Meaning<'a>>,
     more: Mapped<'a>,
@@ -56,12 +57,13 @@ fn last_named<'a>(few: &[Meaning<'a>], name: &[u8]) -> Option<Bound>
 }
 
 impl<'a> Bindings<'a> {
-    pub fn new(alloc: Global) -> Bindings<'a>
+    /// None yet. Names are hashed under this key.
+    pub fn new(alloc: Global, key: KeyedState) -> Bindings<'a>
         ensures { result ≡ [] }
     {
         Bindings {
             few: Vec::new(alloc),
-            more: Mapped::new(alloc),
+            more: Mapped::new(alloc, key),
         }
     }
 

@@ -19,6 +19,7 @@ use crate::rules::same_sort;
 use crate::signature::Signature;
 use crate::stop::TermStop;
 use base::Memory;
+use keyed_hash::KeyedState;
 use sexp_read::Tree;
 use std::alloc::Global;
 use term_tree::{Name, Sort, TermId, Terms};
@@ -39,7 +40,8 @@ pub fn check_term(
     ensures fault { (fault : AFault) → IsErrOf result (TermStop.Fault fault) → spelled text.now (scope_of signature.now [] true) 0 tree.now ≡ Err fault }
     ensures keeps { Keeps terms.old terms.new }
 {
-    let mut context = Context::new(alloc, text, signature, Bindings::new(alloc), true);
+    let bindings = Bindings::new(alloc, signature.key());
+    let mut context = Context::new(alloc, text, signature, bindings, true);
     read_term(&mut context, 0, tree, terms)
 }
 
@@ -87,9 +89,10 @@ fn bool_term(read: Result<Found, TermStop>) -> Result<TermId, FormulaStop>
 
 /// Reads a tree as a formula, a Bool term without predicates and quantifiers, over parameters, which
 /// are its variables by number. A predicate is an unknown symbol at its name, and a quantifier is
-/// refused at its own start.
+/// refused at its own start. Names are hashed under the key.
 pub fn check_formula(
     alloc: Global,
+    key: KeyedState,
     text: &[u8],
     tree: &Tree,
     params: &[(Name, Sort)],
@@ -98,8 +101,8 @@ pub fn check_formula(
     ensures formula { IfOk result (λ made. (term : Term) × (spelled_formula text.now params.now tree.now ≡ Ok term) × IsTermAt made.0 [] term made.1.0) }
     ensures bad { (offset : ℕ) → IsErrOf result (FormulaStop.Bad offset) → spelled_formula text.now params.now tree.now ≡ Err offset }
 {
-    let signature = Signature::new(alloc);
-    let mut bindings = Bindings::new(alloc);
+    let signature = Signature::new(alloc, key);
+    let mut bindings = Bindings::new(alloc, key);
     bindings.bind_params(0, params)?;
     let mut context = Context::new(alloc, text, &signature, bindings, false);
     let mut terms = Terms::new(alloc);

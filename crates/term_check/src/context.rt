@@ -7,6 +7,7 @@ use crate::part::Part;
 use crate::scope::Bound;
 use crate::signature::Signature;
 use base::Memory;
+use keyed_hash::KeyedState;
 use sexp_read::Tree;
 use std::alloc::Global;
 use std::marker::Model;
@@ -71,6 +72,11 @@ impl<'a> Context<'a> {
 
     pub fn alloc(&self) -> Global {
         self.alloc
+    }
+
+    /// The key under which names are hashed.
+    pub fn key(&self) -> KeyedState {
+        self.signature.key()
     }
 
     pub fn text(&self) -> &'a [u8]

@@ -24,7 +24,6 @@ mod rules;
 mod scope;
 mod seen;
 mod signature;
-mod sorted;
 mod stop;
 mod trees;
 mod values;

@@ -5,15 +5,16 @@ ghost use Rattle.term_check.specs.Spelling.{bound_to};
 
 use crate::scope::{Binding, Bound};
 use base::Memory;
+use indexmap::IndexMap;
+use keyed_hash::{KeyedState, NameKey};
 use std::alloc::Global;
-use std::collections::BTreeMap;
 use std::marker::Model;
 
-/// Bound names, the innermost last, each found by order, so that no choice of names makes it slow. A name
-/// that was left keeps its place in the map.
+/// Bound names, the innermost last, each found by its hash under a key, so that no choice of names makes
+/// it slow. A name that was left keeps its place in the map.
 pub struct Mapped<'a> {
     bindings: Vec<Binding<'a>>,
-    meanings: BTreeMap<&'a [u8], Option<Bound>>,
+    meanings: IndexMap<NameKey<'a>, Option<Bound>, KeyedState>,
 }
 
 impl<'a> Drop for Mapped<'a> {
@@ -47,12 +48,12 @@ fn joined(meaning: Option<Option<Bound>>) -> Option<Bound>
 }
 
 impl<'a> Mapped<'a> {
-    pub fn new(alloc: Global) -> Mapped<'a>
+    pub fn new(alloc: Global, key: KeyedState) -> Mapped<'a>
         ensures { result ≡ [] }
     {
         Mapped {
             bindings: Vec::new(alloc),
-            meanings: BTreeMap::new(alloc),
+            meanings: IndexMap::with_hasher(alloc, key),
         }
     }
 
@@ -60,7 +61,7 @@ impl<'a> Mapped<'a> {
     pub fn bound_to(&self, name: &[u8]) -> Option<Bound>
         ensures { result ≡ bound_to name.now self.now }
     {
-        joined(self.meanings.get(name).copied())
+        joined(self.meanings.get(&NameKey { bytes: name }).copied())
     }
 
     /// How many names there are.
@@ -84,7 +85,7 @@ impl<'a> Mapped<'a> {
         ensures { OnOk result (self.new ≡ self.old ++ named name.now bound ∷ []) }
     {
         self.bindings.reserve(1)?;
-        let before = self.meanings.insert(name, Some(bound))?;
+        let before = self.meanings.insert(NameKey { bytes: name }, Some(bound))?;
         let outside = joined(before);
         self.bindings
             .push(Binding {
@@ -101,7 +102,7 @@ impl<'a> Mapped<'a> {
         ensures { self.new ≡ take (length self.old - 1) self.old }
     {
         if let Some(Binding { name, outside, .. }) = self.bindings.pop() {
-            let put: Result<_, _> = self.meanings.insert(name, outside);
+            let put: Result<_, _> = self.meanings.insert(NameKey { bytes: name }, outside);
             put.unwrap();
         }
     }

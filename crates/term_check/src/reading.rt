@@ -265,7 +265,7 @@ fn read_under_lets<'a>(
     ensures kept { OnOk result (context.new ≡ context.old) }
     ensures next { IfOk result (λ found. found.next ≤ all.next + weight body.now) }
 {
-    if let Some(fault) = let_names_fault(context.alloc(), context.text(), items)? {
+    if let Some(fault) = let_names_fault(context.alloc(), context.key(), context.text(), items)? {
         return Err(TermStop::Fault(fault));
     }
     let (names, lets) = (context.names(), context.lets());
@@ -305,7 +305,12 @@ fn read_quantifier<'a>(
                 return Err(TermStop::Fault(fault));
             }
             let items = items_of(binder);
-            if let Some(fault) = variables_fault(context.alloc(), context.text(), items)? {
+            if let Some(fault) = variables_fault(
+                context.alloc(),
+                context.key(),
+                context.text(),
+                items,
+            )? {
                 return Err(TermStop::Fault(fault));
             }
             read_under_variables(context, next, start, is_universal, items, body, terms)

@@ -3,16 +3,17 @@ ghost use Rattle.term_check.specs.Words.{is_word_among};
 
 use crate::bindings::FEW;
 use crate::bytes::are_same;
-use crate::sorted::Sorted;
 use base::Memory;
+use indexmap::IndexSet;
+use keyed_hash::{KeyedState, NameKey};
 use std::alloc::Global;
 use std::marker::Model;
 
 /// The names that stand in a binder before, in their order. The first ones are found by comparing
-/// each, and those after them by a set, so that no choice of names makes it slow.
+/// each, and those after them by their hashes under a key, so that no choice of names makes it slow.
 pub struct Seen<'a> {
     few: Vec<&'a [u8]>,
-    more: Sorted<'a>,
+    more: IndexSet<NameKey<'a>, KeyedState>,
 }
 
 impl<'a> Drop for Seen<'a> {
@@ -26,7 +27,7 @@ impl<'a> Model for Seen<'a> {
 
     ghost Value = { List (List ℕ) };
 
-    ghost view = { λ s. map (λ name. name.now) s.few.items ++ s.more };
+    ghost view = { λ s. map (λ name. name.now) s.few.items ++ map (λ key. key.bytes.now) s.more.keys };
 }
 
 /// Whether one of them is that name.
@@ -43,12 +44,12 @@ fn has_name<'a>(few: &[&'a [u8]], name: &[u8]) -> bool
 
 impl<'a> Seen<'a> {
     /// None yet, with room for `count` names.
-    pub fn with_room(alloc: Global, count: usize) -> Result<Seen<'a>, Memory>
+    pub fn with_room(alloc: Global, key: KeyedState, count: usize) -> Result<Seen<'a>, Memory>
         ensures { IfOk result (λ seen. seen ≡ []) }
     {
         Ok(Seen {
             few: Vec::with_capacity(alloc, count.min(FEW))?,
-            more: Sorted::with_room(alloc, count.saturating_sub(FEW))?,
+            more: IndexSet::with_capacity_and_hasher(alloc, count.saturating_sub(FEW), key)?,
         })
     }
 
@@ -56,7 +57,8 @@ impl<'a> Seen<'a> {
     pub fn contains(&self, name: &[u8]) -> bool
         ensures { result ≡ is_word_among self.now name.now }
     {
-        has_name(self.few.as_slice(), name) || !self.more.is_empty() && self.more.contains(name)
+        has_name(self.few.as_slice(), name)
+            || !self.more.is_empty() && self.more.contains(&NameKey { bytes: name })
     }
 
     /// Adds a name that is new.
@@ -67,7 +69,7 @@ impl<'a> Seen<'a> {
         if self.few.len() < FEW && self.more.is_empty() {
             self.few.push(name)?;
         } else {
-            self.more.add(name)?;
+            self.more.insert(NameKey { bytes: name })?;
         }
         Ok(())
     }

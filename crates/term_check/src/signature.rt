@@ -2,42 +2,47 @@ ghost use Rattle.std.specs.Prelude.{◌≡◌, ◌+◌, ◌<◌, ◌^◌, ◌++�
 ghost use Rattle.term_check.specs.Spelling.{pred_from};
 
 use base::{Items, Memory};
+use indexmap::IndexSet;
+use keyed_hash::KeyedState;
 use std::alloc::Global;
-use std::collections::BTreeMap;
 use std::marker::Model;
 use term_tree::Pred;
 
-/// The declared predicates, numbered from 0 in their order, each found by its name. Their names
-/// differ. They are found by order, so that no choice of names makes it slow.
+/// The declared predicates, numbered from 0 in their order, which is that of their names in a set. Their
+/// names differ. They are found by hashes under a key, so that no choice of names makes it slow.
 #[derive(Drop)]
 pub struct Signature {
     alloc: Global,
     preds: Vec<Pred>,
-    numbers: BTreeMap<Vec<u8>, u32>,
+    names: IndexSet<Vec<u8>, KeyedState>,
 }
 
 impl Model for Signature {
-    ghost use Rattle.std.specs.Prelude.{List, ◌<◌, ◌^◌, vec_len};
+    ghost use Rattle.std.specs.Prelude.{List, map, ◌≡◌, ◌<◌, ◌^◌, vec_len};
     ghost use Rattle.term_tree.specs.declared.script.Pred.{Pred as APred};
-    ghost use Rattle.term_check.specs.machinery.Numbers.{AreNumbered};
 
     ghost Value = { List APred };
 
     ghost view = { λ s. s.preds.items };
 
-    ghost invariant = { λ s. (vec_len s.preds < 2 ^ 32) × AreNumbered (λ key. key.items) s.preds.items s.numbers.entries };
+    ghost invariant = { λ s. (vec_len s.preds < 2 ^ 32) × (map (λ key. key.items) s.names.keys ≡ map (λ p. p.name.bytes) s.preds.items) };
 }
 
 impl Signature {
-    /// No predicates yet.
-    pub fn new(alloc: Global) -> Signature
+    /// No predicates yet. Names are hashed under this key.
+    pub fn new(alloc: Global, key: KeyedState) -> Signature
         ensures { result ≡ [] }
     {
         Signature {
             alloc,
             preds: Vec::new(alloc),
-            numbers: BTreeMap::new(alloc),
+            names: IndexSet::with_hasher(alloc, key),
         }
+    }
+
+    /// The key under which names are hashed.
+    pub fn key(&self) -> KeyedState {
+        *self.names.hasher()
     }
 
     /// How many predicates are declared.
@@ -59,8 +64,8 @@ impl Signature {
     pub fn number_of(&self, name: &[u8]) -> Option<u32>
         ensures { result ≡ pred_from 0 name.now self.now }
     {
-        match self.numbers.get(name) {
-            Some(number) => Some(*number),
+        match self.names.get_index_of(name) {
+            Some(number) => Some(number as u32),
             None => None,
         }
     }
@@ -74,8 +79,7 @@ impl Signature {
     {
         let name = Vec::from_slice(self.alloc, pred.name.bytes.as_slice())?;
         self.preds.reserve(1)?;
-        let number = self.preds.len() as u32;
-        self.numbers.insert(name, number)?;
+        self.names.insert(name)?;
         self.preds.push(pred).unwrap();
         Ok(())
     }

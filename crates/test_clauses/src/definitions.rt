@@ -8,6 +8,7 @@ ghost use Rattle.horn_shape.specs.Clause.{IsLegalScript};
 ghost use Rattle.term_check.specs.Weight.{weight};
 
 use base::{Copied, Items};
+use keyed_hash::KeyedState;
 use sexp_read::{Tree, read_commands};
 use std::alloc::Global;
 use std::mem;
@@ -72,7 +73,7 @@ fn formula_of(
     requires { length params.now + weight tree.now < 2 ^ 32 }
     ensures { IsFormula (map (λ p. p.1) params.now) result.0.nodes result.1.0 }
 {
-    match check_formula(alloc, text, tree, params) {
+    match check_formula(alloc, KeyedState::of_text(text), text, tree, params) {
         Ok((terms, body)) => {
             terms.arena_law();
             if !has_no_divisor(&terms) {

@@ -1,4 +1,4 @@
-//! Texts and their trees, terms and their values, the faults of terms, answers and their spelling, and
+//! Hashes under a key, texts and their trees, terms and their values, the faults of terms, answers and their spelling, and
 //! assertions with their Horn clauses or first misfit. It has nothing but tests.
 #![tactic(auto)]
 
@@ -8,6 +8,8 @@ mod answer_printing;
 mod answer_reading;
 #[cfg(test)]
 mod arenas;
+#[cfg(test)]
+mod hashes;
 #[cfg(test)]
 mod horn_forms;
 #[cfg(test)]

@@ -9,6 +9,7 @@ ghost use Rattle.term_check.specs.Weight.{weight};
 use crate::reading::{add, parts};
 use crate::spellings::TERMS;
 use base::{Items, Memory};
+use keyed_hash::KeyedState;
 use sexp_read::{Tree, read_commands};
 use std::alloc::Global;
 use std::mem;
@@ -143,7 +144,7 @@ fn declare(rt: &impl Abort, alloc: Global, signature: &mut Signature, text: &[u8
 /// The predicates p of an Int, q of a Bool and an Int, r without arguments, and let, between bars, of
 /// an Int.
 fn declared(rt: &impl Abort, alloc: Global) -> Signature {
-    let mut signature = Signature::new(alloc);
+    let mut signature = Signature::new(alloc, KeyedState::of_text(b"declared"));
     declare(rt, alloc, &mut signature, b"p", &[Sort::Int]);
     declare(rt, alloc, &mut signature, b"q", &[Sort::Bool, Sort::Int]);
     declare(rt, alloc, &mut signature, b"r", &[]);
@@ -327,7 +328,7 @@ fn formula_of(rt: &impl Abort, alloc: Global, text: &[u8], tree: &Tree) -> Resul
 {
     let (x, y) = (name(rt, alloc, b"x"), name(rt, alloc, b"y"));
     let params = [(x, Sort::Int), (y, Sort::Bool)];
-    let found = check_formula(alloc, text, tree, &params);
+    let found = check_formula(alloc, KeyedState::of_text(text), text, tree, &params);
     mem::forget(params);
     match found {
         Ok((terms, _)) => {

@@ -1,7 +1,7 @@
 -- Predicates by name, and the places of the definitions that were read, one for each predicate.
-use Rattle.std.specs.Borrow.{Bor}
 use Rattle.std.specs.Map.{lookup}
 use Rattle.std.specs.Str.{bytes_eq}
+use Rattle.keyed_hash.specs.declared.name.NameKey.{NameKey}
 use Rattle.std.specs.Prelude.{◌≡◌, ℕ, List, [], ◌∷◌, ◌++◌, length, Option, None, Some, Result, Ok, Err, slice_get}
 use Rattle.term_tree.specs.declared.script.Pred.{Pred}
 use Rattle.term_tree.specs.declared.definition.Definition.{Definition}
@@ -13,8 +13,8 @@ use Rattle.answer_text.specs.Reading.{Defined, definition_for, definitions_from}
 use Rattle.answer_text.specs.Read.{IsDefinition}
 
 -- each name has the number of the first predicate of that name, where the first of these has this number
-abbrev pub AreNumbers : ℕ → List Pred → List (Bor (List ℕ) × ℕ) → Type 0
-AreNumbers first preds entries = (name : List ℕ) → lookup (λ key. bytes_eq name key.now) entries ≡ pred_from first name preds
+abbrev pub AreNumbers : ℕ → List Pred → List (NameKey × ℕ) → Type 0
+AreNumbers first preds entries = (name : List ℕ) → lookup (λ key. bytes_eq name key.bytes.now) entries ≡ pred_from first name preds
 
 pub record AreEmpty (count : ℕ) (places : List (Option Definition)) : Type 0 where
   pub count_is : length places ≡ count

@@ -1,8 +1,8 @@
 -- Bound names as a stack of bindings, and as a map from names.
 use Rattle.std.specs.Prelude.{◌≡◌, ℕ, List, [], ◌∷◌, ◌++◌, Option, None, Some}
-use Rattle.std.specs.Borrow.{Bor}
 use Rattle.std.specs.Map.{lookup}
 use Rattle.std.specs.Str.{bytes_eq}
+use Rattle.keyed_hash.specs.declared.name.NameKey.{NameKey}
 use Rattle.term_check.specs.declared.scope.Bound.{Bound}
 use Rattle.term_check.specs.declared.scope.Named.{Named}
 use Rattle.term_check.specs.declared.scope.Binding.{Binding}
@@ -28,9 +28,9 @@ joined None = None
 joined (Some o) = o
 
 -- what a map has for the name; a name whose binders were left stays there, and stands for nothing
-abbrev pub meaning : List ℕ → List (Bor (List ℕ) × Option Bound) → Option Bound
-meaning name entries = joined (lookup (λ key. bytes_eq name key.now) entries)
+abbrev pub meaning : List ℕ → List (NameKey × Option Bound) → Option Bound
+meaning name entries = joined (lookup (λ key. bytes_eq name key.bytes.now) entries)
 
 -- the map has for each name what the innermost of that name stands for
-abbrev pub AreMeanings : List (Bor (List ℕ) × Option Bound) → List Named → Type 0
+abbrev pub AreMeanings : List (NameKey × Option Bound) → List Named → Type 0
 AreMeanings entries names = (name : List ℕ) → meaning name entries ≡ bound_to name names

@@ -18,6 +18,6 @@ loop-number-preserved c =
     let row = drop_more preds k c.index-preds-number.result within ∙ ap (λ (p : Pred). p ∷ drop (k + 1) preds) (sym c.index-preds-number.is) in (
       omega (arith, most),
       subst (λ (l : List Pred). AreNumbers k l c.insert.new.self.entries) (sym row)
-          (number_added k c.index-preds-number.result (drop (k + 1) preds) entries c.insert.new.self.entries c.as_slice.result found c.in_ok-insert.ensures.entries
-          (c.as_slice.ensures ∙ ap (λ (p : Pred). p.name.bytes) (sym c.index-preds-number.is))),
+          (number_added k c.index-preds-number.result (drop (k + 1) preds) entries c.insert.new.self.entries (record { bytes = c.as_slice-bytes.result }) found c.in_ok-insert.ensures.updates.0
+          (c.as_slice-bytes.ensures ∙ ap (λ (p : Pred). p.name.bytes) (sym c.index-preds-number.is))),
     )
