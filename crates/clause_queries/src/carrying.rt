@@ -3,7 +3,7 @@
 //! the other goal has, too, is one of the other with its literals numbered anew.
 
 ghost use Rattle.std.specs.Prelude.{◌≡◌};
-ghost use Rattle.clause_queries.specs.machinery.Carrying.{has_tree, trees_for};
+ghost use Rattle.clause_queries.specs.machinery.Carrying.{trees_for};
 
 use base::{Boxed, Copied, Items, Memory, Same};
 use chc_tokens::{Goal, Shown};
@@ -305,11 +305,10 @@ fn moved_tree(
     }
 }
 
-/// A tree for the query of a clause.
+/// The tree for the query of a clause, if there is one.
 #[derive(Drop)]
 pub(crate) struct Carried {
-    number: u32,
-    tree: Option<Refutation>,
+    tree: Option<Boxed<Refutation>>,
 }
 
 /// The tree of an old proof for the same clause's query with another goal.
@@ -328,17 +327,42 @@ fn tree_by(
     moved_tree(alloc, places, shown.proof().proof(), MOST_DEEP)
 }
 
-/// Trees for the queries of a goal, made of proofs of another goal under the same lemmas.
+/// For each clause that there is no tree.
+fn without_trees(alloc: Global, sys: &IndexedSystem) -> Result<Vec<Carried>, Memory> {
+    let mut made = Vec::with_capacity(alloc, sys.clauses().len())?;
+    for _ in sys.clauses() {
+        made.push(Carried { tree: None })?;
+    }
+    Ok(made)
+}
+
+/// Puts a tree for a clause's query, where there is none yet.
+fn put(
+    alloc: Global,
+    trees: &mut Vec<Carried>,
+    number: u32,
+    tree: Refutation,
+) -> Result<(), Memory> {
+    let tree = Boxed::new(alloc, tree)?;
+    if let Some(one) = trees.get_mut(number as usize) {
+        if one.tree.is_none() {
+            one.tree = Some(tree);
+        }
+    }
+    Ok(())
+}
+
+/// Trees for the queries of a goal, made of proofs of another goal under the same lemmas: one for each
+/// clause at most, at the place of its number. None where there is no other proof.
 pub(crate) fn all_carried(
     alloc: Global,
     sys: &IndexedSystem,
     goal: &Goal,
     old: &[Shown],
 ) -> Result<Vec<Carried>, Memory> {
-    let mut made = Vec::new(alloc);
     let before = match old {
         [first, ..] => lits_of(first.goal()),
-        [] => return Ok(made),
+        [] => return Ok(Vec::new(alloc)),
     };
     let lits = lits_of(goal);
     let mut places = Places {
@@ -346,44 +370,28 @@ pub(crate) fn all_carried(
         goal: places_of(alloc, before, lits)?,
         count: u32::try_from(lits.len()).unwrap_or(u32::MAX),
     };
+    let mut made = without_trees(alloc, sys)?;
     for shown in old {
         if let Some(tree) = tree_by(alloc, sys, &mut places, shown)? {
-            made.push(Carried {
-                number: shown.clause(),
-                tree: Some(tree),
-            })?;
+            put(alloc, &mut made, shown.clause(), tree)?;
         }
     }
     Ok(made)
-}
-
-/// Whether there is a tree for the clause's query.
-fn has_tree(trees: &[Carried], number: u32) -> bool
-    ensures { result ≡ has_tree trees.now number }
-{
-    for one in trees {
-        if one.number == number {
-            return true;
-        }
-    }
-    false
 }
 
 /// 1 where there is a tree for the clause's query, else 0.
 pub(crate) fn trees_for(trees: &[Carried], number: u32) -> u32
     ensures { result ≡ trees_for trees.now number }
 {
-    if has_tree(trees, number) { 1 } else { 0 }
+    match trees.get(number as usize) {
+        Some(one) => { if one.tree.is_some() { 1 } else { 0 } }
+        None => 0,
+    }
 }
 
 /// The tree for the clause's query, which is taken away.
 pub(crate) fn taken(trees: &mut Vec<Carried>, number: u32) -> Option<Refutation> {
-    for at in 0..trees.len() {
-        if let Some(one) = trees.get_mut(at) {
-            if one.number == number {
-                return std::mem::replace(&mut one.tree, None);
-            }
-        }
-    }
-    None
+    let one = trees.get_mut(number as usize)?;
+    let tree = std::mem::replace(&mut one.tree, None)?;
+    Some(tree.into_inner())
 }
