@@ -101,6 +101,21 @@ def distinct(seed, size):
     return LOGIC + DECLARED + f"(assert (=> (distinct {numbers} 0 0) q))" + QUESTION
 
 
+def facts(seed, size):
+    """So many clauses: facts, and a query that a lemma of two literals excludes."""
+    some = random.Random(seed)
+    lines = [f"(assert (p {at} {some.randrange(7)} {some.randrange(5)}))" for at in range(size - 1)]
+    query = "(assert (forall ((x Int) (y Int) (z Int)) (not (and (p x y z) (< x 0) (< y 3) (> z 1)))))"
+    return f"{LOGIC}(declare-fun p (Int Int Int) Bool){''.join(lines)}{query}{QUESTION}"
+
+
+def turns(_, size):
+    """So many clauses: facts and rules in turns, and a query."""
+    rule = "(assert (forall ((x Int)) (=> (and (p x) (> x {at})) (p (+ x 1)))))"
+    lines = [rule.format(at=at) if at % 2 else f"(assert (p {at}))" for at in range(size - 1)]
+    return f"{LOGIC}(declare-fun p (Int) Bool){''.join(lines)}(assert (forall ((x Int)) (not (and (p x) (< x 0))))){QUESTION}"
+
+
 def bytes_of(byte):
     return lambda _, size: byte * size
 
@@ -155,6 +170,8 @@ def deep_end(size):
 CASES = [
     Case("predicates", 4096, predicates, always(0, "sat\n(\n(define-fun ")),
     Case("assertions", 65536, asserted, always(0, "sat\n(\n(define-fun q () Bool true)\n)\n")),
+    Case("facts", 65536, facts, always(0, "sat\n")),
+    Case("turns", 65536, turns, always(0, "sat\n")),
     Case("let", 1000, lets, always(0, "sat\n(\n(define-fun p ((x0 Int)) Bool true)\n)\n")),
     Case("nested not", 1998, nested(DECLARED + "(assert (=> ", "(not ", "true", ")", " q))"), always(0, "sat\n")),
     Case("nested and", 1998, nested(DECLARED + "(assert (=> ", "(and ", "true", ")", " q))"), always(0, "sat\n")),
