@@ -5,8 +5,9 @@ ghost use Rattle.derivations.specs.Facts.{AreOf, AreRecorded, AreSteps, AreUnder
 use crate::fact::Fact;
 use crate::marks::steps;
 use crate::notes::Notes;
-use crate::rows::{Rows, add_in, by_number, by_tuple, keys_by_tuple};
-use crate::search::{begun, found};
+use crate::parts::sought;
+use crate::rows::{Rows, add_in, by_number, by_tuple, keys_by_tuple, parts_of};
+use crate::search::begun;
 use base::Memory;
 use cube_forms::share_all;
 use std::alloc::Global;
@@ -77,9 +78,7 @@ impl Facts {
     pub fn find(&self, pred: u32, tuple: &[i64]) -> Option<u32>
         ensures { (n : ℕ) → (result ≡ Some n) ↔ Concludes self.now n (Some pred) tuple.now }
     {
-        let row = by_tuple(&self.rows, pred);
-        let keys = keys_by_tuple(&self.rows, pred);
-        found(&self.notes, row, keys, tuple)
+        sought(parts_of(&self.rows, pred), tuple)
     }
 
     /// The facts of a predicate, in order of number. They are lent.

@@ -1,0 +1,73 @@
+ghost use Rattle.std.specs.Cmp.{on_equiv, on_per};
+ghost use Rattle.std.specs.Cmp.Lexicographic.{pointwise, lists_equiv, lists_per};
+ghost use Rattle.std.specs.Hash as fed;
+ghost use Rattle.std.specs.Hash.{items_Alike};
+ghost use Rattle.std.specs.Ordering.{int_eq};
+
+use cube_forms::{Held, Tuple};
+use indexmap::Equivalent;
+use std::hash::{Hash, Hasher};
+use std::marker::Model;
+
+/// A tuple as the key of maps, which share it.
+pub(crate) struct Key {
+    pub(crate) tuple: Held<Tuple>,
+}
+
+impl Drop for Key {
+    fn drop(self) {
+        let Key { tuple: _ } = self;
+    }
+}
+
+impl Model for Key {
+    ghost use Rattle.std.specs.Prelude.{List, ℤ};
+
+    ghost Value = { List ℤ };
+
+    ghost view = { λ k. k.tuple };
+}
+
+impl Key {
+    fn as_slice(&self) -> &[i64]
+        ensures { result.now ≡ self.now }
+    {
+        self.tuple.get().as_slice()
+    }
+}
+
+impl PartialEq for Key {
+    ghost eq = { pointwise int_eq };
+
+    ghost laws = { lists_per i64.laws };
+
+    fn eq(&self, other: &Key) -> bool {
+        self.as_slice() == other.as_slice()
+    }
+}
+
+impl Eq for Key {
+    ghost laws = { lists_equiv i64.Eq.laws };
+}
+
+impl Hash for Key {
+    ghost hash_input = { fed.slice i64.hash_input };
+
+    ghost respects_eq = { (items_Alike (record { fed = i64.respects_eq })).fed };
+
+    fn hash<H: Hasher>(&self, state: &mut H) {
+        self.as_slice().hash(state);
+    }
+}
+
+impl Equivalent<Key> for &[i64] {
+    ghost equivalent = { λ q k. pointwise int_eq q.now k };
+
+    ghost respects_hash = { λ q k. (items_Alike (record { fed = i64.respects_eq })).fed q.now k };
+
+    ghost respects_eq = { λ q x y. (lists_equiv i64.Eq.laws).congr q.now x y };
+
+    fn equivalent(&self, key: &Key) -> bool {
+        *self == key.as_slice()
+    }
+}
