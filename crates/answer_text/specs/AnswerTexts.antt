@@ -23,6 +23,7 @@ declared_name (Some pred) = pred.name.bytes
 abbrev pub pred_text : List Pred → ℕ → List ℕ
 pred_text preds number = name_text (declared_name (slice_get preds number))
 
+-- the identifier of the sort, as SMT-LIB's theories Ints and Core have it
 abbrev pub sort_text : Sort → List ℕ
 sort_text Int = codes "Int"
 sort_text Bool = codes "Bool"
@@ -31,10 +32,12 @@ sort_text Bool = codes "Bool"
 abbrev pub parameter_text : ℕ × Sort → List ℕ
 parameter_text p = codes "(" ++ parameter_name p.0 ++ codes " " ++ sort_text p.1 ++ codes ")"
 
+-- the sorted variables of a define-fun, one for each argument sort from x0 on, with one space between them
 abbrev pub parameters_text : List Sort → List ℕ
 parameters_text [] = []
 parameters_text (sort ∷ sorts) = parameter_text (0, sort) ++ after_spaces parameter_text (enumerate_from 1 sorts)
 
+-- a define-fun up to its term: the predicate's name, its parameters and the result sort Bool, with a space behind
 abbrev pub definition_head : List Pred → ℕ → List ℕ
 definition_head preds pred = codes "(define-fun " ++ pred_text preds pred ++ codes " (" ++ parameters_text (sorts_of preds pred) ++ codes ") Bool "
 
@@ -47,13 +50,16 @@ abbrev pub atom_text : List ℕ → List Value → List ℕ
 atom_text name [] = name
 atom_text name (v ∷ values) = codes "(" ++ name ++ after_spaces value_text (v ∷ values) ++ codes ")"
 
+-- the head of a step's instance as a ground atom, or false where its clause has no head
 abbrev pub conclusion_text : List Pred → Option (ℕ × List Value) → List ℕ
 conclusion_text preds None = codes "false"
 conclusion_text preds (Some head) = atom_text (pred_text preds head.0) head.1
 
+-- the opening of a step: its own number and that of its assertion, with no space behind
 abbrev pub step_numbers : Line → List ℕ
 step_numbers line = codes "(step " ++ decimal line.number ++ codes " " ++ decimal line.assertion
 
+-- the middle of a step: the values of its clause's variables, and the numbers of the steps that it rests on
 abbrev pub step_lists : Line → List ℕ
 step_lists line = codes " (" ++ spaced value_text line.values ++ codes ") (" ++ spaced decimal line.premises ++ codes ") "
 
@@ -61,6 +67,7 @@ step_lists line = codes " (" ++ spaced value_text line.values ++ codes ") (" ++ 
 abbrev pub step_text : List Pred → Line → List ℕ
 step_text preds line = step_numbers line ++ step_lists line ++ conclusion_text preds line.head ++ codes ")\n"
 
+-- all that is printed for an answer: sat with a model, unsat with a derivation, or unknown with the level and the cause
 abbrev pub answer_text : List Pred → Answer → List ℕ
 answer_text preds (Sat definitions) = codes "sat\n(\n" ++ flat_map (definition_text preds) definitions ++ codes ")\n"
 answer_text preds (Unsat lines) = codes "unsat\n(derivation\n" ++ flat_map (step_text preds) lines ++ codes ")\n"

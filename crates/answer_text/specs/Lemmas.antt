@@ -11,6 +11,7 @@ use Rattle.term_tree.specs.declared.node.OpKind.TheVariants.{Not, And, Eq, Ite, 
 use Rattle.term_tree.specs.declared.node.Node.{Node}
 use Rattle.term_tree.specs.declared.node.Node.TheVariants.{Num, True, False, Var, Op, Divisible}
 
+-- the term of that number is there, and is this node
 abbrev pub IsNode : List Node → TermId → Node → Type 0
 IsNode nodes id node = slice_get nodes id.0 ≡ Some node
 
@@ -33,6 +34,7 @@ IsProduct nodes sorts t id =
     ((t.1 ≡ pos 1) × IsArgument nodes t.0 (slice_get sorts t.0) id)
     ⊎ ((t.1 ≡ pos 1 → ⊥) × ((k : TermId) × (x : TermId) × IsNumber nodes t.1 k × IsArgument nodes t.0 (slice_get sorts t.0) x × IsNode nodes id (Op Mul (k ∷ x ∷ []))))
 
+-- the terms are the products for these coefficients and places, in the same order and as many
 abbrev pub AreProducts : List Node → List Sort → List (ℕ × ℤ) → List TermId → Type 0
 AreProducts nodes sorts [] [] = Unit {0}
 AreProducts nodes sorts (t ∷ ts) (id ∷ ids) = IsProduct nodes sorts t id × AreProducts nodes sorts ts ids
@@ -87,6 +89,7 @@ pub record IsDivisibility (nodes : List Node) (sorts : List Sort) (id : TermId) 
   pub shifted : IsShifted nodes sorts sum
   pub node : IsNode nodes id (Divisible (pos divisor) sum)
 
+-- a comparison by <= or =, a divisibility, or the negation of a divisibility; comparisons aren't negated
 abbrev pub IsLiteral : List Node → List Sort → TermId → Type 0
 IsLiteral nodes sorts id =
     IsComparison nodes sorts Le id ⊎ (IsComparison nodes sorts Eq id ⊎ (IsDivisibility nodes sorts id

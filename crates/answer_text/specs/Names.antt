@@ -23,10 +23,12 @@ name_text name = if is_bare name then name else codes "|" ++ name ++ codes "|"
 unfoldable pub number_text : ℤ → List ℕ
 number_text n = if int_lt n (pos 0) then codes "(- " ++ decimal (nat_abs n) ++ codes ")" else decimal (nat_abs n)
 
+-- a truth value as the constant of the theory Core
 abbrev pub truth_text : Bool → List ℕ
 truth_text true = codes "true"
 truth_text false = codes "false"
 
+-- a value as a ground term: true, false, a numeral, or (- numeral) for an integer below 0
 abbrev pub value_text : Value → List ℕ
 value_text (Int n) = number_text n
 value_text (Truth b) = truth_text b

@@ -20,9 +20,11 @@ pub record IsMadeOfLemmas (preds : List Pred) (d : Definition) : Type 0 where
   pub names : map (λ name. name.bytes) d.params ≡ map (λ p. parameter_name p.0) (enumerate_from 0 (sorts_of preds d.pred))
   pub term : IsDefiningTerm d.terms.nodes (sorts_of preds d.pred) d.body
 
+-- the number is below 2^63
 abbrev pub IsShort : ℕ → Type 0
 IsShort n = n < short_limit
 
+-- an integer below 2^63 in magnitude, or any truth value
 abbrev pub IsShortValue : Value → Type 0
 IsShortValue (Int n) = IsShort (nat_abs n)
 IsShortValue (Truth b) = Unit {0}
@@ -32,6 +34,7 @@ abbrev pub IsConclusion : List Pred → Option (ℕ × List Value) → Type 0
 IsConclusion preds None = Unit {0}
 IsConclusion preds (Some head) = (head.0 < length preds) × (length head.1 ≡ length (sorts_of preds head.0)) × AllByRecursion IsShortValue head.1
 
+-- its numbers are below 2^63, its values in magnitude too, and it concludes false or an atom over the predicates
 pub record IsPrintableStep (preds : List Pred) (line : Line) : Type 0 where
   pub number : IsShort line.number
   pub assertion : IsShort line.assertion
@@ -39,6 +42,7 @@ pub record IsPrintableStep (preds : List Pred) (line : Line) : Type 0 where
   pub premises : AllByRecursion IsShort line.premises
   pub conclusion : IsConclusion preds line.head
 
+-- a model that defines each predicate in order by lemmas, a derivation whose steps can all be printed, or any unknown
 abbrev pub IsPrintable : List Pred → Answer → Type 0
 IsPrintable preds (Sat definitions) = DefinesEach 0 preds definitions × AllByRecursion (IsMadeOfLemmas preds) definitions
 IsPrintable preds (Unsat lines) = AllByRecursion (IsPrintableStep preds) lines

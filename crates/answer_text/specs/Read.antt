@@ -34,12 +34,14 @@ pub record IsDefinition (d : Defined) (definition : Definition) : Type 0 where
   pub arena : IsArena definition.terms.nodes
   pub term : IsTermAt definition.terms [] d.body definition.body.0
 
+-- the definitions are those that were read, in the same order and as many
 abbrev pub AreDefinitions : List Defined → List Definition → Type 0
 AreDefinitions [] [] = Unit {0}
 AreDefinitions (d ∷ ds) (definition ∷ definitions) = IsDefinition d definition × AreDefinitions ds definitions
 AreDefinitions [] (definition ∷ definitions) = ⊥
 AreDefinitions (d ∷ ds) [] = ⊥
 
+-- the answer has the model's definitions or the derivation's steps that were read; unknown is never read
 abbrev pub IsReply : Reply → Answer → Type 0
 IsReply (model ds) (Sat definitions) = AreDefinitions ds definitions
 IsReply (refutation lines) (Unsat steps) = steps ≡ lines

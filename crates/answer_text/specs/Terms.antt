@@ -31,6 +31,7 @@ operator_word Gt = codes ">"
 abbrev pub parameter_name : ℕ → List ℕ
 parameter_name n = codes "x" ++ decimal n
 
+-- the opening of an application of divisibility by that number: (_ divisible n) as its head, and a space behind
 abbrev pub divisible_text : ℤ → List ℕ
 divisible_text by = codes "((_ divisible " ++ number_text by ++ codes ") "
 
@@ -58,5 +59,6 @@ abbrev pub texts_from : List (List ℕ) → List Node → List (List ℕ)
 texts_from earlier [] = earlier
 texts_from earlier (node ∷ nodes) = texts_from (earlier ++ node_text (text_in earlier) node ∷ []) nodes
 
+-- the text of the term of that number; empty where there is no such term
 abbrev pub term_text : List Node → ℕ → List ℕ
 term_text nodes = text_in (texts_from [] nodes)

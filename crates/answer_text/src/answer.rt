@@ -4,7 +4,7 @@ use term_tree::{Definition, Value};
 /// Why it is not known whether a script is satisfiable.
 #[derive(Clone, Copy)]
 pub enum UnknownCause {
-    /// This many units of work were given, and are spent.
+    /// All units of work that were given are spent, this many.
     Units(u32),
     /// No step was left to take.
     Stalled,

@@ -39,7 +39,7 @@ fn defined(
     }
     match check_formula(alloc, text, term, params.as_slice()) {
         Ok((terms, body)) => {
-            terms.is_arena();
+            terms.arena_law();
             let params = names_of(alloc, params.as_slice())?;
             Ok(Definition {
                 pred: number,

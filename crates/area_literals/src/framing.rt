@@ -54,7 +54,7 @@ fn gather_frame(
     Ok(())
 }
 
-/// Those on each atom.
+/// Adds what covers the lemmas of level k or more on each of these atoms, atom by atom.
 pub(crate) fn gather_frames(
     alloc: Global,
     lits: &mut Vec<Lit>,

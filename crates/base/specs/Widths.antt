@@ -11,6 +11,7 @@ short_limit = 2 ^ 63
 abbrev pub long_limit : ℕ
 long_limit = 2 ^ 64
 
+-- whether an integer is less than 2 ^ 63 in magnitude, so that it has room beside its sign in 64 bits
 abbrev pub is_short : ℤ → Bool
 is_short n = nat_lt (nat_abs n) short_limit
 

@@ -10,7 +10,8 @@ use lin_atoms::{Divisor, Lin, Lit};
 use model_project::{Projected, project};
 use std::alloc::Global;
 
-/// That a form is at most 0, and that it is 0. Another number divides the form.
+/// What a row begins with whose form is claimed to be at most 0, and, as `EQ`, to be 0. Another number
+/// divides the form.
 const LE: i64 = 0;
 
 const EQ: i64 = -1;

@@ -25,7 +25,7 @@ fn unsat(alloc: Global, book: &Book, fact: u32) -> Result<Answer, Memory>
 {
     let _end = book.end();
     let facts = book.facts();
-    facts.are_recorded();
+    facts.record_law();
     let steps = facts.steps_to(fact)?;
     let lines = lines(alloc, book.system(), facts, steps.as_slice())?;
     Ok(Answer::Unsat(lines))
@@ -41,7 +41,7 @@ fn sat(alloc: Global, checked: &Checked, book: &Book, level: u32) -> Result<Answ
     // Laws, which run nothing: the definitions can be made, and solve the script.
     sat_ends_solve_the_script();
     lemmas_of_books_have_places();
-    book.is_replayed();
+    book.replay_law();
     let preds = checked.script.preds.as_slice();
     let frames = book.frames();
     match solution(alloc, preds, frames, level) {

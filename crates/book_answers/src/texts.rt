@@ -38,7 +38,7 @@ fn is_printable(checked: &Checked, book: &Book, ending: End, answer: &Answer)
     let _given = ending;
     let _end = book.end();
     let facts = book.facts();
-    facts.are_recorded();
+    facts.record_law();
     let _count = facts.count();
     // Laws, which run nothing: both kinds of answers may be printed.
     lines_of_facts_are_read_back();

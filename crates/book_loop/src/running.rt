@@ -135,7 +135,7 @@ pub fn search(book: &mut Book, nodes: u32) -> Result<(), Memory>
     let mut mind = Mind::new(book.lend().alloc, WORKER);
     'turns: while !has_ended(book) {
         advance(book, &mut mind, nodes)?;
-        book.is_replayed();
+        book.replay_law();
     }
     Ok(())
 }

@@ -1,6 +1,6 @@
 -- Places: each legal step whose cubes are over their predicates keeps those of the book so.
-use Rattle.std.proofs.Common.{◌≡◌, ℕ, List, [], ◌∷◌, length, Bool, true, false, ◌&&◌, ◌||◌, not, Some, None, refl, ap, sym, ◌∙◌, arith}
-use Rattle.std.specs.Prelude.{Option, ℤ, ◌==◌, option_map, slice_get}
+use Rattle.std.proofs.Common.{◌≡◌, ℕ, List, [], ◌∷◌, length, Bool, true, false, ◌&&◌, ◌||◌, not, cond, Some, None, refl, ap, sym, ◌∙◌, arith}
+use Rattle.std.specs.Prelude.{Option, ℤ, ◌==◌, nat_le, option_map, slice_get}
 use Rattle.std.specs.List.{list_all}
 use Rattle.std.proofs.lemmas.Bool.{eqb-true}
 use Rattle.std.proofs.lemmas.Bool.Decides.{nat_tests}
@@ -13,21 +13,22 @@ use Rattle.clause_form.specs.declared.atom.Atom.{Atom}
 use Rattle.clause_form.specs.declared.clause.Clause.{Clause}
 use Rattle.clause_form.specs.Kept.{Keeps}
 use Rattle.clause_form.proofs.Public.{keeps, keeps_atom}
-use Rattle.cube_forms.specs.Cubes.{cube_is_below, tuple_at}
-use Rattle.book_rules.specs.declared.by.By.TheVariants.{Step as ByStep}
+use Rattle.cube_forms.specs.Cubes.{cube_holds, cube_is_below, tuple_at}
+use Rattle.book_rules.specs.declared.by.By.TheVariants.{Obligation as ByObligation, Step as ByStep}
 use Rattle.book_rules.specs.Walks.{AllOf, has, on}
 use Rattle.book_rules.specs.Frames.{Framed}
 use Rattle.book_rules.specs.Queries.{args_of}
 use Rattle.book_rules.specs.Proofs.{is_head}
-use Rattle.book_rules.specs.State.{Obligation, State, opening}
-use Rattle.book_rules.specs.Steps.{OpenStep, Step}
+use Rattle.book_rules.specs.State.{Obligation, State, is_of, opening, unless_live}
+use Rattle.book_rules.specs.Steps.{LemmaStep, OpenStep, Step}
 use Rattle.book_rules.specs.OpenRules.{clause_of, tuple_of}
 use Rattle.book_rules.specs.StrengthenRules.{rule_80}
-use Rattle.book_rules.specs.Rules.{broken}
+use Rattle.book_rules.specs.LemmaRules.{closes, rule_10, rule_11, rule_12, rule_13, rule_14}
+use Rattle.book_rules.specs.Rules.{broken, broken_lemma}
 use Rattle.book_rules.specs.Effects.{after, child_of}
 use Rattle.book_rules.specs.Legal.{AreLegal, replay}
 use Rattle.book_rules.specs.Reached.{has_places_of, have_places}
-use Rattle.book_rules.specs.Places.{places_of, is_over, is_over_atom, has_places, shown_has_places, obligation_fits, AreOver}
+use Rattle.book_rules.specs.Places.{places_of, is_over, is_over_atom, is_within, has_places, shown_has_places, obligation_fits, AreOver}
 use Rattle.book_rules.proofs.ListLemmas.{both_true, from_both, all_at, all_of-at, all_tested, all_weaken, unless_none}
 use Rattle.book_rules.proofs.SoundLemmas.{unbroken}
 use Rattle.book_rules.proofs.StepLemmas.{ChildHas, LemmaHas, steady-after, lemmas-after}
@@ -76,20 +77,49 @@ child_over sys s (Step.Strengthens l) system places = tt
 abbrev LemmaFits : Clauses → Framed → Type 0
 LemmaFits sys e = is_over sys.preds e.lemma.pred e.lemma.cube ≡ true
 
--- a step brings it, or, for a Strengthen, a rule asks it
-lemma_over : (sys : Clauses) (s : State) (step : Step) → has_places sys step ≡ true → broken sys s step ≡ None → LemmaHas (LemmaFits sys) step
-lemma_over sys s (Step.Opens o) places legal = tt
-lemma_over sys s (Step.Learns l) places legal = (both_true (is_over sys.preds l.lemma.pred l.lemma.cube) (list_all (shown_has_places sys) l.proofs) places).0
-lemma_over sys s (Step.Records f) places legal = tt
-lemma_over sys s (Step.Lifts l) places legal = tt
-lemma_over sys s (Step.Raises r) places legal = tt
-lemma_over sys s (Step.Stalls t) places legal = tt
-lemma_over sys s (Step.Derives f) places legal = tt
-lemma_over sys s (Step.Strengthens l) places legal = (unless_none (is_over sys.preds l.lemma.pred l.lemma.cube) ByStep None (unbroken 80 (rule_80 sys l) _ legal).0).0
+-- where nothing is asked of a predicate that isn't there, an obligation of the predicate shows that it is
+
+within_has : (places : Option ℕ) (cube other : List Lit) (long : ℕ) → is_within places cube ≡ true → has places (λ n. cube_is_below n other && (long == n)) ≡ true → has places (λ n. cube_is_below n cube) ≡ true
+within_has None cube other long within h = absurd (true≢false (sym h))
+within_has (Some n) cube other long within h = within
+
+own_over : (preds : List (List Sort)) (pred : ℕ) (cube other : List Lit) (long : ℕ) (of : Option ℕ) → is_of pred of ≡ true → is_within (places_of preds (Some pred)) cube ≡ true
+    → has (places_of preds of) (λ n. cube_is_below n other && (long == n)) ≡ true → is_over preds pred cube ≡ true
+own_over preds pred cube other long None of within h = absurd (true≢false (sym of))
+own_over preds pred cube other long (Some p) of within h = within_has (places_of preds (Some pred)) cube other long within (ap (λ q. has (places_of preds (Some q)) (λ n. cube_is_below n other && (long == n))) (sym (eqb-true p pred of)) ∙ h)
+
+closed_over : (sys : Clauses) (s : State) (l : LemmaStep) (found : Option Obligation) → slice_get s.obligations l.target ≡ found → AreOver sys s → is_within (places_of sys.preds (Some l.lemma.pred)) l.lemma.cube ≡ true
+    → unless_live found ≡ None → on found (λ (o : Obligation). cond (closes l.lemma l.level o) None (Some (ByObligation l.target))) ≡ None → is_over sys.preds l.lemma.pred l.lemma.cube ≡ true
+closed_over sys s l None there over within live told = absurd (cc)
+closed_over sys s l (Some o) there over within live told =
+    let shut = (unless_none (closes l.lemma l.level o) (ByObligation l.target) None told).0 in
+    let of = (both_true (is_of l.lemma.pred o.pred) (nat_le o.level l.level) (both_true (is_of l.lemma.pred o.pred && nat_le o.level l.level) (cube_holds o.point l.lemma.cube) shut).0).0 in
+    own_over sys.preds l.lemma.pred l.lemma.cube o.cube (length o.point) o.pred of within (all_of-at (Fits sys) s.obligations l.target o there over.obligations)
+
+pub learnt-over : (sys : Clauses) (s : State) (l : LemmaStep) → AreOver sys s → has_places sys (Step.Learns l) ≡ true → broken_lemma sys s l ≡ None → is_over sys.preds l.lemma.pred l.lemma.cube ≡ true
+learnt-over sys s l over places h =
+    let r12 = (unbroken 12 (rule_12 sys s l) _ (unbroken 11 (rule_11 sys l) _ (unbroken 10 (rule_10 s l) _ h).1).1).1 in
+    let r13 = unbroken 13 (rule_13 s l) _ r12 in
+    closed_over sys s l (slice_get s.obligations l.target) refl over (both_true (is_within (places_of sys.preds (Some l.lemma.pred)) l.lemma.cube) (list_all (shown_has_places sys) l.proofs) places).0 r13.0 (unbroken 14 (rule_14 s l) None r13.1).0
+
+pub over-within : (places : Option ℕ) (cube : List Lit) → has places (λ n. cube_is_below n cube) ≡ true → is_within places cube ≡ true
+over-within None cube h = refl
+over-within (Some n) cube h = h
+
+-- rules ask it of a Lemma and of a Strengthen
+lemma_over : (sys : Clauses) (s : State) (step : Step) → AreOver sys s → has_places sys step ≡ true → broken sys s step ≡ None → LemmaHas (LemmaFits sys) step
+lemma_over sys s (Step.Opens o) over places legal = tt
+lemma_over sys s (Step.Learns l) over places legal = learnt-over sys s l over places legal
+lemma_over sys s (Step.Records f) over places legal = tt
+lemma_over sys s (Step.Lifts l) over places legal = tt
+lemma_over sys s (Step.Raises r) over places legal = tt
+lemma_over sys s (Step.Stalls t) over places legal = tt
+lemma_over sys s (Step.Derives f) over places legal = tt
+lemma_over sys s (Step.Strengthens l) over places legal = (unless_none (is_over sys.preds l.lemma.pred l.lemma.cube) ByStep None (unbroken 80 (rule_80 sys l) _ legal).0).0
 
 pub over-after : (sys : Clauses) (s : State) (step : Step) → is_system sys ≡ true → AreOver sys s → has_places sys step ≡ true → broken sys s step ≡ None → AreOver sys (after sys s step)
 over-after sys s step system over places legal = record {
-  lemmas = lemmas-after (LemmaFits sys) (λ e level h. h) sys s step over.lemmas (lemma_over sys s step places legal);
+  lemmas = lemmas-after (LemmaFits sys) (λ e level h. h) sys s step over.lemmas (lemma_over sys s step over places legal);
   obligations = steady-after (Fits sys) (λ o level closed stalled h. h) sys s step over.obligations (child_over sys s step system places);
 }
 

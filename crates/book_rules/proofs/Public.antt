@@ -9,7 +9,7 @@ pub use Rattle.book_rules.proofs.JournalLemmas.{legal-push, replay-push}
 pub use Rattle.book_rules.proofs.OpenedLemmas.{opened_reaches}
 pub use Rattle.book_rules.proofs.OpeningLemmas.{derivable_later, ordered-opening_with, over-opening_with, recorded_later, rooted-opening_with, short-opening_with, sound-opening_with}
 pub use Rattle.book_rules.proofs.OrderedLemmas.{ordered-after, ordered-opening, ordered-replay, placed}
-pub use Rattle.book_rules.proofs.OverLemmas.{over-after, over-opening, over-replay, places-have}
+pub use Rattle.book_rules.proofs.OverLemmas.{learnt-over, over-after, over-opening, over-replay, over-within, places-have}
 pub use Rattle.book_rules.proofs.RecordLemmas.{recorded-after, recorded-replay}
 pub use Rattle.book_rules.proofs.RootLemmas.{levels_are_between, rooted-after, rooted-opening, rooted-replay}
 pub use Rattle.book_rules.proofs.SoundLemmas.{sound-after, sound-opening, sound-replay, unbroken}

@@ -60,6 +60,7 @@ lifted s l = lifted_with s l.lemma (lifted_of s l)
 
 -- Fact and Derive: the conclusion is recorded with its instance and premises, and closes the obligations that hold it
 
+-- the height of a recorded fact, and 0 where there is no such fact
 abbrev pub height_at : Option Fact → ℕ
 height_at None = 0
 height_at (Some f) = f.height

@@ -12,6 +12,7 @@ pub record Lemma : Type 0 where
   pub pred : ℕ
   pub cube : List Lit
 
+-- a lemma with its level: it is one of each frame F(k) with k up to that level
 pub record Framed : Type 0 where
   pub lemma : Lemma
   pub level : ℕ

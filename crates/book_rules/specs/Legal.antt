@@ -18,6 +18,7 @@ use Rattle.book_rules.specs.Effects.{after}
 abbrev pub unsat : State → Option End
 unsat s = option_map Unsat (first_number (λ (f : Fact). is_none f.conclusion) s.facts)
 
+-- whether no lemma has exactly this level; one of a higher level doesn't count
 abbrev pub is_level_empty : List Framed → ℕ → Bool
 is_level_empty es level = not (list_any (λ (e : Framed). e.level == level) es)
 
@@ -43,6 +44,7 @@ all_stalled_from all n (o ∷ rest) = (not (is_live o) || list_any (is_live_chil
 abbrev pub stuck : State → Option End
 stuck s = if all_stalled_from s.obligations 0 s.obligations then Some Stalled else None
 
+-- the first of unsat, sat, spent and stalled that holds of the book; none while it goes on
 abbrev pub end : State → Option End
 end s = or_else (unsat s) (or_else (sat s) (or_else (spent s) (stuck s)))
 

@@ -24,6 +24,11 @@ places_of preds (Some pred) = option_map (λ (sorts : List Sort). length sorts) 
 abbrev pub is_over : List (List Sort) → ℕ → List Lit → Bool
 is_over preds pred cube = has (places_of preds (Some pred)) (λ n. cube_is_below n cube)
 
+-- of so many places the cube names no other; of a predicate that isn't there nothing is asked
+abbrev pub is_within : Option ℕ → List Lit → Bool
+is_within None cube = true
+is_within (Some n) cube = cube_is_below n cube
+
 -- where an atom is there, the cube is over its predicate; a cube on an atom that isn't there is over none
 abbrev pub is_over_atom : List (List Sort) → Option Atom → List Lit → Bool
 is_over_atom preds None cube = true
@@ -49,11 +54,11 @@ why_has_places sys (Why.Unknown clause used left) = list_all (used_has_places sy
 abbrev pub no_lift_has_places : Clauses → NoLift → Bool
 no_lift_has_places sys k = is_over_atom sys.preds (head_of sys (why_clause k.why)) k.cube && why_has_places sys k.why
 
--- each cube and lemma of a step is over its predicate: what a step has to bring before its rules are tried. That the lemma of a
--- Strengthen is, a rule asks
+-- each cube and lemma of a step is over its predicate: what a step has to bring before its rules are tried. That the predicate of
+-- a Lemma is there, and that the lemma of a Strengthen is over its own, a rule asks
 abbrev pub has_places : Clauses → Step → Bool
 has_places sys (Step.Opens o) = is_over_atom sys.preds (atom_of sys o) o.cube
-has_places sys (Step.Learns l) = is_over sys.preds l.lemma.pred l.lemma.cube && list_all (shown_has_places sys) l.proofs
+has_places sys (Step.Learns l) = is_within (places_of sys.preds (Some l.lemma.pred)) l.lemma.cube && list_all (shown_has_places sys) l.proofs
 has_places sys (Step.Records f) = true
 has_places sys (Step.Lifts l) = list_all (shown_has_places sys) l.proofs
 has_places sys (Step.Raises r) = list_all (shown_has_places sys) r.closed && list_all (no_lift_has_places sys) r.kept

@@ -19,6 +19,7 @@ target_of s t = slice_get s.obligations t.target
 abbrev pub rule_50 : State → StallStep → Option By
 rule_50 s t = unless_live (target_of s t)
 
+-- whether an obligation is live and hangs directly under the one of that number
 abbrev pub is_live_child : ℕ → Obligation → Bool
 is_live_child parent child = is_live child && is_child parent child
 

@@ -52,6 +52,7 @@ same_conclusion None (Some b) = false
 same_conclusion (Some a) None = false
 same_conclusion (Some a) (Some b) = (a.0 == b.0) && same_tuple a.1 b.1
 
+-- whether no entry of the journal has closed the obligation
 abbrev pub is_live : Obligation → Bool
 is_live o = is_none o.closed
 

@@ -6,6 +6,7 @@ abbrev pub number_from : {A : Type 0} → ℕ → (A → Bool) → List A → Op
 number_from n test [] = None
 number_from n test (x ∷ xs) = if test x then Some n else number_from (n + 1) test xs
 
+-- the number, from 0, of the first item that passes; none where no item does
 abbrev pub first_number : {A : Type 0} → (A → Bool) → List A → Option ℕ
 first_number test xs = number_from 0 test xs
 

@@ -44,8 +44,8 @@ pub fn values_stay_short()
     ensures first { (units : ℕ) → AreShort (opening units) }
 {}
 
-/// Where the cubes and lemmas of each step name only places that their predicates have, and the
-/// rule of a Strengthen asks that of its lemma, those of the book do, its predicates are there, and the points of obligations have a value for each place.
+/// Where the cubes and lemmas of each step name only places that their predicates have, and rules ask
+/// that the predicate of a Lemma is there, and that the lemma of a Strengthen names only places of its own, those of the book do, its predicates are there, and the points of obligations have a value for each place.
 pub fn cubes_are_over_their_predicates()
     ensures over { (sys : Clauses) (s : State) (steps : List Step) → is_system sys ≡ true → AreOver sys s → AllOf (λ step. has_places sys step ≡ true) steps → AreLegal sys s steps → AreOver sys (replay sys s steps) }
     ensures step { (sys : Clauses) (s : State) (step : Step) → is_system sys ≡ true → AreOver sys s → has_places sys step ≡ true → IsLegal sys s step → AreOver sys (after sys s step) }

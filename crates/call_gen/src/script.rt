@@ -18,7 +18,7 @@ fn made(alloc: Global, depth: u32, seed: u32) -> Result<Script, Memory>
     ensures arena { IfOk result (λ script. IsArena script.terms.nodes) }
 {
     let script = script_of(alloc, depth, seed)?;
-    script.terms.is_arena();
+    script.terms.arena_law();
     Ok(script)
 }
 

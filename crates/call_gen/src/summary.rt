@@ -52,7 +52,7 @@ fn unsat(alloc: Global, book: &Book, fact: u32) -> Result<Vec<u8>, Memory>
 {
     let _end = book.end();
     let facts = book.facts();
-    facts.are_recorded();
+    facts.record_law();
     let steps = facts.steps_to(fact)?;
     let height = facts.height(fact);
     let count = count_of(steps.as_slice());

@@ -143,7 +143,7 @@ pub(crate) fn answer_to<W: Threads + Wait + Sync, G: Gate>(
 {
     let checked = check_text(alloc, read)?;
     // Laws, which run nothing: what the checker made is a legal script.
-    checked.script.terms.is_arena();
+    checked.script.terms.arena_law();
     scripts_are_within_limits();
     assertions_are_legal();
     let answer = answer_of(rt, alloc, &checked, limits, gate)?;

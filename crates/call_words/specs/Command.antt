@@ -8,15 +8,19 @@ use Rattle.clap.specs.declared.builder.action.ArgAction.TheVariants.{Set}
 abbrev pub option : Text → Rule
 option name = record (new_rule name) { long = Some name; action = Some Set }
 
+-- a command of this name that takes options of these names, each with a value
 abbrev pub command_shape : Text → List Text → Shape
 command_shape name options = record (new_shape name) { rules = map option options }
 
+-- the command that solves a script, with the options `--workers`, `--units` and `--nodes`
 abbrev pub solve : Shape
 solve = command_shape (codes "solve") (codes "workers" ∷ codes "units" ∷ codes "nodes" ∷ [])
 
+-- the command that judges an answer to a script, with the option `--nodes`
 abbrev pub check : Shape
 check = command_shape (codes "check") (codes "nodes" ∷ [])
 
+-- the command that makes a script and solves it, with the options `--depth` and `--seed`
 abbrev pub gen : Shape
 gen = command_shape (codes "gen") (codes "depth" ∷ codes "seed" ∷ [])
 

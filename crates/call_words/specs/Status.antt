@@ -3,6 +3,7 @@ use Rattle.std.specs.Prelude.{ℕ}
 use Rattle.call_words.specs.declared.status.Status.{Status}
 use Rattle.call_words.specs.declared.status.Status.TheVariants.{Answered, Refused, Usage, ReadFault, WriteFault, Memory, Wrong, NotShown}
 
+-- the exit status of the process, from 0 to 7: 0 where the call was answered, and another for each other end
 abbrev pub status_number : Status → ℕ
 status_number Answered = 0
 status_number Refused = 1

@@ -9,26 +9,33 @@ use Rattle.call_words.specs.declared.limits.Limits.{Limits}
 
 -- what a call may give; how many units a book may be given is said apart, by chc_core, for who reads of books alone
 
+-- the greatest value of `--units`: entries that a book may have, those of Stall not counted
 abbrev pub most_call_units : ℕ
 most_call_units = 1000000
 
+-- the greatest value of `--nodes`: inner nodes at which the search for a point of a formula is given up
 abbrev pub most_nodes : ℕ
 most_nodes = 10000
 
+-- the greatest value of `--depth`, the depth of the root in a script that is made
 abbrev pub most_depth : ℕ
 most_depth = 12
 
+-- the greatest value of `--seed`, which picks the root of a script that is made: 2 ^ 31 - 1
 abbrev pub most_seed : ℕ
 most_seed = 2147483647
 
 -- where no number is given
 
+-- how many workers share a book where `--workers` is left out
 abbrev pub default_workers : ℕ
 default_workers = 1
 
+-- how many units a book is given where `--units` is left out
 abbrev pub default_units : ℕ
 default_units = 50000
 
+-- at how many inner nodes a formula is given up where `--nodes` is left out
 abbrev pub default_nodes : ℕ
 default_nodes = 2000
 
@@ -54,6 +61,7 @@ pub record IsCall (words : List (List ℕ)) (limits : Limits) : Type 0 where
   pub units : IsGivenOr 0 most_call_units default_units (first_of (codes "units") options) limits.units
   pub nodes : IsGivenOr 1 most_nodes default_nodes (first_of (codes "nodes") options) limits.nodes
 
+-- there are no limits with which the words are a call of `solve`
 abbrev pub IsNoCall : List (List ℕ) → Type 0
 IsNoCall words = (limits : Limits) → IsCall words limits → ⊥
 
@@ -63,6 +71,7 @@ pub record IsCheckCall (words : List (List ℕ)) (nodes : ℕ) : Type 0 where
   pub names : Names words (codes "check") options
   pub given : IsGivenOr 1 most_nodes default_nodes (first_of (codes "nodes") options) nodes
 
+-- there is no number of inner nodes with which the words are a call of `check`
 abbrev pub IsNoCheckCall : List (List ℕ) → Type 0
 IsNoCheckCall words = (nodes : ℕ) → IsCheckCall words nodes → ⊥
 
@@ -73,5 +82,6 @@ pub record IsGenCall (words : List (List ℕ)) (depth seed : ℕ) : Type 0 where
   pub depths : IsGiven 0 most_depth (first_of (codes "depth") options) depth
   pub seeds : IsGiven 0 most_seed (first_of (codes "seed") options) seed
 
+-- there is no depth with a seed with which the words are a call of `gen`
 abbrev pub IsNoGenCall : List (List ℕ) → Type 0
 IsNoGenCall words = (depth seed : ℕ) → IsGenCall words depth seed → ⊥

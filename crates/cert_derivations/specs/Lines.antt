@@ -22,6 +22,7 @@ abbrev pub lines_from : ℕ → List Step → List Line
 lines_from number [] = []
 lines_from number (s ∷ steps) = line_of number s ∷ lines_from (suc number) steps
 
+-- the steps as lines of an answer, numbered from 1 in their order
 abbrev pub lines_of : List Step → List Line
 lines_of steps = lines_from 1 steps
 

@@ -36,7 +36,8 @@ pub fn facts_derive_false()
         AreFactsOf checked sys facts → EndInFalse facts among → DeriveFalse checked.script (fact_lines sys facts among) }
 {}
 
-/// They may be printed, and their printed text spells these very lines and nothing else.
+/// The lines of facts over the system of a script, closed and with false as the last, may be printed
+/// where they are fewer than 2^63, and their printed text spells these very lines and nothing else.
 pub fn lines_of_facts_are_read_back()
     ensures printed { (checked : Checked) (sys : Clauses) (facts : List Fact) (among : List ℕ) →
         AreFactsOf checked sys facts → EndInFalse facts among → length among < short_limit →

@@ -98,12 +98,14 @@ pub record IsTooLargeAt (script : Script) (definitions : List Definition) (numbe
 
 -- verdicts
 
+-- the answer is wrong at that place: definitions at a byte or by an instance, a derivation at a step
 abbrev pub IsWrong : Script → Answer → Place → Type 0
 IsWrong script (Sat definitions) (Byte offset) = IsTooWideAt script definitions offset
 IsWrong script (Sat definitions) (Instance number integers) = IsFalseAt script definitions number integers
 IsWrong script (Unsat lines) (Step number) = IsWrongAt script lines number
 IsWrong script _ _ = ⊥
 
+-- whether the answer is valid stays open at that place: definitions at an assertion, a derivation at a step
 abbrev pub IsNotShown : ℕ → Script → Answer → Hidden → Unshown → Type 0
 IsNotShown nodes script (Sat definitions) (Assertion number) (Query gave_up) = IsGivenUpAt nodes script definitions number gave_up
 IsNotShown nodes script (Sat definitions) (Assertion number) Variables = IsTooLargeAt script definitions number

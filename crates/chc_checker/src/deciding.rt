@@ -16,14 +16,14 @@ use lia_search::has_short_multiples;
 use lin_atoms::Form;
 use std::alloc::Global;
 
-/// The same decision. A formula that is kept as refuted has no point.
+/// The decision as it is, which settles the formula, too: one that is kept as refuted has no point.
 fn told(decision: Decision) -> Decision
     ensures { (form : AForm) (vars nodes : ℕ) → Decides form vars nodes decision → Settles form vars nodes result }
 {
     match decision {
         Decision::Model(point) => Decision::Model(point),
         Decision::Refuted(refuted) => {
-            refuted.is_refuted();
+            refuted.refuted_law();
             Decision::Refuted(refuted)
         }
         Decision::GaveUp(gave_up) => Decision::GaveUp(gave_up),

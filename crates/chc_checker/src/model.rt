@@ -46,7 +46,7 @@ fn verdict_by(
     requires decides { Settles (And (breaking_form definitions.now (normal_clause script.now clause.now) ∷ [])) vars nodes decision }
     ensures { IsDecided nodes script.now definitions.now number result }
 {
-    script.terms.is_arena();
+    script.terms.arena_law();
     match decision {
         Decision::Model(point) => {
             let mut values = point;
@@ -91,7 +91,7 @@ fn decided(
     requires some { 0 < nodes }
     ensures { IfOk result (IsDecided nodes script.now definitions.now number) }
 {
-    script.terms.is_arena();
+    script.terms.arena_law();
     has_number(assertion_of(script, clause).term);
     let decision = settle(alloc, form, vars, nodes)?;
     Ok(verdict_by(script, definitions, nodes, number, clause, vars, decision))

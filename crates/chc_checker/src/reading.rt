@@ -12,7 +12,7 @@ use answer_text::Answer;
 use clause_normal::has_number;
 use term_tree::{Definition, Node, Script, TermId, Terms};
 
-/// That a divisor has 64 bits.
+/// The divisor of a divisibility is less than 2^63, for a proof that needs it.
 fn divisor_fits(node: &Node)
     ensures { (by : ℤ) (arg : TermId) → node.now ≡ Divisible by arg → int_lt by (pos short_limit) ≡ true }
 {
@@ -21,7 +21,7 @@ fn divisor_fits(node: &Node)
     }
 }
 
-/// That all divisors have.
+/// Each divisor in the terms is less than 2^63, for a proof that needs it of all terms.
 fn divisors_fit(terms: &Terms)
     ensures { HasFittingDivisors terms.now.nodes }
 {
@@ -38,7 +38,7 @@ fn is_fit(definition: &Definition)
     ensures { IsFit definition.now }
 {
     has_number(definition.body);
-    definition.terms.is_arena();
+    definition.terms.arena_law();
     divisors_fit(&definition.terms);
 }
 

@@ -28,7 +28,7 @@ pub enum Hidden {
 pub enum Unshown {
     /// The formula of the instances that make the assertion false was given up.
     Query(GaveUp),
-    /// That formula has more than 2,048 variables.
+    /// The formula of the instances that make the assertion false has more than 2,048 variables.
     Variables,
     /// The exact value of this term, or of a prefix of its sum, product or difference, doesn't fit 128
     /// bits.

@@ -14,7 +14,7 @@ pub enum Command {
     /// A form is given up at this number of inner nodes.
     Check(u32),
     Gen { depth: u32, seed: u32 },
-    /// They are no command.
+    /// The words are no command.
     Usage,
     /// Memory was wanted before they were read.
     Wanting,

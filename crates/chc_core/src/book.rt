@@ -295,7 +295,7 @@ impl Book {
     /// written; that each lemma is implied by the frame below it and itself on the body, through every
     /// clause, in the frames as they are now; that cubes and lemmas name only places that their
     /// predicates have; and that the tokens of each entry were made for the clauses.
-    pub fn is_replayed(&self)
+    pub fn replay_law(&self)
         ensures replayed { replay self.now.system (opening_of self.now) (steps_of self.now.journal) ≡ state_of self.now }
         ensures legal { AreLegal self.now.system (opening_of self.now) (steps_of self.now.journal) }
         ensures over { AreOver self.now.system (state_of self.now) }

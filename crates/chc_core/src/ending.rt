@@ -14,7 +14,7 @@ fn is_stuck(parts: &Parts) -> bool
     requires { IsBook parts.now }
     ensures { result ≡ all_stalled_from (obligations_of parts.now.tree.nodes) 0 (obligations_of parts.now.tree.nodes) }
 {
-    parts.tree.is_tree();
+    parts.tree.tree_law();
     for id in parts.tree.live_leaves() {
         if !parts.tree.is_stalled(*id) {
             return false;

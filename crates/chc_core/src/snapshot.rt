@@ -142,7 +142,7 @@ impl Snapshot {
     /// written; that each lemma is implied by the frame below it and itself on the body, through every
     /// clause, in the frames as they are now; that cubes and lemmas name only places that their
     /// predicates have; and that the tokens of each entry were made for the clauses.
-    pub fn is_replayed(&self)
+    pub fn replay_law(&self)
         ensures replayed { replay self.now.system (opening_of self.now) (steps_of self.now.journal) ≡ state_of self.now }
         ensures legal { AreLegal self.now.system (opening_of self.now) (steps_of self.now.journal) }
         ensures over { AreOver self.now.system (state_of self.now) }
@@ -150,6 +150,6 @@ impl Snapshot {
         ensures numbered { IsNumbered self.now.system }
         ensures made { AreMadeFor self.now.system self.now.journal }
     {
-        self.book.is_replayed();
+        self.book.replay_law();
     }
 }

@@ -30,5 +30,6 @@ seen_point seen = seen.point
 abbrev pub kept_lemma : NoLift → List Lit
 kept_lemma no_lift = no_lift.lemma
 
+-- what keeps the lemma from being lifted: an instance that breaks it, or a query that was given up
 abbrev pub kept_why : NoLift → Why
 kept_why no_lift = no_lift.why

@@ -78,7 +78,8 @@ pub(crate) fn base_form(alloc: Global, clause: &Clause, cube: &[Lit]) -> Result<
     Ok(Form::And(Items::from_vec(parts)))
 }
 
-/// That form, and each used lemma.
+/// The form of a query: the guard, that the head lies in the cube, and each used lemma at its atom's
+/// arguments; `Wide` where one of them has no room.
 pub(crate) fn query_form(
     alloc: Global,
     clause: &Clause,

@@ -7,7 +7,8 @@ pub enum Goal {
     /// Nothing more: whether the clause has an instance. It is what is asked of a clause whose head
     /// is false.
     Query,
-    /// That the head's tuple breaks the lemma: the lemma's cube holds it.
+    /// Whether the clause has an instance whose head's tuple breaks the lemma: the lemma's cube holds
+    /// it.
     Holds(Lemma),
 }
 

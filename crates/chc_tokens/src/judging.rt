@@ -126,7 +126,7 @@ pub fn no_lift(alloc: Global, sys: &System, lemma: Lemma, why: Why) -> Result<No
     Ok(NoLift { lemma, why })
 }
 
-/// The same where the reason is known to keep the lemma from being lifted, as when the very form that
+/// Keeps a lemma with a reason that is known to keep it from being lifted, as when the very form that
 /// `query_of` made was just given up. No form is made, and nothing is compared.
 pub fn no_lift_by(sys: &System, lemma: Lemma, why: Why) -> NoLift
     requires { IsKept sys.now lemma why }

@@ -50,7 +50,7 @@ pub fn shown(
     })
 }
 
-/// The same where the proof is known to be of the query's form, as when that very form was made by
+/// Keeps a query with a proof that is known to refute its form, as when that very form was made by
 /// `query_of` and then refuted. The form isn't made again, and nothing is compared.
 pub fn shown_by(sys: &System, clause: u32, goal: Goal, used: Vec<Used>, proof: Refuted) -> Shown
     requires { query_at sys.now clause goal used.items ≡ Some (form_of proof) }

@@ -49,6 +49,7 @@ pub record EndsElsewhere (script : Script) (lines : List Line) (number : ℕ) : 
   pub right : AreRightBefore script lines (length lines)
   pub not_false : (before : List Line) (last : Line) → lines ≡ before ++ last ∷ [] → last.head ≡ None → ⊥
 
+-- the lines don't derive false: that step is the first that isn't right, or all are and it is the last (0 for none)
 abbrev pub IsWrongAt : Script → List Line → ℕ → Type 0
 IsWrongAt script lines number = IsFirstWrong script lines number ⊎ EndsElsewhere script lines number
 

@@ -39,7 +39,7 @@ fn judged_by(
     requires clause { (index : ℕ) × (line.now.assertion ≡ suc index) × IsClauseOf script.now index clause.now }
     ensures { IfOk result (IsJudged script.now lines.now number line.now) }
 {
-    script.terms.is_arena();
+    script.terms.arena_law();
     match is_right(alloc, &script.terms, lines, number, line, clause) {
         Ok(right) => Ok(unless_right(right, number)),
         Err(ValueStop::ValueWide { term }) => Ok(Some(Finding::WideAt { step: number, term })),

@@ -19,10 +19,12 @@ place_text start sorts (Byte offset) = codes "; byte " ++ decimal (start + offse
 place_text start sorts (Step number) = codes "; step " ++ decimal number ++ codes "\n"
 place_text start sorts (Instance number integers) = codes "; assertion " ++ decimal number ++ codes " at (" ++ spaced value_text (as_values sorts integers) ++ codes ")\n"
 
+-- the line that tells at which assertion or step it stays open whether an answer is valid
 abbrev pub hidden_text : Hidden → List ℕ
 hidden_text (Assertion number) = codes "; assertion " ++ decimal number ++ codes "\n"
 hidden_text (AtStep number) = codes "; step " ++ decimal number ++ codes "\n"
 
+-- a verdict as it is printed: one word or two on the first line, and on a second the place, unless it is valid
 abbrev pub verdict_text : ℕ → List Sort → Verdict → List ℕ
 verdict_text start sorts Valid = codes "valid\n"
 verdict_text start sorts (Wrong place) = codes "wrong\n" ++ place_text start sorts place

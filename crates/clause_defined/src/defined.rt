@@ -72,7 +72,10 @@ pub fn with_definitions(
     with_tables(alloc, script, &tables, clause, defs)
 }
 
-/// The same, where it is known which sorts and constant values the terms of the script have.
+/// The formula whose points are the instances that make the assertion false under the definitions, and
+/// its number of variables, where it is known which sorts and constant values the terms of the script
+/// have. `TooWide` names the first term of a definition without room, and `Count` the assertion where
+/// there are more than 2,048 variables.
 pub fn with_tables(
     alloc: Global,
     script: &Script,
@@ -93,7 +96,7 @@ pub fn with_tables(
     ensures wide { (offset : ℕ) → IsErrOf result (NormalStop.TooWide offset) → breaking_wide defs.now (normal_clause script.now clause.now) ≡ Some offset }
     ensures count { (offset : ℕ) → IsErrOf result (NormalStop.Count offset) → HasTooManyAt script.now clause.now defs.now offset }
 {
-    script.terms.is_arena();
+    script.terms.arena_law();
     let assertion = assertion_of(script, clause);
     let top = assertion.term;
     let placed = auxiliaries(alloc, script, tables, clause, top)?;

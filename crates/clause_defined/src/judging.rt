@@ -34,8 +34,8 @@ fn capped(count: usize, more: usize) -> usize
     }
 }
 
-/// That every number in the definition has room at arguments of which those are the same that have the
-/// same class, or where the first term without room starts.
+/// Judges whether every number in the definition has room at arguments of which those are the same that
+/// have the same class; if not, `TooWide` tells where the first term without room starts.
 fn judge_with(
     alloc: Global,
     definition: &Definition,
@@ -61,7 +61,8 @@ fn judge_with(
     judged(alloc, terms, tables, &names, &mut known, body)
 }
 
-/// The same, with how many auxiliary variables the definition has.
+/// How many auxiliary variables the definition has, where every number in it has room at arguments of
+/// these classes; else `TooWide` tells where the first term without room starts.
 fn judge_at(alloc: Global, definition: &Definition, classes: &[u32]) -> Result<usize, NormalStop>
     requires { IsFormulaFor definition.now (length classes.now) }
     ensures count { IfOk result (λ count. count ≡ length (definition_places definition.now)) }
@@ -80,7 +81,9 @@ fn judge_at(alloc: Global, definition: &Definition, classes: &[u32]) -> Result<u
     }
 }
 
-/// The same of a predicate at its arguments.
+/// How many auxiliary variables the definition of the atom's predicate has, 0 where there is none, if
+/// every number in it has room at the atom's arguments; else `TooWide` tells where the first term
+/// without room starts.
 fn judge_use(
     alloc: Global,
     terms: &Terms,

@@ -109,7 +109,9 @@ fn put_definition(
     Ok(next + placed.len() as u32)
 }
 
-/// The same of a predicate at its arguments.
+/// Puts that the definition of the atom's predicate is true at its arguments, or false, behind other
+/// formulas, with auxiliary variables from `next` on, and answers the number behind them. Where there
+/// is no definition nothing is put.
 fn put_use(
     alloc: Global,
     defs: &[Definition],
@@ -135,7 +137,8 @@ fn put_use(
     }
 }
 
-/// That the head's definition is false, where there is a head.
+/// Puts that the head's definition is false at its arguments behind other formulas, with auxiliary
+/// variables from `next` on, and answers the number behind them. Where there is no head nothing is put.
 fn put_head(
     alloc: Global,
     defs: &[Definition],

@@ -14,18 +14,23 @@ use Rattle.term_tree.specs.declared.script.Script.{Script}
 abbrev pub root_number : ℕ → ℕ
 root_number seed = (1103515245 * seed + 12345) % 2 ^ 31 % 1000
 
+-- these numbers of nodes as names of terms
 abbrev pub ids : List ℕ → List TermId
 ids ns = map (λ n. record { 0 = n }) ns
 
+-- a use of the first variable that is bound, d: the depth of a node
 abbrev pub var_d : Node
 var_d = Var 0 Int
 
+-- a use of the second variable that is bound, i: the number of a node at its depth
 abbrev pub var_i : Node
 var_i = Var 1 Int
 
+-- the one predicate, `node`, applied to the terms of these numbers
 abbrev pub node_at : List ℕ → Node
 node_at args = Applied 0 (ids args)
 
+-- the universal term over two integers, d and i, with the term of that number as its body
 abbrev pub for_all_d_i : ℕ → Node
 for_all_d_i body = Forall 0 (Int ∷ Int ∷ []) (record { 0 = body })
 
@@ -56,10 +61,12 @@ parent =
 abbrev pub query : ℤ → ℤ → List Node
 query depth start = Num depth ∷ Num start ∷ node_at (35 ∷ 36 ∷ []) ∷ Op Not (ids (37 ∷ [])) ∷ []
 
+-- all 39 terms of a script in order of number: those of its nodes of depth 0, of a parent, and of the query
 abbrev pub generated_nodes : ℕ → ℕ → List Node
 generated_nodes depth start =
     leaves (pos (start * 2 ^ depth)) (pos ((start + 1) * 2 ^ depth)) ++ children ++ parent ++ query (pos depth) (pos start)
 
+-- as many zeros: where terms start that were made and read from no text
 abbrev pub zeros : ℕ → List ℕ
 zeros n = replicate n 0
 
@@ -74,6 +81,7 @@ generated_asserts =
 abbrev pub generated_preds : List Pred
 generated_preds = record { name = record { bytes = codes "node" }; args = Int ∷ Int ∷ [] } ∷ []
 
+-- the script of that depth and seed: one predicate, three assertions, and their terms
 abbrev pub generated_script : ℕ → ℕ → Script
 generated_script depth seed = record {
   preds = generated_preds;

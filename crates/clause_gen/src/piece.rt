@@ -64,7 +64,7 @@ fn node_of(alloc: Global, piece: Piece) -> Result<Node, Memory>
     })
 }
 
-/// These nodes behind the others.
+/// Puts the nodes of these pieces behind the others, in order.
 pub(crate) fn push_nodes(
     alloc: Global,
     nodes: &mut Vec<Node>,

@@ -74,7 +74,7 @@ impl Place {
     }
 }
 
-/// The same numbers; nothing is asked of the memory where there are none, as mostly.
+/// A copy of the numbers; nothing is asked of the memory where there are none, as mostly.
 fn copy_of(alloc: Global, below: &Items<usize>) -> Result<Items<usize>, Memory>
     ensures { IfOk result (λ copied. copied ≡ below.now) }
 {

@@ -25,9 +25,11 @@ definition_naming args first placed = record { own = name_in args; auxiliary = �
 abbrev pub definition_sorting : Definition → Sorting
 definition_sorting d = sort_of [] d.terms.nodes
 
+-- the terms of a definition's body that have an auxiliary variable, in the order of the text
 abbrev pub definition_places : Definition → List ℕ
 definition_places d = places (definition_sorting d) d.terms.nodes d.body.0
 
+-- which variables a definition's terms stand for at these arguments, its auxiliary ones numbered on from `first`
 abbrev pub naming_at : Definition → List ℕ → ℕ → Naming
 naming_at d args first = definition_naming args first (definition_places d)
 
@@ -37,10 +39,12 @@ definition_forms sign d args first =
     place_forms (definition_sorting d) (naming_at d args first) d.terms.nodes first (definition_places d)
     ++ formula (definition_sorting d) (naming_at d args first) d.terms.nodes d.body.0 sign ∷ []
 
+-- the definition at an atom's arguments, true or false by the sign; nothing where there is no definition
 abbrev pub defined_forms : Option Definition → Atom → Bool → ℕ → List Form
 defined_forms None atom sign first = []
 defined_forms (Some d) atom sign first = definition_forms sign d atom.args first
 
+-- how many auxiliary variables a definition has; 0 where there is no definition
 abbrev pub count_of : Option Definition → ℕ
 count_of None = 0
 count_of (Some d) = length (definition_places d)
@@ -50,6 +54,7 @@ abbrev pub definition_wide : Option Definition → Atom → ℕ → Option ℕ
 definition_wide None atom first = None
 definition_wide (Some d) atom first = option_map (λ id. slice_index_or d.terms.offsets id 0) (first_wide (naming_at d atom.args first) d.terms.nodes d.body.0)
 
+-- the head of a clause, which is to be false; nothing where the clause concludes false
 abbrev pub head_use : Option Atom → List (Atom × Bool)
 head_use None = []
 head_use (Some head) = (head, false) ∷ []
@@ -58,6 +63,7 @@ head_use (Some head) = (head, false) ∷ []
 abbrev pub uses_of : Clause → List (Atom × Bool)
 uses_of clause = map (λ atom. (atom, true)) clause.atoms ++ head_use clause.head
 
+-- the definition of the atom's predicate, by order of declaration; none where there are too few definitions
 abbrev pub definition_at : List Definition → Atom → Option Definition
 definition_at defs atom = slice_get defs atom.pred
 
@@ -66,6 +72,7 @@ abbrev pub use_forms : List Definition → List (Atom × Bool) → ℕ → List 
 use_forms defs [] next = []
 use_forms defs (p ∷ uses) next = defined_forms (definition_at defs p.0) p.0 p.1 next ++ use_forms defs uses (next + count_of (definition_at defs p.0))
 
+-- the first number behind the auxiliary variables of all these atoms, which are numbered on from `next`
 abbrev pub variables_after : List Definition → List (Atom × Bool) → ℕ → ℕ
 variables_after defs [] next = next
 variables_after defs (p ∷ uses) next = variables_after defs uses (next + count_of (definition_at defs p.0))
@@ -80,9 +87,11 @@ first_wide_use defs (p ∷ uses) next =
 abbrev pub breaking_form : List Definition → Clause → Form
 breaking_form defs clause = conjunction (clause.guard ∷ use_forms defs (uses_of clause) (length clause.sorts))
 
+-- how many variables the formula of these instances has: the clause's, and the auxiliary ones of each definition
 abbrev pub breaking_variables : List Definition → Clause → ℕ
 breaking_variables defs clause = variables_after defs (uses_of clause) (length clause.sorts)
 
+-- where in the definitions the first term without room starts at the clause's arguments; none where all have room
 abbrev pub breaking_wide : List Definition → Clause → Option ℕ
 breaking_wide defs clause = first_wide_use defs (uses_of clause) (length clause.sorts)
 

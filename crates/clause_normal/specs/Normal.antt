@@ -28,6 +28,7 @@ use Rattle.clause_form.specs.System.{most_variables}
 abbrev pub most_own : ℕ
 most_own = 1024
 
+-- how many atoms the body of an assertion may have at most
 abbrev pub most_atoms : ℕ
 most_atoms = 64
 
@@ -52,9 +53,11 @@ place_forms sorts naming nodes v (id ∷ ids) = place_form sorts naming nodes v 
 abbrev pub guard_form : Sorting → Naming → List Node → Part → Form
 guard_form sorts naming nodes part = formula sorts naming nodes part.term.0 (not part.negated)
 
+-- the sort of the term of a number in the script, by the predicates declared; none where it isn't well-sorted
 abbrev pub sorting : Script → Sorting
 sorting script = sort_of script.preds script.terms.nodes
 
+-- the number of an assertion's whole term; 0 where there is no assertion
 abbrev pub term_number : Option Assertion → ℕ
 term_number None = 0
 term_number (Some assertion) = assertion.term.0
@@ -71,6 +74,7 @@ auxiliaries script clause = places (sorting script) script.terms.nodes (top_of s
 abbrev pub names_of : Script → HornClause → Naming
 names_of script clause = naming_of (length clause.vars) (auxiliaries script clause)
 
+-- the conjuncts of the guard: 0 or 1 for each Bool variable, then the auxiliary variables' forms, then the guards
 abbrev pub guard_parts : Script → HornClause → List Form
 guard_parts script clause =
     bits_from 0 clause.vars
@@ -86,6 +90,7 @@ abbrev pub argument_variable : (ℕ → Option ℕ) → ℕ → Option Node → 
 argument_variable auxiliary id (Some (Var binder sort)) = binder
 argument_variable auxiliary id _ = unwrap_or (auxiliary id) 0
 
+-- an atom with a variable for each of its arguments
 abbrev pub normal_atom : Naming → List Node → AtomUse → Atom
 normal_atom naming nodes atom =
     record { pred = atom.pred; args = map (λ part. argument_variable naming.auxiliary part.term.0 (slice_get nodes part.term.0)) atom.args }
@@ -94,6 +99,7 @@ normal_atom naming nodes atom =
 abbrev pub variable_sorts : Script → HornClause → List Sort
 variable_sorts script clause = clause.vars ++ map (λ id. unwrap_or (sorting script id) Int) (auxiliaries script clause)
 
+-- the clause of an assertion over integer variables, its own first, with a linear guard and atoms over variables
 abbrev pub normal_clause : Script → HornClause → Clause
 normal_clause script clause =
     record {

@@ -43,8 +43,8 @@ fn is_too_large(clause: &HornClause, auxiliary: usize) -> bool
         || clause.vars.len() + auxiliary > MOST_VARIABLES
 }
 
-/// That every number in the term has room, or the first of its terms of which one hasn't. The linear
-/// forms that are read are kept.
+/// Judges whether every number in the term has room; if not, `TooWide` tells where the first of its
+/// terms without room starts. The linear forms that are read are kept.
 pub fn judged(
     alloc: Global,
     terms: &Terms,
@@ -61,7 +61,7 @@ pub fn judged(
     ensures count { (offset : ℕ) → IsErrOf result (NormalStop.Count offset) → ⊥ }
     ensures known { OnOk result (AreFound (constant_in tables.now.constants) (naming_by names.now) terms.now.nodes known.new) }
 {
-    terms.is_arena();
+    terms.arena_law();
     match first_wide(alloc, terms, &tables.constants, names, known, top)? {
         None => Ok(()),
         Some(term) => Err(NormalStop::TooWide {
@@ -109,7 +109,7 @@ pub fn assertion_of(script: &Script, clause: &HornClause) -> Assertion
     script.asserts.as_slice()[clause.assertion as usize]
 }
 
-/// That the number of a term has 32 bits, for a proof that needs it.
+/// The number of a term has 32 bits, for a proof that needs it.
 pub fn has_number(id: TermId)
     ensures { id.0 < 2 ^ 32 }
 {
@@ -129,7 +129,7 @@ pub fn auxiliaries(
     ensures { IfOk result (λ ids. ids.items ≡ auxiliaries script.now clause.now) }
 {
     has_number(top);
-    script.terms.is_arena();
+    script.terms.arena_law();
     let ids = places(alloc, &script.terms, &tables.sorts, top)?;
     Ok(ids)
 }
@@ -150,8 +150,8 @@ pub fn names_of(
     Ok(names)
 }
 
-/// That every number in the assertion has room, or the first term of which one hasn't, where its
-/// variables have their names.
+/// Judges whether every number in the assertion has room, where its variables have their names; if not,
+/// `TooWide` tells where the first term without room starts.
 fn judged_own(
     alloc: Global,
     script: &Script,
@@ -171,14 +171,15 @@ fn judged_own(
     ensures known { OnOk result (AreFound (constant_in tables.now.constants) (naming_by names.now) script.now.terms.nodes known.new) }
 {
     has_number(top);
-    script.terms.is_arena();
+    script.terms.arena_law();
     if tables.rooms.has_room(top) {
         return Ok(());
     }
     judged(alloc, &script.terms, tables, names, known, top)
 }
 
-/// The same where the variables may be too many for names of their own.
+/// Judges whether every number in the assertion has room, where its variables may be too many for names
+/// of their own; if not, `TooWide` tells where the first term without room starts.
 fn judged_apart(
     alloc: Global,
     script: &Script,
@@ -195,7 +196,7 @@ fn judged_apart(
     ensures count { (offset : ℕ) → IsErrOf result (NormalStop.Count offset) → ⊥ }
 {
     has_number(top);
-    script.terms.is_arena();
+    script.terms.arena_law();
     let names = apart_names(alloc, &script.terms, &[], placed)?;
     let mut known = nothing_read(alloc);
     judged(alloc, &script.terms, tables, &names, &mut known, top)
@@ -222,12 +223,14 @@ pub fn made_own(
     ensures { IfOk result (λ made. made ≡ normal_clause script.now clause.now) }
 {
     has_number(top);
-    script.terms.is_arena();
+    script.terms.arena_law();
     let made = made(alloc, &script.terms, tables, names, known, clause, placed)?;
     Ok(made)
 }
 
-/// The same with what is told of the script's terms.
+/// The normal clause of an assertion, by what is told of the script's terms. `TooWide` tells where the
+/// first term without room starts, and else `Count` where an assertion with too many variables or body
+/// atoms does.
 pub(crate) fn normal_with(
     alloc: Global,
     script: &Script,

@@ -51,7 +51,7 @@ fn not_normal(stop: NormalStop, assertion: Assertion) -> ClauseStop
     }
 }
 
-/// That an operation has no more arguments than a list can hold.
+/// An operation has fewer than 2^63 arguments, as many as a list can hold, for a proof that needs it.
 fn count_own(node: &Node)
     ensures { (op : OpKind) (args : List TermId) → node.now ≡ Op op args → length args < 2 ^ 63 }
 {
@@ -60,7 +60,7 @@ fn count_own(node: &Node)
     }
 }
 
-/// The same of all operations, for a proof that needs it of all terms.
+/// Each operation in the terms has fewer than 2^63 arguments, for a proof that needs it of all terms.
 fn count_arguments(terms: &Terms)
     ensures { HasFewArguments terms.now.nodes }
 {
@@ -91,7 +91,7 @@ fn read_normal(
     ensures refused { (refusal : Refusal) → IsErrOf result (ClauseStop.Refused refusal) → normal_reading script.now index assertion ≡ Err refusal }
 {
     has_number(assertion.term);
-    script.terms.is_arena();
+    script.terms.arena_law();
     match normal_with(alloc, script, tables, clause) {
         Ok(made) => Ok(made),
         Err(stop) => Err(not_normal(stop, assertion)),

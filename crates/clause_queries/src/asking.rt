@@ -133,7 +133,9 @@ fn refuted_by(
     }
 }
 
-/// The same as `ask`, where a tree that may refute the query is looked at first.
+/// Asks whether the clause has an instance that meets the goal and whose body the used lemmas accept. A
+/// tree that may refute the query is looked at before the search, which is made where there is none or
+/// it is no refutation.
 pub(crate) fn ask_by(
     alloc: Global,
     sys: &System,

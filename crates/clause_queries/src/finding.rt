@@ -123,9 +123,10 @@ fn in_order(
     Ok(numbers)
 }
 
-/// The same as `ask_all`, with proofs of another goal on the same predicate under the same lemmas: a
-/// clause whose proof is one of this goal, too, but for the numbers of its literals, needs no search. The
-/// other clauses are asked first.
+/// Asks the goal of each clause whose head is of the predicate, or false for none, as `ask_all` does,
+/// with proofs of another goal on the same predicate under the same lemmas: a clause whose proof is one
+/// of this goal, too, but for the numbers of its literals, needs no search. The other clauses are asked
+/// first.
 pub fn ask_all_by(
     alloc: Global,
     sys: &IndexedSystem,

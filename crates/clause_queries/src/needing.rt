@@ -107,7 +107,7 @@ impl Needed {
         }
     }
 
-    /// These uses.
+    /// What is needed so far is the given uses, in order.
     pub(crate) fn of(alloc: Global, used: Vec<Used>) -> Needed
         ensures { result.used.items ≡ used.items }
     {

@@ -4,9 +4,11 @@ use Rattle.lemma_frames.specs.Frames.{lemma_of, level_of, pred_of}
 use Rattle.lemma_frames.specs.declared.framed.Framed.{Framed as KeptLemma}
 use Rattle.book_rules.specs.Frames.{Framed}
 
+-- a kept lemma as the rules know it: the denial of a cube about a predicate, with its level
 abbrev pub framed_of : KeptLemma → Framed
 framed_of f = record { lemma = record { pred = f.pred; cube = f.lemma }; level = f.level }
 
+-- the kept lemmas as the rules know them, in order of number
 abbrev pub lemmas_of : List KeptLemma → List Framed
 lemmas_of lemmas = map framed_of lemmas
 

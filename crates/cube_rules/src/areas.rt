@@ -77,7 +77,8 @@ fn push_lemmas(
     Ok(())
 }
 
-/// Those of all body atoms, each form made once.
+/// The literals of the lemmas of level k or more at the arguments of each body atom, atom by atom, each
+/// form made once.
 fn frame_lits(alloc: Global, frames: &Frames, k: u32, atoms: &[Atom]) -> Result<Vec<Lit>, Memory>
     ensures { IfOk result (λ lits. lits.items ≡ frame_lits (lemmas_of frames.now.lemmas) k atoms.now) }
 {

@@ -15,7 +15,7 @@ pub fn atom_at(alloc: Global, point: &[i64], atom: &Atom) -> Result<(u32, Tuple)
     Ok((atom.pred, tuple))
 }
 
-/// Those of the body, in order.
+/// The predicate of each body atom with its tuple at the point, in order.
 pub fn body_at(alloc: Global, point: &[i64], clause: &Clause) -> Result<Vec<(u32, Tuple)>, Memory>
     ensures { IfOk result (λ body. body.items ≡ body_at point.now clause.now) }
 {
@@ -27,7 +27,7 @@ pub fn body_at(alloc: Global, point: &[i64], clause: &Clause) -> Result<Vec<(u32
     Ok(body)
 }
 
-/// Those of the head; none where it is false.
+/// The predicate of the head with its tuple at the point; none where the head is false.
 pub fn head_at(
     alloc: Global,
     point: &[i64],

@@ -14,6 +14,7 @@ pred_of facts n = get_or (map (λ f. f.pred) facts) n None
 abbrev pub tuple_of : List Fact → ℕ → List ℤ
 tuple_of facts n = get_or (map (λ f. f.tuple) facts) n []
 
+-- the facts from which fact n was concluded, one for each body atom; none where there is no fact n
 abbrev pub fact_premises : List Fact → ℕ → List ℕ
 fact_premises facts n = get_or (map (λ f. f.premises) facts) n []
 
@@ -45,6 +46,7 @@ pub record AreUnder (facts : List Fact) (pred : ℕ) (front : List ℤ) (numbers
   pub order : AllPairs (StandsBefore facts) numbers
   pub exact : (n : ℕ) → Contains numbers n ↔ ((n < length facts) × (pred_of facts n ≡ Some pred) × (take (length front) (tuple_of facts n) ≡ front))
 
+-- the greatest of these numbers, 0 for none
 abbrev pub greatest : List ℕ → ℕ
 greatest = fold max 0
 
@@ -52,9 +54,11 @@ greatest = fold max 0
 abbrev pub with_height : List ℕ → Fact → List ℕ
 with_height heights fact = heights ++ (1 + greatest (map (λ p. get_or heights p 0) fact.premises)) ∷ []
 
+-- the heights of all facts, in order of number
 abbrev pub heights : List Fact → List ℕ
 heights = fold with_height []
 
+-- the height of fact n, 1 where it has no premises; 0 where there is no fact n
 abbrev pub height_of : List Fact → ℕ → ℕ
 height_of facts n = get_or (heights facts) n 0
 

@@ -109,7 +109,7 @@ impl Facts {
 
     /// Tells that premises are earlier facts, that no conclusion is recorded twice, and that false has
     /// no tuple: so it is recorded once at most.
-    pub fn are_recorded(&self)
+    pub fn record_law(&self)
         ensures { AreRecorded self.now }
     {
         let _notes = &self.notes;

@@ -41,7 +41,7 @@ impl Refuted {
     }
 
     /// What the proof is, for callers that need it.
-    pub fn is_refuted(&self)
+    pub fn refuted_law(&self)
         ensures narrow { is_sound (judged lit_fits (form_of self.now) (proof_of self.now)) ≡ true }
         ensures legal { is_refutation (form_of self.now) (proof_of self.now) ≡ true }
         ensures no_point { HasNoPoint (form_of self.now) }
@@ -49,7 +49,7 @@ impl Refuted {
         let _form = &self.form;
     }
 
-    /// The same form and proof.
+    /// A copy of the form with its proof.
     pub fn copy(&self, alloc: Global) -> Result<Refuted, Memory>
         ensures { IfOk result (λ copied. copied ≡ self.now) }
     {

@@ -50,7 +50,7 @@ pub(crate) enum Work<'a> {
     Forget {
         depth: usize,
     },
-    /// These are the open disjunctions again.
+    /// The open disjunctions are `cases` again.
     Reopen {
         cases: Vec<&'a Items<Form>>,
     },

@@ -41,7 +41,8 @@ fn shorten_memo(
     }
 }
 
-/// The same of all arms.
+/// What arms refuted the bound with, each without what isn't needed for that; without those arms for
+/// which the bound has no lemma any more.
 fn shortened(
     alloc: Global,
     table: &Table,

@@ -45,7 +45,7 @@ enum Outcome {
     Fixed(Found),
     /// A tuple was met that a query excludes, so no bounds refute each query.
     Broken,
-    /// It was dropped.
+    /// The round was dropped.
     Dropped,
 }
 
@@ -117,7 +117,8 @@ fn settled(
     Ok(Outcome::Fixed(Found { bounds, needs }))
 }
 
-/// The same of a table that isn't needed any more.
+/// What a round over the table finds, whose bounds first rise by what was met, where the table isn't
+/// needed any more.
 fn found_in(
     alloc: Global,
     table: Table,

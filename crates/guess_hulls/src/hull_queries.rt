@@ -35,11 +35,11 @@ enum Answer {
 /// What a clause says of its head's hull.
 #[derive(Drop)]
 pub(crate) enum Verdict {
-    /// It keeps what was asked.
+    /// The clause keeps what was asked.
     Kept,
-    /// It has this tuple, which isn't in the hull.
+    /// The clause has this tuple of its head, which isn't in the hull.
     Met(Vec<i64>),
-    /// It isn't known whether it keeps the literal at this place.
+    /// Whether the clause keeps the literal at this place isn't known.
     Lost(usize),
 }
 
@@ -210,7 +210,8 @@ fn visit_each(
     Ok(Verdict::Kept)
 }
 
-/// The same of all at once, and where that is given up, of one after another.
+/// Asks for a tuple at which one of the literals is false, of all literals at once, and where that is
+/// given up, of one after another.
 fn visit_all(
     alloc: Global,
     known: &[Known],
@@ -267,7 +268,9 @@ pub(crate) fn visit_equations(
     }
 }
 
-/// The same for the divisibilities.
+/// Asks a clause for a tuple of its head that breaks a divisibility that is known of the predicate. Of
+/// the body's tuples the equations and the divisibilities are known. Where no tuple of the predicate
+/// was met nothing is asked.
 pub(crate) fn visit_divisibilities(
     alloc: Global,
     known: &[Known],

@@ -196,7 +196,7 @@ fn put_residues(known: &mut Known, other: &mut Known) {
     }
 }
 
-/// The same for each predicate.
+/// Puts the residues of each predicate's other hull in the place of those of its hull.
 fn put_each(known: &mut Vec<Known>, others: &mut Vec<Known>) {
     for (at, other) in others.iter_mut().enumerate() {
         if let Some(one) = known.as_mut_slice().get_mut(at) {
@@ -243,7 +243,7 @@ pub fn hulls_of(alloc: Global, sys: &System) -> Result<Hulls, Memory> {
 }
 
 impl Hulls {
-    /// Those of predicates of which no tuple was met.
+    /// The hulls of predicates of which no tuple was met.
     pub fn unknown(alloc: Global, sys: &System) -> Result<Hulls, Memory>
         ensures { IfOk result (λ hulls. hulls ≡ unknown sys.now.preds) }
     {

@@ -12,7 +12,7 @@ pub enum Limit {
     /// No tuple meets the condition, as far as is known.
     Nothing,
     At(i64),
-    /// It was given up.
+    /// The bound was given up.
     Top,
 }
 

@@ -65,7 +65,8 @@ fn push_terms(
     }
 }
 
-/// The same of two terms.
+/// Adds the part of two terms, neither of which is 0, and its negative, as long as there are fewer than
+/// `most` parts.
 fn push_two(
     alloc: Global,
     parts: &mut Vec<Lin>,
@@ -76,7 +77,8 @@ fn push_two(
     push_terms(alloc, parts, &[first, second], most)
 }
 
-/// The same of three terms.
+/// Adds the part of three terms, none of which is 0, and its negative, as long as there are fewer than
+/// `most` parts.
 fn push_three(
     alloc: Global,
     parts: &mut Vec<Lin>,
@@ -262,7 +264,8 @@ fn push_beside(
     Ok(())
 }
 
-/// The same of this place and of later ones.
+/// Adds for this place and each later one the part of the two that an increment leaves as it is, with a
+/// place that no increment moves some times.
 fn push_later(
     alloc: Global,
     parts: &mut Vec<Lin>,

@@ -23,7 +23,7 @@ fn form_of(
     }
 }
 
-/// That the variable is at least so much.
+/// Adds to the goal that the variable is at least so much; nothing where the form has no room.
 pub fn push_least(
     alloc: Global,
     goal: &mut Vec<Lit>,
@@ -39,7 +39,7 @@ pub fn push_least(
     }
 }
 
-/// That the variable has this value.
+/// Adds that the variable has this value; nothing where the form has no room.
 fn push_value(alloc: Global, lits: &mut Vec<Lit>, variable: u32, value: i64) -> Result<(), Memory> {
     let less = i128::from(value).saturating_neg();
     if let Some(lin) = form_of(alloc, variable, 1, less)? {
@@ -48,7 +48,7 @@ fn push_value(alloc: Global, lits: &mut Vec<Lit>, variable: u32, value: i64) -> 
     Ok(())
 }
 
-/// That the atom's arguments have these values.
+/// The equations of the atom's arguments and the values of the tuple, as far as each has room.
 fn equations(alloc: Global, atom: &Atom, tuple: &[i64]) -> Result<Vec<Lit>, Memory> {
     let mut lits = Vec::new(alloc);
     for (place, variable) in atom.args.as_slice().iter().enumerate() {
@@ -136,7 +136,7 @@ fn is_closed(
     Ok(has_false(&seen, arm.lits.as_slice()))
 }
 
-/// That the atom has this tuple, where no literal of the arm is false then.
+/// The equations by which the atom has this tuple; none where a literal of the arm is false then.
 fn goal_at(
     alloc: Global,
     clause: &Clause,

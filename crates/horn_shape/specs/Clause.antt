@@ -29,6 +29,7 @@ has_assertion script index = nat_lt index most_assertions && is_in script (slice
 abbrev pub assertion_reading : Script → Assertion → Reading
 assertion_reading script a = clause_reading script.terms.nodes a.term.0 (record { term = a.term; lets = [] })
 
+-- the variables, body atoms, guards and head of a clause, without the number of its assertion
 abbrev pub content_of : HornClause → Content
 content_of clause = record { vars = clause.vars; atoms = clause.atoms; guards = clause.guards; head = clause.head }
 

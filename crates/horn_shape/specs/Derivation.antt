@@ -28,6 +28,7 @@ pub record IsStep (script : Script) (earlier : List Step) (step : Step) : Type 0
   pub premises : map (concluded earlier) step.premises ≡ map (λ atom. Some (Some atom)) (premises_of script clause step.values)
   pub conclusion : step.conclusion ≡ conclusion_of script clause step.values
 
+-- each of the later steps rests on the earlier ones and on those before it
 abbrev pub IsDerivationAfter : Script → List Step → List Step → Type 0
 IsDerivationAfter script earlier [] = Unit {0}
 IsDerivationAfter script earlier (step ∷ steps) = IsStep script earlier step × IsDerivationAfter script (earlier ++ step ∷ []) steps
@@ -40,6 +41,7 @@ IsDerivation script steps = IsDerivationAfter script [] steps
 abbrev pub height_over : List ℕ → Step → ℕ
 height_over heights step = 1 + fold max 0 (map (λ number. slice_index_or heights number 0) step.premises)
 
+-- the heights of the earlier steps, and behind them those of the later ones in order
 abbrev pub heights_after : List ℕ → List Step → List ℕ
 heights_after heights [] = heights
 heights_after heights (step ∷ steps) = heights_after (heights ++ height_over heights step ∷ []) steps

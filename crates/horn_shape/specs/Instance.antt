@@ -29,6 +29,7 @@ is_met nodes env guard = if guard.negated then not (truth (part_value nodes env 
 abbrev pub tuple_of : List Node → Environment → AtomUse → List Value
 tuple_of nodes env atom = map (part_value nodes env) atom.args
 
+-- an application at the values that its arguments have in the environment
 abbrev pub ground : List Node → Environment → AtomUse → GroundAtom
 ground nodes env atom = record { pred = atom.pred; values = tuple_of nodes env atom }
 

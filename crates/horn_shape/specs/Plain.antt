@@ -5,6 +5,7 @@ use Rattle.term_tree.specs.declared.node.Node.{Node}
 use Rattle.term_tree.specs.declared.node.Node.TheVariants.{Num, True, False, Var, LetVar, Pred, Op, Divisible, Let, Forall, Exists}
 use Rattle.term_tree.specs.Fold.{told_of}
 
+-- one node, over what is known of its parts: no predicate, no quantifier, and none in any part
 abbrev pub node_is_plain : (ℕ → Bool) → Node → Bool
 node_is_plain part (Num n) = true
 node_is_plain part True = true

@@ -38,6 +38,7 @@ pub record Content : Type 0 where
 abbrev pub Reading : Type 0
 Reading = Result Content TermId
 
+-- neither variables nor atoms, guards or a head, as no terms at all give
 abbrev pub nothing : Content
 nothing = record { vars = []; atoms = []; guards = []; head = None }
 
@@ -46,6 +47,7 @@ abbrev pub either_head : Option AtomUse → Option AtomUse → Option AtomUse
 either_head a None = a
 either_head a (Some b) = Some b
 
+-- what two terms give together, that of the first before that of the second
 abbrev pub beside : Content → Content → Content
 beside a b = record { vars = a.vars ++ b.vars; atoms = a.atoms ++ b.atoms; guards = a.guards ++ b.guards; head = either_head a.head b.head }
 
@@ -60,18 +62,23 @@ abbrev pub quantified_reading : List Sort → Reading → Reading
 quantified_reading sorts (Err misfit) = Err misfit
 quantified_reading sorts (Ok x) = Ok (record { vars = sorts ++ x.vars; atoms = x.atoms; guards = x.guards; head = x.head })
 
+-- the term under its `let` terms, which counts as true where it is false if it is negated
 abbrev pub part_at : Bool → Place → Part
 part_at negated place = record { lets = place.lets; term = place.term; negated = negated }
 
+-- a guard alone, which is said to be false if it is negated
 abbrev pub guard_of : Bool → Place → Content
 guard_of negated place = record { vars = []; atoms = []; guards = part_at negated place ∷ []; head = None }
 
+-- a body atom alone
 abbrev pub atom_of : AtomUse → Content
 atom_of atom = record { vars = []; atoms = atom ∷ []; guards = []; head = None }
 
+-- the clause's head alone
 abbrev pub head_of : AtomUse → Content
 head_of atom = record { vars = []; atoms = []; guards = []; head = Some atom }
 
+-- the arguments of an application as they stand under these `let` terms; they are never negated
 abbrev pub arguments : List TermId → List TermId → List Part
 arguments lets args = map (λ arg. part_at false (record { term = arg; lets = lets })) args
 
@@ -91,16 +98,19 @@ abbrev pub bound_over : (ℕ → Bool) → List TermId → Reading → Reading
 bound_over plain [] body = body
 bound_over plain (b ∷ bound) body = if plain b.0 then bound_over plain bound body else Err b
 
+-- what the terms give in order, under the same `let` terms, or the first subterm that fits no form
 abbrev pub each : (ℕ → Place → Reading) → List TermId → List TermId → Reading
 each read lets [] = Ok nothing
 each read lets (id ∷ ids) = both (at read lets id) (each read lets ids)
 
+-- a body with a predicate or quantifier: an application, a conjunction of bodies or a `let` term; any other fits no form
 abbrev pub body_form : (ℕ → Bool) → (ℕ → Place → Reading) → Node → Place → Reading
 body_form plain part (Pred pred args) place = application_reading plain atom_of pred args place
 body_form plain part (Op And args) place = each part place.lets args
 body_form plain part (Let bound body) place = bound_over plain bound (at part (place.lets ++ place.term ∷ []) body)
 body_form plain part _ place = Err place.term
 
+-- one node as a body, over what its parts give: a guard if it has neither predicates nor quantifiers
 abbrev pub node_body : (ℕ → Bool) → (ℕ → Place → Reading) → Node → Place → Reading
 node_body plain part node place = if node_is_plain plain node then Ok (guard_of false place) else body_form plain part node place
 
@@ -108,10 +118,12 @@ node_body plain part node place = if node_is_plain plain node then Ok (guard_of 
 abbrev pub body_reading : List Node → ℕ → Place → Reading
 body_reading nodes = told_of (λ place. Err place.term) (node_body (is_plain_term nodes)) nodes
 
+-- the term is there, and is a predicate with its arguments, if it has any
 abbrev pub is_application : Option Node → Bool
 is_application (Some (Pred pred args)) = true
 is_application _ = false
 
+-- a disjunct with a predicate or quantifier: an application as the head, or a denied body; any other fits no form
 abbrev pub disjunct_form : List Node → Node → Place → Reading
 disjunct_form nodes (Pred pred args) place = application_reading (is_plain_term nodes) head_of pred args place
 disjunct_form nodes (Op Not (body ∷ [])) place = at (body_reading nodes) place.lets body
@@ -142,6 +154,7 @@ abbrev pub denial : List Node → Option Node → Place → Reading
 denial nodes (Some (Exists first sorts body)) place = quantified_reading sorts (at (body_reading nodes) place.lets body)
 denial nodes _ place = body_reading nodes place.term.0 place
 
+-- a clause with a predicate or quantifier, by cases on its node; one that is none of the listed shapes fits no form
 abbrev pub clause_form : List Node → (ℕ → Place → Reading) → Node → Place → Reading
 clause_form nodes part (Pred pred args) place = application_reading (is_plain_term nodes) head_of pred args place
 clause_form nodes part (Forall first sorts body) place = quantified_reading sorts (at part place.lets body)
@@ -151,6 +164,7 @@ clause_form nodes part (Op Or args) place = disjuncts nodes false place.lets arg
 clause_form nodes part (Op Not (body ∷ [])) place = denial nodes (slice_get nodes body.0) (record { term = body; lets = place.lets })
 clause_form nodes part _ place = Err place.term
 
+-- one node as a clause, over what its parts give: a guard, said to be false, if it has neither predicates nor quantifiers
 abbrev pub node_clause : List Node → (ℕ → Place → Reading) → Node → Place → Reading
 node_clause nodes part node place = if node_is_plain (is_plain_term nodes) node then Ok (guard_of true place) else clause_form nodes part node place
 

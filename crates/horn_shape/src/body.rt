@@ -39,7 +39,8 @@ pub(crate) fn read_body(
     read_body_form(alloc, terms, plain, id, node, lets, out)
 }
 
-/// The same of a term with a predicate or a quantifier, by its node.
+/// What a term with a predicate or a quantifier gives as a body under these `let` terms, by its node,
+/// put behind what was gathered; `NotHorn` tells where a subterm that doesn't fit starts.
 #[cycle(body)]
 fn read_body_form(
     alloc: Global,
@@ -98,7 +99,8 @@ fn is_conjunction(op: OpKind) -> bool
     matches!(op, OpKind::And)
 }
 
-/// The same of some parts of a term of this number, in order.
+/// What some parts of a term of this number give as bodies under these `let` terms, in order, put
+/// behind what was gathered; `NotHorn` tells where the first subterm that doesn't fit starts.
 #[cycle(body)]
 pub(crate) fn read_bodies(
     alloc: Global,

@@ -74,7 +74,8 @@ fn read_disjunct(
     read_disjunct_form(alloc, terms, plain, id, node, lets, out)
 }
 
-/// The same of a term with a predicate or a quantifier, by its node.
+/// What a term with a predicate or a quantifier gives as a disjunct under these `let` terms, by its
+/// node, put behind what was gathered; `NotHorn` tells where a subterm that doesn't fit starts.
 fn read_disjunct_form(
     alloc: Global,
     terms: &Terms,

@@ -50,7 +50,7 @@ impl PlainTerms {
         flag(self.flags.as_slice(), id)
     }
 
-    /// The same of all of these.
+    /// Whether each of the terms has neither predicates nor quantifiers.
     pub(crate) fn are_plain(&self, ids: &[TermId]) -> bool
         ensures { result ≡ list_all (λ id. flag_of self.now id.0) ids.now }
     {

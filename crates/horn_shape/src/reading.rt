@@ -33,7 +33,9 @@ pub fn clause_of(alloc: Global, script: &Script, index: usize) -> Result<HornCla
     clause_with(alloc, script, &plain, index)
 }
 
-/// The same, where it is known which terms of the script have neither predicates nor quantifiers.
+/// The Horn clause of the assertion of that number, from 0, or the first subterm that fits no form of
+/// one where it stands, if it is known which terms of the script have neither predicates nor
+/// quantifiers.
 pub fn clause_with(
     alloc: Global,
     script: &Script,

@@ -42,7 +42,8 @@ pub(crate) fn read_clause(
     read_clause_form(alloc, terms, plain, id, node, lets, out)
 }
 
-/// The same of a term with a predicate or a quantifier, by its node.
+/// What a term with a predicate or a quantifier gives as a clause under these `let` terms, by its node,
+/// put behind what was gathered; `NotHorn` tells where a subterm that doesn't fit starts.
 #[cycle(clause)]
 fn read_clause_form(
     alloc: Global,
@@ -95,7 +96,8 @@ fn read_clause_form(
     }
 }
 
-/// The same of an operation: an implication, a disjunction or a negation.
+/// What an operation gives as a clause under these `let` terms, put behind what was gathered: an
+/// implication, a disjunction or a negation. Another operation doesn't fit.
 #[cycle(clause)]
 fn read_operation(
     alloc: Global,

@@ -31,7 +31,8 @@ fn combination(p: i64, x: i64, q: i64, y: i64) -> i128
     product(p, x) - product(q, y)
 }
 
-/// The same, where most entries of the other row are 0 and p is mostly 1: what is left is then x.
+/// `p * x - q * y`, where most entries of the other row are 0 and p is mostly 1: what is left is then
+/// x.
 fn sparse_combination(p: i64, x: i64, q: i64, y: i64) -> i128
     requires p { nat_abs p < 2 ^ 63 }
     requires x { nat_abs x < 2 ^ 63 }
@@ -58,7 +59,8 @@ fn divided_by(n: i128, divisor: i128) -> i128
     }
 }
 
-/// The same. Mostly the divisor is 1, and nothing is divided.
+/// A number divided by a positive one and rounded down. Mostly the divisor is 1, and nothing is
+/// divided.
 fn divided(n: i128, divisor: i128) -> i128
     requires { pos 0 <ℤ divisor }
     ensures { result ≡ int_div_euclid n divisor }

@@ -26,7 +26,7 @@ pub(crate) fn copy_rows(alloc: Global, rows: &[Vec<i64>]) -> Result<Vec<Vec<i64>
     Ok(made)
 }
 
-/// The same numbers.
+/// A copy of the numbers, in order.
 pub(crate) fn copy_numbers(alloc: Global, numbers: &[usize]) -> Result<Vec<usize>, Memory>
     ensures { IfOk result (λ made. made.items ≡ numbers.now) }
 {
@@ -35,7 +35,7 @@ pub(crate) fn copy_numbers(alloc: Global, numbers: &[usize]) -> Result<Vec<usize
     Ok(made)
 }
 
-/// The same bounds.
+/// A copy of the bounds, in order.
 pub(crate) fn copy_bounds(
     alloc: Global,
     bounds: &[Option<i128>],

@@ -13,11 +13,7 @@ use std::alloc::Global;
 fn zeros(alloc: Global, count: usize) -> Result<Vec<i64>, Memory>
     ensures { IfOk result (λ made. made.items ≡ replicate count (pos 0)) }
 {
-    let mut made = Vec::with_capacity(alloc, count)?;
-    for _ in 0..count {
-        made.push(0)?;
-    }
-    Ok(made)
+    Ok(vec![in alloc; 0; count]?)
 }
 
 /// The number with the other sign.
@@ -108,9 +104,5 @@ pub(crate) fn numbers(alloc: Global, from: usize, count: usize) -> Result<Vec<us
 pub(crate) fn no_bounds(alloc: Global, count: usize) -> Result<Vec<Option<i128>>, Memory>
     ensures { IfOk result (λ made. made.items ≡ replicate count None) }
 {
-    let mut made = Vec::with_capacity(alloc, count)?;
-    for _ in 0..count {
-        made.push(None)?;
-    }
-    Ok(made)
+    Ok(vec![in alloc; None; count]?)
 }

@@ -43,7 +43,7 @@ impl Model for Tableau {
 
 impl Tableau {
     /// Says nothing: that the rows are solved for their basic variables, for whoever needs it.
-    pub fn is_table(&self)
+    pub fn table_law(&self)
         ensures { IsTable self.now }
     {
         let _variables = self.variables;

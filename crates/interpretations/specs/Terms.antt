@@ -53,6 +53,7 @@ pub record IsDivisibilityOf (nodes : List Node) (sorts : List Sort) (divisor : �
   pub shifted : IsShiftedOf nodes sorts lin sum
   pub node : IsNode nodes id (Divisible (pos divisor) sum)
 
+-- the term of a literal: a comparison, a divisibility, or the negation of a divisibility
 abbrev pub IsLiteralOf : List Node → List Sort → Lit → TermId → Type 0
 IsLiteralOf nodes sorts (AtMost lin) id = IsComparisonOf nodes sorts Le lin id
 IsLiteralOf nodes sorts (Equal lin) id = IsComparisonOf nodes sorts Eq lin id

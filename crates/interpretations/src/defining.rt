@@ -57,7 +57,7 @@ fn definition(
     let kept = kept_lemmas(alloc, frames, number, level)?;
     let mut terms = Terms::new(alloc);
     let body = defining_term(alloc, &mut terms, sorts, kept.as_slice())?;
-    terms.is_arena();
+    terms.arena_law();
     Ok(Definition {
         pred: number,
         params,

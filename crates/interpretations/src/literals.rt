@@ -48,7 +48,8 @@ fn comparison(
     Ok(id)
 }
 
-/// That the number divides the form.
+/// Puts the term by which the number divides the form behind the others; `Full` where there is no room
+/// for it.
 fn divisibility(
     alloc: Global,
     terms: &mut Terms,
@@ -67,7 +68,8 @@ fn divisibility(
     Ok(id)
 }
 
-/// That the number doesn't divide the form.
+/// Puts the term by which the number doesn't divide the form behind the others; `Full` where there is
+/// no room for it.
 fn indivisibility(
     alloc: Global,
     terms: &mut Terms,

@@ -12,9 +12,11 @@ pub record Lemmas : Type 0 where
   pub preds : ℕ
   pub lemmas : List Framed
 
+-- the predicate that lemma n stands on; 0 where there is no lemma n
 abbrev pub pred_of : List Framed → ℕ → ℕ
 pred_of lemmas n = get_or (map (λ f. f.pred) lemmas) n 0
 
+-- the greatest k with lemma n in F(k); 0 where there is no lemma n
 abbrev pub level_of : List Framed → ℕ → ℕ
 level_of lemmas n = get_or (map (λ f. f.level) lemmas) n 0
 

@@ -97,8 +97,8 @@ impl Frames {
         listed(alloc, &self.lemmas, pred, level)
     }
 
-    /// The same lemmas by level downwards, and within a level by number upwards. They are lent, and
-    /// found in the logarithm of the predicate's lemmas.
+    /// The lemmas of a predicate and of this level or more, by level downwards, and within a level by
+    /// number upwards. They are lent, and found in the logarithm of the predicate's lemmas.
     pub fn upper(&self, pred: u32, level: u32) -> &[u32]
         requires pred { pred < self.now.preds }
         requires level { 0 < level }

@@ -10,7 +10,8 @@ use Rattle.obligation_tree.specs.declared.node.Node.{Node}
 use Rattle.chc_tokens.specs.declared.refuting.Shown.{Shown}
 use Rattle.book_rules.specs.Frames.{Lemma}
 use Rattle.book_rules.specs.LemmaRules.{closes, rule_10, rule_11, rule_12, rule_13, rule_14}
-use Rattle.book_rules.specs.Places.{is_over, shown_has_places}
+use Rattle.book_rules.specs.Places.{is_over, places_of, shown_has_places}
+use Rattle.book_rules.proofs.Public.{learnt-over, over-within}
 use Rattle.book_rules.specs.Rules.{Broken, rule}
 use Rattle.book_rules.specs.State.{Obligation, is_of, unless_live}
 use Rattle.book_rules.specs.Steps.{LemmaStep as PlainLemma}
@@ -70,7 +71,6 @@ pub record IsPlaced (b : Standing) (part : LemmaPart) : Type 0 where
   pub live : rule_13 (standing_state b) (learn_of part) ≡ None
   pub there : part.target < length b.tree.nodes
   pub closing : closes (record { pred = part.pred; cube = part.lemma }) part.level (target_of b part.target) ≡ true
-  pub over : is_over b.system.preds part.pred part.lemma ≡ true
 
 pub placed : (b : Standing) (part : LemmaPart) → IsLearnt b part → IsPlaced b part
 placed b part learnt =
@@ -91,8 +91,11 @@ placed b part learnt =
       live = fourth.0;
       there = there;
       closing = passes (closes (record { pred = part.pred; cube = part.lemma }) part.level (target_of b part.target)) (ByObligation part.target) told;
-      over = (both_true (is_over b.system.preds part.pred part.lemma) (list_all (shown_has_places b.system) (all_shown part.proofs)) learnt.places).0;
     }
+
+-- its cube is over its predicate, which is its obligation's
+pub over-own : (b : Standing) (part : LemmaPart) → GoesOn b → IsLearnt b part → is_over b.system.preds part.pred part.lemma ≡ true
+over-own b part goes learnt = learnt-over b.system (standing_state b) (learn_of part) (goes.standing).over learnt.places learnt.unbroken
 
 -- its cube holds the point of its obligation, and so does each cube that holds as much
 pub held-at : (b : Standing) (part : LemmaPart) (cube : List Lit) → IsLearnt b part → IsWiderCube part.lemma cube → cube_holds (point_of b part.target) cube ≡ true
@@ -120,6 +123,6 @@ relearnt b part level cube proofs goes learnt from to is held are =
     record {
       unbroken = kept 10 (rule_10 s l) _ r10 (kept 11 (rule_11 b.system l) _ its.unshown (kept 12 (rule_12 b.system s l) _ its.misused (kept 13 (rule_13 s l) _ before.live (kept 14 (rule_14 s l) None r14 refl))));
       made = its.made;
-      places = from_both (is_over b.system.preds part.pred cube) (list_all (shown_has_places b.system) (all_shown proofs)) is.over its.places;
+      places = from_both _ (list_all (shown_has_places b.system) (all_shown proofs)) (over-within (places_of b.system.preds (Some part.pred)) cube is.over) its.places;
       thin = is.thin;
     }

@@ -11,12 +11,13 @@ use Rattle.lin_atoms.specs.declared.lit.Lit.{Lit}
 use Rattle.book_rules.specs.Places.{places_of}
 use Rattle.book_rules.specs.Walks.{has}
 use Rattle.step_rules.specs.Standing.{Standing}
+use Rattle.obligation_turn.specs.Turns.{GoesOn}
 use Rattle.step_rules.specs.declared.lemma_step.part.LemmaPart.{LemmaPart}
 use Rattle.lemma_general.specs.Generals.{IsAgainst, IsForSame, IsGeneralised, IsLearnt, IsLeast, IsPart, IsRaised, bounds_of, without}
 use Rattle.lemma_general.specs.machinery.Passes.{AreMet, IsCubeOf, IsPassed, IsRaisedOnce, IsSplit, IsTaken}
 use Rattle.lemma_general.specs.declared.breaking.Breaking.{Breaking}
 use Rattle.lemma_general.proofs.BoundLemmas.{bounds-below, bounds-thin}
-use Rattle.lemma_general.proofs.LearnLemmas.{placed}
+use Rattle.lemma_general.proofs.LearnLemmas.{over-own}
 use Rattle.lemma_general.proofs.PartLemmas.{part-all, part-none, part-self, part-trans, part-without, shorter}
 
 -- cubes of which a lemma may be asked
@@ -26,18 +27,18 @@ over-by : (places : Option ℕ) (cube made : List Lit) → ((n : ℕ) → list_a
 over-by None cube made f h = h
 over-by (Some n) cube made f h = f n h
 
-pub own-cube : (b : Standing) (part : LemmaPart) → IsLearnt b part → IsCubeOf b part.pred part.lemma
-own-cube b part learnt = record { over = (placed b part learnt).over; thin = learnt.thin }
+pub own-cube : (b : Standing) (part : LemmaPart) → GoesOn b → IsLearnt b part → IsCubeOf b part.pred part.lemma
+own-cube b part goes learnt = record { over = over-own b part goes learnt; thin = learnt.thin }
 
-pub part-cube : (b : Standing) (part : LemmaPart) (made : List Lit) → IsLearnt b part → IsPart made part.lemma → IsCubeOf b part.pred made
-part-cube b part made learnt is = record {
-  over = over-by (places_of b.system.preds (Some part.pred)) part.lemma made (λ n below. part-all (lit_is_below n) made part.lemma is below) (placed b part learnt).over;
+pub part-cube : (b : Standing) (part : LemmaPart) (made : List Lit) → GoesOn b → IsLearnt b part → IsPart made part.lemma → IsCubeOf b part.pred made
+part-cube b part made goes learnt is = record {
+  over = over-by (places_of b.system.preds (Some part.pred)) part.lemma made (λ n below. part-all (lit_is_below n) made part.lemma is below) (over-own b part goes learnt);
   thin = part-none (λ lit. list_any (λ t. nat_le (2 ^ 54) (nat_abs t.1)) (linear_of lit).terms) made part.lemma is learnt.thin;
 }
 
-pub bounds-cube : (b : Standing) (part : LemmaPart) → IsLearnt b part → IsCubeOf b part.pred (bounds_of part.lemma)
-bounds-cube b part learnt = record {
-  over = over-by (places_of b.system.preds (Some part.pred)) part.lemma (bounds_of part.lemma) (λ n below. bounds-below n part.lemma below) (placed b part learnt).over;
+pub bounds-cube : (b : Standing) (part : LemmaPart) → GoesOn b → IsLearnt b part → IsCubeOf b part.pred (bounds_of part.lemma)
+bounds-cube b part goes learnt = record {
+  over = over-by (places_of b.system.preds (Some part.pred)) part.lemma (bounds_of part.lemma) (λ n below. bounds-below n part.lemma below) (over-own b part goes learnt);
   thin = bounds-thin part.lemma learnt.thin;
 }
 

@@ -60,15 +60,15 @@ lost-against b pred k nodes cube lost is = inr (lost, is)
 
 -- without a literal, and split
 
-pub drop-cube : (b : Standing) (part : LemmaPart) (at : ℕ) (cube : List Lit) → IsLearnt b part → at < length part.lemma → cube ≡ without at part.lemma → IsCubeOf b part.pred cube
-drop-cube b part at cube learnt within is = subst (IsCubeOf b part.pred) (sym is) (part-cube b part (without at part.lemma) learnt (part-without at part.lemma within))
+pub drop-cube : (b : Standing) (part : LemmaPart) (at : ℕ) (cube : List Lit) → GoesOn b → IsLearnt b part → at < length part.lemma → cube ≡ without at part.lemma → IsCubeOf b part.pred cube
+drop-cube b part at cube goes learnt within is = subst (IsCubeOf b part.pred) (sym is) (part-cube b part (without at part.lemma) goes learnt (part-without at part.lemma within))
 
 pub drop-held : (b : Standing) (part : LemmaPart) (at : ℕ) (cube : List Lit) → IsLearnt b part → at < length part.lemma → cube ≡ without at part.lemma → cube_holds (point_of b part.target) cube ≡ true
 drop-held b part at cube learnt within is =
     subst (λ (c : List Lit). cube_holds (point_of b part.target) c ≡ true) (sym is) (held-at b part (without at part.lemma) learnt (part-holds (without at part.lemma) part.lemma (part-without at part.lemma within)))
 
-pub split-cube : (b : Standing) (part : LemmaPart) (cube : List Lit) → IsLearnt b part → cube ≡ bounds_of part.lemma → IsCubeOf b part.pred cube
-split-cube b part cube learnt is = subst (IsCubeOf b part.pred) (sym is) (bounds-cube b part learnt)
+pub split-cube : (b : Standing) (part : LemmaPart) (cube : List Lit) → GoesOn b → IsLearnt b part → cube ≡ bounds_of part.lemma → IsCubeOf b part.pred cube
+split-cube b part cube goes learnt is = subst (IsCubeOf b part.pred) (sym is) (bounds-cube b part goes learnt)
 
 pub split-held : (b : Standing) (part : LemmaPart) (cube : List Lit) → IsLearnt b part → cube ≡ bounds_of part.lemma → cube_holds (point_of b part.target) cube ≡ true
 split-held b part cube learnt is = subst (λ (c : List Lit). cube_holds (point_of b part.target) c ≡ true) (sym is) (held-at b part (bounds_of part.lemma) learnt (bounds-within part.lemma))
@@ -89,7 +89,7 @@ raised-once b nodes level old proofs goes learnt below up are =
     let from : old.level ≤ level = omega (arith, up) in
     let to : level ≤ b.level = omega (arith, up, below) in
     let held = held-at b old old.lemma learnt (λ tuple h. h) in
-    let made = relearnt b old level old.lemma proofs goes learnt from to (own-cube b old learnt) held (subst (λ (m : ℕ). AreShownOf b old.pred old.lemma m proofs) same are) in
+    let made = relearnt b old level old.lemma proofs goes learnt from to (own-cube b old goes learnt) held (subst (λ (m : ℕ). AreShownOf b old.pred old.lemma m proofs) same are) in
     (made, refl, refl, refl, up, to)
 
 pub at-top : (b : Standing) (nodes : ℕ) (old : LemmaPart) → IsLearnt b old → b.level ≤ old.level → IsRaisedOnce b nodes old old false

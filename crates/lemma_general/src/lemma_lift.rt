@@ -11,8 +11,9 @@ use base::Memory;
 use obligation_turn::{Workspace, found_of_lemma};
 use step_rules::{Lent, LiftPart};
 
-/// The same as `lift`, with what earlier turns of the book kept: where an instance that was found before
-/// still stands against the lemma, no query is asked.
+/// The lift of the lemma of that number, if the frame of its level implies it, with what earlier turns
+/// of the book kept: where an instance that was found before still stands against the lemma, no query
+/// is asked.
 pub fn lift_in(
     lent: &Lent,
     id: u32,

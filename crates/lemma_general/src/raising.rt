@@ -31,8 +31,8 @@ fn raise_once(lent: &Lent, part: &mut LemmaPart, nodes: u32) -> Result<bool, Mem
     }
 }
 
-/// The same lemma, at the highest level up to the book's to which the frames below carry it from where
-/// it is, level by level.
+/// Takes the lemma as it is to the highest level up to the book's to which the frames below carry it
+/// from where it is, level by level.
 pub fn raise(lent: &Lent, part: LemmaPart, nodes: u32) -> Result<LemmaPart, Memory>
     requires goes_on { GoesOn lent.now }
     requires learnt { IsLearnt lent.now part }

@@ -129,7 +129,8 @@ pub(crate) fn refuted(found: Found) -> Option<Items<Shown>>
     }
 }
 
-/// Its refutations, through each clause; none where there is an instance, or the search was given up.
+/// The refutations of a cube of the predicate under the frame of level k, through each clause; none
+/// where there is an instance, or the search was given up.
 pub(crate) fn show(
     lent: &Lent,
     pred: u32,
@@ -147,7 +148,8 @@ pub(crate) fn show(
     Ok(shown)
 }
 
-/// The same for a lemma's predicate and the frame below its level, with the lemma's own proofs.
+/// Asks for an instance of the cube on a lemma's predicate under the frame below its level, with the
+/// lemma's own proofs.
 pub(crate) fn ask_below(
     lent: &Lent,
     part: &LemmaPart,

@@ -81,7 +81,7 @@ impl Tries {
         &self.part
     }
 
-    /// The same, where no more is tried.
+    /// The lemma as it stands in the end, where no more is tried.
     pub fn into_part(self) -> LemmaPart
         ensures { result ≡ part_of self }
     {

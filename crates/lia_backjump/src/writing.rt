@@ -37,7 +37,7 @@ struct Writing<'a> {
     falsehood: &'a Lit,
     /// For each own number of a literal the number where the node stands.
     numbers: Vec<u32>,
-    /// The same for the branches.
+    /// For each own number of a branch the number where the node stands.
     branches: Vec<u32>,
     /// For each branch that was put above the node the number that it had before.
     before: Vec<(u32, u32)>,

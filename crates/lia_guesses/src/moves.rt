@@ -209,7 +209,7 @@ fn lacking(limits: &[Limit]) -> u64 {
     sum
 }
 
-/// The same, each limit counted once.
+/// What the limits lack, each limit counted once, whatever its weight.
 fn lacking_once(limits: &[Limit]) -> u64 {
     let mut sum: u64 = 0;
     for limit in limits {

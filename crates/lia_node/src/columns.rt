@@ -153,7 +153,7 @@ pub(crate) fn set_all(tableau: &mut Tableau, sides: &[(Option<i128>, Option<i128
     requires fit { list_all sides_fit sides.now ≡ true }
     ensures { tableau.new ≡ record tableau.old { lower = map first_of sides.now; upper = map second_of sides.now } }
 {
-    tableau.is_table();
+    tableau.table_law();
     for (column, (lower, upper)) in sides.iter().enumerate() {
         tableau.set_bounds(column, *lower, *upper);
     }

@@ -13,5 +13,5 @@ pub fn used_lemmas_refute_all(form: &Form, lemmas: &[Form], used: &[u32], proof:
     requires { IsRefutedBy form.now lemmas.now used.now proof.now }
     ensures { HasNoPoint (And (form.now ∷ lemmas.now)) }
 {
-    proof.is_refuted();
+    proof.refuted_law();
 }

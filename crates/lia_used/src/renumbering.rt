@@ -11,7 +11,7 @@ use std::alloc::Global;
 struct Gone {
     /// For each literal of the flattened formula, and for what comes behind, how many before it go.
     lits: Vec<u32>,
-    /// The same for its disjunctions.
+    /// For each disjunction of the flattened formula, and for what comes behind, how many before it go.
     cases: Vec<u32>,
     /// How many nodes with cases were met.
     met: usize,

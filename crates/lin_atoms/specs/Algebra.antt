@@ -21,6 +21,7 @@ collected (t ∷ ts) = with_term t.0 t.1 (collected ts)
 abbrev pub added : Linear → Linear → Linear
 added a b = record { terms = collected (a.terms ++ b.terms); constant = a.constant +ℤ b.constant }
 
+-- a multiple of each coefficient; a term whose product is 0 is left out, and the order of variables stays
 abbrev pub scaled_terms : ℤ → List (ℕ × ℤ) → List (ℕ × ℤ)
 scaled_terms k [] = []
 scaled_terms k (t ∷ ts) = term_on t.0 (k *ℤ t.1) (scaled_terms k ts)
@@ -29,10 +30,12 @@ scaled_terms k (t ∷ ts) = term_on t.0 (k *ℤ t.1) (scaled_terms k ts)
 abbrev pub scaled : ℤ → Linear → Linear
 scaled k lin = record { terms = scaled_terms k lin.terms; constant = k *ℤ lin.constant }
 
+-- each coefficient with the other sign, and the variables as they stand
 abbrev pub negated_terms : List (ℕ × ℤ) → List (ℕ × ℤ)
 negated_terms [] = []
 negated_terms (t ∷ ts) = (t.0, neg_ℤ t.1) ∷ negated_terms ts
 
+-- minus the form, whose value at each point has the other sign
 abbrev pub negated : Linear → Linear
 negated lin = record { terms = negated_terms lin.terms; constant = neg_ℤ lin.constant }
 

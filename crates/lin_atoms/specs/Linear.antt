@@ -45,5 +45,6 @@ lin_all test lin = list_all (λ t. test t.0) lin.terms
 abbrev pub lin_is_below : ℕ → Linear → Bool
 lin_is_below n = lin_all (λ v. nat_lt v n)
 
+-- the form without a variable, which has this value at every point
 abbrev pub of_constant : ℤ → Linear
 of_constant k = record { terms = []; constant = k }

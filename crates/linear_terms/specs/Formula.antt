@@ -22,12 +22,15 @@ use Rattle.linear_terms.specs.Linear.{Naming, variable_form, linear_of, bit_of, 
 abbrev pub le : Linear → Form
 le lin = Lit (Le lin)
 
+-- the linear form is 0
 abbrev pub eq : Linear → Form
 eq lin = Lit (Eq lin)
 
+-- t + 1, which is at most 0 where t is below 0
 abbrev pub one_more : Linear → Linear
 one_more lin = plus lin (pos 1)
 
+-- 1 - t, which is at most 0 where t is above 0
 abbrev pub complement_of : Linear → Linear
 complement_of lin = plus (negated lin) (pos 1)
 
@@ -37,15 +40,18 @@ conjunction_of [] = And []
 conjunction_of (form ∷ []) = form
 conjunction_of (form ∷ next ∷ forms) = And (form ∷ next ∷ forms)
 
+-- the disjunction of the forms: a single one stands by itself, and of none it is false
 abbrev pub disjunction_of : List Form → Form
 disjunction_of [] = Or []
 disjunction_of (form ∷ []) = form
 disjunction_of (form ∷ next ∷ forms) = Or (form ∷ next ∷ forms)
 
+-- the conjunction of the forms where the sign is true, their disjunction where it is false
 abbrev pub joined : Bool → List Form → Form
 joined true forms = conjunction_of forms
 joined false forms = disjunction_of forms
 
+-- each item with the next one, as SMT-LIB's chainable functions relate their arguments
 abbrev pub neighbours : {X : Type 0} → List X → List (X × X)
 neighbours [] = []
 neighbours (x ∷ []) = []
@@ -96,6 +102,7 @@ implication_forms part sign [] = []
 implication_forms part sign (id ∷ []) = part id.0 sign ∷ []
 implication_forms part sign (id ∷ next ∷ ids) = part id.0 (not sign) ∷ implication_forms part sign (next ∷ ids)
 
+-- the argument of `not` with the other sign; false without an argument, which no legal term has
 abbrev pub denied : (ℕ → Bool → Form) → Bool → List TermId → Form
 denied part sign [] = False
 denied part sign (id ∷ ids) = part id.0 (not sign)
@@ -122,6 +129,7 @@ pub record TermForms : Type 0 where
   pub bit : ℕ → Linear
   pub linear : ℕ → Linear
 
+-- where an application with a Bool result is true, or, for the sign false, where it is false
 abbrev pub operation : TermForms → (ℕ → Bool → Form) → OpKind → List TermId → Bool → Form
 operation reading part Not args sign = denied part sign args
 operation reading part AndOp args sign = joined sign (map (λ arg. part arg.0 sign) args)
@@ -132,6 +140,7 @@ operation reading part Ite args sign = choice part reading.bit sign args
 operation reading part op args sign =
     comparison op (are_truths reading.sorts args) sign (map (λ arg. reading.bit arg.0) args) (map (λ arg. reading.linear arg.0) args)
 
+-- one node, over the formulas of its parts, by the sign; false for numerals, predicates and quantifiers
 abbrev pub node_formula : TermForms → Naming → (ℕ → Bool → Form) → Node → Bool → Form
 node_formula reading naming part TrueTerm sign = if sign then True else False
 node_formula reading naming part FalseTerm sign = if sign then False else True
@@ -142,9 +151,11 @@ node_formula reading naming part (Divisible by arg) sign = if sign then Lit (Div
 node_formula reading naming part (Let bound body) sign = part body.0 sign
 node_formula reading naming part _ sign = False
 
+-- the sorts, and the bits and linear forms that the terms of these nodes have under the naming
 abbrev pub reading_of : Sorting → Naming → List Node → TermForms
 reading_of sorts naming nodes = record { sorts = sorts; bit = bit_of naming nodes; linear = linear_of naming nodes }
 
+-- where the Bool term of that number is true, or false, for these bits and linear forms; false where there is no such term
 abbrev pub told_formula : TermForms → Naming → List Node → ℕ → Bool → Form
 told_formula reading naming = told_of (λ sign. False) (node_formula reading naming)
 

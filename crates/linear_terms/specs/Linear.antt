@@ -20,23 +20,29 @@ pub record Naming : Type 0 where
 abbrev pub naming_of : ℕ → List ℕ → Naming
 naming_of first placed = record { own = λ v. v; auxiliary = λ id. option_map (λ i. first + i) (position (λ p. p == id) placed) }
 
+-- a variable as a linear form, with coefficient 1 and constant 0
 abbrev pub variable_form : ℕ → Linear
 variable_form v = record { terms = (v, pos 1) ∷ []; constant = pos 0 }
 
+-- the linear form 0, which also stands where a term has none
 abbrev pub zero_form : Linear
 zero_form = of_constant (pos 0)
 
+-- the auxiliary variable as a linear form, or 0 where there is none
 abbrev pub auxiliary_form : Option ℕ → Linear
 auxiliary_form None = zero_form
 auxiliary_form (Some v) = variable_form v
 
+-- the difference of two linear forms, a - b
 abbrev pub less : Linear → Linear → Linear
 less a b = added a (negated b)
 
+-- the terms of all the forms, one form behind the other, so that a variable may occur more than once
 abbrev pub all_terms : List Linear → List (ℕ × ℤ)
 all_terms [] = []
 all_terms (form ∷ forms) = form.terms ++ all_terms forms
 
+-- the sum of the forms' constants
 abbrev pub all_constants : List Linear → ℤ
 all_constants [] = pos 0
 all_constants (form ∷ forms) = form.constant +ℤ all_constants forms
@@ -64,9 +70,11 @@ multiple_of (Some varied) constants forms = scaled (product_of (constants_among 
 multiple_of None constants [] = zero_form
 multiple_of None constants (form ∷ forms) = scaled (product_of (constants_among (drop 1 constants))) form
 
+-- a product with at most one factor that isn't constant: the form of that one, times the values of the others
 abbrev pub product_form : List (Option ℤ) → List Linear → Linear
 product_form constants forms = multiple_of (varying_form constants forms) constants forms
 
+-- the result over the arguments' forms: for `ite`, `abs`, `div` and `mod` the auxiliary variable, 0 for no arithmetic
 abbrev pub operation_form : OpKind → Linear → List (Option ℤ) → List Linear → Linear
 operation_form Add unit constants forms = sum_form forms
 operation_form Sub unit constants forms = difference_form forms
@@ -77,6 +85,7 @@ operation_form Div unit constants forms = unit
 operation_form Mod unit constants forms = unit
 operation_form _ unit constants forms = zero_form
 
+-- one node, over the linear forms of its parts; 0 for truth values, predicates, divisibilities and quantifiers
 abbrev pub node_linear : (ℕ → Option ℤ) → Naming → (ℕ → ℕ → Linear) → Node → ℕ → Linear
 node_linear constant naming part (Num n) own = of_constant n
 node_linear constant naming part (Var binder sort) own = variable_form (naming.own binder)
@@ -94,19 +103,23 @@ told_linear constant naming = told_of (λ own. zero_form) (node_linear constant 
 abbrev pub linear_of : Naming → List Node → ℕ → Linear
 linear_of naming nodes id = told_linear (constant_of nodes) naming nodes id id
 
+-- the bit of a node without an auxiliary variable: of a name that of its term, and 0 where none is at hand
 abbrev pub bare_bit : Naming → (ℕ → ℕ → Linear) → Node → Linear
 bare_bit naming part True = of_constant (pos 1)
 bare_bit naming part (Var binder sort) = variable_form (naming.own binder)
 bare_bit naming part (LetVar bound) = part bound.0 bound.0
 bare_bit naming part _ = zero_form
 
+-- the auxiliary variable where there is one, else the bit that is at hand without it
 abbrev pub bit_form : Option ℕ → Linear → Linear
 bit_form None bare = bare
 bit_form (Some v) bare = variable_form v
 
+-- one node's bit, over those of its parts: the auxiliary variable of its own number comes first
 abbrev pub node_bit : Naming → (ℕ → ℕ → Linear) → Node → ℕ → Linear
 node_bit naming part node own = bit_form (naming.auxiliary own) (bare_bit naming part node)
 
+-- the bit of a term by number, and its own number again; 0 where there is no such term
 abbrev pub told_bit : Naming → List Node → ℕ → ℕ → Linear
 told_bit naming = told_of (λ own. zero_form) (node_bit naming)
 

@@ -21,6 +21,7 @@ use Rattle.linear_terms.specs.Text.{Sorting, is_unit, is_ready}
 use Rattle.linear_terms.specs.Linear.{Naming}
 use Rattle.linear_terms.specs.Place.{place_form}
 
+-- a truth value as a bit: 1 for true, 0 for false
 abbrev pub truth_number : Bool → ℤ
 truth_number true = pos 1
 truth_number false = pos 0

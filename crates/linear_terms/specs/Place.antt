@@ -20,9 +20,11 @@ abbrev pub truth_place : Linear → Form → Form → Form
 truth_place v holds fails =
     And (le (negated v) ∷ le (plus v (negsuc 0)) ∷ Or (And (le (complement_of v) ∷ holds ∷ []) ∷ And (le v ∷ fails ∷ []) ∷ []) ∷ [])
 
+-- v is the value of an integer `ite`: s where the condition's bit is 1, r where it is 0
 abbrev pub choice_place : Linear → Linear → Linear → Linear → Form
 choice_place v bit s r = Or (And (le (complement_of bit) ∷ eq (less v s) ∷ []) ∷ And (le bit ∷ eq (less v r) ∷ []) ∷ [])
 
+-- v is the absolute value of the form: the form from 0 on, and its negation below 0
 abbrev pub abs_place : Linear → Linear → Form
 abs_place v lin = Or (And (le (negated lin) ∷ eq (less v lin) ∷ []) ∷ And (le (one_more lin) ∷ eq (added v lin) ∷ []) ∷ [])
 
@@ -42,6 +44,7 @@ integer_place bit linear constant v own (Some (Op Quotient (a ∷ n ∷ []))) = 
 integer_place bit linear constant v own (Some (Op Remainder (a ∷ n ∷ []))) = remainder_place v (linear a.0) (constant n.0)
 integer_place bit linear constant v own _ = eq (less v (linear own))
 
+-- the value of a constant term; 0 for one that isn't constant
 abbrev pub constant_value : List Node → ℕ → ℤ
 constant_value nodes id = unwrap_or (constant_of nodes id) (pos 0)
 

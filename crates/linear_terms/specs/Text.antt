@@ -15,6 +15,7 @@ use Rattle.linear_terms.specs.declared.standing.Spot.{Spot}
 use Rattle.linear_terms.specs.declared.standing.Standing.{Standing}
 use Rattle.linear_terms.specs.declared.standing.Standing.TheVariants.{Plain, Bit, Argument}
 
+-- the term, met in the text as this
 abbrev pub spot_as : Standing → TermId → Spot
 spot_as standing id = record { id = id.0; standing = standing }
 
@@ -22,6 +23,7 @@ spot_as standing id = record { id = id.0; standing = standing }
 abbrev pub Sorting : Type 0
 Sorting = ℕ → Option Sort
 
+-- the term of that number is Bool; not where it has no sort
 abbrev pub is_truth : Sorting → ℕ → Bool
 is_truth sorts id = has_sort Truth (sorts id)
 
@@ -34,10 +36,12 @@ are_truths sorts (id ∷ ids) = is_truth sorts id.0
 abbrev pub compared : Sorting → List TermId → List Spot
 compared sorts args = map (spot_as (if are_truths sorts args then Bit else Plain)) args
 
+-- the parts of an `ite`: its condition as a bit, its branches as they are
 abbrev pub chosen : List TermId → List Spot
 chosen [] = []
 chosen (condition ∷ branches) = spot_as Bit condition ∷ map (spot_as Plain) branches
 
+-- the arguments of an operator: as bits those of `xor`, Bool ones of `=` and `distinct`, and the condition of `ite`
 abbrev pub operands : Sorting → OpKind → List TermId → List Spot
 operands sorts Xor args = map (spot_as Bit) args
 operands sorts Eq args = compared sorts args
@@ -55,6 +59,7 @@ inner_spots sorts (Forall first kinds body) = spot_as Plain body ∷ []
 inner_spots sorts (Exists first kinds body) = spot_as Plain body ∷ []
 inner_spots sorts _ = []
 
+-- the node where it stands, and then its parts with theirs, in the order of the text
 abbrev pub node_spots : Sorting → (ℕ → Spot → List Spot) → Node → Spot → List Spot
 node_spots sorts part node spot = spot ∷ flat_map (λ s. part s.id s) (inner_spots sorts node)
 
@@ -77,15 +82,18 @@ is_ready True = true
 is_ready False = true
 is_ready _ = false
 
+-- the term is a variable with a sort; a name that a `let` binds isn't one
 abbrev pub is_variable : Node → Bool
 is_variable (Var binder sort) = true
 is_variable _ = false
 
+-- where the term stands asks for a variable: as a bit if it is Bool and not at hand, as an argument if it is no variable
 abbrev pub is_wanted : Standing → Option Sort → Node → Bool
 is_wanted Plain sort node = false
 is_wanted Bit sort node = if is_ready node then false else has_sort Truth sort
 is_wanted Argument sort node = if is_variable node then false else true
 
+-- the term is no sum of its parts, or is asked for where it stands; not where there is no such term
 abbrev pub needs_one : Standing → Option Sort → Option Node → Bool
 needs_one standing sort None = false
 needs_one standing sort (Some node) = is_unit sort node || is_wanted standing sort node

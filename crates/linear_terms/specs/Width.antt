@@ -24,14 +24,17 @@ text_parts (Forall first sorts body) = body ∷ []
 text_parts (Exists first sorts body) = body ∷ []
 text_parts _ = []
 
+-- the first of the two that is there; nothing where neither is
 abbrev pub first_of_two : Option ℕ → Option ℕ → Option ℕ
 first_of_two None b = b
 first_of_two (Some id) b = Some id
 
+-- what is found in the first of the terms in which something is
 abbrev pub first_among : (ℕ → Option ℕ) → List TermId → Option ℕ
 first_among part [] = None
 first_among part (id ∷ ids) = first_of_two (part id.0) (first_among part ids)
 
+-- what is found in the node's parts, from left to right, else the node itself if the test finds it
 abbrev pub node_first : (ℕ → Bool) → (ℕ → ℕ → Option ℕ) → Node → ℕ → Option ℕ
 node_first test part node own = first_of_two (first_among (λ id. part id id) (text_parts node)) (if test own then Some own else None)
 
@@ -39,9 +42,11 @@ node_first test part node own = first_of_two (first_among (λ id. part id id) (t
 abbrev pub first_where : (ℕ → Bool) → List Node → ℕ → Option ℕ
 first_where test nodes top = told_of (λ own. None) (node_first test) nodes top top
 
+-- the linear form of the term has a number that isn't below 2^63 in magnitude
 abbrev pub is_wide_term : Naming → List Node → ℕ → Bool
 is_wide_term naming nodes id = not (is_narrow (linear_of naming nodes id))
 
+-- the operator compares its arguments: equality, `distinct`, or one of the four orders of integers
 abbrev pub is_relation : OpKind → Bool
 is_relation Eq = true
 is_relation Distinct = true
@@ -56,6 +61,7 @@ abbrev pub is_wide_relation : (ℕ → Linear) → Option Node → Bool
 is_wide_relation linear (Some (Op op args)) = is_relation op && list_any (λ p. not (is_narrow (less p.0 p.1))) (sides op (map (λ arg. linear arg.0) args))
 is_wide_relation linear _ = false
 
+-- the term is a comparison, and a difference of two sides has a number that isn't below 2^63 in magnitude
 abbrev pub is_wide_comparison : Naming → List Node → ℕ → Bool
 is_wide_comparison naming nodes id = is_wide_relation (linear_of naming nodes) (slice_get nodes id)
 

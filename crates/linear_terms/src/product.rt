@@ -61,7 +61,7 @@ fn product(constants: &[Option<i64>]) -> Option<i64>
     Some(product)
 }
 
-/// That the variables of a form rise, for a proof that needs it.
+/// The variables of a form rise, for a proof that needs it.
 fn rises(form: &Lin)
     ensures { are_ordered 0 form.now.terms ≡ true }
 {

@@ -72,7 +72,7 @@ impl Projected {
         self.model.as_slice()
     }
 
-    /// The same projection.
+    /// A copy of the projection.
     pub fn copy(&self, alloc: Global) -> Result<Projected, Memory>
         ensures { IfOk result (λ copied. copied ≡ self.now) }
     {

@@ -24,9 +24,11 @@ fresh obligation = record { obligation = obligation; closed_by = None; stalled =
 abbrev pub obligation_in : Node → Obligation
 obligation_in node = node.obligation
 
+-- the journal entry that closed the obligation; none while it is live
 abbrev pub closed_in : Node → Option ℕ
 closed_in node = node.closed_by
 
+-- whether an entry has marked the obligation as stalled
 abbrev pub is_stalled_in : Node → Bool
 is_stalled_in node = node.stalled
 

@@ -51,7 +51,7 @@ fn settle_all(
     Ok(())
 }
 
-/// Those of the numbers whose obligations are live.
+/// Of the numbers those whose obligations are live, in order.
 fn live_among(alloc: Global, nodes: &Table<Node>, numbers: &[u32]) -> Result<Vec<u32>, Memory>
     requires { (k : ℕ) → k < length numbers.now → slice_index numbers.now k < length nodes.now }
     ensures { IfOk result (λ live. live.items ≡ filter (is_live_at nodes.now) numbers.now) }
@@ -103,7 +103,8 @@ fn has_child(nodes: &Table<Node>, numbers: &[u32], number: u32) -> bool
     false
 }
 
-/// Those of a few numbers under which none of these obligations hangs: each is held against each.
+/// Of a few numbers those under which no obligation of one of them hangs, in order: each is held
+/// against each.
 fn childless_of_few(alloc: Global, nodes: &Table<Node>, numbers: &[u32]) -> Result<Vec<u32>, Memory>
     requires { (k : ℕ) → k < length numbers.now → slice_index numbers.now k < length nodes.now }
     ensures { IfOk result (λ leaves. leaves.items ≡ filter (λ number. not (list_any (is_child_of nodes.now number) numbers.now)) numbers.now) }
@@ -117,7 +118,7 @@ fn childless_of_few(alloc: Global, nodes: &Table<Node>, numbers: &[u32]) -> Resu
     Ok(leaves)
 }
 
-/// Those of the numbers under which none of these obligations hangs.
+/// Of the numbers those under which no obligation of one of them hangs, in order.
 fn childless(alloc: Global, nodes: &Table<Node>, numbers: &[u32]) -> Result<Vec<u32>, Memory>
     requires within { (k : ℕ) → k < length numbers.now → slice_index numbers.now k < length nodes.now }
     requires parents { (k : ℕ) → k < length numbers.now → parent_at nodes.now (slice_index numbers.now k) < length nodes.now }

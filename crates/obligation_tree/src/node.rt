@@ -36,7 +36,7 @@ impl Node {
         })
     }
 
-    /// The same obligation, closed by an entry.
+    /// The node with its obligation, closed by an entry.
     pub(crate) fn closed(&self, entry: u64) -> Result<Node, Memory>
         ensures { IfOk result (λ node. node ≡ closed_with entry self.now) }
     {
@@ -47,7 +47,7 @@ impl Node {
         })
     }
 
-    /// The same obligation, stalled.
+    /// The node with its obligation, stalled.
     pub(crate) fn marked(&self) -> Result<Node, Memory>
         ensures { IfOk result (λ node. node ≡ record self.now { stalled = true }) }
     {
@@ -58,7 +58,7 @@ impl Node {
         })
     }
 
-    /// The same obligation at another level.
+    /// The node with its obligation at another level.
     pub(crate) fn at_level(&self, alloc: Global, level: u32) -> Result<Node, Memory>
         ensures { IfOk result (λ node. node ≡ record self.now { obligation = record self.now.obligation { level = level } }) }
     {

@@ -39,7 +39,7 @@ impl Drop for Obligation {
 }
 
 impl Obligation {
-    /// The same question at another level.
+    /// The obligation's question at another level.
     pub(crate) fn at_level(&self, alloc: Global, level: u32) -> Result<Obligation, Memory>
         ensures { IfOk result (λ other. other ≡ record self.now { level = level }) }
     {

@@ -74,7 +74,7 @@ impl Tree {
     }
 
     /// What every tree keeps.
-    pub fn is_tree(&self)
+    pub fn tree_law(&self)
         ensures { IsTree self.now.nodes }
     {
         let _nodes = &self.nodes;

@@ -9,7 +9,8 @@ use Rattle.obligation_tree.specs.declared.obligation.Obligation.{Obligation as A
 use Rattle.chc_tokens.specs.declared.refuting.Shown.{Shown}
 use Rattle.book_rules.specs.Frames.{Lemma}
 use Rattle.book_rules.specs.LemmaRules.{closes, rule_10, rule_11, rule_12, rule_13, rule_14}
-use Rattle.book_rules.specs.Places.{is_over, shown_has_places}
+use Rattle.book_rules.specs.Places.{places_of, shown_has_places}
+use Rattle.book_rules.proofs.Public.{over-within}
 use Rattle.book_rules.specs.State.{Obligation, is_of}
 use Rattle.book_rules.specs.Steps.{LemmaStep as PlainLemma}
 use Rattle.book_rules.specs.declared.by.By.TheVariants.{Level as ByLevel, Obligation as ByObligation}
@@ -56,7 +57,7 @@ learnt b job nodes pred proofs goes leaf some are =
     record {
       unbroken = kept 10 (rule_10 s l) _ r10 (kept 11 (rule_11 b.system l) _ is.unshown (kept 12 (rule_12 b.system s l) _ is.misused (kept 13 (rule_13 s l) _ r13 (kept 14 (rule_14 s l) None r14 refl))));
       made = is.made;
-      places = from_both (is_over b.system.preds pred o.cube) (list_all (shown_has_places b.system) (all_shown proofs)) claimed is.places;
+      places = from_both _ (list_all (shown_has_places b.system) (all_shown proofs)) (over-within (places_of b.system.preds (Some pred)) o.cube claimed) is.places;
       projected = tt;
       counts = tt;
       thin = job-thin b job goes leaf;

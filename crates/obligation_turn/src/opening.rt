@@ -108,7 +108,8 @@ fn tuple_cube(alloc: Global, atom: &Atom, point: &[i64]) -> Result<Vec<Lit>, Mem
     Ok(lits)
 }
 
-/// These literals; the tuple's where a recorded fact lies in them or they are wide.
+/// The literals as they are; the tuple's in their place where a recorded fact lies in them or they are
+/// wide.
 fn chosen(
     alloc: Global,
     facts: &Facts,

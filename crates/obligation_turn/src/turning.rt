@@ -88,7 +88,8 @@ fn refuted(
     }
 }
 
-/// The same as `turn`, with what earlier turns of the book kept.
+/// A step that the book takes, for a live obligation without live children that isn't stalled, as
+/// `turn` finds it, with what earlier turns of the book kept.
 pub fn turn_in(lent: &Lent, job: u32, nodes: u32, work: &mut Workspace) -> Result<Step, Memory>
     requires goes_on { GoesOn lent.now }
     requires leaf { IsOpenLeaf lent.now job }

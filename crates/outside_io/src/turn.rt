@@ -17,7 +17,7 @@ pub enum Turn {
     Moved,
     /// The source has no more bytes.
     End,
-    /// It has failed.
+    /// The source has failed.
     Fault,
 }
 

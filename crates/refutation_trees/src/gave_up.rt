@@ -49,14 +49,7 @@ impl GaveUp {
         &self.evidence
     }
 
-    /// What the evidence shows, for callers that need it.
-    pub fn is_given_up(&self)
-        ensures { IsGivenUp (given_form self.now) (given_evidence self.now) }
-    {
-        let _form = &self.form;
-    }
-
-    /// The same form and evidence.
+    /// A copy of the form with its evidence.
     pub fn copy(&self, alloc: Global) -> Result<GaveUp, Memory>
         ensures { IfOk result (λ copied. copied ≡ self.now) }
     {

@@ -30,7 +30,7 @@ impl Ranges {
         })
     }
 
-    /// The same once more.
+    /// A copy of the ranges.
     pub(crate) fn copy(&self, alloc: Global) -> Result<Ranges, Memory> {
         let low = Vec::from_slice(alloc, self.low.as_slice())?;
         let high = Vec::from_slice(alloc, self.high.as_slice())?;

@@ -16,7 +16,7 @@ pub(crate) struct State<'a> {
 }
 
 impl<'a> State<'a> {
-    /// The same once more.
+    /// A copy of what is known of the instance.
     pub(crate) fn copy(&self, alloc: Global) -> Result<State<'a>, Memory> {
         let ranges = self.ranges.copy(alloc)?;
         let mut forms = Vec::with_capacity(alloc, self.forms.len())?;

@@ -23,7 +23,7 @@ use step_rules::{LemmaPart, Lent, Step};
 /// parts of a lemma's cube, and their lemmas stay as they were found.
 const GUESS_LEVEL: u32 = 5;
 
-/// They are tried at each level for a cube of at least this number of literals.
+/// Guesses are tried at each level for a cube of at least this number of literals.
 const MANY_LITERALS: usize = 4;
 
 /// Whether an old lemma that excludes the obligation's point holds at the part's level, too, and so
@@ -111,7 +111,8 @@ fn by_hulls(lent: &Lent, part: LemmaPart, hints: &Hints, nodes: u32) -> Result<L
     Ok(proposed)
 }
 
-/// The same where hulls are tried.
+/// A lemma of a cube that the hulls shut out in the lemma's place, where hulls are tried; else the
+/// lemma as it is.
 fn hulled(
     lent: &Lent,
     part: LemmaPart,
@@ -140,7 +141,8 @@ fn by_bounds(lent: &Lent, part: LemmaPart, hints: &Hints, nodes: u32) -> Result<
     Ok(narrower)
 }
 
-/// The same where bounds are tried.
+/// The lemma with the literals of a bound behind its own, where bounds are tried and one may be what is
+/// missing; else the lemma as it is.
 fn bounded(
     lent: &Lent,
     part: LemmaPart,
@@ -174,7 +176,8 @@ fn by_hulls_alike(
     Ok(proposed)
 }
 
-/// The same where hulls are tried.
+/// A lemma of one of the fewer cubes that are tried at low levels, in the lemma's place, where hulls
+/// are tried; else the lemma as it is.
 fn hulled_alike(
     lent: &Lent,
     part: LemmaPart,

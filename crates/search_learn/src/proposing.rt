@@ -86,8 +86,9 @@ fn are_of_residues(lits: &[Lit]) -> bool {
     true
 }
 
-/// The same of the kind that the lemma's cube has: of literals about residues alone none, and by residues
-/// only where the cube has more than bounds.
+/// Cubes that hold the point of the lemma's obligation, by what was guessed, of the kind that the
+/// lemma's cube has: of literals about residues alone none, and by residues only where the cube has
+/// more than bounds.
 fn shut_out_alike(lent: &Lent, part: &LemmaPart, hints: &Hints) -> Result<Vec<Cube>, Memory> {
     let lits = part.lemma.cube().lits();
     if lits.len() > 0 && are_of_residues(lits) {
@@ -130,8 +131,9 @@ pub fn propose_hulls(
     with_one_of(lent, part, cubes.as_slice(), nodes)
 }
 
-/// The same with fewer cubes, for a lemma as its turn gave it: a cube of literals about residues stays, and
-/// residues are tried only in the place of a cube that has more than bounds.
+/// A lemma of another cube in the lemma's place, as `propose_hulls` finds it, but of fewer cubes, for a
+/// lemma as its turn gave it: a cube of literals about residues stays, and residues are tried only in
+/// the place of a cube that has more than bounds.
 pub fn propose_alike(
     lent: &Lent,
     part: LemmaPart,

@@ -15,7 +15,7 @@ fn hints_kept(lent: &Lent, kept: &mut Option<Hints>) -> Result<Hints, Memory> {
     }
 }
 
-/// The same, as this level and these units renew them, where bounds are tried.
+/// The hints of earlier turns, as this level and these units renew them, where bounds are tried.
 fn hints_now(lent: &Lent, kept: &mut Option<Hints>) -> Result<Hints, Memory> {
     let mut hints = hints_kept(lent, kept)?;
     if TRIES_BOUNDS {

@@ -42,7 +42,7 @@ impl Drop for Mind {
 }
 
 impl Mind {
-    /// That of the worker of this number, from 1, before its first turn.
+    /// The mind of the worker of this number, from 1, before its first turn.
     pub fn new(alloc: Global, worker: u32) -> Mind
         ensures { (sys : Clauses) → IsMindFor sys result }
     {

@@ -27,6 +27,7 @@ symbol_of text Symbol start end = Some (inner text Symbol start end)
 symbol_of text Quoted start end = Some (inner text Quoted start end)
 symbol_of text _ start end = None
 
+-- the bytes of a tree that is a symbol, without its bars if it has some; none of other leaves and of lists
 abbrev pub symbol_bytes : List ℕ → Tree → Option (List ℕ)
 symbol_bytes text (Leaf kind start end) = symbol_of text kind start end
 symbol_bytes text _ = None
@@ -36,6 +37,7 @@ abbrev pub word_of : List ℕ → LeafKind → ℕ → ℕ → Option (List ℕ)
 word_of text Symbol start end = Some (inner text Symbol start end)
 word_of text _ start end = None
 
+-- the bytes of a tree that is a symbol without bars; none of other leaves and of lists
 abbrev pub word_bytes : List ℕ → Tree → Option (List ℕ)
 word_bytes text (Leaf kind start end) = word_of text kind start end
 word_bytes text _ = None
@@ -44,10 +46,12 @@ word_bytes text _ = None
 abbrev pub short_number : ℕ → Option ℕ
 short_number n = if nat_lt n short_limit then Some n else None
 
+-- the value of a numeral below 2 ^ 63; none of a greater one, and of other leaves
 abbrev pub numeral_of : List ℕ → LeafKind → ℕ → ℕ → Option ℕ
 numeral_of text Numeral start end = short_number (number_of (inner text Numeral start end))
 numeral_of text _ start end = None
 
+-- the value of a tree that is a numeral below 2 ^ 63; none of a greater one, of other leaves and of lists
 abbrev pub numeral_value : List ℕ → Tree → Option ℕ
 numeral_value text (Leaf kind start end) = numeral_of text kind start end
 numeral_value text _ = None

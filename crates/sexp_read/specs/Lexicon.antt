@@ -15,6 +15,7 @@ abbrev mutual
   after_gap at [] = at
   after_gap at (b ∷ rest) = if is_white b then after_gap (at + 1) rest else if b == 59 then after_comment (at + 1) rest else at
 
+  -- where the white space and the comments end, from inside a comment on
   pub after_comment : ℕ → List ℕ → ℕ
   after_comment at [] = at
   after_comment at (b ∷ rest) = if b == 10 || b == 13 then after_gap (at + 1) rest else after_comment (at + 1) rest
@@ -35,6 +36,7 @@ abbrev mutual
   after_literal at [] = None
   after_literal at (b ∷ rest) = if b == 34 then after_quote (at + 1) rest else after_literal (at + 1) rest
 
+  -- where a text literal ends, from behind a quote in it: here, unless a second quote doubles the first
   pub after_quote : ℕ → List ℕ → Option ℕ
   after_quote at [] = Some at
   after_quote at (b ∷ rest) = if b == 34 then after_literal (at + 1) rest else Some at
@@ -65,10 +67,12 @@ word_kind (b ∷ rest) = if is_digit b then number_kind (b ∷ rest) else Some S
 
 -- The token that begins at an offset of the text, by its first byte.
 
+-- a leaf of that kind; where there is none, a bad byte at the start
 abbrev pub kind_token : ℕ → ℕ → Option LeafKind → Token
 kind_token start end None = BadByte start
 kind_token start end (Some kind) = Leaf kind start end
 
+-- the symbol, numeral or decimal of the longest run of symbol bytes from here on; a bad byte where the run is none of them
 abbrev pub word_at : List ℕ → ℕ → Token
 word_at text start = let end = after_word start (drop start text) in kind_token start end (word_kind (take (end - start) (drop start text)))
 
@@ -81,16 +85,20 @@ abbrev pub quoted_of : ℕ → ℕ → List ℕ → Token
 quoted_of start end [] = Unclosed start
 quoted_of start end (b ∷ rest) = if b == 124 then Leaf Quoted start (end + 1) else BadByte end
 
+-- the quoted symbol that begins with the bar here; unclosed where the text ends in it, a bad byte at a backslash in it
 abbrev pub quoted_at : List ℕ → ℕ → Token
 quoted_at text start = let end = after_plain (start + 1) (drop (start + 1) text) in quoted_of start end (drop end text)
 
+-- a text literal that ends there; unclosed where it has no end
 abbrev pub literal_of : ℕ → Option ℕ → Token
 literal_of start None = Unclosed start
 literal_of start (Some end) = Leaf Text start end
 
+-- the text literal that begins with the quote here; unclosed where the text ends in it
 abbrev pub literal_at : List ℕ → ℕ → Token
 literal_at text start = literal_of start (after_literal (start + 1) (drop (start + 1) text))
 
+-- the token that begins here, by the bytes from here on: the end where there are none, a bad byte where the first begins no token
 abbrev pub token_by : List ℕ → ℕ → List ℕ → Token
 token_by text start [] = End
 token_by text start (b ∷ rest) =
@@ -102,6 +110,7 @@ token_by text start (b ∷ rest) =
     else if is_symbol_byte b then word_at text start
     else BadByte start
 
+-- the token that begins at this very offset, without white space or comments before it
 abbrev pub token_at : List ℕ → ℕ → Token
 token_at text start = token_by text start (drop start text)
 

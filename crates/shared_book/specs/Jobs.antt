@@ -1,5 +1,5 @@
 -- What a worker may be given to do.
-use Rattle.std.specs.Prelude.{◌≡◌, ℕ, None, true, false}
+use Rattle.std.specs.Prelude.{◌≡◌, ◌||◌, ℕ, Bool, None, true, false, is_some}
 use Rattle.clause_form.specs.System.{Clauses}
 use Rattle.obligation_tree.specs.Claims.{is_held_by_another}
 use Rattle.book_rules.specs.Legal.{end}
@@ -29,3 +29,7 @@ pub record IsFree (b : Contents) (worker id : ℕ) : Type 0 where
 -- another worker holds every live leaf that isn't stalled
 abbrev pub AreHeld : Contents → ℕ → Type 0
 AreHeld b worker = (id : ℕ) → IsOpenLeaf (standing_of b) id → is_held_by_another id worker b.tree.claims ≡ true
+
+-- whether no worker gets a job any more: the book has an end, or want of memory was noted
+abbrev pub is_over : Contents → Bool → Bool
+is_over b noted = is_some (end (state_of b)) || noted

@@ -65,7 +65,8 @@ fn claim_open(
     if is_free { Some(id) } else { best }
 }
 
-/// The same where it is asked before the first so far.
+/// Claims an obligation that isn't stalled, where it is asked before the first so far and no other
+/// worker holds it; the first that is claimed then.
 fn with_open(
     book: &mut Book,
     snapshot: &Snapshot,
@@ -87,7 +88,8 @@ fn with_open(
     }
 }
 
-/// The same of one that may be stalled.
+/// Claims an obligation that may be stalled, where it isn't, is asked before the first so far, and no
+/// other worker holds it; the first that is claimed then.
 fn with_leaf(
     book: &mut Book,
     snapshot: &Snapshot,

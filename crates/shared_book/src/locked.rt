@@ -14,7 +14,7 @@ ghost use Rattle.chc_core.specs.Views.{standing_of, state_of, steps_of};
 ghost use Rattle.obligation_turn.specs.Counts.{StepCounts};
 ghost use Rattle.obligation_turn.specs.Turns.{IsThin, StepIsThin};
 ghost use Rattle.step_rules.specs.Taken.{IsMadeFor, step_of};
-ghost use Rattle.shared_book.specs.Jobs.{AreHeld, IsFree};
+ghost use Rattle.shared_book.specs.Jobs.{AreHeld, IsFree, is_over};
 ghost use Rattle.search_strategy.specs.Jobs.{IsFirst};
 ghost use Rattle.search_strategy.specs.Older.{IsOlder};
 ghost use Rattle.shared_book.specs.Locks.{AreReleased, claimed_by, released_by, with_claims};
@@ -57,6 +57,13 @@ impl<R: Run> Model for Locked<R> {
     ghost view = { λ l. record { book = l.book; noted = l.noted; total = l.written.total } };
 
     ghost invariant = { λ l. IsRunBook R.system R.units R.nodes R.workers l.book × (l.written.total ≡ length l.book.journal) };
+}
+
+/// Whether no worker gets a job any more: the book has an end, or want of memory was noted.
+fn is_over(book: &Book, noted: bool) -> bool
+    ensures { result ≡ is_over book.now noted }
+{
+    book.end().is_some() || noted
 }
 
 /// Whether jobs are given: not where the book has an end, nor where want of memory was noted.
@@ -109,7 +116,7 @@ impl<R: Run> Locked<R> {
         ensures thin { IsThin (standing_of result.now) }
         ensures counted { self.now.total ≡ length result.now.journal }
     {
-        self.book.is_replayed();
+        self.book.replay_law();
         let _frames = self.book.frames();
         &self.book
     }
@@ -165,7 +172,8 @@ impl<R: Run> Locked<R> {
     /// where it has none and want of memory was noted. Else `None` exactly where another worker holds
     /// every live leaf that isn't stalled, and otherwise a job, claimed for this worker: of the others the
     /// oldest of the lowest level. The claim is all that changes, and only with a job. The job's book is
-    /// no older than the worker's own entries, and the share says that nothing was offered for it.
+    /// no older than the worker's own entries, and the share says that nothing was offered for it. It says
+    /// that the worker may leave exactly where no worker gets a job any more.
     pub fn next_job(&mut self, share: &mut Share<R>) -> Result<Option<Job<R>>, Over>
         ensures ended { (e : BookEnd) → IsErrOf result (Over.Ended e) → end (state_of self.old.book) ≡ Some e }
         ensures noted { IsErrOf result Over.WorkerMemory → (end (state_of self.old.book) ≡ None) × (self.old.noted ≡ true) }
@@ -180,7 +188,9 @@ impl<R: Run> Locked<R> {
         ensures err { OnErr result (self.new ≡ self.old) }
         ensures share { (share.new.worker ≡ share.old.worker) × (share.new.count ≡ share.old.count) }
         ensures unoffered { OnOk result (share.new.has_offered ≡ false) }
+        ensures left { share.new.may_leave ≡ is_over self.old.book self.old.noted }
     {
+        share.may_leave = is_over(&self.book, self.noted);
         may_ask(&self.book, self.noted)?;
         let Share {
             worker,
@@ -194,12 +204,15 @@ impl<R: Run> Locked<R> {
         Ok(answer)
     }
 
-    /// Notes that the worker wanted memory, and releases its claim.
-    pub fn note(&mut self, share: &Share<R>)
-        ensures { self.new ≡ record self.old { book = released_by share.now.worker self.old.book; noted = true } }
+    /// Notes that the worker wanted memory, and releases its claim. The share says that the worker may leave.
+    pub fn note(&mut self, share: &mut Share<R>)
+        ensures noted { self.new ≡ record self.old { book = released_by share.old.worker self.old.book; noted = true } }
+        ensures left { share.new.may_leave ≡ true }
+        ensures share { (share.new.worker ≡ share.old.worker) × (share.new.count ≡ share.old.count) }
     {
         self.book.release(share.worker);
         self.noted = true;
+        share.may_leave = true;
     }
 
     /// The number and the level of the last lemma that has the part's cube, on its predicate and at a

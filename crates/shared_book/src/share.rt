@@ -4,13 +4,15 @@ ghost use Rattle.obligation_tree.specs.Claims.{most_workers};
 use crate::run::Run;
 use std::sync::ledger;
 
-/// One worker's part of a run: its number, from 1, how many entries it has written, and whether it has
-/// offered a step since it asked for its job. There is one for each worker.
+/// One worker's part of a run: its number, from 1, how many entries it has written, whether it has
+/// offered a step since it asked for its job, and whether it may leave: the run was over when it asked last,
+/// or it has noted that it wanted memory. There is one for each worker.
 #[derive(Drop)]
 pub struct Share<R: Run> {
     pub(crate) worker: u32,
     pub(crate) count: u64,
     pub(crate) has_offered: bool,
+    pub(crate) may_leave: bool,
     pub(crate) token: ledger::Share<R>,
     pub ghost first: { 0 < worker },
     pub ghost last: { worker ≤ R.workers },
@@ -30,11 +32,13 @@ impl<R: Run> Share<R> {
         ensures worker { result.worker ≡ worker }
         ensures count { result.count ≡ 0 }
         ensures offered { result.has_offered ≡ false }
+        ensures left { result.may_leave ≡ false }
     {
         Share {
             worker,
             count: 0,
             has_offered: false,
+            may_leave: false,
             token,
         }
     }

@@ -1,5 +1,6 @@
-ghost use Rattle.std.specs.Prelude.{◌≡◌, ◌+◌, ◌<◌, ◌≤◌, [], length, map, replicate, sum, true, false, vec_len, IfOk, IfSome, OnOk, OnErr};
+ghost use Rattle.std.specs.Prelude.{◌≡◌, ◌+◌, ◌<◌, ◌≤◌, [], length, map, replicate, sum, true, false, vec_len, IfOk, IfSome, OnOk, OnErr, IsErrOf};
 ghost use Rattle.std.specs.List.{range_with_len};
+ghost use Rattle.book_rules.specs.declared.end.End.{End as BookEnd};
 ghost use Rattle.book_rules.specs.Places.{has_places};
 ghost use Rattle.book_rules.specs.Walks.{AllOf};
 ghost use Rattle.chc_core.specs.Views.{standing_of};
@@ -105,13 +106,15 @@ impl<R: Run> SharedBook<R> {
 
     /// What the worker does next, as `Locked::next_job` answers it: of the live leaves that aren't stalled
     /// and that no other worker holds, the oldest of the lowest level. It may wait while others hold all
-    /// of them.
+    /// of them. Where the run is over the worker may leave, and the share says so.
     pub fn take_job(&self, rt: &impl Wait, share: &mut Share<R>) -> Result<Job<R>, Over>
         ensures first { IfOk result (λ job. IsFirst job.snapshot.tree.nodes (IsFree job.snapshot share.old.worker) job.obligation) }
         ensures length { IfOk result (λ job. share.old.count ≤ length job.snapshot.journal) }
         ensures count { share.new.count ≡ share.old.count }
         ensures worker { share.new.worker ≡ share.old.worker }
         ensures unoffered { OnOk result (share.new.has_offered ≡ false) }
+        ensures ended { (e : BookEnd) → IsErrOf result (Over.Ended e) → share.new.may_leave ≡ true }
+        ensures noted { IsErrOf result Over.WorkerMemory → share.new.may_leave ≡ true }
     {
         let mut locked = self.lock.lock(rt);
         for _ in rt.forever() {
@@ -123,8 +126,13 @@ impl<R: Run> SharedBook<R> {
         unreachable!()
     }
 
-    /// Notes that the worker wanted memory, and releases its claim: no worker gets a job any more.
-    pub fn note_memory(&self, rt: &impl Wait, share: &Share<R>) {
+    /// Notes that the worker wanted memory, and releases its claim, as `Locked::note` does: no worker gets a
+    /// job any more, and this one may leave.
+    pub fn note_memory(&self, rt: &impl Wait, share: &mut Share<R>)
+        ensures left { share.new.may_leave ≡ true }
+        ensures count { share.new.count ≡ share.old.count }
+        ensures worker { share.new.worker ≡ share.old.worker }
+    {
         let mut locked = self.lock.lock(rt);
         locked.note(share);
         self.changed.notify_all();

@@ -5,6 +5,7 @@ pub mod ConflictLemmas
 pub mod CoordinateLemmas
 pub mod CountLemmas
 pub mod EndLemmas
+pub mod FilledLemmas
 pub mod FollowingLemmas
 pub mod FormLemmas
 pub mod FractionLemmas

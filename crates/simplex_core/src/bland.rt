@@ -45,7 +45,8 @@ fn crossed(t: &Tableau, columns: usize) -> Option<usize>
     None
 }
 
-/// The same, where it isn't known already that no bounds are crossed.
+/// The first column whose bounds are crossed, sought only where it isn't known already that no bounds
+/// are.
 fn crossed_unless(t: &Tableau, columns: usize, ordered: bool) -> Option<usize>
     requires columns { columns ≡ width t.now }
     requires ordered { ordered ≡ true → crossed t.now ≡ None }
@@ -107,7 +108,7 @@ fn broken_at(
     requires values { values.now ≡ coordinates (moment t.now standings.now) }
     ensures { result ≡ broken_at (moment t.now standings.now) column }
 {
-    t.is_table();
+    t.table_law();
     let value = &values[column];
     if is_below(t.lower(column), value) {
         Some(Side::Lower)
@@ -221,7 +222,7 @@ fn may_enter(t: &Tableau, standings: &[Standing], row: usize, side: Side, column
     requires column { column < width t.now }
     ensures { result ≡ may_enter (moment t.now standings.now) row side column }
 {
-    t.is_table();
+    t.table_law();
     helps(t, standings, seen_from(side, t.entry(row, column)), column)
 }
 

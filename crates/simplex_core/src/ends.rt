@@ -140,7 +140,7 @@ pub(crate) fn multipliers(
     requires row { row < length t.now.rows }
     ensures { IfOk result (λ made. made.items ≡ multipliers t.now row side) }
 {
-    t.is_table();
+    t.table_law();
     let entries = t.row(row);
     let mut made = Vec::new(alloc);
     for column in 0..entries.len() {

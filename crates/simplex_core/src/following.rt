@@ -19,7 +19,7 @@ fn follow(alloc: Global, t: &mut Tableau, columns: usize) -> Result<Feasible, Me
     requires few { width t.old < 2 ^ 32 }
     ensures { IsRun t.old t.new result }
 {
-    t.is_table();
+    t.table_law();
     let mut standings = match first_standings(alloc, t, columns) {
         Ok(standings) => standings,
         Err(stop) => return Err(stop),
@@ -56,7 +56,7 @@ pub fn feasible(alloc: Global, t: &mut Tableau) -> Result<Feasible, Memory>
     ensures space { SameSpace t.old.rows t.new.rows }
     ensures bounds { HasSameBounds t.old t.new }
 {
-    t.is_table();
+    t.table_law();
     match width(t) {
         Ok(columns) => {
             let answer = follow(alloc, t, columns);

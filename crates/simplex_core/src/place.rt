@@ -1,14 +1,16 @@
 //! The values of the columns at a moment of the run.
 
-ghost use Rattle.std.specs.Prelude.{◌≡◌, ◌<◌, ◌^◌, length, nat_abs, true, IfOk, OnOk};
-ghost use Rattle.std.specs.List.{list_all};
+ghost use Rattle.std.specs.Prelude.{◌≡◌, ◌<◌, ◌^◌, length, map, nat_abs, true, slice_set, IfOk, OnOk};
+ghost use Rattle.std.specs.List.{list_all, range_with_len};
 ghost use Rattle.base.specs.Widths.{long_limit};
 ghost use Rattle.lin_atoms.specs.Linear.{is_long};
 ghost use Rattle.int_rows.specs.Basis.{is_in};
 ghost use Rattle.int_rows.specs.Table.{basic_at, row_at, width};
 ghost use Rattle.simplex_core.specs.Coordinate.{coordinate, held};
 ghost use Rattle.simplex_core.specs.Standings.{AreStandings};
-ghost use Rattle.simplex_core.specs.Run.{coordinate_at, coordinates, first_standing, first_standing_at, first_standings, moment, row_of, stood_at, values};
+ghost use Rattle.simplex_core.specs.machinery.Filled.{integer, outer_standing_at};
+ghost use Rattle.simplex_core.specs.Run.{coordinate_at, coordinates, first_standing, first_standings, moment, row_of, stood_at, values};
+ghost use Rattle.simplex_core.specs.declared.standing.Standing.TheVariants.{Basic};
 
 use crate::coordinate::{Coordinate, held};
 use crate::standing::Standing;
@@ -33,25 +35,12 @@ pub(crate) fn width(t: &Tableau) -> Result<usize, Memory>
     }
 }
 
-/// Whether the column is basic in a row.
-pub(crate) fn is_in(t: &Tableau, column: usize) -> bool
-    ensures { result ≡ is_in t.now.basic column }
-{
-    t.is_table();
-    for row in 0..t.rows() {
-        if t.basic(row) == column {
-            return true;
-        }
-    }
-    false
-}
-
 /// The row in which a basic column is basic.
 pub(crate) fn row_of(t: &Tableau, column: usize) -> usize
     ensures is { result ≡ row_of t.now.basic column }
     ensures within { is_in t.now.basic column ≡ true → result < length t.now.rows }
 {
-    t.is_table();
+    t.table_law();
     for row in 0..t.rows() {
         if t.basic(row) == column {
             return row;
@@ -73,16 +62,24 @@ fn first_standing(lower: Option<i128>, upper: Option<i128>) -> Standing
     }
 }
 
-/// Where a column stands first.
-fn first_standing_at(t: &Tableau, column: usize) -> Standing
-    requires { column < width t.now }
-    ensures { result ≡ first_standing_at t.now column }
+/// Where each column would stand first outside the basis.
+fn outer_standings(alloc: Global, t: &Tableau, columns: usize) -> Result<Vec<Standing>, Memory>
+    requires { columns ≡ width t.now }
+    ensures { IfOk result (λ made. made.items ≡ map (outer_standing_at t.now) (range_with_len 0 columns)) }
 {
-    if is_in(t, column) {
-        Standing::Basic
-    } else {
-        first_standing(t.lower(column), t.upper(column))
+    let mut made = Vec::with_capacity(alloc, columns)?;
+    for column in 0..columns {
+        made.push(first_standing(t.lower(column), t.upper(column)))?;
     }
+    Ok(made)
+}
+
+/// Puts the column in the basis.
+fn put_basic(made: &mut Vec<Standing>, column: usize)
+    requires { column < length made.old.items }
+    ensures { made.new.items ≡ slice_set made.old.items column Basic }
+{
+    made[column] = Standing::Basic;
 }
 
 /// Where the columns stand first.
@@ -96,9 +93,12 @@ pub(crate) fn first_standings(
     ensures is { IfOk result (λ made. made.items ≡ first_standings t.now) }
     ensures legal { IfOk result (λ made. AreStandings t.now made.items) }
 {
-    let mut made = Vec::with_capacity(alloc, columns)?;
-    for column in 0..columns {
-        made.push(first_standing_at(t, column))?;
+    t.table_law();
+    let mut made = outer_standings(alloc, t, columns)?;
+    let mut row = t.rows();
+    'put: while row > 0 {
+        row -= 1;
+        put_basic(&mut made, t.basic(row));
     }
     Ok(made)
 }
@@ -110,7 +110,7 @@ pub(crate) fn stood_at(t: &Tableau, standings: &[Standing], column: usize) -> i1
     ensures is { result ≡ stood_at (moment t.now standings.now) column }
     ensures long { nat_abs result < long_limit }
 {
-    t.is_table();
+    t.table_law();
     match standings[column] {
         Standing::Basic => 0,
         Standing::AtLower => t.lower(column).unwrap_or(0),
@@ -145,7 +145,7 @@ fn row_value(t: &Tableau, values: &[i128], places: &[usize], row: usize) -> Coor
     requires places { places.now ≡ held values.now }
     ensures { result ≡ coordinate (row_at t.now.rows row) values.now (basic_at t.now.basic row) }
 {
-    t.is_table();
+    t.table_law();
     Coordinate::basic(t.row(row), values, places, t.basic(row))
 }
 
@@ -172,6 +172,26 @@ pub(crate) fn coordinate_at(
     }
 }
 
+/// The values as coordinates of columns outside the basis.
+fn outer_coordinates(alloc: Global, values: &[i128]) -> Result<Vec<Coordinate>, Memory>
+    requires { list_all is_long values.now ≡ true }
+    ensures { IfOk result (λ made. made.items ≡ map integer values.now) }
+{
+    let mut made = Vec::with_capacity(alloc, values.len())?;
+    for value in values {
+        made.push(Coordinate::integer(*value))?;
+    }
+    Ok(made)
+}
+
+/// Puts a value in the place of another.
+fn put_coordinate(made: &mut Vec<Coordinate>, column: usize, value: Coordinate)
+    requires { column < length made.old.items }
+    ensures { made.new.items ≡ slice_set made.old.items column value }
+{
+    made[column] = value;
+}
+
 /// The values of all columns.
 pub(crate) fn coordinates(
     alloc: Global,
@@ -181,12 +201,16 @@ pub(crate) fn coordinates(
     requires { AreStandings t.now standings.now }
     ensures { IfOk result (λ made. made.items ≡ coordinates (moment t.now standings.now)) }
 {
+    t.table_law();
     let values = values(alloc, t, standings)?;
     let values = values.as_slice();
     let places = held(alloc, values)?;
-    let mut made = Vec::with_capacity(alloc, standings.len())?;
-    for column in 0..standings.len() {
-        made.push(coordinate_at(t, standings, values, places.as_slice(), column))?;
+    let mut made = outer_coordinates(alloc, values)?;
+    let mut row = t.rows();
+    'put: while row > 0 {
+        row -= 1;
+        let value = row_value(t, values, places.as_slice(), row);
+        put_coordinate(&mut made, t.basic(row), value);
     }
     Ok(made)
 }

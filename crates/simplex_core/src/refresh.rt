@@ -49,7 +49,7 @@ pub(crate) fn changed(
     ensures long { IfOk result (λ made. length made.items ≡ width t.now) }
     ensures others { IfOk result (λ made. (c : ℕ) → c < width t.now → slice_index_or made.items c false ≡ false → changes t.now column c ≡ false) }
 {
-    t.is_table();
+    t.table_law();
     let mut made = vec![in alloc; false; standings.len()]?;
     for row in 0..t.rows() {
         mark(&mut made, t.basic(row), has(t, row, column));

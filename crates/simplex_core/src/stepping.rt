@@ -67,7 +67,7 @@ fn pivot(
     ensures kept { IfOk result (λ answer. answer ≡ None → kept.new ≡ coordinates (moment t.new standings.new)) }
     ensures ordered { IfOk result (λ answer. answer ≡ None → crossed t.new ≡ None) }
 {
-    t.is_table();
+    t.table_law();
     let leaver = t.basic(row);
     let marks = changed(alloc, t, standings, column)?;
     restand(t, standings, leaver, column, side);
@@ -131,7 +131,7 @@ pub(crate) fn step(
     ensures kept { IfOk result (λ answer. answer ≡ None → kept.new ≡ coordinates (moment t.new standings.new)) }
     ensures ordered { IfOk result (λ answer. answer ≡ None → crossed t.new ≡ None) }
 {
-    t.is_table();
+    t.table_law();
     match turn(t, standings, kept, ordered) {
         Turn::Crossed { column } => {
             let made = crossing(alloc, t, standings.len(), column)?;

@@ -22,10 +22,12 @@ pub record Outcome : Type 0 where
   pub commands : List Command
   pub refusal : Option Refusal
 
+-- the refusal for a fault, with the number of legal commands before it; nothing without a fault
 abbrev pub refusal_of_fault : List Command → Option Fault → Option Refusal
 refusal_of_fault before None = None
 refusal_of_fault before (Some f) = Some (record { kind = f.kind; offset = f.offset; command = length before })
 
+-- the outcome of a text that is read no further: these commands, and the refusal for the fault, if there is one
 abbrev pub stops : List Command → Option Fault → Outcome
 stops before f = record { commands = before; refusal = refusal_of_fault before f }
 
@@ -40,6 +42,7 @@ stop_fault text (Some (BadByteStop offset)) commands = Some (fault BadByte offse
 stop_fault text (Some (UnclosedStop offset)) commands = Some (fault Unclosed offset)
 stop_fault text (Some (DeepStop offset)) commands = Some (fault Deep offset)
 
+-- what follows from the command if it is legal, else what follows from its fault
 abbrev pub after : {X : Type 0} → Result Command Fault → (Fault → X) → (Command → X) → X
 after (Ok c) broken legal = legal c
 after (Err f) broken legal = broken f

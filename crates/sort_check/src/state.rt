@@ -326,7 +326,7 @@ impl State {
         ensures script { (before : List Command) → IsState before self → IsScriptOf before result.script }
         ensures stop { (before : List Command) → IsState before self → result.stop ≡ refusal_of_fault before fault }
     {
-        self.terms.is_arena();
+        self.terms.arena_law();
         let stop = match fault {
             Some(fault) => Some(Refusal {
                 kind: fault.kind,

@@ -18,9 +18,11 @@ ground_conclusion pred tuple = option_map (λ p. (p, tuple)) pred
 abbrev pub new_fact : List Fact → KeptFact → Fact
 new_fact before f = record { conclusion = ground_conclusion f.pred f.tuple; clause = f.clause; point = f.point; premises = f.premises; height = suc (greatest_height before f.premises) }
 
+-- the facts before, and one more behind them as the rules know it
 abbrev pub with_fact : List Fact → KeptFact → List Fact
 with_fact before f = before ++ new_fact before f ∷ []
 
+-- the kept facts as the rules know them, in order of number, each with its height
 abbrev pub facts_of : List KeptFact → List Fact
 facts_of facts = fold with_fact [] facts
 
@@ -32,8 +34,10 @@ asked_of o closed stalled = record { pred = o.pred; level = o.level; cube = o.cu
 abbrev pub fresh_of : Asked → Obligation
 fresh_of o = asked_of o None false
 
+-- an obligation of the tree as the rules know it
 abbrev pub obligation_of : Node → Obligation
 obligation_of n = asked_of (obligation_in n) (closed_in n) (is_stalled_in n)
 
+-- the obligations of the tree as the rules know them, in order of number
 abbrev pub obligations_of : List Node → List Obligation
 obligations_of nodes = map obligation_of nodes

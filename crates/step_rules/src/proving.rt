@@ -1,4 +1,4 @@
-ghost use Rattle.std.specs.Prelude.{◌≡◌, ◌<◌, ◌^◌, length, None, true};
+ghost use Rattle.std.specs.Prelude.{◌≡◌, ◌<◌, ◌^◌, length, is_some, None, true};
 ghost use Rattle.std.specs.List.{list_any};
 ghost use Rattle.std.specs.Bool.{OnTrue};
 ghost use Rattle.book_rules.specs.Proofs.{all_may_use, is_proof_of, may_use, misused, needs, unshown};
@@ -12,6 +12,9 @@ use chc_tokens::{Shown, Used};
 use clause_form::{Clause, System};
 use cube_rules::{frame_has, is_head};
 use lemma_frames::Frames;
+
+/// Two runs of proofs for each number of body atoms up to 64.
+const RUNS: usize = 130;
 
 /// Whether a clause needs a proof of the claim under lemmas of level k.
 fn needs(k: u32, claim: &Claim, clause: &Clause) -> bool
@@ -27,16 +30,16 @@ fn is_proof(claim: &Claim, number: u32, proof: &Shown) -> bool
     proof.clause() == number && claim.is_goal(proof.goal())
 }
 
-/// Whether one of the proofs is.
-fn is_proved(claim: &Claim, number: u32, proofs: &[Shown]) -> bool
-    ensures { result ≡ list_any (is_proof_of (claim_of claim.now) number) (all_shown proofs.now) }
+/// Where one of the proofs is, if any.
+fn place_of(claim: &Claim, number: u32, proofs: &[Shown]) -> Option<usize>
+    ensures { is_some result ≡ list_any (is_proof_of (claim_of claim.now) number) (all_shown proofs.now) }
 {
-    for proof in proofs {
+    for (at, proof) in proofs.iter().enumerate() {
         if is_proof(claim, number, proof) {
-            return true;
+            return Some(at);
         }
     }
-    false
+    None
 }
 
 /// Whether the one at a place is.
@@ -49,16 +52,65 @@ fn is_proved_at(claim: &Claim, number: u32, proofs: &[Shown], at: usize) -> bool
     }
 }
 
-/// The same as `is_proved`. Proofs mostly come in the order of their clauses, so the next one is looked
-/// at first.
-fn is_proved_next(claim: &Claim, number: u32, proofs: &[Shown], next: &mut usize) -> bool
-    ensures { result ≡ list_any (is_proof_of (claim_of claim.now) number) (all_shown proofs.now) }
+/// Whether the next one of a run is. Then the run goes on behind it.
+fn is_proved_in(
+    claim: &Claim,
+    number: u32,
+    proofs: &[Shown],
+    runs: &mut [usize],
+    run: usize,
+) -> bool
+    ensures { OnTrue result (list_any (is_proof_of (claim_of claim.now) number) (all_shown proofs.now) ≡ true) }
 {
-    if is_proved_at(claim, number, proofs, *next) {
-        *next = next.saturating_add(1);
+    let at = next_of(runs, run);
+    if is_proved_at(claim, number, proofs, at) {
+        put_next(runs, run, at.saturating_add(1));
         return true;
     }
-    is_proved(claim, number, proofs)
+    false
+}
+
+/// The place at which a run goes on.
+fn next_of(runs: &[usize], run: usize) -> usize {
+    match runs.get(run) {
+        Some(at) => *at,
+        None => 0,
+    }
+}
+
+fn put_next(runs: &mut [usize], run: usize, at: usize) {
+    if let Some(next) = runs.get_mut(run) {
+        *next = at;
+    }
+}
+
+/// Whether one of the proofs is. Proofs come in runs: those through clauses with as many body atoms stand in
+/// the order of their clauses, but for some that stand in that order behind the others. So the next ones of
+/// the two runs are looked at first, and only then all.
+fn is_proved(claim: &Claim, number: u32, proofs: &[Shown], runs: &mut [usize], run: usize) -> bool
+    ensures { result ≡ list_any (is_proof_of (claim_of claim.now) number) (all_shown proofs.now) }
+{
+    let other = run.saturating_add(1);
+    if is_proved_in(claim, number, proofs, runs, run) {
+        return true;
+    }
+    if is_proved_in(claim, number, proofs, runs, other) {
+        return true;
+    }
+    match place_of(claim, number, proofs) {
+        Some(at) => {
+            let next = next_of(runs, run);
+            put_next(runs, other, next);
+            put_next(runs, run, at.saturating_add(1));
+            true
+        }
+        None => false,
+    }
+}
+
+/// The first of two runs of proofs through clauses with as many body atoms.
+fn run_of(clause: &Clause) -> usize {
+    clause.atoms.len().min(64).saturating_mul(2)
 }
 
 /// The first clause that needs a proof of the claim and has none.
@@ -66,10 +118,10 @@ pub(crate) fn unshown(sys: &System, k: u32, claim: &Claim, proofs: &[Shown]) -> 
     requires { length sys.now.clauses < 2 ^ 32 }
     ensures { result ≡ unshown sys.now k (claim_of claim.now) (all_shown proofs.now) }
 {
-    let mut next: usize = 0;
+    let mut runs = [0; RUNS];
     for (number, clause) in sys.clauses().iter().enumerate() {
         let id = number as u32;
-        if needs(k, claim, clause) && !is_proved_next(claim, id, proofs, &mut next) {
+        if needs(k, claim, clause) && !is_proved(claim, id, proofs, &mut runs, run_of(clause)) {
             return Some(By::Clause(id));
         }
     }

@@ -1,6 +1,6 @@
-ghost use Rattle.std.specs.Prelude.{◌≡◌};
+ghost use Rattle.std.specs.Prelude.{◌≡◌, Some};
 ghost use Rattle.std.specs.List.{list_all};
-ghost use Rattle.book_rules.specs.Places.{goal_has_places, has_places, head_of, is_over, is_over_atom, no_lift_has_places, shown_has_places, used_has_places, why_has_places};
+ghost use Rattle.book_rules.specs.Places.{goal_has_places, has_places, head_of, is_over, is_over_atom, is_within, no_lift_has_places, places_of, shown_has_places, used_has_places, why_has_places};
 ghost use Rattle.step_rules.specs.Taken.{step_of};
 ghost use Rattle.step_rules.specs.Tokens.{all_no_lifts, all_shown, all_used, goal_of, why_of};
 
@@ -20,6 +20,16 @@ pub(crate) fn is_over(sys: &System, pred: u32, cube: &Cube) -> bool
     }
 }
 
+/// Whether the cube names only places of the predicate; so too where that isn't there.
+fn is_within(sys: &System, pred: u32, cube: &Cube) -> bool
+    ensures { result ≡ is_within (places_of sys.now.preds (Some pred)) cube.now }
+{
+    match sys.preds().get(pred as usize) {
+        Some(sorts) => cube.is_below(sorts.len()),
+        None => true,
+    }
+}
+
 /// Whether the cube is over the predicate of the body atom of that number; so too where it isn't
 /// there.
 fn is_over_body(sys: &System, clause: u32, number: u32, cube: &Cube) -> bool
@@ -34,7 +44,7 @@ fn is_over_body(sys: &System, clause: u32, number: u32, cube: &Cube) -> bool
     }
 }
 
-/// The same of a head that may be false.
+/// Whether the cube is over the predicate of a head; so too where the head is false.
 fn is_over_atom(sys: &System, atom: &Option<Atom>, cube: &Cube) -> bool
     ensures { result ≡ is_over_atom sys.now.preds atom.now cube.now }
 {
@@ -44,7 +54,8 @@ fn is_over_atom(sys: &System, atom: &Option<Atom>, cube: &Cube) -> bool
     }
 }
 
-/// The same of the head of a clause that may not be there.
+/// Whether the cube is over the predicate of the head of the clause of that number; so too where the
+/// head is false, or the clause isn't there.
 fn is_over_head(sys: &System, clause: u32, cube: &Cube) -> bool
     ensures { result ≡ is_over_atom sys.now.preds (head_of sys.now clause) cube.now }
 {
@@ -119,7 +130,7 @@ pub fn has_places(sys: &System, step: &Step) -> bool
     match step {
         Step::OpenStep(open) => is_over_body(sys, open.seen.clause(), open.atom, &open.cube),
         Step::LemmaStep(learn) => {
-            is_over(sys, learn.pred, learn.lemma.cube())
+            is_within(sys, learn.pred, learn.lemma.cube())
                 && all_shown_fit(sys, learn.proofs.as_slice())
         }
         Step::FactStep(_) => true,

@@ -7,6 +7,7 @@ use Rattle.term_tree.specs.declared.node.OpKind.TheVariants.{Not, And, Or, Xor, 
 use Rattle.term_check.specs.declared.operators.Sorts.{Sorts}
 use Rattle.term_check.specs.declared.operators.Sorts.TheVariants.{Bools, Ints, Alike, Choice}
 
+-- the operator of the theory Core of that name; none of other names, true and false among them
 abbrev pub core_operator : List ℕ → Option OpKind
 core_operator name =
     if bytes_eq name (codes "not") then Some Not
@@ -19,6 +20,7 @@ core_operator name =
     else if bytes_eq name (codes "ite") then Some Ite
     else None
 
+-- the operator of the theory Ints of that name whose value is an integer, if there is one
 abbrev pub number_operator : List ℕ → Option OpKind
 number_operator name =
     if bytes_eq name (codes "+") then Some Add
@@ -29,6 +31,7 @@ number_operator name =
     else if bytes_eq name (codes "mod") then Some Mod
     else None
 
+-- the comparison of the theory Ints of that name, if there is one
 abbrev pub order_operator : List ℕ → Option OpKind
 order_operator name =
     if bytes_eq name (codes "<=") then Some Le
@@ -46,6 +49,7 @@ first_of None o = o
 abbrev pub operator_named : List ℕ → Option OpKind
 operator_named name = first_of (core_operator name) (first_of (number_operator name) (order_operator name))
 
+-- the least number of arguments that an operator takes
 abbrev pub least_operands : OpKind → ℕ
 least_operands Not = 1
 least_operands And = 1
@@ -87,15 +91,18 @@ wanted Distinct = Alike
 wanted Ite = Choice
 wanted _ = Ints
 
+-- div or mod, whose divisor has to be a constant other than 0
 abbrev pub is_division : OpKind → Bool
 is_division Div = true
 is_division Mod = true
 is_division _ = false
 
+-- the operator *, of whose arguments one at most may be no constant
 abbrev pub is_product : OpKind → Bool
 is_product Mul = true
 is_product _ = false
 
+-- the operator ite, whose value has the sort of its second argument
 abbrev pub is_choice : OpKind → Bool
 is_choice Ite = true
 is_choice _ = false

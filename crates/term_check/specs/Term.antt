@@ -9,6 +9,7 @@ use Rattle.term_tree.specs.declared.node.Node.TheVariants.{Num, True, False, Var
 use Rattle.term_tree.specs.Arena.{Arena}
 
 mutual
+  -- a term by its form; each part has the offset at which it starts
   pub data Term : Type 0 where
     numeral : (at : ℕ) (value : ℤ) → Term
     truth : (at : ℕ) (value : Bool) → Term
@@ -21,6 +22,7 @@ mutual
     universal : (at first : ℕ) (sorts : List Sort) (body : Term) → Term
     existential : (at first : ℕ) (sorts : List Sort) (body : Term) → Term
 
+  -- terms in order: the arguments of an application, or the terms that a let binds
   pub data Terms : Type 0 where
     none : Terms
     more : (term : Term) (terms : Terms) → Terms
@@ -51,6 +53,7 @@ abbrev mutual
   IsTermAt arena lets (universal at first sorts body) id = (part : TermId) × IsNodeAt arena id (Forall first sorts part) at × IsTermAt arena lets body part.0
   IsTermAt arena lets (existential at first sorts body) id = (part : TermId) × IsNodeAt arena id (Exists first sorts part) at × IsTermAt arena lets body part.0
 
+  -- the arena has these terms at these numbers, as many and in the same order
   pub AreTermsAt : Arena → List TermId → Terms → List TermId → Type 0
   AreTermsAt arena lets none [] = Unit {0}
   AreTermsAt arena lets (more t ts) (id ∷ ids) = IsTermAt arena lets t id.0 × AreTermsAt arena lets ts ids

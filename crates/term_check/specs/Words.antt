@@ -3,6 +3,7 @@ use Rattle.std.specs.Prelude.{ℕ, List, [], ◌∷◌, ◌++◌, Bool, codes}
 use Rattle.std.specs.List.{list_any}
 use Rattle.std.specs.Str.{bytes_eq}
 
+-- the word is one of these, byte for byte
 abbrev pub is_word_among : List (List ℕ) → List ℕ → Bool
 is_word_among words word = list_any (bytes_eq word) words
 
@@ -25,5 +26,6 @@ other_command_words =
     ∷ codes "get-unsat-assumptions" ∷ codes "get-unsat-core" ∷ codes "get-value" ∷ codes "pop" ∷ codes "push" ∷ codes "reset" ∷ codes "reset-assertions" ∷ codes "set-info"
     ∷ codes "set-logic" ∷ codes "set-option" ∷ []
 
+-- all reserved words, of terms and of commands: none is a symbol, unless it stands between bars
 abbrev pub reserved_words : List (List ℕ)
 reserved_words = term_words ++ asserting_words ++ other_command_words

@@ -29,7 +29,7 @@ pub fn linear_form(
     ensures told { Tells (form_or_wide (constant_in constants.now) (naming_in names.now.own.items names.now.auxiliary) terms.now.nodes id.0) result }
     ensures known { OnOk result (AreFound (constant_in constants.now) (naming_in names.now.own.items names.now.auxiliary) terms.now.nodes known.new) }
 {
-    terms.is_arena();
+    terms.arena_law();
     read_part(alloc, terms, constants, names, known, id)
 }
 

@@ -96,7 +96,8 @@ fn read_form(
     }
 }
 
-/// The same of a part. The form of a term without parts is made, and not kept.
+/// The linear form of a part, or the first of its subterms, parts before the whole, whose form is wide.
+/// The form of a term without parts is made, and not kept.
 #[cycle(read)]
 pub(crate) fn read_part(
     alloc: Global,

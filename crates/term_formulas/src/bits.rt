@@ -62,7 +62,7 @@ pub(crate) fn bit_of(alloc: Global, terms: &Terms, names: &Names, id: TermId) ->
     ensures is { IfOk result (λ form. form ≡ bit_of (naming_by names.now) terms.now.nodes id.0) }
     ensures narrow { is_narrow (bit_of (naming_by names.now) terms.now.nodes id.0) ≡ true }
 {
-    terms.is_arena();
+    terms.arena_law();
     let bit = found_bit(terms, names, id);
     form_of(alloc, bit)
 }
@@ -114,7 +114,7 @@ pub(crate) fn bits_of(
     ensures are { IfOk result (λ bits. bits.items ≡ map (λ id. bit_of (naming_by names.now) terms.now.nodes id.0) ids.now) }
     ensures bits { AreBits (map (λ id. bit_of (naming_by names.now) terms.now.nodes id.0) ids.now) }
 {
-    terms.is_arena();
+    terms.arena_law();
     let mut bits = Vec::with_capacity(alloc, ids.len())?;
     for id in ids {
         bits.push(bit_of(alloc, terms, names, *id)?)?;

@@ -30,7 +30,7 @@ pub(crate) fn truth(sign: bool) -> Form
     if sign { Form::True } else { Form::False }
 }
 
-/// That the constant of a narrow form is short, for a proof that needs it.
+/// The constant of a narrow form is short, for a proof that needs it.
 pub(crate) fn narrow_constant(lin: &Lin)
     requires { IsTrue (is_narrow lin.now) }
     ensures { IsTrue (is_short lin.now.constant) }

@@ -57,7 +57,7 @@ fn part_form(
     ensures apart { IfOk result (λ form. IsApart v form) }
     ensures known { OnOk result (AreFound (constant_in constants.now) (naming_by names.now) terms.now.nodes known.new) }
 {
-    terms.is_arena();
+    terms.arena_law();
     let form = narrow_form(alloc, terms, constants, names, known, part)?;
     Ok(form)
 }
@@ -80,7 +80,7 @@ fn part_less(
     ensures is { IfOk result (λ d. d ≡ less (variable_form v) (form_by (constant_in constants.now) (naming_by names.now) terms.now.nodes part.0)) }
     ensures known { OnOk result (AreFound (constant_in constants.now) (naming_by names.now) terms.now.nodes known.new) }
 {
-    terms.is_arena();
+    terms.arena_law();
     if let Some(d) = less_leaf(alloc, terms, names, v, part)? {
         return Ok(d);
     }
@@ -139,7 +139,7 @@ fn of_choice(
         (Some (Op Ite args.now))) }
     ensures known { OnOk result (AreFound (constant_in constants.now) (naming_by names.now) terms.now.nodes known.new) }
 {
-    terms.is_arena();
+    terms.arena_law();
     match args {
         [c, s, r] => { choice_of(alloc, terms, constants, names, known, v, id, *c, *s, *r) }
         _ => unreachable!(),
@@ -241,7 +241,7 @@ fn of_quotient(
         (Some (Op Quotient args.now))) }
     ensures known { OnOk result (AreFound (constant_in constants.now) (naming_by names.now) terms.now.nodes known.new) }
 {
-    terms.is_arena();
+    terms.arena_law();
     match args {
         [a, n] => { quotient_of(alloc, terms, constants, names, known, v, id, *a, *n) }
         _ => unreachable!(),
@@ -295,7 +295,7 @@ fn of_remainder(
         (Some (Op Remainder args.now))) }
     ensures known { OnOk result (AreFound (constant_in constants.now) (naming_by names.now) terms.now.nodes known.new) }
 {
-    terms.is_arena();
+    terms.arena_law();
     match args {
         [a, n] => { remainder_of(alloc, terms, constants, names, known, v, id, *a, *n) }
         _ => unreachable!(),
@@ -319,7 +319,7 @@ fn of_form(
     ensures is { IfOk result (λ form. form ≡ eq (less (variable_form v) (form_by (constant_in constants.now) (naming_by names.now) terms.now.nodes id.0))) }
     ensures known { OnOk result (AreFound (constant_in constants.now) (naming_by names.now) terms.now.nodes known.new) }
 {
-    terms.is_arena();
+    terms.arena_law();
     let lin = narrow_form(alloc, terms, constants, names, known, id)?;
     Ok(eq(variable_less(alloc, v, &lin)?))
 }

@@ -70,7 +70,7 @@ pub(crate) fn formulas(
     ensures fails { IfOk result (λ both. both.fails ≡ formula_by (constant_in constants.now) (sort_in sorts.now) (naming_by names.now) terms.now.nodes id.0 false) }
     ensures known { OnOk result (AreFound (constant_in constants.now) (naming_by names.now) terms.now.nodes known.new) }
 {
-    terms.is_arena();
+    terms.arena_law();
     if let Some(relation) = relation_of(terms, sorts, id) {
         let (op, first, second) = (relation.op, relation.first, relation.second);
         return of_both_sides(alloc, terms, constants, names, known, op, first, second);

@@ -113,7 +113,7 @@ pub fn formula(
     Ok(made)
 }
 
-/// The same by the node of the term of that number.
+/// Where the Bool term of that number is true, or where it is false, by its node.
 #[cycle(write)]
 fn of_node(
     alloc: Global,
@@ -133,7 +133,7 @@ fn of_node(
         (naming_by names.now) (formula_by (constant_in constants.now) (sort_in sorts.now) (naming_by names.now) terms.now.nodes) node.now sign) }
     ensures known { OnOk result (AreFound (constant_in constants.now) (naming_by names.now) terms.now.nodes known.new) }
 {
-    terms.is_arena();
+    terms.arena_law();
     match node {
         Node::True => Ok(truth(sign)),
         Node::False => Ok(truth(!sign)),
@@ -164,7 +164,7 @@ fn of_node(
     }
 }
 
-/// The same by the operator and the arguments of the term of that number.
+/// Where the Bool term of that number is true, or where it is false, by its operator and its arguments.
 #[cycle(write)]
 fn operation(
     alloc: Global,
@@ -346,7 +346,8 @@ fn choice(
     }
 }
 
-/// The same by the condition and the branches.
+/// A choice between two Bool terms by the condition and the branches: the one where the condition's bit
+/// is 1, and the other where it is 0.
 #[cycle(write)]
 fn branches(
     alloc: Global,

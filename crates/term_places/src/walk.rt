@@ -42,7 +42,8 @@ fn put_places(
     Ok(())
 }
 
-/// The same of the parts of a node, which stands at that number, in order.
+/// Puts the terms of the text of a node's parts that have an auxiliary variable behind others, part by
+/// part. The node stands at that number.
 #[cycle(place)]
 fn put_parts(
     terms: &Terms,
@@ -83,7 +84,8 @@ fn put_parts(
     }
 }
 
-/// The same of the arguments of an operation.
+/// Puts the terms of the text of an operation's arguments that have an auxiliary variable behind
+/// others, in order.
 #[cycle(place)]
 fn put_operands(
     terms: &Terms,
@@ -103,7 +105,8 @@ fn put_operands(
     }
 }
 
-/// The same of the condition of a choice and its branches.
+/// Puts the terms of the text of a choice's condition and branches that have an auxiliary variable
+/// behind others, in order.
 #[cycle(place)]
 fn put_choice(
     terms: &Terms,
@@ -125,7 +128,8 @@ fn put_choice(
     }
 }
 
-/// The same of a part that stands for itself.
+/// Puts the terms of the text of a part that stands for itself that have an auxiliary variable behind
+/// others.
 #[cycle(place)]
 fn put_one(
     terms: &Terms,
@@ -141,7 +145,8 @@ fn put_one(
     put_places(terms, sorts, spot_as(Standing::Plain, id), out)
 }
 
-/// The same of some parts that stand as the same, in order.
+/// Puts the terms of the text of some parts that stand as the same that have an auxiliary variable
+/// behind others, in order.
 #[cycle(place)]
 fn put_all(
     terms: &Terms,

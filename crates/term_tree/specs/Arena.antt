@@ -10,6 +10,7 @@ pub record Arena : Type 0 where
   pub nodes : List Node
   pub offsets : List ℕ
 
+-- the term's number is below this one
 abbrev pub is_below : ℕ → TermId → Bool
 is_below n id = nat_lt id.0 n
 
@@ -27,5 +28,6 @@ has_parts_below n (Let bound body) = list_all (is_below n) bound && is_below n b
 has_parts_below n (Forall first sorts body) = is_below n body
 has_parts_below n (Exists first sorts body) = is_below n body
 
+-- the parts of each node have numbers below its own, so that no term is a part of itself
 abbrev pub IsArena : List Node → Type 0
 IsArena nodes = (i : ℕ) (d : Node) → i < length nodes → IsTrue (has_parts_below i (slice_index_or nodes i d))

@@ -25,9 +25,11 @@ constants_among [] = []
 constants_among (None ∷ given) = constants_among given
 constants_among (Some n ∷ given) = n ∷ constants_among given
 
+-- the integer that an operator gives for integer arguments; 0 where its value is a truth value
 abbrev pub integer_result : OpKind → List ℤ → ℤ
 integer_result op ns = integer (result_of op (map (λ n. Int n) ns))
 
+-- one of + - * abs div mod, the operators whose application to constants is a constant
 abbrev pub is_arithmetic : OpKind → Bool
 is_arithmetic Add = true
 is_arithmetic Mul = true
@@ -37,6 +39,7 @@ is_arithmetic Div = true
 is_arithmetic Mod = true
 is_arithmetic _ = false
 
+-- a node's value, if it is a constant, over those of its parts; variables, predicates, truth values and `ite` are none
 abbrev pub node_constant : (ℕ → Option ℤ) → Node → Option ℤ
 node_constant part (Num n) = Some n
 node_constant part (LetVar bound) = part bound.0
@@ -48,6 +51,7 @@ node_constant part _ = None
 abbrev pub constant_of : List Node → ℕ → Option ℤ
 constant_of = told_of None node_constant
 
+-- a constant is below 2 ^ 63 in magnitude; of a term that is none nothing is asked
 abbrev pub is_short_constant : Option ℤ → Bool
 is_short_constant None = true
 is_short_constant (Some n) = is_short n

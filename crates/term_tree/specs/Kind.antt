@@ -3,6 +3,7 @@ use Rattle.std.specs.Prelude.{ℕ, List, codes}
 use Rattle.term_tree.specs.declared.refusal.Kind.{Kind}
 use Rattle.term_tree.specs.declared.refusal.Kind.TheVariants.{TooLong, BadByte, Unclosed, Deep, CommandForm, Order, Logic, UnknownSort, Redeclared, UnknownSymbol, Arity, SortMismatch, NotLinear, ZeroDivisor, TooWide, NotHorn, Count, NoCheckSat, Unbuilt}
 
+-- the number that is printed for each kind, from 1 to 19
 abbrev pub kind_number : Kind → ℕ
 kind_number TooLong = 1
 kind_number BadByte = 2
@@ -24,6 +25,7 @@ kind_number Count = 17
 kind_number NoCheckSat = 18
 kind_number Unbuilt = 19
 
+-- the bytes of the word that is printed for each kind
 abbrev pub kind_word : Kind → List ℕ
 kind_word TooLong = codes "TooLong"
 kind_word BadByte = codes "BadByte"

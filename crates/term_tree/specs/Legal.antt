@@ -26,6 +26,7 @@ with_variables first sorts scope =
 abbrev pub with_bound : List TermId → NamesInScope → NamesInScope
 with_bound terms scope = record { variables = scope.variables; bound = terms ++ scope.bound }
 
+-- the list isn't empty
 abbrev pub has_some : {X : Type 0} → List X → Bool
 has_some [] = false
 has_some (x ∷ xs) = true
@@ -44,9 +45,11 @@ node_is_scoped part (Let bound body) scope = has_some bound && (list_all (λ b. 
 node_is_scoped part (Forall first sorts body) scope = has_some sorts && part body.0 (with_variables first sorts scope)
 node_is_scoped part (Exists first sorts body) scope = has_some sorts && part body.0 (with_variables first sorts scope)
 
+-- each name in the term of that number is bound where it stands, a variable to its sort; false of a term that isn't there
 abbrev pub is_scoped : List Node → ℕ → NamesInScope → Bool
 is_scoped = told_of (λ scope. false) node_is_scoped
 
+-- what the step gives for the number, if there is one; else there is none
 abbrev pub carried : (ℕ → Option ℕ) → Option ℕ → Option ℕ
 carried f None = None
 carried f (Some n) = f n
@@ -71,9 +74,11 @@ node_numbers part (Let bound body) next = numbers_through part (bound ++ body �
 node_numbers part (Forall first sorts body) next = if first == next then part body.0 (next + length sorts) else None
 node_numbers part (Exists first sorts body) next = if first == next then part body.0 (next + length sorts) else None
 
+-- the number that follows a term's quantified variables, if they are numbered from a given one on in the order of the text
 abbrev pub next_variable : List Node → ℕ → ℕ → Option ℕ
 next_variable = told_of (λ next. None) node_numbers
 
+-- there is a number
 abbrev pub is_there : Option ℕ → Bool
 is_there None = false
 is_there (Some n) = true

@@ -14,14 +14,17 @@ abbrev pub integer : Value → ℤ
 integer (Int n) = n
 integer (Truth b) = pos 0
 
+-- the truth value; an integer, of which no legal term asks for one, counts as false
 abbrev pub truth : Value → Bool
 truth (Int n) = false
 truth (Truth b) = b
 
+-- both are true, or both are false
 abbrev pub same_truth : Bool → Bool → Bool
 same_truth true b = b
 same_truth false b = not b
 
+-- equal values of one sort; an integer and a truth value are never equal
 abbrev pub same_value : Value → Value → Bool
 same_value (Int m) (Int n) = int_eq m n
 same_value (Truth a) (Truth b) = same_truth a b
@@ -53,9 +56,11 @@ implied (b ∷ c ∷ bs) = not b || implied (c ∷ bs)
 abbrev pub exclusive : List Bool → Bool
 exclusive bs = fold (λ a b. not (same_truth a b)) false bs
 
+-- the sum of the numbers; 0 of none
 abbrev pub sum_of : List ℤ → ℤ
 sum_of ns = fold (λ a n. a +ℤ n) (pos 0) ns
 
+-- the product of the numbers; 1 of none
 abbrev pub product_of : List ℤ → ℤ
 product_of ns = fold (λ a n. a *ℤ n) (pos 1) ns
 
@@ -71,10 +76,12 @@ on_two f [] = pos 0
 on_two f (m ∷ []) = pos 0
 on_two f (m ∷ n ∷ ns) = f m n
 
+-- the first number; 0 where there is none, which no legal term asks for
 abbrev pub first_of_all : List ℤ → ℤ
 first_of_all [] = pos 0
 first_of_all (n ∷ ns) = n
 
+-- the negation of the first truth value; false where there is none, which no legal term asks for
 abbrev pub negation_of : List Bool → Bool
 negation_of [] = false
 negation_of (b ∷ bs) = not b
@@ -84,9 +91,11 @@ abbrev pub choice_of : List Value → Value
 choice_of (c ∷ s ∷ r ∷ vs) = if truth c then s else r
 choice_of _ = Truth false
 
+-- the first integer is the second or less; a truth value, which no legal term compares so, counts as 0
 abbrev pub at_most : Value → Value → Bool
 at_most x y = int_le (integer x) (integer y)
 
+-- the first integer is less than the second; a truth value, which no legal term compares so, counts as 0
 abbrev pub is_smaller : Value → Value → Bool
 is_smaller x y = int_lt (integer x) (integer y)
 

@@ -23,6 +23,7 @@ abbrev pub defined_value : Option Definition → List Value → Value
 defined_value None values = Truth false
 defined_value (Some d) values = value_of d.terms.nodes d.body.0 (environment_of values)
 
+-- each predicate by the definition at its number; a predicate that has none there is false everywhere
 abbrev pub interpretation_of : List Definition → Interpretation
 interpretation_of definitions pred = defined_value (slice_get definitions pred)
 
@@ -33,6 +34,7 @@ DefinesEach number (p ∷ preds) (d ∷ definitions) = (d.pred ≡ number) × (l
 DefinesEach number [] (d ∷ definitions) = ⊥
 DefinesEach number (p ∷ preds) [] = ⊥
 
+-- the divisor of a `divisible` is below 2 ^ 63 in magnitude; of other nodes nothing is asked
 abbrev pub has_short_divisor : Node → Bool
 has_short_divisor (Divisible by arg) = is_short by
 has_short_divisor _ = true

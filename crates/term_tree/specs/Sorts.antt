@@ -13,15 +13,18 @@ use Rattle.term_tree.specs.declared.node.Node.{Node}
 use Rattle.term_tree.specs.declared.node.Node.TheVariants.{Num, True, False, Var, LetVar, Pred, Op, Divisible, Let, Forall, Exists}
 use Rattle.term_tree.specs.Fold.{told_of}
 
+-- both are Int, or both are Bool
 abbrev pub same_sort : Sort → Sort → Bool
 same_sort Int Int = true
 same_sort Truth Truth = true
 same_sort _ _ = false
 
+-- there is a sort, and it is this one; an ill-sorted term and an unbound variable have none
 abbrev pub has_sort : Sort → Option Sort → Bool
 has_sort s None = false
 has_sort s (Some t) = same_sort s t
 
+-- the term has a sort, so it is well sorted
 abbrev pub is_sorted : Option Sort → Bool
 is_sorted None = false
 is_sorted (Some s) = true
@@ -32,11 +35,13 @@ have_sorts [] [] = true
 have_sorts (s ∷ sorts) (t ∷ given) = has_sort s t && have_sorts sorts given
 have_sorts _ _ = false
 
+-- the terms are well sorted, all of one sort
 abbrev pub are_alike : List (Option Sort) → Bool
 are_alike [] = true
 are_alike (None ∷ given) = false
 are_alike (Some s ∷ given) = list_all (has_sort s) given
 
+-- the sort, where the condition holds; else none, for an ill-sorted term
 abbrev pub sort_if : Bool → Sort → Option Sort
 sort_if b s = if b then Some s else None
 
@@ -44,6 +49,7 @@ sort_if b s = if b then Some s else None
 abbrev pub all_of : Sort → ℕ → List (Option Sort) → Bool
 all_of s least given = nat_le least (length given) && list_all (has_sort s) given
 
+-- the sort of `ite` on arguments of these sorts: Bool, and then two of one sort, which is its own; else none
 abbrev pub choice_sort : List (Option Sort) → Option Sort
 choice_sort (Some Truth ∷ Some s ∷ t ∷ []) = sort_if (has_sort s t) s
 choice_sort _ = None
@@ -74,6 +80,7 @@ abbrev pub predicate_sort : Option Declared → List (Option Sort) → Option So
 predicate_sort None given = None
 predicate_sort (Some p) given = sort_if (have_sorts p.args given) Truth
 
+-- a node's sort over those of its parts, none where it is ill sorted; a variable has the sort that it carries
 abbrev pub node_sort : List Declared → (ℕ → Option Sort) → Node → Option Sort
 node_sort preds part (Num n) = Some Int
 node_sort preds part True = Some Truth

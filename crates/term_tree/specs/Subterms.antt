@@ -5,6 +5,7 @@ use Rattle.term_tree.specs.declared.node.TermId.{TermId}
 use Rattle.term_tree.specs.declared.node.Node.{Node}
 use Rattle.term_tree.specs.declared.node.Node.TheVariants.{Num, True, False, Var, LetVar, Pred, Op, Divisible, Let, Forall, Exists}
 
+-- one of the terms has that number
 abbrev pub is_among : ℕ → List TermId → Bool
 is_among part ids = list_any (λ id. id.0 == part) ids
 

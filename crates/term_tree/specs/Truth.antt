@@ -23,6 +23,7 @@ Interpretation = ℕ → List Value → Value
 abbrev pub Meaning : Type 1
 Meaning = Environment → Value → Type 0
 
+-- the value is of the sort: an integer of Int, a truth value of Bool
 abbrev pub HasSort : Sort → Value → Type 0
 HasSort IntSort (Int n) = Unit {0}
 HasSort BoolSort (Truth b) = Unit {0}

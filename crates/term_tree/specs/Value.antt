@@ -16,6 +16,7 @@ Environment = ℕ → Value
 abbrev pub environment_of : List Value → Environment
 environment_of values k = slice_index_or values k (Truth false)
 
+-- the value of a term in each environment
 abbrev pub Worth : Type 0
 Worth = Environment → Value
 

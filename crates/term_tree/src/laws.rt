@@ -58,8 +58,8 @@ pub fn one_division()
         (IsDivision m n q r ↔ ((result_of Div (Int m ∷ Int n ∷ []) ≡ Int q) × (result_of Mod (Int m ∷ Int n ∷ []) ≡ Int r))) }
 {}
 
-/// That every integer is at least 0 is false, and not true: a universal term is false where its body
-/// is false at one value.
+/// A universal term is false where its body is false at one value: so it is false, and not true, that
+/// every integer is at least 0.
 pub fn not_all_are_positive()
     ensures untrue { (I : Interpretation) (env : Environment) → HasValue I all_positive 3 env (Truth true) → ⊥ }
     ensures false_ { (I : Interpretation) (env : Environment) → HasValue I all_positive 3 env (Truth false) }

@@ -151,7 +151,7 @@ pub fn apart_names(
     ensures { (top first : ℕ) → top < 2 ^ 32 → AreOwnBelow terms.now.nodes top own.now first →
         IfOk result (λ names. AreAlike terms.now.nodes top (placed_naming own.now first placed.now) (naming_in names.own.items names.auxiliary)) }
 {
-    terms.is_arena();
+    terms.arena_law();
     let firsts = first_terms(alloc, terms, own)?;
     let own = first_names(alloc, own, &firsts, variables_end(terms))?;
     let auxiliary = own_numbers(alloc, placed)?;

@@ -95,7 +95,7 @@ fn product(constants: &ConstantTable, known: &[Kept], ids: &[TermId]) -> Option<
     Some(total)
 }
 
-/// This number, where there is a bound.
+/// The number n, where a bound was found; none where there is none.
 fn bounded_as(n: u64, found: Option<u64>) -> Option<u64>
     ensures { result ≡ bounded_as n found }
 {

@@ -183,7 +183,7 @@ pub fn narrow_form(
     }
 }
 
-/// The same of a term that a name is bound to, which is kept.
+/// The linear form of a term that a name is bound to and in which no form is wide. The form is kept.
 #[cycle(narrow)]
 fn named_form(
     alloc: Global,
@@ -207,7 +207,8 @@ fn named_form(
     Ok(form)
 }
 
-/// The same by the operator and the arguments of the term of that number.
+/// The linear form of the term of that number, in which none is wide, by its operator and its
+/// arguments.
 #[cycle(narrow)]
 fn operation(
     alloc: Global,
@@ -225,7 +226,7 @@ fn operation(
     ensures is { IfOk result (λ form. form ≡ form_by (constant_in constants.now) (naming_in names.now.own.items names.now.auxiliary) terms.now.nodes id.0) }
     ensures known { OnOk result (AreFound (constant_in constants.now) (naming_in names.now.own.items names.now.auxiliary) terms.now.nodes known.new) }
 {
-    terms.is_arena();
+    terms.arena_law();
     if !is_sum(op) {
         return other_form(alloc, op, names, id);
     }

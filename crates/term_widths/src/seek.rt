@@ -110,7 +110,8 @@ pub(crate) fn seek(
     }
 }
 
-/// The same in a part. A term without parts is no comparison, and isn't kept.
+/// The first comparison in the text of a part, parts before the whole, that has a wide difference. A
+/// term without parts is no comparison, and isn't kept.
 #[cycle(seek)]
 fn seek_part(
     alloc: Global,
@@ -137,7 +138,8 @@ fn seek_part(
     seek(alloc, terms, constants, names, known, seen, id)
 }
 
-/// The same in some parts of the term of that number, in order.
+/// The first comparison that has a wide difference in the text of some parts of the term of that
+/// number, in order.
 #[cycle(seek)]
 fn seek_all(
     alloc: Global,

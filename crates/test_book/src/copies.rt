@@ -93,7 +93,7 @@ fn strengthen(rt: &impl Abort, alloc: Global, part: &StrengthenPart) -> Strength
     }
 }
 
-/// The same step, as another book can take it.
+/// A copy of the step, as another book can take it.
 pub(crate) fn copied(rt: &impl Abort, alloc: Global, step: &Step) -> Step
     ensures { result ≡ step.now }
 {

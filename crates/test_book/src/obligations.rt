@@ -117,7 +117,7 @@ fn has_leaves(rt: &impl Abort, tree: &Tree, leaves: &[u32]) -> bool {
 /// Whether this is the root's level, and a live child is told of the root where it isn't the one
 /// leaf.
 fn has_root(tree: &Tree, level: u32) -> bool {
-    tree.is_tree();
+    tree.tree_law();
     tree.obligation(0).level == level && tree.has_live_child(0) == (tree.live().len() > 1)
 }
 
@@ -153,7 +153,7 @@ const GROWN: [Step; 5] = [
     Step::Ask(0, 0, 3, 5),
 ];
 
-/// That tree after these steps.
+/// The tree of `GROWN` after these steps.
 fn grown(rt: &impl Abort, alloc: Global, steps: &[Step]) -> Tree {
     let mut tree = Tree::new(alloc).expect(rt, "memory");
     take_all(rt, alloc, &mut tree, &GROWN);

@@ -37,7 +37,7 @@ fn not_at(rt: &impl Abort, alloc: Global, place: u32, value: i128) -> Lemma {
     denied(rt, alloc, Lit::Eq(lin(rt, alloc, &[(place, -1)], value)))
 }
 
-/// That the head breaks 'not this value'.
+/// The goal that the head breaks 'not this value'.
 fn is_at(rt: &impl Abort, alloc: Global, value: i128) -> Goal {
     Goal::Holds(not_at(rt, alloc, 0, value))
 }

@@ -96,14 +96,14 @@ fn take_entry(rt: &impl Abort, alloc: Global, book: &Book, number: u64, again: &
     requires same { again.old.system ≡ book.now.system }
     ensures { again.new.system ≡ again.old.system }
 {
-    book.is_replayed();
+    book.replay_law();
     let step = copied(rt, alloc, &book.entry(number).step);
     take(rt, again, step);
 }
 
 /// The book to which the journal leads.
 pub(crate) fn replayed(rt: &impl Abort, alloc: Global, book: &Book) -> Book {
-    book.is_replayed();
+    book.replay_law();
     let system = book.system().copy(alloc).expect(rt, "memory");
     let mut again = Book::new(alloc, system, 50_000).expect(rt, "memory");
     for before in 0..book.length() {

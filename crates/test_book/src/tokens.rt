@@ -122,7 +122,7 @@ pub(crate) fn through_last(rt: &impl Abort, alloc: Global, sys: &System) -> Show
     token(rt, alloc, sys, 2, Goal::Query, used, proof)
 }
 
-/// That the lemma is broken by an instance of a clause.
+/// The token that the lemma is broken by an instance of a clause.
 pub(crate) fn broken_by(
     rt: &impl Abort,
     alloc: Global,
@@ -187,7 +187,7 @@ fn more(rt: &impl Abort, alloc: Global, value: i64) -> Lit {
     Lit::Le(lin(rt, alloc, &[(0, -1)], i128::from(value) + 1))
 }
 
-/// That the form of one literal and a disjunction was given up.
+/// The form of one literal and a disjunction, as given up at one inner node.
 fn one_given_up(rt: &impl Abort, alloc: Global, guard: Lit, less: Lit, more: Lit) -> GaveUp {
     let base = alone(rt, alloc, Form::Lit(guard));
     let other = either(rt, alloc, less, more);
@@ -195,7 +195,7 @@ fn one_given_up(rt: &impl Abort, alloc: Global, guard: Lit, less: Lit, more: Lit
     GaveUp::keep(form, Evidence::Nodes { nodes: 1 })
 }
 
-/// That the form of two literals and a disjunction was given up.
+/// The form of two literals and a disjunction, as given up at one inner node.
 pub(crate) fn two_given_up(
     rt: &impl Abort,
     alloc: Global,
@@ -210,35 +210,36 @@ pub(crate) fn two_given_up(
     GaveUp::keep(form, Evidence::Nodes { nodes: 1 })
 }
 
-/// That the form of a disjunction and a literal was given up.
+/// The form of a disjunction and a literal, as given up at one inner node.
 fn either_given_up(rt: &impl Abort, alloc: Global, guard: Items<Form>, head: Lit) -> GaveUp {
     let base = both(rt, alloc, Form::Or(guard), Form::Lit(head));
     let form = alone(rt, alloc, base);
     GaveUp::keep(form, Evidence::Nodes { nodes: 1 })
 }
 
-/// That the query of the last clause under 'not this value' was given up.
+/// The query of the last clause under 'not this value', as given up at one inner node.
 pub(crate) fn query_given_up(rt: &impl Abort, alloc: Global, value: i64) -> GaveUp {
     let guard = is(rt, alloc, 0, 3);
     let (less, more) = (less(rt, alloc, value), more(rt, alloc, value));
     one_given_up(rt, alloc, guard, less, more)
 }
 
-/// That the query of the second clause whose head is this value, under 'not the other', was given up.
+/// The query of the second clause whose head is this value, under 'not the other', as given up at one
+/// inner node.
 fn lemma_given_up(rt: &impl Abort, alloc: Global, value: i64, other: i64) -> GaveUp {
     let (guard, head) = (next(rt, alloc), is(rt, alloc, 1, value));
     let (less, more) = (less(rt, alloc, other), more(rt, alloc, other));
     two_given_up(rt, alloc, guard, head, less, more)
 }
 
-/// That the query whether 0 or 7 is this value was given up.
+/// The query whether 0 or 7 is this value, as given up at one inner node.
 pub(crate) fn choice_given_up(rt: &impl Abort, alloc: Global, value: i64) -> GaveUp {
     let guard = values(rt, alloc, &[0, 7]);
     either_given_up(rt, alloc, guard, is(rt, alloc, 0, value))
 }
 
-/// That it isn't known whether the goal's lemma can be lifted, by evidence of a query of the second
-/// clause.
+/// The token that it isn't known whether the goal's lemma can be lifted, by evidence of a query of the
+/// second clause.
 fn unknown_by(
     rt: &impl Abort,
     alloc: Global,
@@ -264,7 +265,7 @@ fn unknown_by(
     }
 }
 
-/// That it isn't known whether 'not this value' can be lifted under 'not the other'.
+/// The token that it isn't known whether 'not this value' can be lifted under 'not the other'.
 pub(crate) fn unknown(
     rt: &impl Abort,
     alloc: Global,

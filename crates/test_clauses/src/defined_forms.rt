@@ -9,7 +9,7 @@ use std::alloc::Global;
 use std::mem;
 use std::process::Abort;
 
-/// That the variable v is the magnitude of u.
+/// The formula that is true where the variable v is the magnitude of u.
 fn magnitude(rt: &impl Abort, alloc: Global, u: u32, v: u32) -> Form {
     let (least, same) = (
         le(rt, alloc, &[(u, -1)], 0),

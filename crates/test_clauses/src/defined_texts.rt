@@ -26,7 +26,7 @@ fn first_clause(rt: &impl Abort, alloc: Global, script: &Script) -> HornClause
     }
 }
 
-/// The same, where its numbers have room.
+/// The clause of the script's first assertion, where its numbers have room.
 fn clause_with_room(rt: &impl Abort, alloc: Global, script: &Script) -> HornClause
     requires { IsLegalScript script.now }
     ensures { IsClauseOf script.now result.assertion result × (first_without_room script.now result ≡ None) }

@@ -74,7 +74,7 @@ fn formula_of(
 {
     match check_formula(alloc, text, tree, params) {
         Ok((terms, body)) => {
-            terms.is_arena();
+            terms.arena_law();
             if !has_no_divisor(&terms) {
                 rt.panic("a divisor");
             }

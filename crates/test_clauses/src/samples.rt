@@ -14,7 +14,7 @@ use term_forms::Names;
 use term_tables::{ConstantTable, SortTable};
 use term_tree::{Node, OpKind, Sort, TermId, Terms};
 
-/// That a place of a row is empty.
+/// What stands at a place of a row that is empty.
 const NONE: u32 = 1000;
 
 /// An operation: its operator and the numbers of its arguments, of which there are three at most.

@@ -24,7 +24,7 @@ pub fn checked(rt: &impl Abort, alloc: Global, text: &[u8]) -> Checked
 {
     match check_text(alloc, text) {
         Ok(checked) => {
-            checked.script.terms.is_arena();
+            checked.script.terms.arena_law();
             assertions_are_legal();
             scripts_are_within_limits();
             checked

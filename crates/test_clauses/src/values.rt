@@ -171,7 +171,8 @@ fn are_arguments(
     given.args.len() == made.args.len()
 }
 
-/// The same of the head, where there is one.
+/// Whether all arguments of the head have the values of their terms at the point; so too where neither
+/// clause has a head.
 fn is_head(
     rt: &impl Abort,
     alloc: Global,
@@ -188,7 +189,7 @@ fn is_head(
     }
 }
 
-/// The same of the body and the head.
+/// Whether all arguments of the body atoms and of the head have the values of their terms at the point.
 fn are_tuples(
     rt: &impl Abort,
     alloc: Global,
@@ -261,7 +262,8 @@ fn first_agrees(rt: &impl Abort, alloc: Global, script: &Script, made: &Clause) 
     agrees
 }
 
-/// The same of the one assertion of a script.
+/// Whether the system's one clause agrees with the script's first assertion; not where the system has
+/// another number of clauses.
 fn script_agrees(rt: &impl Abort, alloc: Global, checked: &Checked, system: &System) -> bool {
     match system.clauses() {
         [made] => first_agrees(rt, alloc, &checked.script, made),
@@ -269,7 +271,7 @@ fn script_agrees(rt: &impl Abort, alloc: Global, checked: &Checked, system: &Sys
     }
 }
 
-/// The same of the assertion of a text.
+/// Whether the clause of an assertion of this term agrees with it.
 fn text_agrees(rt: &impl Abort, alloc: Global, term: &str) -> bool {
     let text = format!(in alloc; "(assert {term})").expect(rt, "memory");
     let checked = script_of(rt, alloc, text.as_str());

@@ -27,7 +27,7 @@ fn judge(rt: &impl Abort, alloc: Global, given: &Given, known: &mut BTreeMap<u32
     ensures known { AreFound (constant_in given.now.constants) (naming_by given.now.names) given.now.terms.nodes known.new }
 {
     assert!(rt; (id.0 as usize) < given.terms.len());
-    given.terms.is_arena();
+    given.terms.arena_law();
     short_constants_are_constants();
     let (terms, constants, names) = (&given.terms, &given.constants, &given.names);
     match first_wide(alloc, terms, constants, names, known, id) {
@@ -58,7 +58,7 @@ pub fn written(rt: &impl Abort, alloc: Global, given: &Given, id: u32, sign: boo
     made.expect(rt, "memory")
 }
 
-/// That no other term has the variable v.
+/// Whether the variable v may stand for the term of that number: no other term has it.
 fn may_stand(v: u32, id: u32) -> bool
     ensures low { result ≡ true → 4 ≤ v }
     ensures same { result ≡ true → v ≡ 4 → id ≡ 8 }

@@ -28,7 +28,7 @@ fn outer(rt: &impl Abort, alloc: Global) -> Form {
     Form::Or(parts)
 }
 
-/// That, and x is at most 5.
+/// x is below 0, or above 0 or above 1, and it is at most 5.
 fn both(rt: &impl Abort, alloc: Global) -> Form {
     let outer = outer(rt, alloc);
     let single = literals(rt, alloc, &[(Kind::AtMostZero, &[(0, 1)], -5)]);
@@ -36,7 +36,7 @@ fn both(rt: &impl Abort, alloc: Global) -> Form {
     Form::And(Items::from_vec(parts))
 }
 
-/// That, and x is 0.
+/// x is below 0, or above 0 or above 1, and it is at most 5, and 0.
 fn nested(rt: &impl Abort, alloc: Global) -> Form {
     let both = both(rt, alloc);
     let mut parts = literals(rt, alloc, &[(Kind::Zero, &[(0, 1)], 0)]);

@@ -17,11 +17,11 @@ use std::process::Abort;
 /// constant.
 pub type Row = (i64, i64, i64, i64, i128);
 
-/// That the form is at most 0.
+/// What is claimed of a form that is at most 0.
 pub const LE: i64 = 0;
 
-/// That the form is 0. A number above 0 divides the form, and minus a number of 2 or more says that
-/// this number doesn't.
+/// What is claimed of a form that is 0. A number above 0 divides the form, and minus a number of 2 or
+/// more says that this number doesn't.
 pub const EQ: i64 = -1;
 
 /// What is shown, a conjunction, a model, the variables that are kept, and the cube.

@@ -175,8 +175,8 @@ fn values(rows: &[Small], cube: &[Lit], kept: u32) -> Option<u32> {
     Some(count)
 }
 
-/// The same of the conjunction of that number, where its cube has the model's point and the kept
-/// variable alone.
+/// How many values from -20 to 20 the cube of the conjunction of that number has, where each of them
+/// extends, and the cube has the model's point and the kept variable alone; else none.
 fn values_of(rt: &impl Abort, alloc: Global, number: u32) -> Option<u32> {
     let mut state = u64::from(number);
     let model = [small(&mut state), small(&mut state), small(&mut state)];

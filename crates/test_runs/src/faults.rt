@@ -11,7 +11,7 @@ use std::thread::Threads;
 const COUNTER: &str =
     "(set-logic HORN)\n(declare-fun p (Int) Bool)\n(assert (p 0))\n(assert (forall ((x Int)) (=> (p x) (p (+ x 1)))))\n(assert (not (p 3)))\n(check-sat)\n";
 
-/// Its only derivation.
+/// The counter's only derivation of false.
 const DERIVED: &str =
     "unsat\n(derivation\n(step 1 1 () () (p 0))\n(step 2 2 (0) (1) (p 1))\n(step 3 2 (1) (2) (p 2))\n(step 4 2 (2) (3) (p 3))\n(step 5 3 () (4) false)\n)\n";
 

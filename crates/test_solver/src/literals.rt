@@ -33,7 +33,7 @@ const FORTY_THREE: [Row; 4] = [
     (0, 1, [0, 0, -1, 0], 0),
 ];
 
-/// They add up to 41 in one way.
+/// Three numbers that aren't negative, 6, 9 and 20 times, add up to 41 in one way.
 const FORTY_ONE: [Row; 4] = [
     (1, 1, [6, 9, 20, 0], -41),
     (0, 1, [-1, 0, 0, 0], 0),

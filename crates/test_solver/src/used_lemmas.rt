@@ -163,7 +163,8 @@ fn a_split_on_a_quotient_is_kept(rt: HostRuntime) {
     assert!(rt; is_by(rt, alloc, not_by_three(rt, alloc, 0), lemmas, &[1, 2]));
 }
 
-/// The same, but without the first lemma the quotients would have other numbers: the shorter tree isn't taken.
+/// 3 divides none of three numbers in a row, but without the first lemma the quotients would have other
+/// numbers: the shorter tree isn't taken.
 #[test]
 fn a_split_on_a_quotient_of_another_number_needs_all_lemmas(rt: HostRuntime) {
     let (rt, alloc) = (&rt, rt.alloc());

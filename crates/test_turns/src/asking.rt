@@ -51,7 +51,7 @@ fn asked(rt: &impl Abort, alloc: Global, book: &Book, k: u32) -> Found
     requires can_run { CanRun book.now.system }
     requires thin { IsThin (standing_of book.now) }
 {
-    book.is_replayed();
+    book.replay_law();
     let lent = book.lend();
     ask_all(alloc, lent.system, lent.frames, None, &Goal::Query, k, 100).expect(rt, "memory")
 }

@@ -11,7 +11,7 @@ use std::mem;
 use std::process::Abort;
 use term_tree::Sort;
 
-/// That the first variable is at most the number.
+/// The literal that the first variable is at most the number.
 fn at_most(rt: &impl Abort, alloc: Global, number: i128) -> Lit {
     let terms = Vec::from_slice(alloc, &[(0, 1)]).expect(rt, "memory");
     let constant = number.checked_neg().expect(rt, "a small number");

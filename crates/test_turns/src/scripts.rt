@@ -23,7 +23,7 @@ fn checked(alloc: Global, text: &[u8]) -> Result<Checked, Memory>
     ensures { IfOk result (λ checked. IsLegalScript checked.script) }
 {
     let checked = check_text(alloc, text)?;
-    checked.script.terms.is_arena();
+    checked.script.terms.arena_law();
     assertions_are_legal();
     scripts_are_within_limits();
     Ok(checked)

@@ -3,6 +3,7 @@ use Rattle.std.specs.Prelude.{◌==◌, ℕ, List, count_by, map}
 use Rattle.std.specs.List.{range_with_len}
 use Rattle.chc_core.specs.declared.entry.Entry.{Entry}
 
+-- how many entries of the journal the worker of that number wrote
 abbrev pub entries_of : List Entry → ℕ → ℕ
 entries_of journal worker = count_by (λ (e : Entry). e.worker == worker) journal
 

@@ -163,7 +163,8 @@ pub fn solve_alone(alloc: Global, system: System, limits: Limits) -> Result<Outc
     Ok(left_by(book, limits.workers, counts, memory))
 }
 
-/// The same by several workers, who share the book.
+/// The book that these clauses open, as several workers leave it who share it: with an end, unless
+/// memory was wanted.
 fn solve_together<W: Threads + Wait + Sync, G: Gate>(
     rt: &W,
     alloc: Global,

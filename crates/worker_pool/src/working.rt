@@ -1,6 +1,6 @@
 //! A worker's turns, one after another.
 
-ghost use Rattle.std.specs.Prelude.{◌≡◌, ◌<◌, true, IfOk, OnOk};
+ghost use Rattle.std.specs.Prelude.{◌≡◌, ◌<◌, true, false, IfOk, OnOk};
 ghost use Rattle.obligation_turn.specs.Turns.{GoesOn, IsOpenLeaf};
 ghost use Rattle.search_mind.specs.Minds.{IsMindFor};
 
@@ -85,6 +85,7 @@ fn advance<R: Run>(
     requires mind { IsMindFor R.system mind.old }
     ensures mind { OnOk result (IsMindFor R.system mind.new) }
     ensures offered { IfOk result (λ had_job. had_job ≡ true → share.new.has_offered ≡ true) }
+    ensures left { IfOk result (λ had_job. had_job ≡ false → share.new.may_leave ≡ true) }
 {
     match shared.take_job(rt, share) {
         Ok(job) => {
@@ -97,7 +98,8 @@ fn advance<R: Run>(
     }
 }
 
-/// Works turn after turn, until the book has ended or a worker wanted memory.
+/// Works turn after turn, until the book has ended or a worker wanted memory. A worker that leaves was told
+/// so, or has noted that it wanted memory.
 pub(crate) fn work<R: Run, W: Wait, G: Gate>(
     rt: &W,
     alloc: Global,
@@ -109,6 +111,7 @@ pub(crate) fn work<R: Run, W: Wait, G: Gate>(
 )
     requires some { 0 < limits.nodes }
     requires nodes { limits.nodes ≡ R.nodes }
+    ensures { share.new.may_leave ≡ true }
 {
     let mut mind = Mind::new(alloc, share.worker());
     let mut turn_number: u64 = 0;
@@ -125,4 +128,5 @@ pub(crate) fn work<R: Run, W: Wait, G: Gate>(
             }
         }
     }
+    unreachable!()
 }

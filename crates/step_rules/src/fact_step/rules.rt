@@ -71,7 +71,7 @@ fn told_of_target(
     Ok(Some(By::Obligation(id)))
 }
 
-/// The same of the target of that number.
+/// What is told by rule 23 of the target of that number; nothing where there is no such obligation.
 fn told_at(parts: &Lent, step: &FactPart, id: u32) -> Result<Option<By>, Memory>
     ensures { IfOk result (λ by. by ≡ on (slice_get (obligations_of parts.now.tree.nodes) id) (unholding_told parts.now.system (record_of step.now) id)) }
 {

@@ -5,7 +5,7 @@ use chc_tokens::Shown;
 pub struct LiftPart {
     /// The lemma's number.
     pub lemma: u32,
-    /// Its level before.
+    /// The lemma's level before.
     pub from: u32,
     /// For each clause with a head of the lemma's predicate, that the frame of that level on the
     /// body implies it.

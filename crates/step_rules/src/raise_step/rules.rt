@@ -134,7 +134,8 @@ fn outside(parts: &Lent, id: u32, why: &Why) -> Result<Option<By>, Memory>
     }
 }
 
-/// The same, where the NoLift has that place.
+/// What is told by rule 43 of the lemma of that number and the NoLift at that place; nothing where the
+/// lemma isn't below the book's level, or no NoLift is there.
 fn outside_at(parts: &Lent, id: u32, kept: &[NoLift], place: usize) -> Result<Option<By>, Memory>
     requires { id < length parts.now.frames.lemmas }
     ensures { IfOk result (λ by. by ≡ told_below parts.now.level (framed_at parts.now.frames.lemmas id)
@@ -186,7 +187,8 @@ fn misuses(parts: &Lent, id: u32, why: &Why) -> Option<By>
     }
 }
 
-/// The same, where the NoLift has that place.
+/// What is told by rule 44 of the lemma of that number and the NoLift at that place; nothing where the
+/// lemma isn't below the book's level, or no NoLift is there.
 fn misuses_at(parts: &Lent, id: u32, kept: &[NoLift], place: usize) -> Option<By>
     requires { id < length parts.now.frames.lemmas }
     ensures { result ≡ told_below parts.now.level (framed_at parts.now.frames.lemmas id)

@@ -10,7 +10,7 @@ pub struct StallPart {
     pub clause: u32,
     /// The lemmas of the frame below that the query used on body atoms.
     pub used: Items<Used>,
-    /// That the query of the clause, the obligation's cube and these lemmas was given up.
+    /// What shows that the query of the clause, the obligation's cube and these lemmas was given up.
     pub evidence: GaveUp,
 }
 

@@ -19,5 +19,5 @@ returns-in-Ok-clause-told c =
     let body : spelled_formula text ps c.args.term.now ≡ Ok made.0 = ap (λ (qs : List (Name × Sort)). spelled_formula text qs c.args.term.now) (sym c.as_slice.ensures) ∙ made.1 in (
       record { pred = c.args.number; params = ps; body = made.0 },
       defined_is text c.args.declared.now c.args.number c.args.params.now c.args.sort.now c.args.term.now ps made.0 params sort body,
-      record { pred = refl; params = c.in_ok-params-in-Ok.ensures ∙ ap (λ (qs : List (Name × Sort)). map (λ p. p.0) qs) c.as_slice-in-Ok.ensures; arena = c.is_arena.ensures.arena; term = made.2 },
+      record { pred = refl; params = c.in_ok-params-in-Ok.ensures ∙ ap (λ (qs : List (Name × Sort)). map (λ p. p.0) qs) c.as_slice-in-Ok.ensures; arena = c.arena_law.ensures.arena; term = made.2 },
     )

@@ -15,7 +15,7 @@ pub solution-requires-clause-places : goal.solution-requires-clause-places
 solution-requires-clause-places c =
     let b = c.args.book.now in
     places-of c.args.checked.now.script.preds c.as_slice-preds.result.now b.frames c.frames-frames.result.now c.as_slice-preds.ensures c.frames-frames.ensures.is
-    (c.lemmas_of_books_have_places.ensures c.args.checked.now b.system (state_of b) b.frames.lemmas c.requires.of.system refl c.is_replayed.ensures.over)
+    (c.lemmas_of_books_have_places.ensures c.args.checked.now b.system (state_of b) b.frames.lemmas c.requires.of.system refl c.replay_law.ensures.over)
 
 pub returns-in-Ok : goal.returns-in-Ok
 returns-in-Ok c =
@@ -25,6 +25,6 @@ returns-in-Ok c =
       c.in-Ok.made,
       refl,
       made,
-      c.sat_ends_solve_the_script.ensures checked b.system (state_of b) b.frames.lemmas c.args.level c.in-Ok.made c.requires.of.arena c.requires.of.legal c.requires.of.system refl c.is_replayed.ensures.sound
+      c.sat_ends_solve_the_script.ensures checked b.system (state_of b) b.frames.lemmas c.args.level c.in-Ok.made c.requires.of.arena c.requires.of.legal c.requires.of.system refl c.replay_law.ensures.sound
           c.requires.ended made,
     )

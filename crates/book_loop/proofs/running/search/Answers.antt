@@ -29,5 +29,5 @@ turns-smaller c =
     let done = c.in_ok-advance.ensures in
     let grown = done.grown in
     let given = done.further.given in
-    let full = room c.advance.new.book c.is_replayed.ensures.replayed c.is_replayed.ensures.legal in
+    let full = room c.advance.new.book c.replay_law.ensures.replayed c.replay_law.ensures.legal in
     omega (arith, grown, given, full)

@@ -22,7 +22,7 @@ returns c = λ checked of.
     let is = c.end-end.ensures.unsat c.args.fact (c.end-end.ensures.is ∙ c.requires.ended) in
     let b = c.args.book.now in
     let steps = c.in_ok-steps.steps.items in
-    let recorded : AreRecorded b.facts = subst AreRecorded c.facts-facts.ensures.is c.are_recorded.ensures in
+    let recorded : AreRecorded b.facts = subst AreRecorded c.facts-facts.ensures.is c.record_law.ensures in
     let are : AreSteps b.facts c.args.fact steps = subst (λ (fs : List KeptFact). AreSteps fs c.args.fact steps) c.facts-facts.ensures.is c.in_ok-steps.ensures in (
       steps,
       are,

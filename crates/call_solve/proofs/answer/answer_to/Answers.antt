@@ -5,7 +5,7 @@ pub answer_of-requires-clause-legal : goal.answer_of-requires-clause-legal
 answer_of-requires-clause-legal g c =
     let found = c.in_ok-checked.ensures in
     let checked = c.in_ok-checked.checked in
-    λ κs lives. legal_script checked (c.assertions_are_legal.ensures c.args.read.now found.0 found.1 checked c.is_arena.ensures.arena found.3)
+    λ κs lives. legal_script checked (c.assertions_are_legal.ensures c.args.read.now found.0 found.1 checked c.arena_law.ensures.arena found.3)
     (c.scripts_are_within_limits.ensures c.args.read.now found.0 found.1 checked found.3)
 
 pub returns : goal.returns

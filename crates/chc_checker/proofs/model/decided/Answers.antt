@@ -18,7 +18,7 @@ settle-requires-clause-below c =
     let few : total ≤ most_variables = subst (λ (n : ℕ). n ≤ 2048) c.requires.vars c.requires.few in
     let own = own_number script c.requires.reached.index clause c.requires.reached.is in
     let below : is_below total (breaking_form defs (normal_clause script clause)) ≡ true =
-    form_below script clause c.is_arena.ensures.arena c.requires.legal own c.requires.narrow defs c.requires.defined c.requires.formulas c.requires.wide few in
+    form_below script clause c.arena_law.ensures.arena c.requires.legal own c.requires.narrow defs c.requires.defined c.requires.formulas c.requires.wide few in
     subst (λ (n : ℕ). is_below n c.args.form ≡ true) (sym c.requires.vars) (subst (λ (f : Form). is_below total f ≡ true) (sym c.requires.form) below)
 
 pub settle-requires-clause-short : goal.settle-requires-clause-short
@@ -31,4 +31,4 @@ settle-requires-clause-short c =
     let own = own_number script c.requires.reached.index clause c.requires.reached.is in
     let small : top_of script clause < 2 ^ 32 = subst (λ (n : ℕ). n < 2 ^ 32) c.assertion_of.ensures.top c.has_number.ensures in
     subst (λ (f : Form). has_short_multiples f ≡ true) (sym c.requires.form)
-    (form_short script clause c.is_arena.ensures.arena c.requires.legal own c.requires.narrow defs c.requires.defined c.requires.formulas c.requires.wide few c.requires.counted small)
+    (form_short script clause c.arena_law.ensures.arena c.requires.legal own c.requires.narrow defs c.requires.defined c.requires.formulas c.requires.wide few c.requires.counted small)

@@ -18,7 +18,7 @@ returns-in-Model c =
     let whole : Form = And (breaking_form defs (normal_clause script clause) ∷ []) in
     let told : Settles whole c.args.vars c.args.nodes (Model c.in-Model.point) = subst (λ (d : Decision). Settles whole c.args.vars c.args.nodes d) c.in-Model.is c.requires.decides in
     let are : c.from_vec.result ≡ take (length clause.vars) c.in-Model.point.items = search rules in
-    false_here script defs c.args.number clause c.is_arena.ensures.arena c.requires.legal c.requires.defined c.requires.formulas c.requires.reached
+    false_here script defs c.args.number clause c.arena_law.ensures.arena c.requires.legal c.requires.defined c.requires.formulas c.requires.reached
     c.in-Model.point.items c.from_vec.result (told.0 ∙ c.requires.vars) told.1 are
 
 pub returns-in-Refuted : goal.returns-in-Refuted
@@ -28,4 +28,4 @@ returns-in-Refuted c =
     let clause = c.args.clause.now in
     let whole : Form = And (breaking_form defs (normal_clause script clause) ∷ []) in
     let told : HasNoPoint whole = subst (λ (d : Decision). Settles whole c.args.vars c.args.nodes d) c.in-Refuted.is c.requires.decides in
-    true_here script defs c.args.number clause c.is_arena.ensures.arena c.requires.legal c.requires.defined c.requires.formulas c.requires.reached told
+    true_here script defs c.args.number clause c.arena_law.ensures.arena c.requires.legal c.requires.defined c.requires.formulas c.requires.reached told

@@ -8,7 +8,7 @@ use Rattle.check_derivation.proofs.PartLemmas.{clause_there}
 use Rattle.check_derivation.proofs.lines.judged_by.Goals as goal
 
 pub is_right-requires-clause-parts : goal.is_right-requires-clause-parts
-is_right-requires-clause-parts c = clause_there c.args.script.now c.requires.clause.0 c.args.clause.now c.is_arena.ensures.arena c.requires.clause.2
+is_right-requires-clause-parts c = clause_there c.args.script.now c.requires.clause.0 c.args.clause.now c.arena_law.ensures.arena c.requires.clause.2
 
 pub is_right-requires-clause-there : goal.is_right-requires-clause-there
 is_right-requires-clause-there c = reached_within c.args.script.now c.args.lines.now c.args.number c.args.line.now c.requires.reached

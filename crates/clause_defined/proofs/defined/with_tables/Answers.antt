@@ -8,14 +8,14 @@ use Rattle.clause_defined.proofs.WholeLemmas.{can_put, few_own, few_told, many_h
 use Rattle.clause_defined.proofs.defined.with_tables.Goals as goal
 
 pub judge_all-requires : goal.judge_all-requires
-judge_all-requires c = can_judge c.args.script.now c.args.clause.now c.is_arena.ensures.arena c.requires.legal c.requires.clause c.args.defs.now c.requires.defined c.requires.formulas
+judge_all-requires c = can_judge c.args.script.now c.args.clause.now c.arena_law.ensures.arena c.requires.legal c.requires.clause c.args.defs.now c.requires.defined c.requires.formulas
 
 pub returns-in_err-count-clause-wide : goal.returns-in_err-count-clause-wide
 returns-in_err-count-clause-wide c = λ offset is.
     let script = c.args.script.now in
     let clause = c.args.clause.now in
     let defs = c.args.defs.now in
-    let arena = c.is_arena.ensures.arena in
+    let arena = c.arena_law.ensures.arena in
     let placed = c.as_slice-placed.result.now in
     let are : placed ≡ auxiliaries script clause = search rules in
     let told : IsErrOf c.judge_all.result (TooWide offset) = search rules in
@@ -31,7 +31,7 @@ returns-then-count-gt-MOST_VARIABLES-clause-count c = λ offset is.
     let script = c.args.script.now in
     let clause = c.args.clause.now in
     let defs = c.args.defs.now in
-    let arena = c.is_arena.ensures.arena in
+    let arena = c.arena_law.ensures.arena in
     let placed = c.as_slice-placed.result.now in
     let are : placed ≡ auxiliaries script clause = search rules in
     let stands = stands_here script clause arena c.requires.legal c.requires.clause defs c.requires.defined c.requires.formulas placed are in
@@ -47,7 +47,7 @@ clause_with_room-requires-clause-few c =
     let script = c.args.script.now in
     let clause = c.args.clause.now in
     let defs = c.args.defs.now in
-    let arena = c.is_arena.ensures.arena in
+    let arena = c.arena_law.ensures.arena in
     let placed = c.as_slice-placed.result.now in
     let are : placed ≡ auxiliaries script clause = search rules in
     let stands = stands_here script clause arena c.requires.legal c.requires.clause defs c.requires.defined c.requires.formulas placed are in
@@ -59,7 +59,7 @@ put_all-requires c =
     let script = c.args.script.now in
     let clause = c.args.clause.now in
     let defs = c.args.defs.now in
-    let arena = c.is_arena.ensures.arena in
+    let arena = c.arena_law.ensures.arena in
     let placed = c.as_slice-placed.result.now in
     let are : placed ≡ auxiliaries script clause = search rules in
     let stands = stands_here script clause arena c.requires.legal c.requires.clause defs c.requires.defined c.requires.formulas placed are in
@@ -74,7 +74,7 @@ returns-clause-room c =
     let script = c.args.script.now in
     let clause = c.args.clause.now in
     let defs = c.args.defs.now in
-    let arena = c.is_arena.ensures.arena in
+    let arena = c.arena_law.ensures.arena in
     let placed = c.as_slice-placed.result.now in
     let are : placed ≡ auxiliaries script clause = search rules in
     let stands = stands_here script clause arena c.requires.legal c.requires.clause defs c.requires.defined c.requires.formulas placed are in
@@ -86,7 +86,7 @@ returns-clause-few c =
     let script = c.args.script.now in
     let clause = c.args.clause.now in
     let defs = c.args.defs.now in
-    let arena = c.is_arena.ensures.arena in
+    let arena = c.arena_law.ensures.arena in
     let placed = c.as_slice-placed.result.now in
     let are : placed ≡ auxiliaries script clause = search rules in
     let stands = stands_here script clause arena c.requires.legal c.requires.clause defs c.requires.defined c.requires.formulas placed are in

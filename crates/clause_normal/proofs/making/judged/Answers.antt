@@ -7,5 +7,5 @@ use Rattle.clause_normal.proofs.making.judged.Goals as goal
 
 pub offset-requires : goal.offset-requires
 offset-requires c =
-    found_there (constant_in c.args.tables.now.constants) (naming_by c.args.names.now) c.args.terms.now.nodes c.is_arena.ensures.arena c.args.top.0 c.in-Some.term.0 c.requires.there
+    found_there (constant_in c.args.tables.now.constants) (naming_by c.args.names.now) c.args.terms.now.nodes c.arena_law.ensures.arena c.args.top.0 c.in-Some.term.0 c.requires.there
     (sym c.in_ok-first_wide.ensures.told ∙ ap numbered c.in-Some.is)

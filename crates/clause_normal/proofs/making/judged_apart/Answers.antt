@@ -10,17 +10,17 @@ use Rattle.clause_normal.proofs.making.judged_apart.Goals as goal
 
 pub apart_names-requires : goal.apart_names-requires
 apart_names-requires c =
-    variables_apart c.args.script.now c.args.tables.now c.args.clause.now c.requires.given c.is_arena.ensures.arena c.args.top.0 c.requires.top c.has_number.ensures c.args.placed.now c.requires.placed
+    variables_apart c.args.script.now c.args.tables.now c.args.clause.now c.requires.given c.arena_law.ensures.arena c.args.top.0 c.requires.top c.has_number.ensures c.args.placed.now c.requires.placed
 
 pub judged-requires-clause-there : goal.judged-requires-clause-there
-judged-requires-clause-there c = within_here c.args.script.now c.args.tables.now c.args.clause.now c.requires.given c.is_arena.ensures.arena c.args.top.0 c.requires.top
+judged-requires-clause-there c = within_here c.args.script.now c.args.tables.now c.args.clause.now c.requires.given c.arena_law.ensures.arena c.args.top.0 c.requires.top
 
 pub returns-clause-narrow : goal.returns-clause-narrow
 returns-clause-narrow c =
     let script = c.args.script.now in
     let tables = c.args.tables.now in
     let clause = c.args.clause.now in
-    let arena = c.is_arena.ensures.arena in
+    let arena = c.arena_law.ensures.arena in
     let top = c.args.top.0 in
     let naming = naming_by c.in_ok-names.names in
     let alike = c.in_ok-names.ensures top (length clause.vars) c.has_number.ensures (own_here script tables clause c.requires.given arena top c.requires.top c.has_number.ensures) in
@@ -32,7 +32,7 @@ returns-clause-wide c = λ offset is.
     let script = c.args.script.now in
     let tables = c.args.tables.now in
     let clause = c.args.clause.now in
-    let arena = c.is_arena.ensures.arena in
+    let arena = c.arena_law.ensures.arena in
     let top = c.args.top.0 in
     let naming = naming_by c.in_ok-names.names in
     let alike = c.in_ok-names.ensures top (length clause.vars) c.has_number.ensures (own_here script tables clause c.requires.given arena top c.requires.top c.has_number.ensures) in

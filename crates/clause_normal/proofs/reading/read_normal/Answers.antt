@@ -14,7 +14,7 @@ pub returns-in-Ok-clause-kept : goal.returns-in-Ok-clause-kept
 returns-in-Ok-clause-kept c =
     let script = c.args.script.now in
     subst (λ (made : Clause). is_clause (map (λ (p : Declared). p.args) script.preds) made ≡ true) (sym c.in-Ok.ensures.made)
-    (kept_here script c.args.index c.args.clause.now c.is_arena.ensures.arena c.requires.legal c.requires.clause c.args.assertion c.requires.there c.has_number.ensures c.requires.few c.in-Ok.ensures.room c.in-Ok.ensures.few)
+    (kept_here script c.args.index c.args.clause.now c.arena_law.ensures.arena c.requires.legal c.requires.clause c.args.assertion c.requires.there c.has_number.ensures c.requires.few c.in-Ok.ensures.room c.in-Ok.ensures.few)
 
 pub returns-in-Ok-clause-made : goal.returns-in-Ok-clause-made
 returns-in-Ok-clause-made c =

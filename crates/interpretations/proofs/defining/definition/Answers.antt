@@ -29,4 +29,4 @@ pub returns-clause-made : goal.returns-clause-made
 returns-clause-made c =
     let kept = subst (λ (ks : List (Bor (List Lit))). AreKept c.args.frames.now.lemmas c.args.number c.args.level (cubes_of ks)) (sym c.as_slice.ensures.value) c.in_ok-kept.ensures in
     definition-made c.args.frames.now.lemmas c.args.level c.args.number c.args.pred.now c.as_slice-sorts.result.now c.in_ok-params.params (cubes_of c.as_slice.result.now) _ _ c.in_ok-body.body
-    c.as_slice-sorts.ensures c.in_ok-params.ensures kept c.is_arena.ensures.arena c.in_ok-body.ensures.added
+    c.as_slice-sorts.ensures c.in_ok-params.ensures kept c.arena_law.ensures.arena c.in_ok-body.ensures.added

@@ -10,10 +10,10 @@ pub kept-requires : goal.kept-requires
 kept-requires c = subst (λ (lits : List Lit). cube_is_short lits ≡ true) (sym c.in_ok-lits.ensures) (bounds-short c.lits-2.result.now (subst (λ (lits : List Lit). cube_is_short lits ≡ true) (sym c.lits-2.ensures.is) c.lits-2.ensures.short))
 
 pub take-requires-clause-cube : goal.take-requires-clause-cube
-take-requires-clause-cube c = split-cube c.args.lent.now c.args.part.now c.in_ok-cube.cube c.requires.learnt (c.in_ok-cube.ensures ∙ c.in_ok-lits.ensures ∙ ap bounds_of (c.lits-2.ensures.is ∙ c.cube-2.ensures))
+take-requires-clause-cube c = split-cube c.args.lent.now c.args.part.now c.in_ok-cube.cube c.requires.goes_on c.requires.learnt (c.in_ok-cube.ensures ∙ c.in_ok-lits.ensures ∙ ap bounds_of (c.lits-2.ensures.is ∙ c.cube-2.ensures))
 
 pub take-requires-clause-held : goal.take-requires-clause-held
-take-requires-clause-held c = split-held c.args.lent.now c.args.part.now c.in_ok-cube.cube c.requires.learnt (c.in_ok-cube.ensures ∙ c.in_ok-lits.ensures ∙ ap bounds_of (c.lits-2.ensures.is ∙ c.cube-2.ensures))
+take-requires-clause-held c = split-held c.args.lent.now c.args.part.now c.in_ok-cube.cube c.requires.goes_on c.requires.learnt (c.in_ok-cube.ensures ∙ c.in_ok-lits.ensures ∙ ap bounds_of (c.lits-2.ensures.is ∙ c.cube-2.ensures))
 
 pub returns-clause-split : goal.returns-clause-split
 returns-clause-split c =

@@ -22,9 +22,9 @@ loop-column-preserved c =
     let less : i < length sides = omega arith in
     let is = c.loop-column.invariant in
     let lower : new.lower ≡ map first_of (take (i + 1) sides) ++ drop (i + 1) old.lower =
-    set-more first_of sides old.lower now.lower new.lower i (None, None) _ less (c.is_table.ensures.lowers ∙ sym c.requires.each) (ap (λ (t : Table). t.lower) is) refl (ap (λ (t : Table). t.lower) c.set_bounds.ensures) in
+    set-more first_of sides old.lower now.lower new.lower i (None, None) _ less (c.table_law.ensures.lowers ∙ sym c.requires.each) (ap (λ (t : Table). t.lower) is) refl (ap (λ (t : Table). t.lower) c.set_bounds.ensures) in
     let upper : new.upper ≡ map second_of (take (i + 1) sides) ++ drop (i + 1) old.upper =
-    set-more second_of sides old.upper now.upper new.upper i (None, None) _ less (c.is_table.ensures.uppers ∙ sym c.requires.each) (ap (λ (t : Table). t.upper) is) refl (ap (λ (t : Table). t.upper) c.set_bounds.ensures) in
+    set-more second_of sides old.upper now.upper new.upper i (None, None) _ less (c.table_law.ensures.uppers ∙ sym c.requires.each) (ap (λ (t : Table). t.upper) is) refl (ap (λ (t : Table). t.upper) c.set_bounds.ensures) in
     let same : new ≡ record now { lower = new.lower; upper = new.upper } = cc in
     same ∙ ap (λ (t : Table). record t { lower = new.lower; upper = new.upper }) is
     ∙ ap (λ (ls : List (Option ℤ)). record old { lower = ls; upper = new.upper }) lower

@@ -25,4 +25,4 @@ pub returns : goal.returns
 returns c =
     let f = multipliers_at c.args.t.now c.args.row c.args.side in
     let last : c.loop-column.column ≡ length c.row-entries.result.now = omega arith in
-    c.loop-column.invariant ∙ ap (λ n. flat_map f (range_with_len 0 n)) (last ∙ ap length c.row-entries.ensures ∙ (c.is_table.ensures.solved c.args.row c.requires.row).width)
+    c.loop-column.invariant ∙ ap (λ n. flat_map f (range_with_len 0 n)) (last ∙ ap length c.row-entries.ensures ∙ (c.table_law.ensures.solved c.args.row c.requires.row).width)

@@ -16,7 +16,7 @@ run-init c =
     let stands : c.in-Ok.standings.items ≡ first_standings t = c.in-Ok.ensures.is in
     record {
       run = record {
-        table = c.is_table.ensures;
+        table = c.table_law.ensures;
         few = c.requires.few;
         legal = c.in-Ok.ensures.legal;
         steps = 0;

@@ -1,8 +1,16 @@
-use Rattle.std.proofs.Common.{◌≡◌, map}
+use Rattle.std.proofs.Common.{◌≡◌, ◌≤◌, length, map}
 use Rattle.std.specs.List.{range_with_len}
-use Rattle.simplex_core.specs.Run.{coordinate_at, moment}
+use Rattle.int_rows.specs.Table.{width}
+use Rattle.simplex_core.specs.machinery.Filled.{coordinate_from}
+use Rattle.simplex_core.specs.Run.{moment}
 use Rattle.simplex_core.proofs.place.coordinates.Given as goal
 
--- the values so far
-abbrev pub invariant-loop-column : goal.invariant-loop-column
-invariant-loop-column l = l.made.items ≡ map (coordinate_at (moment l.t l.standings)) (range_with_len 0 l.column)
+-- the columns of the rows from here on have the values that their rows give them
+abbrev pub invariant-put : goal.invariant-put
+invariant-put l = record {
+  within : l.row ≤ length l.t.rows;
+  is : l.made.items ≡ map (coordinate_from (moment l.t l.standings) l.row) (range_with_len 0 (width l.t));
+}
+
+abbrev pub decreases-put : goal.decreases-put
+decreases-put l = l.row

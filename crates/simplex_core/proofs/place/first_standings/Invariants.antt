@@ -1,8 +1,15 @@
-use Rattle.std.proofs.Common.{◌≡◌, map}
+use Rattle.std.proofs.Common.{◌≡◌, ◌≤◌, length, map}
 use Rattle.std.specs.List.{range_with_len}
-use Rattle.simplex_core.specs.Run.{first_standing_at}
+use Rattle.int_rows.specs.Table.{width}
+use Rattle.simplex_core.specs.machinery.Filled.{standing_from}
 use Rattle.simplex_core.proofs.place.first_standings.Given as goal
 
--- the standings so far
-abbrev pub invariant-loop-column : goal.invariant-loop-column
-invariant-loop-column l = l.made.items ≡ map (first_standing_at l.t) (range_with_len 0 l.column)
+-- the columns of the rows from here on are basic
+abbrev pub invariant-put : goal.invariant-put
+invariant-put l = record {
+  within : l.row ≤ length l.t.rows;
+  is : l.made.items ≡ map (standing_from l.t l.row) (range_with_len 0 (width l.t));
+}
+
+abbrev pub decreases-put : goal.decreases-put
+decreases-put l = l.row

@@ -11,7 +11,7 @@ loop-row-preserved c =
     let i = c.loop-row.row in
     let made = c.loop-row.made.items in
     let h : i < length t.rows = omega (arith, c.loop-row-test.true, c.rows-row-end.ensures) in
-    let within : basic_at t.basic i < length made = omega (arith, c.loop-row.invariant.long, c.is_table.ensures.within i (omega (arith, h, c.is_table.ensures.basics))) in
+    let within : basic_at t.basic i < length made = omega (arith, c.loop-row.invariant.long, c.table_law.ensures.within i (omega (arith, h, c.table_law.ensures.basics))) in
     let is : c.mark.new.made.items ≡ cond c.has.result (set made (basic_at t.basic i) true) made = c.mark.ensures ∙ ap (λ b. cond c.has.result (set made b true) made) c.basic.ensures in
     record {
       long = ap length is ∙ length-marked made (basic_at t.basic i) c.has.result ∙ c.loop-row.invariant.long;
@@ -24,4 +24,4 @@ returns-clause-others c q h e =
     let made = c.loop-row.made.items in
     let all : length t.rows ≤ c.loop-row.row = omega (arith, c.loop-row-test.false, c.rows-row-end.ensures) in
     let there : c.args.column < length made = omega (arith, c.loop-row.invariant.long, c.requires.column) in
-    marked-all t c.args.column c.loop-row.row q made c.is_table.ensures all there c.loop-row.invariant.marked (ap (λ (ms : List Bool). get_or ms q false) (sym c.mark-2.ensures) ∙ e)
+    marked-all t c.args.column c.loop-row.row q made c.table_law.ensures all there c.loop-row.invariant.marked (ap (λ (ms : List Bool). get_or ms q false) (sym c.mark-2.ensures) ∙ e)

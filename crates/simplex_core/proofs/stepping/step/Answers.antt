@@ -12,4 +12,4 @@ ratios-requires-clause-fitting c =
 pub multipliers-requires : goal.multipliers-requires
 multipliers-requires c =
     let m = moment c.args.t.now c.args.standings.now in
-    record { row = (leaves-row m c.in-Conflict.row c.in-Conflict.side c.is_table.ensures c.requires.legal (turn-conflicts m c.in-Conflict.row c.in-Conflict.side (sym c.turn.ensures ∙ c.in-Conflict.is)).leaves).within }
+    record { row = (leaves-row m c.in-Conflict.row c.in-Conflict.side c.table_law.ensures c.requires.legal (turn-conflicts m c.in-Conflict.row c.in-Conflict.side (sym c.turn.ensures ∙ c.in-Conflict.is)).leaves).within }

@@ -9,12 +9,12 @@ use Rattle.term_forms.proofs.found.linear_form.Goals as goal
 
 pub read_part-requires-clause-known : goal.read_part-requires-clause-known
 read_part-requires-clause-known c =
-    to_read (constant_in c.args.constants.now) (naming_in c.args.names.now.own.items c.args.names.now.auxiliary) c.args.terms.now.nodes c.args.known.now c.is_arena.ensures.arena c.requires.known
+    to_read (constant_in c.args.constants.now) (naming_in c.args.names.now.own.items c.args.names.now.auxiliary) c.args.terms.now.nodes c.args.known.now c.arena_law.ensures.arena c.requires.known
 
 pub returns-clause-told : goal.returns-clause-told
 returns-clause-told c =
     subst (λ (found : Result Linear ℕ). Tells found c.read_part.result)
-    (found_is (constant_in c.args.constants.now) (naming_in c.args.names.now.own.items c.args.names.now.auxiliary) c.args.terms.now.nodes c.is_arena.ensures.arena c.args.id.0) c.read_part.ensures.told
+    (found_is (constant_in c.args.constants.now) (naming_in c.args.names.now.own.items c.args.names.now.auxiliary) c.args.terms.now.nodes c.arena_law.ensures.arena c.args.id.0) c.read_part.ensures.told
 
 pub returns-clause-known : goal.returns-clause-known
 returns-clause-known c =
@@ -22,4 +22,4 @@ returns-clause-known c =
     let naming = naming_in c.args.names.now.own.items c.args.names.now.auxiliary in
     let nodes = c.args.terms.now.nodes in
     on_ok c.read_part.result (AreRead constant naming nodes c.read_part.new.known) (AreFound constant naming nodes c.read_part.new.known)
-    (from_read constant naming nodes c.read_part.new.known c.is_arena.ensures.arena) c.read_part.ensures.known
+    (from_read constant naming nodes c.read_part.new.known c.arena_law.ensures.arena) c.read_part.ensures.known

@@ -7,16 +7,16 @@ use Rattle.term_formulas.proofs.BitLemmas.{bits_are, bits_next, ids_next}
 use Rattle.term_formulas.proofs.bits.bits_of.Goals as goal
 
 pub returns-in_err-bits-clause-bits : goal.returns-in_err-bits-clause-bits
-returns-in_err-bits-clause-bits c = bits_are (naming_by c.args.names.now) c.args.terms.now.nodes c.is_arena.ensures.arena c.args.ids.now c.requires
+returns-in_err-bits-clause-bits c = bits_are (naming_by c.args.names.now) c.args.terms.now.nodes c.arena_law.ensures.arena c.args.ids.now c.requires
 
 pub returns-in_err-bit_of-clause-bits : goal.returns-in_err-bit_of-clause-bits
-returns-in_err-bit_of-clause-bits c = bits_are (naming_by c.args.names.now) c.args.terms.now.nodes c.is_arena.ensures.arena c.args.ids.now c.requires
+returns-in_err-bit_of-clause-bits c = bits_are (naming_by c.args.names.now) c.args.terms.now.nodes c.arena_law.ensures.arena c.args.ids.now c.requires
 
 pub returns-in_err-push-clause-bits : goal.returns-in_err-push-clause-bits
-returns-in_err-push-clause-bits c = bits_are (naming_by c.args.names.now) c.args.terms.now.nodes c.is_arena.ensures.arena c.args.ids.now c.requires
+returns-in_err-push-clause-bits c = bits_are (naming_by c.args.names.now) c.args.terms.now.nodes c.arena_law.ensures.arena c.args.ids.now c.requires
 
 pub returns-clause-bits : goal.returns-clause-bits
-returns-clause-bits c = bits_are (naming_by c.args.names.now) c.args.terms.now.nodes c.is_arena.ensures.arena c.args.ids.now c.requires
+returns-clause-bits c = bits_are (naming_by c.args.names.now) c.args.terms.now.nodes c.arena_law.ensures.arena c.args.ids.now c.requires
 
 pub bit_of-requires : goal.bit_of-requires
 bit_of-requires c = (ids_next (length c.args.terms.now.nodes) c.args.ids.now c.loop-id.id-index (record { 0 = 0 }) c.loop-id-test.true c.loop-id.invariant.there).0

@@ -13,7 +13,7 @@ use Rattle.term_formulas.proofs.RoomLemmas.{made_room}
 use Rattle.term_formulas.proofs.place.of_choice.Goals as goal
 
 pub choice_of-requires-clause-bit : goal.choice_of-requires-clause-bit
-choice_of-requires-clause-bit c = (made_room (constant_in c.args.constants.now) (naming_by c.args.names.now) c.args.terms.now.nodes c.args.id.0 (get_or c.args.args.now 0 (record { 0 = 0 })).0 c.is_arena.ensures.arena c.requires.room (Op Ite c.args.args.now, c.requires.node, among_at c.args.args.now 0 (record { 0 = 0 }) (let three = c.in-len3.len_at_least in omega (arith, three)))).there
+choice_of-requires-clause-bit c = (made_room (constant_in c.args.constants.now) (naming_by c.args.names.now) c.args.terms.now.nodes c.args.id.0 (get_or c.args.args.now 0 (record { 0 = 0 })).0 c.arena_law.ensures.arena c.requires.room (Op Ite c.args.args.now, c.requires.node, among_at c.args.args.now 0 (record { 0 = 0 }) (let three = c.in-len3.len_at_least in omega (arith, three)))).there
 
 pub choice_of-requires-clause-chosen : goal.choice_of-requires-clause-chosen
 choice_of-requires-clause-chosen c = (Op Ite c.args.args.now, c.requires.node, among_at c.args.args.now 1 (record { 0 = 0 }) (let three = c.in-len3.len_at_least in omega (arith, three)))

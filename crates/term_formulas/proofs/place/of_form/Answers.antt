@@ -12,4 +12,4 @@ narrow_form-requires-clause-narrow c = narrow_here (constant_in c.args.constants
 
 pub variable_less-requires : goal.variable_less-requires
 variable_less-requires c =
-    subst (λ (form : Linear). IsApart c.args.v form) (sym c.in_ok-lin.ensures.is) (own_apart (constant_in c.args.constants.now) (naming_by c.args.names.now) c.args.terms.now.nodes c.args.v c.args.id.0 c.is_arena.ensures.arena c.requires.room c.requires.fresh c.requires.sum)
+    subst (λ (form : Linear). IsApart c.args.v form) (sym c.in_ok-lin.ensures.is) (own_apart (constant_in c.args.constants.now) (naming_by c.args.names.now) c.args.terms.now.nodes c.args.v c.args.id.0 c.arena_law.ensures.arena c.requires.room c.requires.fresh c.requires.sum)

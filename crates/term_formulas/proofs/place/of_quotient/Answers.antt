@@ -16,7 +16,7 @@ pub quotient_of-requires-clause-part : goal.quotient_of-requires-clause-part
 quotient_of-requires-clause-part c = (Op Quotient c.args.args.now, c.requires.node, among_at c.args.args.now 0 (record { 0 = 0 }) (let three = c.in-len2.len_at_least in omega (arith, three)))
 
 pub quotient_of-requires-clause-short : goal.quotient_of-requires-clause-short
-quotient_of-requires-clause-short c = constant_short (constant_in c.args.constants.now) (naming_by c.args.names.now) c.args.terms.now.nodes c.is_arena.ensures.arena (get_or c.args.args.now 1 (record { 0 = 0 })).0 (made_room (constant_in c.args.constants.now) (naming_by c.args.names.now) c.args.terms.now.nodes c.args.id.0 (get_or c.args.args.now 1 (record { 0 = 0 })).0 c.is_arena.ensures.arena c.requires.room (Op Quotient c.args.args.now, c.requires.node, among_at c.args.args.now 1 (record { 0 = 0 }) (let three = c.in-len2.len_at_least in omega (arith, three))))
+quotient_of-requires-clause-short c = constant_short (constant_in c.args.constants.now) (naming_by c.args.names.now) c.args.terms.now.nodes c.arena_law.ensures.arena (get_or c.args.args.now 1 (record { 0 = 0 })).0 (made_room (constant_in c.args.constants.now) (naming_by c.args.names.now) c.args.terms.now.nodes c.args.id.0 (get_or c.args.args.now 1 (record { 0 = 0 })).0 c.arena_law.ensures.arena c.requires.room (Op Quotient c.args.args.now, c.requires.node, among_at c.args.args.now 1 (record { 0 = 0 }) (let three = c.in-len2.len_at_least in omega (arith, three))))
 
 pub returns-clause-is : goal.returns-clause-is
 returns-clause-is c =

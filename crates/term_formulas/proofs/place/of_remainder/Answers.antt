@@ -16,11 +16,11 @@ pub remainder_of-requires-clause-part : goal.remainder_of-requires-clause-part
 remainder_of-requires-clause-part c = (Op Remainder c.args.args.now, c.requires.node, among_at c.args.args.now 0 (record { 0 = 0 }) (let three = c.in-len2.len_at_least in omega (arith, three)))
 
 pub remainder_of-requires-clause-short : goal.remainder_of-requires-clause-short
-remainder_of-requires-clause-short c = constant_short (constant_in c.args.constants.now) (naming_by c.args.names.now) c.args.terms.now.nodes c.is_arena.ensures.arena (get_or c.args.args.now 1 (record { 0 = 0 })).0 (made_room (constant_in c.args.constants.now) (naming_by c.args.names.now) c.args.terms.now.nodes c.args.id.0 (get_or c.args.args.now 1 (record { 0 = 0 })).0 c.is_arena.ensures.arena c.requires.room (Op Remainder c.args.args.now, c.requires.node, among_at c.args.args.now 1 (record { 0 = 0 }) (let three = c.in-len2.len_at_least in omega (arith, three))))
+remainder_of-requires-clause-short c = constant_short (constant_in c.args.constants.now) (naming_by c.args.names.now) c.args.terms.now.nodes c.arena_law.ensures.arena (get_or c.args.args.now 1 (record { 0 = 0 })).0 (made_room (constant_in c.args.constants.now) (naming_by c.args.names.now) c.args.terms.now.nodes c.args.id.0 (get_or c.args.args.now 1 (record { 0 = 0 })).0 c.arena_law.ensures.arena c.requires.room (Op Remainder c.args.args.now, c.requires.node, among_at c.args.args.now 1 (record { 0 = 0 }) (let three = c.in-len2.len_at_least in omega (arith, three))))
 
 pub remainder_of-requires-clause-some : goal.remainder_of-requires-clause-some
 remainder_of-requires-clause-some c =
-    remainder_whole (constant_in c.args.constants.now) (naming_by c.args.names.now) c.args.terms.now.nodes c.is_arena.ensures.arena c.args.id.0 (get_or c.args.args.now 0 (record { 0 = 0 })) (get_or c.args.args.now 1 (record { 0 = 0 })) c.requires.room (made_room (constant_in c.args.constants.now) (naming_by c.args.names.now) c.args.terms.now.nodes c.args.id.0 (get_or c.args.args.now 1 (record { 0 = 0 })).0 c.is_arena.ensures.arena c.requires.room (Op Remainder c.args.args.now, c.requires.node, among_at c.args.args.now 1 (record { 0 = 0 }) (let three = c.in-len2.len_at_least in omega (arith, three))))
+    remainder_whole (constant_in c.args.constants.now) (naming_by c.args.names.now) c.args.terms.now.nodes c.arena_law.ensures.arena c.args.id.0 (get_or c.args.args.now 0 (record { 0 = 0 })) (get_or c.args.args.now 1 (record { 0 = 0 })) c.requires.room (made_room (constant_in c.args.constants.now) (naming_by c.args.names.now) c.args.terms.now.nodes c.args.id.0 (get_or c.args.args.now 1 (record { 0 = 0 })).0 c.arena_law.ensures.arena c.requires.room (Op Remainder c.args.args.now, c.requires.node, among_at c.args.args.now 1 (record { 0 = 0 }) (let three = c.in-len2.len_at_least in omega (arith, three))))
     (subst (λ (ids : List TermId). slice_get c.args.terms.now.nodes c.args.id.0 ≡ Some (Op Remainder ids)) (two_ids c.args.args.now (record { 0 = 0 }) c.in-len2.len_at_least c.in-len2.len_below) c.requires.node)
 
 pub returns-clause-is : goal.returns-clause-is

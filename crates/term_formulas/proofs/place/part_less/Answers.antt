@@ -9,7 +9,7 @@ use Rattle.term_formulas.proofs.RoomLemmas.{made_room}
 use Rattle.term_formulas.proofs.place.part_less.Goals as goal
 
 pub less_leaf-requires : goal.less_leaf-requires
-less_leaf-requires c = (made_room (constant_in c.args.constants.now) (naming_by c.args.names.now) c.args.terms.now.nodes c.args.id.0 c.args.part.0 c.is_arena.ensures.arena c.requires.room c.requires.part).there
+less_leaf-requires c = (made_room (constant_in c.args.constants.now) (naming_by c.args.names.now) c.args.terms.now.nodes c.args.id.0 c.args.part.0 c.arena_law.ensures.arena c.requires.room c.requires.part).there
 
 pub returns-in-Some-clause-is : goal.returns-in-Some-clause-is
 returns-in-Some-clause-is c =

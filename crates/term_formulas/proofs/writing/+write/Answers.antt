@@ -27,7 +27,7 @@ formula-returns-clause-is t c =
 pub of_node-bit_is_one-requires : goal.of_node-bit_is_one-requires
 of_node-bit_is_one-requires t c =
     let is : slice_get c.args.terms.now.nodes c.args.id.0 ≡ Some (LetVar c.in-LetVar.bound) = c.requires.node ∙ ap (λ (n : Node). Some n) c.in-LetVar.is in
-    (room_part (constant_in c.args.constants.now) (naming_by c.args.names.now) c.args.terms.now.nodes c.args.id.0 c.in-LetVar.bound.0 (LetVar c.in-LetVar.bound) c.is_arena.ensures.arena c.requires.room is
+    (room_part (constant_in c.args.constants.now) (naming_by c.args.names.now) c.args.terms.now.nodes c.args.id.0 c.in-LetVar.bound.0 (LetVar c.in-LetVar.bound) c.arena_law.ensures.arena c.requires.room is
     (eqb_self c.in-LetVar.bound.0)).there
 
 pub of_node-operation-requires : goal.of_node-operation-requires
@@ -38,8 +38,8 @@ of_node-operation-requires t c =
     let is : slice_get nodes c.args.id.0 ≡ Some (Op c.in-Op.op c.as_slice.result.now) = c.requires.node ∙ ap (λ (n : Node). Some n) (c.in-Op.is ∙ ap (Op c.in-Op.op) (sym c.as_slice.ensures)) in (
       let d = c.decreases in omega (arith, d),
       (
-        room_args constant naming nodes c.args.id.0 c.in-Op.op c.as_slice.result.now c.is_arena.ensures.arena c.requires.room is,
-        (room_sides constant naming nodes c.args.id.0 c.in-Op.op c.as_slice.result.now c.is_arena.ensures.arena c.requires.room is, c.requires.known),
+        room_args constant naming nodes c.args.id.0 c.in-Op.op c.as_slice.result.now c.arena_law.ensures.arena c.requires.room is,
+        (room_sides constant naming nodes c.args.id.0 c.in-Op.op c.as_slice.result.now c.arena_law.ensures.arena c.requires.room is, c.requires.known),
       ),
     )
 
@@ -53,7 +53,7 @@ of_node-of_divisible-requires-clause-some t c =
 pub of_node-of_divisible-requires-clause-there : goal.of_node-of_divisible-requires-clause-there
 of_node-of_divisible-requires-clause-there t c =
     (room_part (constant_in c.args.constants.now) (naming_by c.args.names.now) c.args.terms.now.nodes c.args.id.0 c.in-Divisible.arg.0 (Divisible c.in-Divisible.by c.in-Divisible.arg)
-    c.is_arena.ensures.arena c.requires.room (c.requires.node ∙ ap (λ (n : Node). Some n) c.in-Divisible.is) (eqb_self c.in-Divisible.arg.0)).there
+    c.arena_law.ensures.arena c.requires.room (c.requires.node ∙ ap (λ (n : Node). Some n) c.in-Divisible.is) (eqb_self c.in-Divisible.arg.0)).there
 
 pub of_node-of_divisible-requires-clause-narrow : goal.of_node-of_divisible-requires-clause-narrow
 of_node-of_divisible-requires-clause-narrow t c =
@@ -62,7 +62,7 @@ of_node-of_divisible-requires-clause-narrow t c =
     let nodes = c.args.terms.now.nodes in
     narrow_here constant naming nodes c.in-Divisible.arg.0
     (room_part constant naming nodes c.args.id.0 c.in-Divisible.arg.0 (Divisible c.in-Divisible.by c.in-Divisible.arg)
-    c.is_arena.ensures.arena c.requires.room (c.requires.node ∙ ap (λ (n : Node). Some n) c.in-Divisible.is) (eqb_self c.in-Divisible.arg.0))
+    c.arena_law.ensures.arena c.requires.room (c.requires.node ∙ ap (λ (n : Node). Some n) c.in-Divisible.is) (eqb_self c.in-Divisible.arg.0))
 
 pub of_node-formula-requires : goal.of_node-formula-requires
 of_node-formula-requires t c =
@@ -72,9 +72,9 @@ of_node-formula-requires t c =
     let node : Node = Let c.in-Let.bound c.in-Let.body in
     let is : slice_get nodes c.args.id.0 ≡ Some node = c.requires.node ∙ ap (λ (n : Node). Some n) c.in-Let.is in
     let has = or_right (is_among c.in-Let.body.0 c.in-Let.bound) (c.in-Let.body.0 == c.in-Let.body.0) (eqb_self c.in-Let.body.0) in
-    let less : c.in-Let.body.0 < c.args.id.0 = part_below c.in-Let.body.0 c.args.id.0 node (arena_below nodes c.args.id.0 node c.is_arena.ensures.arena is) has in (
+    let less : c.in-Let.body.0 < c.args.id.0 = part_below c.in-Let.body.0 c.args.id.0 node (arena_below nodes c.args.id.0 node c.arena_law.ensures.arena is) has in (
       let d = c.decreases in omega (arith, d, less),
-      (room_part constant naming nodes c.args.id.0 c.in-Let.body.0 node c.is_arena.ensures.arena c.requires.room is has, c.requires.known),
+      (room_part constant naming nodes c.args.id.0 c.in-Let.body.0 node c.arena_law.ensures.arena c.requires.room is has, c.requires.known),
     )
 
 pub operation-returns-in_default-clause-is : goal.operation-returns-in_default-clause-is

@@ -11,4 +11,4 @@ returns c = λ top first short below.
       short = c.variables_end.ensures.short;
       numbers_are = c.in_ok-auxiliary.ensures;
     })
-    top first c.is_arena.ensures.arena c.requires short below
+    top first c.arena_law.ensures.arena c.requires short below

@@ -118,7 +118,7 @@ operation-returns-then-not-is_sum-clause-is t c =
     let nodes = c.args.terms.now.nodes in
     let id = c.args.id.0 in
     let node = Op c.args.op c.args.args.now in
-    let below : has_parts_below id node ≡ true = arena_below nodes id node c.is_arena.ensures.arena c.requires.node in
+    let below : has_parts_below id node ≡ true = arena_below nodes id node c.arena_law.ensures.arena c.requires.node in
     let values = map (λ (x : TermId). constant x.0) c.args.args.now in
     let forms = map (λ (x : TermId). form_by constant naming nodes x.0) c.args.args.now in
     if_same c.other_form.result (operation_form c.args.op (auxiliary_form (naming.auxiliary id)) values forms) (form_by constant naming nodes id)
@@ -131,7 +131,7 @@ operation-part_forms-requires t c =
     let nodes = c.args.terms.now.nodes in
     let id = c.args.id.0 in
     let node = Op c.args.op c.args.args.now in
-    let below : has_parts_below id node ≡ true = arena_below nodes id node c.is_arena.ensures.arena c.requires.node in (
+    let below : has_parts_below id node ≡ true = arena_below nodes id node c.arena_law.ensures.arena c.requires.node in (
       let d = c.decreases in omega (arith, d),
       (slice_get_within nodes id node c.requires.node, (below, (parts_narrow constant naming nodes id node c.requires.node below c.requires.narrow, c.requires.known))),
     )
@@ -143,7 +143,7 @@ operation-sum_of-requires-clause-narrow t c =
     let nodes = c.args.terms.now.nodes in
     let id = c.args.id.0 in
     let node = Op c.args.op c.args.args.now in
-    let below : has_parts_below id node ≡ true = arena_below nodes id node c.is_arena.ensures.arena c.requires.node in
+    let below : has_parts_below id node ≡ true = arena_below nodes id node c.arena_law.ensures.arena c.requires.node in
     let sum : is_sum c.args.op ≡ true = search rules in
     let made = c.as_slice.ensures.value ∙ c.in_ok-forms.ensures.are in
     subst (λ (forms : List Linear). IsTrue (is_narrow (operation_form c.args.op zero_form (map (λ (x : TermId). constant x.0) c.args.args.now) forms))) (sym made)
@@ -156,7 +156,7 @@ operation-returns-clause-is t c =
     let nodes = c.args.terms.now.nodes in
     let id = c.args.id.0 in
     let node = Op c.args.op c.args.args.now in
-    let below : has_parts_below id node ≡ true = arena_below nodes id node c.is_arena.ensures.arena c.requires.node in
+    let below : has_parts_below id node ≡ true = arena_below nodes id node c.arena_law.ensures.arena c.requires.node in
     let sum : is_sum c.args.op ≡ true = search rules in
     let made = c.as_slice.ensures.value ∙ c.in_ok-forms.ensures.are in
     let values = map (λ (x : TermId). constant x.0) c.args.args.now in

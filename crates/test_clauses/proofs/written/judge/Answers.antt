@@ -13,7 +13,7 @@ returns-clause-room g c =
     let within : c.args.id.0 < length nodes = search rules in
     let none : c.in-Ok.wide ≡ None = search rules in
     let narrow : first_wide_by (constant_in c.args.given.now.constants) naming nodes c.args.id.0 ≡ None = sym c.in-Ok.ensures.told ∙ ap numbered none in
-    rows_have_room c.args.given.now.constants naming nodes c.args.id.0 c.requires.given.terms c.is_arena.ensures.arena c.requires.given.constants within narrow
+    rows_have_room c.args.given.now.constants naming nodes c.args.id.0 c.requires.given.terms c.arena_law.ensures.arena c.requires.given.constants within narrow
 
 pub returns-clause-known : goal.returns-clause-known
 returns-clause-known g c =

@@ -6,4 +6,4 @@ use Rattle.test_turns.proofs.asking.asked.Goals as goal
 pub ask_all-requires-clause-asks : goal.ask_all-requires-clause-asks
 ask_all-requires-clause-asks g c =
     let same = c.lent.view_is ∙ c.lend-lent.ensures.is in
-    asks-lent c.args.book.now _ _ (ap (λ (s : Standing). s.system) same) (ap (λ (s : Standing). s.frames) same) c.requires.can_run c.is_replayed.ensures.numbered c.is_replayed.ensures.over c.requires.thin
+    asks-lent c.args.book.now _ _ (ap (λ (s : Standing). s.system) same) (ap (λ (s : Standing). s.frames) same) c.requires.can_run c.replay_law.ensures.numbered c.replay_law.ensures.over c.requires.thin

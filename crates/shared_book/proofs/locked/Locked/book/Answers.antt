@@ -23,11 +23,11 @@ returns-clause-given g c = subst (λ (b : Contents). b.given ≡ _) (ap (λ (l :
 
 pub returns-clause-replayed : goal.returns-clause-replayed
 returns-clause-replayed g c = subst (λ (b : Contents). replay g.R.Run.system (opening g.R.Run.units) (steps_of b.journal) ≡ state_of b) (ap (λ (l : Behind). l.book) c.self.view_is ∙ sym (returns-clause-is g c))
-    (named-replay _ _ c.self.inside.book c.self.invariant.0.system c.self.invariant.0.given c.is_replayed.ensures.replayed)
+    (named-replay _ _ c.self.inside.book c.self.invariant.0.system c.self.invariant.0.given c.replay_law.ensures.replayed)
 
 pub returns-clause-legal : goal.returns-clause-legal
 returns-clause-legal g c = subst (λ (b : Contents). AreLegal g.R.Run.system (opening g.R.Run.units) (steps_of b.journal)) (ap (λ (l : Behind). l.book) c.self.view_is ∙ sym (returns-clause-is g c))
-    (named-legal _ _ c.self.inside.book c.self.invariant.0.system c.self.invariant.0.given c.is_replayed.ensures.legal)
+    (named-legal _ _ c.self.inside.book c.self.invariant.0.system c.self.invariant.0.given c.replay_law.ensures.legal)
 
 pub returns-clause-good : goal.returns-clause-good
 returns-clause-good g c = subst (λ (b : Contents). AreGood (instances _) (state_of b).lemmas) (ap (λ (l : Behind). l.book) c.self.view_is ∙ sym (returns-clause-is g c))

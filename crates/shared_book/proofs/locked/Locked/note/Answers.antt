@@ -16,7 +16,7 @@ invariant_of-self g c =
     let is = c.release.ensures in
     (run-claims _ _ _ _ c.self.inside.book c.release.new.self _ is c.self.invariant.0, c.self.invariant.1 ∙ ap (λ (b : Contents). length b.journal) (sym {b = released_by c.args.share.now.worker c.self.inside.book} is))
 
-pub returns : goal.returns
-returns g c =
+pub returns-clause-noted : goal.returns-clause-noted
+returns-clause-noted g c =
     same-behind c.release.new.self (released_by c.args.share.now.worker c.self.inside.book) true _ _ c.release.ensures refl
     ∙ ap (λ (l : Behind). record l { book = released_by c.args.share.now.worker l.book; noted = true }) c.self.view_is

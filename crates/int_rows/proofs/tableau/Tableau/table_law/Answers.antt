@@ -1,6 +1,6 @@
 use Rattle.std.proofs.Common.{subst}
 use Rattle.int_rows.specs.Table.{IsTable}
-use Rattle.int_rows.proofs.tableau.Tableau.is_table.Goals as goal
+use Rattle.int_rows.proofs.tableau.Tableau.table_law.Goals as goal
 
 pub returns : goal.returns
 returns c = subst IsTable c.self.view_is c.self.invariant

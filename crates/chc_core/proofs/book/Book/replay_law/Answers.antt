@@ -4,7 +4,7 @@ use Rattle.book_rules.specs.Kept.{IsSound}
 use Rattle.chc_core.specs.Views.{state_of}
 use Rattle.chc_core.specs.machinery.Books.{IsBook}
 use Rattle.chc_core.proofs.BookLemmas.{sound}
-use Rattle.chc_core.proofs.book.Book.is_replayed.Goals as goal
+use Rattle.chc_core.proofs.book.Book.replay_law.Goals as goal
 
 pub returns : goal.returns
 returns c =
