@@ -1,4 +1,3 @@
-ghost use Rattle.std.specs.Cmp.{on_equiv, on_per};
 ghost use Rattle.std.specs.Cmp.Lexicographic.{pointwise, lists_equiv, lists_per};
 ghost use Rattle.std.specs.Hash as fed;
 ghost use Rattle.std.specs.Hash.{items_Alike};
@@ -29,6 +28,8 @@ impl Model for Key {
 }
 
 impl Key {
+    ghost use Rattle.std.specs.Prelude.{◌≡◌};
+
     fn as_slice(&self) -> &[i64]
         ensures { result.now ≡ self.now }
     {
@@ -51,7 +52,7 @@ impl Eq for Key {
 }
 
 impl Hash for Key {
-    ghost hash_input = { fed.slice i64.hash_input };
+    ghost hash_input = { fed.slice fed.i64 };
 
     ghost respects_eq = { (items_Alike (record { fed = i64.respects_eq })).fed };
 

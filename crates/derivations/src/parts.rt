@@ -1,6 +1,9 @@
+ghost use Rattle.std.specs.Prelude.{◌≡◌, ◌↔◌, ◌≤◌, ℕ, Some, length, IfOk};
+ghost use Rattle.derivations.specs.machinery.Index.{joined, AreGrown, AreSingle, Holds};
+
 use crate::key::Key;
 use crate::part::Part;
-use base::Memory;
+use base::{Items, Memory};
 use cube_forms::{Held, Tuple, share_all};
 use keyed_hash::KeyedState;
 use std::alloc::Global;
@@ -10,10 +13,12 @@ use std::hash::BuildHasher;
 const TIMES: usize = 8;
 
 /// The tuples of a predicate with their numbers, the newest of them in the last part.
-pub(crate) type Parts = Vec<Held<Part>>;
+pub(crate) type Parts = Items<Held<Part>>;
 
-/// The number that a tuple has in one of the parts, of which the last is looked into first.
+/// The number that a tuple has in the parts, of which the last is looked into first.
 pub(crate) fn sought(parts: &[Held<Part>], tuple: &[i64]) -> Option<u32>
+    requires { AreSingle parts.now }
+    ensures { (n : ℕ) → (result ≡ Some n) ↔ Holds parts.now tuple.now n }
 {
     let mut left = parts.len();
     while left > 0 {
@@ -26,18 +31,19 @@ pub(crate) fn sought(parts: &[Held<Part>], tuple: &[i64]) -> Option<u32>
 }
 
 /// How many parts stay as they are where a tuple comes.
-fn stay(parts: &[Held<Part>]) -> usize
+fn staying(parts: &[Held<Part>]) -> usize
+    ensures { result ≤ length parts.now }
 {
     let mut left = parts.len();
-    let mut size = 1;
+    let mut size = 1usize;
     while left > 0 && parts[left - 1].get().len() / TIMES < size {
         left -= 1;
-        size += parts[left].get().len();
+        size = size.saturating_add(parts[left].get().len());
     }
     left
 }
 
-/// The key of the part that a tuple comes into. It depends on all tuples before it.
+/// The key of the part that a tuple comes into: it depends on all tuples before it, and on this one.
 fn key_for(parts: &[Held<Part>], tuple: &[i64], number: u32) -> KeyedState {
     let before = match parts.last() {
         Some(part) => part.get().key(),
@@ -46,17 +52,39 @@ fn key_for(parts: &[Held<Part>], tuple: &[i64], number: u32) -> KeyedState {
     KeyedState::new(before.hash_one(tuple), u64::from(number))
 }
 
-/// The parts with one tuple more: it makes the last part anew, and with it those that aren't large enough beside it.
-pub(crate) fn grown(alloc: Global, parts: &[Held<Part>], tuple: &[i64], number: u32) -> Result<Parts, Memory>
+/// A part with one tuple and all of others.
+fn joined(
+    alloc: Global,
+    key: KeyedState,
+    tuple: &[i64],
+    number: u32,
+    others: &[Held<Part>],
+) -> Result<Part, Memory>
+    ensures { IfOk result (λ part. part ≡ joined others.now tuple.now number) }
 {
-    let left = stay(parts);
-    let mut part = Part::new(alloc, key_for(parts, tuple, number));
+    let mut part = Part::new(alloc, key);
     let tuple = Held::new(alloc, Tuple::from_slice(alloc, tuple)?)?;
     part.put(Key { tuple }, number)?;
-    for older in &parts[left..] {
-        part.pour(older.get())?;
+    for other in others {
+        part.pour(other.get())?;
     }
-    let mut grown = share_all(alloc, &parts[..left])?;
-    grown.push(Held::new(alloc, part)?)?;
-    Ok(grown)
+    Ok(part)
+}
+
+/// The parts with one tuple more. The last part is made anew, and with it go those that aren't large
+/// enough beside it.
+pub(crate) fn grown(
+    alloc: Global,
+    parts: &[Held<Part>],
+    tuple: &[i64],
+    number: u32,
+) -> Result<Parts, Memory>
+    ensures { IfOk result (λ longer. AreGrown parts.now tuple.now number longer) }
+{
+    let left = staying(parts);
+    let key = key_for(parts, tuple, number);
+    let part = joined(alloc, key, tuple, number, &parts[left..])?;
+    let mut longer = share_all(alloc, &parts[..left])?;
+    longer.push(Held::new(alloc, part)?)?;
+    Ok(Items::from_vec(longer))
 }

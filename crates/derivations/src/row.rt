@@ -30,12 +30,13 @@ pub(crate) fn empty_row(alloc: Global) -> Row
     ensures numbers { result.by_number ≡ [] }
     ensures tuples { result.by_tuple ≡ [] }
     ensures keys { result.keys ≡ [] }
+    ensures parts { result.parts ≡ [] }
 {
     Row {
         by_number: Items::new(alloc),
         by_tuple: Items::new(alloc),
         keys: Items::new(alloc),
-        parts: Vec::new(alloc),
+        parts: Items::new(alloc),
     }
 }
 
@@ -82,7 +83,7 @@ pub(crate) fn with(
 ) -> Result<Row, Memory>
     requires tuples { at ≤ length row.now.by_tuple }
     requires keys { at ≤ length row.now.keys }
-    ensures { IfOk result (λ longer. longer ≡ record { by_number = row.now.by_number ++ id ∷ []; by_tuple = insert row.now.by_tuple at id; keys = insert row.now.keys at key }) }
+    ensures { IfOk result (λ longer. longer ≡ record { by_number = row.now.by_number ++ id ∷ []; by_tuple = insert row.now.by_tuple at id; keys = insert row.now.keys at key; parts = parts }) }
 {
     let by_number = extended(alloc, row.by_number.as_slice(), id)?;
     let by_tuple = inserted(alloc, row.by_tuple.as_slice(), at, id)?;

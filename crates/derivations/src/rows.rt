@@ -51,6 +51,7 @@ pub(crate) fn keys_by_tuple(rows: &Rows, pred: u32) -> &[i64]
 
 /// The parts in which a predicate's tuples are found.
 pub(crate) fn parts_of(rows: &Rows, pred: u32) -> &[Held<Part>]
+    ensures { result.now ≡ (slice_index_or rows.now.items pred empty).parts }
 {
     let pred = pred as usize;
     if pred < rows.len() {
