@@ -1,7 +1,10 @@
-ghost use Rattle.std.specs.Cmp.Lexicographic.{pointwise, lists_equiv, lists_per};
+ghost use Rattle.std.specs.Cmp.Lexicographic.{pointwise, lists_equiv};
+ghost use Rattle.std.specs.Cmp.Rules.{comparing, hashing};
 ghost use Rattle.std.specs.Hash as fed;
 ghost use Rattle.std.specs.Hash.{items_Alike};
 ghost use Rattle.std.specs.Ordering.{int_eq};
+ghost use Rattle.std.proofs.Common.{rules};
+ghost use Rattle.std.proofs.lemmas.Cmp.{int_eq_equiv};
 
 use cube_forms::{Held, Tuple};
 use indexmap::Equivalent;
@@ -40,7 +43,7 @@ impl Key {
 impl PartialEq for Key {
     ghost eq = { pointwise int_eq };
 
-    ghost laws = { lists_per i64.laws };
+    ghost laws = { Prim.search (comparing, rules) };
 
     fn eq(&self, other: &Key) -> bool {
         self.as_slice() == other.as_slice()
@@ -48,13 +51,13 @@ impl PartialEq for Key {
 }
 
 impl Eq for Key {
-    ghost laws = { lists_equiv i64.Eq.laws };
+    ghost laws = { lists_equiv int_eq_equiv };
 }
 
 impl Hash for Key {
     ghost hash_input = { fed.slice fed.i64 };
 
-    ghost respects_eq = { (items_Alike (record { fed = i64.respects_eq })).fed };
+    ghost respects_eq = { Prim.search (hashing, rules) };
 
     fn hash<H: Hasher>(&self, state: &mut H) {
         self.as_slice().hash(state);
@@ -64,9 +67,9 @@ impl Hash for Key {
 impl Equivalent<Key> for &[i64] {
     ghost equivalent = { λ q k. pointwise int_eq q.now k };
 
-    ghost respects_hash = { λ q k. (items_Alike (record { fed = i64.respects_eq })).fed q.now k };
+    ghost respects_hash = { λ q k. (items_Alike {E = int_eq} {F = fed.i64} (Prim.search (hashing, rules))).fed q.now k };
 
-    ghost respects_eq = { λ q x y. (lists_equiv i64.Eq.laws).congr q.now x y };
+    ghost respects_eq = { λ q x y. (lists_equiv int_eq_equiv).congr q.now x y };
 
     fn equivalent(&self, key: &Key) -> bool {
         *self == key.as_slice()
