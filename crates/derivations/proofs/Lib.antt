@@ -4,5 +4,6 @@ pub mod InsertLemmas
 pub mod LawLemmas
 pub mod MarkLemmas
 pub mod NoteLemmas
+pub mod PartLemmas
 pub mod Public
 pub mod SearchLemmas
