@@ -1,4 +1,5 @@
 pub mod FrontLemmas
+pub mod GrownLemmas
 pub mod IndexLemmas
 pub mod InsertLemmas
 pub mod LawLemmas

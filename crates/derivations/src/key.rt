@@ -6,6 +6,7 @@ ghost use Rattle.std.specs.Ordering.{int_eq};
 ghost use Rattle.std.proofs.Common.{rules};
 ghost use Rattle.std.proofs.lemmas.Cmp.{int_eq_equiv};
 
+use base::Memory;
 use cube_forms::{Held, Tuple};
 use indexmap::Equivalent;
 use std::hash::{Hash, Hasher};
@@ -31,7 +32,16 @@ impl Model for Key {
 }
 
 impl Key {
-    ghost use Rattle.std.specs.Prelude.{◌≡◌};
+    ghost use Rattle.std.specs.Prelude.{◌≡◌, IfOk};
+
+    /// An equal key, which shares the tuple.
+    pub(crate) fn share(&self) -> Result<Key, Memory>
+        ensures { IfOk result (λ key. key ≡ self.now) }
+    {
+        Ok(Key {
+            tuple: self.tuple.share()?,
+        })
+    }
 
     fn as_slice(&self) -> &[i64]
         ensures { result.now ≡ self.now }

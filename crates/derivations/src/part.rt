@@ -1,4 +1,4 @@
-ghost use Rattle.std.specs.Prelude.{◌≡◌, ℕ, [], None, length, IfSome, OnOk};
+ghost use Rattle.std.specs.Prelude.{◌≡◌, ◌<◌, ℕ, [], None, length, get_or, IfOk, IfSome, OnOk};
 ghost use Rattle.std.specs.List.{Contains};
 ghost use Rattle.std.specs.Ordering.{int_eq};
 ghost use Rattle.std.specs.Cmp.Lexicographic.{pointwise};
@@ -71,13 +71,26 @@ impl Part {
         Ok(())
     }
 
+    /// The tuple at a place, shared, with its number.
+    fn entry(&self, at: usize) -> Result<(Key, u32), Memory>
+        requires { at < length self.now }
+        ensures { IfOk result (λ e. e ≡ get_or self.now at e) }
+    {
+        let keys = self.map.keys().as_slice();
+        let numbers = self.map.values().as_slice();
+        let key = keys[at].share()?;
+        Ok((key, numbers[at]))
+    }
+
     /// Puts in all of another part.
     pub(crate) fn pour(&mut self, other: &Part) -> Result<(), Memory>
         ensures { OnOk result (self.new ≡ insert_all (pointwise int_eq) self.old other.now) }
     {
-        for (key, number) in other.map.iter() {
-            let tuple = key.tuple.share()?;
-            self.put(Key { tuple }, *number)?;
+        let mut at = 0;
+        while at < other.len() {
+            let (key, number) = other.entry(at)?;
+            self.put(key, number)?;
+            at += 1;
         }
         Ok(())
     }
