@@ -1,11 +1,27 @@
--- Parts with one tuple more hold what they held, and that.
-use Rattle.std.proofs.Common.{◌≡◌, ℕ, zero, suc, ◌+◌, ◌-◌, ◌<◌, ◌≤◌, List, [], ◌∷◌, ◌++◌, length, get_or, take, drop, refl, ap, ap₂, sym, subst, ◌∙◌, arith, inl, inr}
+-- What a look-up in parts finds; and parts with one tuple more hold what they held, and that.
+use Rattle.std.proofs.Common.{◌≡◌, ℕ, zero, suc, ◌+◌, ◌-◌, ◌<◌, ◌≤◌, List, [], ◌∷◌, ◌++◌, Some, None, length, get_or, take, drop, refl, ap, ap₂, sym, subst, ◌∙◌, arith, inl, inr}
 use Rattle.std.specs.Prelude.{ℤ, ◌⊎◌, ◌↔◌}
 use Rattle.std.specs.List.{Contains}
 use Rattle.std.proofs.lemmas.Bool.{cases_lt, cases_order}
 use Rattle.std.proofs.lemmas.List.{length-append, length-drop, length-take-le, get_or-drop, get_or-take, get_or_append_left, get_or_push}
 use Rattle.derivations.specs.machinery.Index.{AreGrown, AreSingle, Holds, joined}
 use Rattle.derivations.proofs.PartLemmas.{joined_all, joined_has, joined_kept}
+
+some_is : (m n : ℕ) → Some m ≡ Some n → m ≡ n
+some_is m n e = cc
+
+pub sought_some : (parts : List (List (List ℤ × ℕ))) (t : List ℤ) (i n : ℕ) → AreSingle parts → i < length parts → Contains (get_or parts i []) (t, n) → (m : ℕ) → (Some n ≡ Some m) ↔ Holds parts t m
+sought_some parts t i n single l has m = (λ e. subst (λ k. Holds parts t k) (some_is n m e) (i, l, has), λ h. ap (λ k. Some k) (single t n m (i, l, has) h))
+
+pub sought_none : (parts : List (List (List ℤ × ℕ))) (t : List ℤ) → ((i n : ℕ) → 0 ≤ i → i < length parts → Contains (get_or parts i []) (t, n) → ⊥) → (m : ℕ) → (None ≡ Some m) ↔ Holds parts t m
+sought_none parts t none m = (λ e. absurd (cc), λ h. absurd (none h.0 m (omega arith) h.1 h.2))
+
+pub sought_more : (parts : List (List (List ℤ × ℕ))) (t : List ℤ) (left : ℕ) → 0 < left → ((n : ℕ) → Contains (get_or parts (left - 1) []) (t, n) → ⊥) → ((i n : ℕ) → left ≤ i → i < length parts → Contains (get_or parts i []) (t, n) → ⊥)
+    → (i n : ℕ) → left - 1 ≤ i → i < length parts → Contains (get_or parts i []) (t, n) → ⊥
+sought_more parts t left some here later i n more l has = by (cases_lt i left) where
+  by : (i < left) ⊎ (left ≤ i) → ⊥
+  by (inl less) = (let same : i ≡ left - 1 = omega (arith, more, less, some) in here n (subst (λ j. Contains (get_or parts j []) (t, n)) same has))
+  by (inr past) = later i n past l has
 
 module _ (old : List (List (List ℤ × ℕ))) (tuple : List ℤ) (number : ℕ) (single : AreSingle old) (fresh : (n : ℕ) → Holds old tuple n → ⊥) where
   -- an old tuple with its number, or the new one
@@ -18,10 +34,10 @@ module _ (old : List (List (List ℤ × ℕ))) (tuple : List ℤ) (number : ℕ)
   either_single t m n (inr a) (inl b) = absurd (fresh n (subst (λ s. Holds old s n) a.0 b))
   either_single t m n (inr a) (inr b) = a.1 ∙ sym b.1
 
-  first : List (List ℤ × ℕ)
+  abbrev first : List (List ℤ × ℕ)
   first = (tuple, number) ∷ []
 
-  first_all : (t : List ℤ) (n : ℕ) → Contains ((tuple, number) ∷ []) (t, n) → IsEither t n
+  first_all : (t : List ℤ) (n : ℕ) → Contains first (t, n) → IsEither t n
   first_all t n (zero, l, is) = inr (sym (ap (λ x. x.0) is), sym (ap (λ x. x.1) is))
   first_all t n (suc k, l, is) = absurd (omega arith)
 

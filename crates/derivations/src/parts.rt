@@ -1,4 +1,4 @@
-ghost use Rattle.std.specs.Prelude.{◌≡◌, ◌↔◌, ◌≤◌, ℕ, Some, length, IfOk};
+ghost use Rattle.std.specs.Prelude.{◌≡◌, ◌↔◌, ◌<◌, ◌≤◌, ℕ, [], Some, length, slice_index_or, IfOk};
 ghost use Rattle.derivations.specs.machinery.Index.{joined, AreGrown, AreSingle, Holds};
 
 use crate::key::Key;
@@ -15,6 +15,14 @@ const TIMES: usize = 8;
 /// The tuples of a predicate with their numbers, the newest of them in the last part.
 pub(crate) type Parts = Items<Held<Part>>;
 
+/// The part at a place.
+fn part_at(parts: &[Held<Part>], at: usize) -> &Part
+    requires { at < length parts.now }
+    ensures { result.now ≡ slice_index_or parts.now at [] }
+{
+    parts[at].get()
+}
+
 /// The number that a tuple has in the parts, of which the last is looked into first.
 pub(crate) fn sought(parts: &[Held<Part>], tuple: &[i64]) -> Option<u32>
     requires { AreSingle parts.now }
@@ -23,8 +31,9 @@ pub(crate) fn sought(parts: &[Held<Part>], tuple: &[i64]) -> Option<u32>
     let mut left = parts.len();
     while left > 0 {
         left -= 1;
-        if let Some(number) = parts[left].get().get(tuple) {
-            return Some(number);
+        match part_at(parts, left).get(tuple) {
+            Some(number) => return Some(number),
+            None => {}
         }
     }
     None
