@@ -73,8 +73,8 @@ impl Facts {
         self.notes.height(id)
     }
 
-    /// The number of the fact that this tuple is in this predicate. It takes no memory, and the
-    /// logarithm of the predicate's facts, whichever they are.
+    /// The number of the fact that this tuple is in this predicate. It takes no memory, and
+    /// looks into as many maps as the logarithm of the number of the predicate's facts at most.
     pub fn find(&self, pred: u32, tuple: &[i64]) -> Option<u32>
         ensures { (n : ℕ) → (result ≡ Some n) ↔ Concludes self.now n (Some pred) tuple.now }
     {
