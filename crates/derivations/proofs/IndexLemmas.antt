@@ -9,7 +9,8 @@ use Rattle.std.proofs.lemmas.List.Quantifiers.{all_pairs_push}
 use Rattle.derivations.specs.declared.fact.Fact.{Fact}
 use Rattle.derivations.specs.declared.row.Row.{Row}
 use Rattle.derivations.specs.Facts.{pred_of, tuple_of, fact_premises, AreRecorded, AreUnder, Concludes, IsBare}
-use Rattle.derivations.specs.machinery.Index.{Begins, IsBelow, IsIndexed, IsRank, IsRow, empty, key_of}
+use Rattle.derivations.specs.machinery.Index.{AreGrown, AreSingle, Begins, Holds, IsBelow, IsIndexed, IsRank, IsRow, empty, key_of}
+use Rattle.derivations.proofs.GrownLemmas.{grown_exact}
 use Rattle.derivations.proofs.InsertLemmas.{inserted, insert_has, insert_keeps, map_insert, map_members, pairs_weaker}
 use Rattle.derivations.proofs.SearchLemmas.{row_insert}
 
@@ -75,6 +76,19 @@ of_old fs f pred n less new = (less, field_push (λ g. g.pred) None fs f n less 
 of_new : (fs : List Fact) (f : Fact) (pred n : ℕ) → n ≡ length fs → f.pred ≡ Some pred → IsOf (fs ++ f ∷ []) pred n
 of_new fs f pred n e is = (let long = more_long fs f in omega arith, field_new (λ g. g.pred) None fs f n e ∙ is)
 
+concludes_push : (fs : List Fact) (f : Fact) (pred n : ℕ) (t : List ℤ) → Concludes fs n (Some pred) t → Concludes (fs ++ f ∷ []) n (Some pred) t
+concludes_push fs f pred n t old = (let of = of_push fs f pred n (old.0, old.1) in (of.0, of.1, sym (field_push (λ g. g.tuple) [] fs f n old.0) ∙ old.2))
+
+concludes_old : (fs : List Fact) (f : Fact) (pred n : ℕ) (t : List ℤ) → IsOf fs pred n → tuple_of (fs ++ f ∷ []) n ≡ t → Concludes fs n (Some pred) t
+concludes_old fs f pred n t of is = (of.0, of.1, field_push (λ g. g.tuple) [] fs f n of.0 ∙ is)
+
+-- no tuple has two numbers where nothing is recorded twice
+row_single : (fs : List Fact) (pred : ℕ) (row : Row) → AreRecorded fs → IsRow fs pred row → AreSingle row.parts
+row_single fs pred row recorded is t m n a b =
+    let x = (is.parts t m).0 a in
+    let y = (is.parts t n).0 b in
+    recorded.distinct m n x.0 y.0 (x.1 ∙ sym y.1) (x.2 ∙ sym y.2)
+
 -- the row of another predicate stays
 row_other : (fs : List Fact) (f : Fact) (pred : ℕ) (row : Row) → (f.pred ≡ Some pred → ⊥) → IsRow fs pred row → IsRow (fs ++ f ∷ []) pred row
 row_other fs f pred row other is = record {
@@ -82,6 +96,7 @@ row_other fs f pred row other is = record {
   order = pairs_weaker (IsBelow (tuple_of fs)) (IsBelow (tuple_of (fs ++ f ∷ []))) row.by_tuple same is.order;
   exact = λ n. (λ has. of_push fs f pred n ((is.exact n).0 has), λ new. (is.exact n).1 (old n new (split fs f n new.0)));
   keyed = is.keyed ∙ map_members (λ n. key_of (tuple_of fs n)) (λ n. key_of (tuple_of (fs ++ f ∷ []) n)) row.by_tuple (λ x has. ap key_of (field_push (λ g. g.tuple) [] fs f x ((is.exact x).0 has).0));
+  parts = λ t n. (λ h. concludes_push fs f pred n t ((is.parts t n).0 h), λ new. (is.parts t n).1 (concludes_old fs f pred n t (old n (new.0, new.1) (split fs f n new.0)) new.2));
 } where
   old : (n : ℕ) → IsOf (fs ++ f ∷ []) pred n → (n ≡ length fs) ⊎ (n < length fs) → IsOf fs pred n
   old n new (inl e) = absurd (other (sym (field_new (λ g. g.pred) None fs f n e) ∙ new.1))
@@ -91,9 +106,9 @@ row_other fs f pred row other is = record {
   same x y hx hy below = rw (sym (field_push (λ g. g.tuple) [] fs f x ((is.exact x).0 hx).0), sym (field_push (λ g. g.tuple) [] fs f y ((is.exact y).0 hy).0)) below
 
 -- the row of its own predicate
-row_own : (fs : List Fact) (f : Fact) (pred : ℕ) (row : Row) (rank : ℕ) → f.pred ≡ Some pred → ((n : ℕ) → Concludes fs n f.pred f.tuple → ⊥) → IsRow fs pred row → IsRank (tuple_of fs) row.by_tuple f.tuple rank
-    → IsRow (fs ++ f ∷ []) pred (record { by_number = row.by_number ++ length fs ∷ []; by_tuple = insert row.by_tuple rank (length fs); keys = insert row.keys rank (key_of f.tuple) })
-row_own fs f pred row rank own fresh is at = record {
+row_own : (fs : List Fact) (f : Fact) (pred : ℕ) (row : Row) (rank : ℕ) (parts : List (List (List ℤ × ℕ))) → AreRecorded fs → AreGrown row.parts f.tuple (length fs) parts → f.pred ≡ Some pred → ((n : ℕ) → Concludes fs n f.pred f.tuple → ⊥) → IsRow fs pred row → IsRank (tuple_of fs) row.by_tuple f.tuple rank
+    → IsRow (fs ++ f ∷ []) pred (record { by_number = row.by_number ++ length fs ∷ []; by_tuple = insert row.by_tuple rank (length fs); keys = insert row.keys rank (key_of f.tuple); parts = parts })
+row_own fs f pred row rank parts recorded grown own fresh is at = record {
   numbers = record {
     order = all_pairs_push (λ x y. x < y) row.by_number (length fs) is.numbers.order (λ j d l. ((is.numbers.exact (get_or row.by_number j d)).0 (Contains-get_or row.by_number j d l)).0);
     exact = λ n. (λ has. numbers n (Contains-push_cases row.by_number (length fs) n has), λ new. listed n new (split fs f n new.0));
@@ -103,6 +118,7 @@ row_own fs f pred row rank own fresh is at = record {
   keyed =
       ap (λ ks. insert ks rank (key_of f.tuple)) (is.keyed ∙ map_members (λ n. key_of (tuple_of fs n)) (λ n. key_of (tuple_of more n)) row.by_tuple (λ x has. ap key_of (same x has)))
       ∙ ap (λ k. insert (map (λ n. key_of (tuple_of more n)) row.by_tuple) rank k) (ap key_of (sym mine)) ∙ sym (map_insert (λ n. key_of (tuple_of more n)) row.by_tuple rank (length fs));
+  parts = λ t n. (λ h. told t n ((exact t n).0 h), λ new. (exact t n).1 (held t n new (split fs f n new.0)));
 } where
   more : List Fact
   more = fs ++ f ∷ []
@@ -139,20 +155,31 @@ row_own fs f pred row rank own fresh is at = record {
     behind = λ k d l m. rw (sym (same (get_or row.by_tuple k d) (Contains-get_or row.by_tuple k d m))) (at.behind k d l m);
   })
 
+  exact : (t : List ℤ) (n : ℕ) → Holds parts t n ↔ (Holds row.parts t n ⊎ ((t ≡ f.tuple) × (n ≡ length fs)))
+  exact t n = grown_exact row.parts f.tuple (length fs) (row_single fs pred row recorded is) (λ m h. (let x = (is.parts f.tuple m).0 h in fresh m (x.0, x.1 ∙ sym own, x.2))) parts grown t n
+
+  told : (t : List ℤ) (n : ℕ) → Holds row.parts t n ⊎ ((t ≡ f.tuple) × (n ≡ length fs)) → Concludes more n (Some pred) t
+  told t n (inl h) = concludes_push fs f pred n t ((is.parts t n).0 h)
+  told t n (inr new) = (let of = of_new fs f pred n new.1 own in (of.0, of.1, field_new (λ g. g.tuple) [] fs f n new.1 ∙ sym new.0))
+
+  held : (t : List ℤ) (n : ℕ) → Concludes more n (Some pred) t → (n ≡ length fs) ⊎ (n < length fs) → Holds row.parts t n ⊎ ((t ≡ f.tuple) × (n ≡ length fs))
+  held t n new (inl e) = inr (sym new.2 ∙ field_new (λ g. g.tuple) [] fs f n e, e)
+  held t n new (inr less) = inl ((is.parts t n).1 (concludes_old fs f pred n t (of_old fs f pred n less (new.0, new.1)) new.2))
+
   apart : (x : ℕ) → Contains row.by_tuple x → tuple_of more x ≡ tuple_of more (length fs) → ⊥
   apart x has e =
       let old = (is.exact x).0 has in
       fresh x (old.0, old.1 ∙ sym own, same x has ∙ e ∙ mine)
 
-pub index_of : (rows : List Row) (fs : List Fact) (f : Fact) (pred rank : ℕ) (row : Row) → IsIndexed rows fs → f.pred ≡ Some pred → pred < length rows → All (λ p. p < length fs) f.premises → ((n : ℕ) → Concludes fs n f.pred f.tuple → ⊥) → IsBare f
+pub index_of : (rows : List Row) (fs : List Fact) (f : Fact) (pred rank : ℕ) (row : Row) (parts : List (List (List ℤ × ℕ))) → AreGrown (get_or rows pred empty).parts f.tuple (length fs) parts → IsIndexed rows fs → f.pred ≡ Some pred → pred < length rows → All (λ p. p < length fs) f.premises → ((n : ℕ) → Concludes fs n f.pred f.tuple → ⊥) → IsBare f
     → IsRank (tuple_of fs) (get_or rows pred empty).by_tuple f.tuple rank
-    → row ≡ record { by_number = (get_or rows pred empty).by_number ++ length fs ∷ []; by_tuple = insert (get_or rows pred empty).by_tuple rank (length fs); keys = insert (get_or rows pred empty).keys rank (key_of f.tuple) }
+    → row ≡ record { by_number = (get_or rows pred empty).by_number ++ length fs ∷ []; by_tuple = insert (get_or rows pred empty).by_tuple rank (length fs); keys = insert (get_or rows pred empty).keys rank (key_of f.tuple); parts = parts }
     → IsIndexed (set rows pred row) (fs ++ f ∷ [])
-index_of rows fs f pred rank row index own within there fresh bare at is = record { recorded = recorded_push fs f index.recorded there fresh bare; each = λ other. each other (cases_eq other pred) } where
+index_of rows fs f pred rank row parts grown index own within there fresh bare at is = record { recorded = recorded_push fs f index.recorded there fresh bare; each = λ other. each other (cases_eq other pred) } where
   each : (other : ℕ) → (other ≡ pred) ⊎ (other ≡ pred → ⊥) → IsRow (fs ++ f ∷ []) other (get_or (set rows pred row) other empty)
   each other (inl e) =
       let here : get_or (set rows pred row) other empty ≡ row = ap (λ k. get_or (set rows pred row) k empty) e ∙ get_or-set_same rows pred row empty within in
-      subst (λ k. IsRow (fs ++ f ∷ []) k (get_or (set rows pred row) other empty)) (sym e) (subst (λ r. IsRow (fs ++ f ∷ []) pred r) (sym (here ∙ is)) (row_own fs f pred (get_or rows pred empty) rank own fresh (index.each pred) at))
+      subst (λ k. IsRow (fs ++ f ∷ []) k (get_or (set rows pred row) other empty)) (sym e) (subst (λ r. IsRow (fs ++ f ∷ []) pred r) (sym (here ∙ is)) (row_own fs f pred (get_or rows pred empty) rank parts index.recorded grown own fresh (index.each pred) at))
   each other (inr far) = subst (λ r. IsRow (fs ++ f ∷ []) other r) (sym (get_or-set_other rows pred other row empty far))
       (row_other fs f other (get_or rows other empty) (λ e. (let both : Some pred ≡ Some other = sym own ∙ e in far (sym (some_inj pred other both)))) (index.each other)) where
         some_inj : (a b : ℕ) → Some a ≡ Some b → a ≡ b
@@ -172,6 +199,7 @@ index_none = record {
     order = λ i j d l in'. absurd (omega arith);
     exact = λ n. (none pred n, λ new. (let l = new.0 in absurd (omega arith)));
     keyed = refl;
+    parts = λ t n. (λ h. (let l = h.1 in absurd (omega arith)), λ new. (let l = new.0 in absurd (omega arith)));
   };
 } where
   none : (pred n : ℕ) → Contains {X = ℕ} [] n → IsOf [] pred n
@@ -199,12 +227,13 @@ more_same rows k = by (cases_order k (length rows)) where
   by (inr (inl less)) = get_or_append_left rows (empty ∷ []) empty k less
   by (inr (inr past)) = get_or_past (rows ++ empty ∷ []) k empty (let long = length-append rows (empty ∷ []) in omega arith) ∙ sym (get_or_past rows k empty (omega arith))
 
--- what a search in a row says of the facts
-pub find_is : (rows : List Row) (fs : List Fact) (pred : ℕ) (row : List ℕ) (tuple : List ℤ) (r : Option ℕ) → IsIndexed rows fs → row ≡ (get_or rows pred empty).by_tuple
-    → ((n : ℕ) → (r ≡ Some n) ↔ (Contains row n × (tuple_of fs n ≡ tuple))) → (n : ℕ) → (r ≡ Some n) ↔ Concludes fs n (Some pred) tuple
-find_is rows fs pred row tuple r index is same n = (λ found. front ((same n).0 found), λ told. (same n).1 (subst (λ xs. Contains xs n) (sym is) (((index.each pred).exact n).1 (told.0, told.1)), told.2)) where
-  front : Contains row n × (tuple_of fs n ≡ tuple) → Concludes fs n (Some pred) tuple
-  front both = (let of = ((index.each pred).exact n).0 (subst (λ xs. Contains xs n) is both.0) in (of.0, of.1, both.1))
+-- what a look-up in the parts of a row says of the facts
+pub parts_single : (rows : List Row) (fs : List Fact) (pred : ℕ) (parts : List (List (List ℤ × ℕ))) → IsIndexed rows fs → parts ≡ (get_or rows pred empty).parts → AreSingle parts
+parts_single rows fs pred parts index is = subst (λ ps. AreSingle ps) (sym is) (row_single fs pred (get_or rows pred empty) index.recorded (index.each pred))
+
+pub find_is : (rows : List Row) (fs : List Fact) (pred : ℕ) (parts : List (List (List ℤ × ℕ))) (tuple : List ℤ) (r : Option ℕ) → IsIndexed rows fs → parts ≡ (get_or rows pred empty).parts
+    → ((n : ℕ) → (r ≡ Some n) ↔ Holds parts tuple n) → (n : ℕ) → (r ≡ Some n) ↔ Concludes fs n (Some pred) tuple
+find_is rows fs pred parts tuple r index is same n = (λ found. ((index.each pred).parts tuple n).0 (subst (λ ps. Holds ps tuple n) is ((same n).0 found)), λ told. (same n).1 (subst (λ ps. Holds ps tuple n) (sym is) (((index.each pred).parts tuple n).1 told)))
 
 -- what a part of a row says of the facts
 pub under_is : (rows : List Row) (fs : List Fact) (pred : ℕ) (row : List ℕ) (front : List ℤ) (numbers : List ℕ) → IsIndexed rows fs → row ≡ (get_or rows pred empty).by_tuple
@@ -216,6 +245,6 @@ under_is rows fs pred row front numbers index is order same = record {
   there : (n : ℕ) → Contains row n × Begins front (tuple_of fs n) → (n < length fs) × (pred_of fs n ≡ Some pred) × Begins front (tuple_of fs n)
   there n both = (let of = ((index.each pred).exact n).0 (subst (λ xs. Contains xs n) is both.0) in (of.0, of.1, both.1))
 
-pub row_is : (old row : Row) (at n m : ℕ) (k l : ℤ) → old ≡ row → n ≡ m → k ≡ l
-    → ◌≡◌ {A = Row} (record { by_number = old.by_number ++ n ∷ []; by_tuple = insert old.by_tuple at n; keys = insert old.keys at k }) (record { by_number = row.by_number ++ m ∷ []; by_tuple = insert row.by_tuple at m; keys = insert row.keys at l })
-row_is old row at n m k l a b c = rw (a, b, c) refl
+pub row_is : (old row : Row) (at n m : ℕ) (k l : ℤ) (ps : List (List (List ℤ × ℕ))) → old ≡ row → n ≡ m → k ≡ l
+    → ◌≡◌ {A = Row} (record { by_number = old.by_number ++ n ∷ []; by_tuple = insert old.by_tuple at n; keys = insert old.keys at k; parts = ps }) (record { by_number = row.by_number ++ m ∷ []; by_tuple = insert row.by_tuple at m; keys = insert row.keys at l; parts = ps })
+row_is old row at n m k l ps a b c = rw (a, b, c) refl

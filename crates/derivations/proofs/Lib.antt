@@ -1,8 +1,10 @@
 pub mod FrontLemmas
+pub mod GrownLemmas
 pub mod IndexLemmas
 pub mod InsertLemmas
 pub mod LawLemmas
 pub mod MarkLemmas
 pub mod NoteLemmas
+pub mod PartLemmas
 pub mod Public
 pub mod SearchLemmas

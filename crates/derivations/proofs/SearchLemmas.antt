@@ -58,34 +58,7 @@ rank_high T row tuple middle pairs within not_less k d l in' less = by (cases_lt
   by (inl after) = mine (total.trans (T (get_or row middle d)) (T (get_or row k d)) tuple (pairs middle k d after in') less)
   by (inr more) = let same : k ≡ middle = omega arith in mine (subst (λ m. slice_cmp int_cmp (T (get_or row m d)) tuple ≡ Less) same less)
 
--- the place of a tuple is its rank
-pub rank_at : (T : ℕ → List ℤ) (row : List ℕ) (tuple : List ℤ) (rank n : ℕ) → AllPairs (IsBelow T) row → IsRank T row tuple rank → Contains row n → T n ≡ tuple → (rank < length row) × (get_or row rank 0 ≡ n)
-rank_at T row tuple rank n pairs is (k, in', here) same = by (cases_order k rank) where
-  by : (k ≡ rank) ⊎ ((k < rank) ⊎ (rank < k)) → (rank < length row) × (get_or row rank 0 ≡ n)
-  by (inl e) = (omega arith, get_or_default row rank 0 n (omega arith) ∙ ap (λ m. get_or row m n) (sym e) ∙ here)
-  by (inr (inl e)) = absurd (not_itself tuple (subst (λ t. slice_cmp int_cmp t tuple ≡ Less) (ap T here ∙ same) (is.before k n e)))
-  by (inr (inr e)) = absurd (is.behind rank n (omega arith) (omega arith) (subst (λ t. slice_cmp int_cmp (T (get_or row rank n)) t ≡ Less) (ap T here ∙ same) (pairs rank k n e in')))
-
 -- one more in its place
 pub row_insert : (T : ℕ → List ℤ) (row : List ℕ) (id rank : ℕ) → AllPairs (IsBelow T) row → IsRank T row (T id) rank → ((x : ℕ) → Contains row x → T x ≡ T id → ⊥) → AllPairs (IsBelow T) (insert row rank id)
 row_insert T row id rank pairs is fresh = pairs_insert (IsBelow T) row rank id pairs is.within (λ k d l. is.before k d l)
     (λ k d l m. apart (T (get_or row k d)) (T id) (is.behind k d l m) (fresh (get_or row k d) (Contains-get_or row k d m)))
-
--- what stands at the rank is the one with the tuple, or there is none
-pub found_some : (T : ℕ → List ℤ) (row : List ℕ) (tuple : List ℤ) (rank : ℕ) → AllPairs (IsBelow T) row → IsRank T row tuple rank → rank < length row → pointwise int_eq (T (get_or row rank 0)) tuple ≡ true
-    → (n : ℕ) → (Some (get_or row rank 0) ≡ Some n) ↔ (Contains row n × (T n ≡ tuple))
-found_some T row tuple rank pairs is within same n = (λ e. front (inj (get_or row rank 0) n e), λ both. ap (λ x. Some x) (rank_at T row tuple rank n pairs is both.0 both.1).1) where
-  inj : (a b : ℕ) → Some a ≡ Some b → a ≡ b
-  inj a b e = cc
-
-  front : get_or row rank 0 ≡ n → Contains row n × (T n ≡ tuple)
-  front e = subst (λ x. Contains row x × (T x ≡ tuple)) e (Contains-get_or row rank 0 within, (signed_items (T (get_or row rank 0)) tuple).0 same)
-
-pub found_none : (T : ℕ → List ℤ) (row : List ℕ) (tuple : List ℤ) (rank : ℕ) → AllPairs (IsBelow T) row → IsRank T row tuple rank → (rank < length row → pointwise int_eq (T (get_or row rank 0)) tuple ≡ false)
-    → (n : ℕ) → (None ≡ Some n) ↔ (Contains row n × (T n ≡ tuple))
-found_none T row tuple rank pairs is other n = (λ e. absurd (cc), λ both. absurd (clash both.1 (rank_at T row tuple rank n pairs is both.0 both.1))) where
-  clash : T n ≡ tuple → (rank < length row) × (get_or row rank 0 ≡ n) → ⊥
-  clash same at =
-      let no = other at.0 in
-      let yes : pointwise int_eq (T (get_or row rank 0)) tuple ≡ true = (signed_items (T (get_or row rank 0)) tuple).1 (ap T at.1 ∙ same) in
-      absurd (cc)

@@ -5,8 +5,9 @@ ghost use Rattle.derivations.specs.Facts.{AreOf, AreRecorded, AreSteps, AreUnder
 use crate::fact::Fact;
 use crate::marks::steps;
 use crate::notes::Notes;
-use crate::rows::{Rows, add_in, by_number, by_tuple, keys_by_tuple};
-use crate::search::{begun, found};
+use crate::parts::sought;
+use crate::rows::{Rows, add_in, by_number, by_tuple, keys_by_tuple, parts_of};
+use crate::search::begun;
 use base::Memory;
 use cube_forms::share_all;
 use std::alloc::Global;
@@ -72,14 +73,12 @@ impl Facts {
         self.notes.height(id)
     }
 
-    /// The number of the fact that this tuple is in this predicate. It takes no memory, and the
-    /// logarithm of the predicate's facts, whichever they are.
+    /// The number of the fact that this tuple is in this predicate. It takes no memory, and
+    /// looks into as many maps as the logarithm of the number of the predicate's facts at most.
     pub fn find(&self, pred: u32, tuple: &[i64]) -> Option<u32>
         ensures { (n : ℕ) → (result ≡ Some n) ↔ Concludes self.now n (Some pred) tuple.now }
     {
-        let row = by_tuple(&self.rows, pred);
-        let keys = keys_by_tuple(&self.rows, pred);
-        found(&self.notes, row, keys, tuple)
+        sought(parts_of(&self.rows, pred), tuple)
     }
 
     /// The facts of a predicate, in order of number. They are lent.

@@ -4,9 +4,12 @@
 
 mod fact;
 mod facts;
+mod key;
 mod laws;
 mod marks;
 mod notes;
+mod part;
+mod parts;
 mod row;
 mod rows;
 mod search;

@@ -1,6 +1,7 @@
 ghost use Rattle.std.specs.Prelude.{◌≡◌, [], ◌∷◌, ◌++◌, ◌≤◌, length, IfOk};
 ghost use Rattle.std.specs.List.{insert};
 
+use crate::parts::Parts;
 use base::{Items, Memory};
 use std::alloc::Global;
 
@@ -10,6 +11,7 @@ pub(crate) struct Row {
     pub(crate) by_number: Items<u32>,
     pub(crate) by_tuple: Items<u32>,
     pub(crate) keys: Items<i64>,
+    pub(crate) parts: Parts,
 }
 
 impl Drop for Row {
@@ -18,6 +20,7 @@ impl Drop for Row {
             by_number: _,
             by_tuple: _,
             keys: _,
+            parts: _,
         } = self;
     }
 }
@@ -27,11 +30,13 @@ pub(crate) fn empty_row(alloc: Global) -> Row
     ensures numbers { result.by_number ≡ [] }
     ensures tuples { result.by_tuple ≡ [] }
     ensures keys { result.keys ≡ [] }
+    ensures parts { result.parts ≡ [] }
 {
     Row {
         by_number: Items::new(alloc),
         by_tuple: Items::new(alloc),
         keys: Items::new(alloc),
+        parts: Items::new(alloc),
     }
 }
 
@@ -68,10 +73,17 @@ fn extended(alloc: Global, numbers: &[u32], id: u32) -> Result<Items<u32>, Memor
 }
 
 /// A copy of a row with one fact more, which is the last by number and stands at a place by tuple.
-pub(crate) fn with(alloc: Global, row: &Row, at: usize, id: u32, key: i64) -> Result<Row, Memory>
+pub(crate) fn with(
+    alloc: Global,
+    row: &Row,
+    at: usize,
+    id: u32,
+    key: i64,
+    parts: Parts,
+) -> Result<Row, Memory>
     requires tuples { at ≤ length row.now.by_tuple }
     requires keys { at ≤ length row.now.keys }
-    ensures { IfOk result (λ longer. longer ≡ record { by_number = row.now.by_number ++ id ∷ []; by_tuple = insert row.now.by_tuple at id; keys = insert row.now.keys at key }) }
+    ensures { IfOk result (λ longer. longer ≡ record { by_number = row.now.by_number ++ id ∷ []; by_tuple = insert row.now.by_tuple at id; keys = insert row.now.keys at key; parts = parts }) }
 {
     let by_number = extended(alloc, row.by_number.as_slice(), id)?;
     let by_tuple = inserted(alloc, row.by_tuple.as_slice(), at, id)?;
@@ -80,5 +92,6 @@ pub(crate) fn with(alloc: Global, row: &Row, at: usize, id: u32, key: i64) -> Re
         by_number,
         by_tuple,
         keys,
+        parts,
     })
 }

@@ -5,6 +5,8 @@ ghost use Rattle.derivations.specs.machinery.Index.{IsIndexed, empty};
 
 use crate::fact::Fact;
 use crate::notes::Notes;
+use crate::part::Part;
+use crate::parts::grown;
 use crate::row::{Row, empty_row, with};
 use crate::search::{key_of, rank};
 use base::Memory;
@@ -43,6 +45,17 @@ pub(crate) fn keys_by_tuple(rows: &Rows, pred: u32) -> &[i64]
     let pred = pred as usize;
     if pred < rows.len() {
         return rows[pred].get().keys.as_slice();
+    }
+    &[]
+}
+
+/// The parts in which a predicate's tuples are found.
+pub(crate) fn parts_of(rows: &Rows, pred: u32) -> &[Held<Part>]
+    ensures { result.now ≡ (slice_index_or rows.now.items pred empty).parts }
+{
+    let pred = pred as usize;
+    if pred < rows.len() {
+        return rows[pred].get().parts.as_slice();
     }
     &[]
 }
@@ -107,7 +120,8 @@ pub(crate) fn add_of(
     let old = row_of(rows, pred);
     let tuple = fact.tuple.as_slice();
     let at = rank(notes, old.by_tuple.as_slice(), old.keys.as_slice(), tuple);
-    let row = with(alloc, old, at, id, key_of(tuple))?;
+    let parts = grown(alloc, old.parts.as_slice(), tuple, id)?;
+    let row = with(alloc, old, at, id, key_of(tuple), parts)?;
     let row = Held::new(alloc, row)?;
     notes.add(fact)?;
     put(rows, pred, row);

@@ -1,4 +1,4 @@
-ghost use Rattle.std.specs.Prelude.{◌≡◌, ◌≢◌, ◌↔◌, ◌<◌, ◌≤◌, ℕ, length, map, Some, true, false};
+ghost use Rattle.std.specs.Prelude.{◌≡◌, ◌≢◌, ◌↔◌, ◌<◌, ◌≤◌, ℕ, length, map, true, false};
 ghost use Rattle.std.specs.List.{All, AllPairs, Contains};
 ghost use Rattle.std.specs.Ordering.{int_cmp};
 ghost use Rattle.std.specs.Cmp.Lexicographic.{slice_cmp};
@@ -56,20 +56,6 @@ pub(crate) fn rank(notes: &Notes, row: &[u32], keys: &[i64], tuple: &[i64]) -> u
         }
     }
     low
-}
-
-/// The number in a row whose fact has the tuple.
-pub(crate) fn found(notes: &Notes, row: &[u32], keys: &[i64], tuple: &[i64]) -> Option<u32>
-    requires order { AllPairs (IsBelow (tuple_of notes.now)) row.now }
-    requires there { All (λ n. n < length notes.now) row.now }
-    requires keyed { keys.now ≡ map (λ n. key_of (tuple_of notes.now n)) row.now }
-    ensures { (n : ℕ) → (result ≡ Some n) ↔ (Contains row.now n × (tuple_of notes.now n ≡ tuple.now)) }
-{
-    let at = rank(notes, row, keys, tuple);
-    if at < row.len() && notes.tuple(row[at]) == tuple {
-        return Some(row[at]);
-    }
-    None
 }
 
 /// Whether a fact's tuple begins with these values.

@@ -1,12 +1,13 @@
 -- The rows of the predicates, beside the facts.
-use Rattle.std.specs.Prelude.{ℕ, ℤ, negsuc, ◌≡◌, ◌≢◌, ◌<◌, ◌≤◌, ◌↔◌, ◌-◌, ◌^◌, List, [], length, map, get_or, take, Some}
-use Rattle.std.specs.List.{AllPairs, Contains}
-use Rattle.std.specs.Ordering.{int_cmp}
+use Rattle.std.specs.Prelude.{ℕ, ℤ, negsuc, ◌≡◌, ◌≢◌, ◌<◌, ◌≤◌, ◌↔◌, ◌-◌, ◌^◌, List, [], ◌∷◌, ◌++◌, drop, length, map, get_or, take, Some}
+use Rattle.std.specs.List.{AllPairs, Contains, fold}
+use Rattle.std.specs.Ordering.{int_cmp, int_eq}
 use Rattle.std.specs.declared.cmp.Ordering.TheVariants.{Less}
-use Rattle.std.specs.Cmp.Lexicographic.{slice_cmp}
+use Rattle.std.specs.Cmp.Lexicographic.{slice_cmp, pointwise}
+use Rattle.indexmap.specs.IndexMap.{insert_all}
 use Rattle.derivations.specs.declared.fact.Fact.{Fact}
 use Rattle.derivations.specs.declared.row.Row.{Row}
-use Rattle.derivations.specs.Facts.{pred_of, tuple_of, AreOf, AreRecorded}
+use Rattle.derivations.specs.Facts.{pred_of, tuple_of, AreOf, AreRecorded, Concludes}
 
 -- x stands before y by its tuple, where T gives the tuple of a number
 abbrev pub IsBelow : (ℕ → List ℤ) → ℕ → ℕ → Type 0
@@ -33,15 +34,32 @@ pub record IsRun (T : ℕ → List ℤ) (row : List ℕ) (front : List ℤ) (low
   pub begins : (k d : ℕ) → low ≤ k → k < high → Begins front (T (get_or row k d))
   pub ends : (d : ℕ) → high < length row → Begins front (T (get_or row high d)) → ⊥
 
+-- a tuple has a number in one of the parts
+abbrev pub Holds : List (List (List ℤ × ℕ)) → List ℤ → ℕ → Type 0
+Holds parts tuple n = (i : ℕ) × (i < length parts) × Contains (get_or parts i []) (tuple, n)
+
+-- no tuple has two numbers
+abbrev pub AreSingle : List (List (List ℤ × ℕ)) → Type 0
+AreSingle parts = (tuple : List ℤ) (m n : ℕ) → Holds parts tuple m → Holds parts tuple n → m ≡ n
+
+-- one tuple with its number, and then all that stands in other parts
+abbrev pub joined : List (List (List ℤ × ℕ)) → List ℤ → ℕ → List (List ℤ × ℕ)
+joined parts tuple n = fold (insert_all (pointwise int_eq)) ((tuple, n) ∷ []) parts
+
+-- the first parts stay, and the others are joined with one more tuple
+abbrev pub AreGrown : List (List (List ℤ × ℕ)) → List ℤ → ℕ → List (List (List ℤ × ℕ)) → Type 0
+AreGrown old tuple n new = (k : ℕ) × (k ≤ length old) × (new ≡ take k old ++ joined (drop k old) tuple n ∷ [])
+
 -- the facts of one predicate, by number and by tuple
 pub record IsRow (facts : List Fact) (pred : ℕ) (row : Row) : Type 0 where
   pub numbers : AreOf facts pred row.by_number
   pub order : AllPairs (IsBelow (tuple_of facts)) row.by_tuple
   pub exact : (n : ℕ) → Contains row.by_tuple n ↔ ((n < length facts) × (pred_of facts n ≡ Some pred))
   pub keyed : row.keys ≡ map (λ n. key_of (tuple_of facts n)) row.by_tuple
+  pub parts : (t : List ℤ) (n : ℕ) → Holds row.parts t n ↔ Concludes facts n (Some pred) t
 
 abbrev pub empty : Row
-empty = record { by_number = []; by_tuple = []; keys = [] }
+empty = record { by_number = []; by_tuple = []; keys = []; parts = [] }
 
 -- a predicate past the last row has no fact
 pub record IsIndexed (rows : List Row) (facts : List Fact) : Type 0 where
