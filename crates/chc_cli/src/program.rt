@@ -52,6 +52,8 @@ pub fn chc_main<W: Threads + Wait + Sync, S: Source, K: Sink>(
     ensures no_text { IfErr args (λ e. error_kind e ≢ ErrorKind.OutOfMemory → result.status ≢ Status.WriteFault → result.status ≡ Status.Usage) }
     ensures no_room { IfErr args (λ e. error_kind e ≡ ErrorKind.OutOfMemory → result.status ≢ Status.WriteFault → result.status ≡ Status.Memory) }
     ensures no_words { IfErr args (λ e. S.turns source.new ≡ S.turns source.old) }
+    ensures no_book { IfErr args (λ e. result.book ≡ None) }
+    ensures keeps_nothing { IfErr args (λ e. result.read.items ≡ []) }
 
     // What `chc_run` says of each status, and whatever the status.
     ensures answered { IfOk args (λ args. result.status ≡ Status.Answered → ByCommand (map string_bytes (drop 1 (into_iter_items args)))
@@ -88,7 +90,9 @@ pub fn chc_main<W: Threads + Wait + Sync, S: Source, K: Sink>(
     ensures checks_no_shapes { IfOk args (λ args. (nodes : ℕ) → IsCheckCall (map string_bytes (drop 1 (into_iter_items args))) nodes
         → IfSome (S.left source.old) (λ bytes. HasNoSystemOfCheck bytes → TellsVerdict result.status → ⊥)) }
     ensures unopened { IsSome result.refusal → result.book ≡ None }
+    ensures gen_read { IfOk args (λ args. (depth seed : ℕ) → IsGenCall (map string_bytes (drop 1 (into_iter_items args))) depth seed → result.read.items ≡ []) }
     ensures unread { IfOk args (λ args. IsNoCommand (map string_bytes (drop 1 (into_iter_items args))) → S.turns source.new ≡ S.turns source.old) }
+    ensures other_book { IfOk args (λ args. IsNoCommand (map string_bytes (drop 1 (into_iter_items args))) → result.book ≡ None) }
     ensures other_read { result.status ≡ Status.Usage → result.read.items ≡ [] }
     ensures unwritten { result.status ≡ Status.ReadFault → K.turns sink.new ≡ K.turns sink.old }
     ensures reads_all { S.ends source.new ≢ S.ends source.old → IfSome (S.left source.old) (λ bytes. result.read.items ≡ bytes) }

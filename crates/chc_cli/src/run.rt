@@ -95,6 +95,7 @@ pub fn chc_run<W: Threads + Wait + Sync, S: Source, K: Sink, G: Gate>(
     // `gen` asks nothing of the source, and ends with a summary, a sink that has failed, or want of memory.
     ensures generates { (depth seed : ℕ) → IsGenCall (map string_bytes words.now) depth seed → result.status ≢ Status.WriteFault → result.status ≢ Status.Memory → result.status ≡ Status.Answered }
     ensures gen_unread { (depth seed : ℕ) → IsGenCall (map string_bytes words.now) depth seed → S.turns source.new ≡ S.turns source.old }
+    ensures gen_read { (depth seed : ℕ) → IsGenCall (map string_bytes words.now) depth seed → result.read.items ≡ [] }
 
     // Usage: words that are no command are answered so, unless memory is wanted to read them, and nothing is read for them.
     ensures usage { result.status ≡ Status.Usage → Appends usage_text (K.held sink.old) (K.held sink.new) }

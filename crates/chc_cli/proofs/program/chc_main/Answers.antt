@@ -15,6 +15,10 @@ pub returns-in-Ok-words_after_name-clause-gen_unread : goal.returns-in-Ok-words_
 returns-in-Ok-words_after_name-clause-gen_unread g c =
     rw c.in-Ok.is (λ depth seed call. c.chc_run.ensures.gen_unread depth seed (rw (c.as_slice.ensures.value, c.in-Ok-words_after_name.ensures) call))
 
+pub returns-in-Ok-words_after_name-clause-gen_read : goal.returns-in-Ok-words_after_name-clause-gen_read
+returns-in-Ok-words_after_name-clause-gen_read g c =
+    rw c.in-Ok.is (λ depth seed call. c.chc_run.ensures.gen_read depth seed (rw (c.as_slice.ensures.value, c.in-Ok-words_after_name.ensures) call))
+
 pub returns-in-Ok-words_after_name-clause-answers_all : goal.returns-in-Ok-words_after_name-clause-answers_all
 returns-in-Ok-words_after_name-clause-answers_all g c =
     rw c.in-Ok.is (λ none. c.chc_run.ensures.answers_all (rw (c.as_slice.ensures.value, c.in-Ok-words_after_name.ensures) none))
@@ -80,6 +84,10 @@ returns-in-Ok-words_after_name-clause-counts g c = rw c.in-Ok.is (rw (sym c.in-O
 pub returns-in-Ok-words_after_name-clause-unread : goal.returns-in-Ok-words_after_name-clause-unread
 returns-in-Ok-words_after_name-clause-unread g c =
     rw c.in-Ok.is (λ none. c.chc_run.ensures.unread (rw (c.as_slice.ensures.value, c.in-Ok-words_after_name.ensures) none))
+
+pub returns-in-Ok-words_after_name-clause-other_book : goal.returns-in-Ok-words_after_name-clause-other_book
+returns-in-Ok-words_after_name-clause-other_book g c =
+    rw c.in-Ok.is (λ none. c.chc_run.ensures.other_book (rw (c.as_slice.ensures.value, c.in-Ok-words_after_name.ensures) none))
 
 pub returns-in-Ok-words_after_name-clause-writes_part : goal.returns-in-Ok-words_after_name-clause-writes_part
 returns-in-Ok-words_after_name-clause-writes_part g c =

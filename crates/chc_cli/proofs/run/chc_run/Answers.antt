@@ -73,6 +73,9 @@ returns-in-Solve-clause-generates g c = λ depth seed call. absurd (c.calls_excl
 pub returns-in-Solve-clause-gen_unread : goal.returns-in-Solve-clause-gen_unread
 returns-in-Solve-clause-gen_unread g c = λ depth seed call. absurd (c.calls_exclude_each_other.ensures.apart_gen (map string_bytes c.args.words.now) c.in-Solve.limits depth seed c.in-Solve.ensures.0 call)
 
+pub returns-in-Solve-clause-gen_read : goal.returns-in-Solve-clause-gen_read
+returns-in-Solve-clause-gen_read g c = λ depth seed call. absurd (c.calls_exclude_each_other.ensures.apart_gen (map string_bytes c.args.words.now) c.in-Solve.limits depth seed c.in-Solve.ensures.0 call)
+
 -- a call of `check`
 
 pub returns-in-Check-clause-answered : goal.returns-in-Check-clause-answered
@@ -138,6 +141,9 @@ returns-in-Check-clause-generates g c = λ depth seed call. absurd (c.calls_excl
 
 pub returns-in-Check-clause-gen_unread : goal.returns-in-Check-clause-gen_unread
 returns-in-Check-clause-gen_unread g c = λ depth seed call. absurd (c.calls_exclude_each_other.ensures.check_apart (map string_bytes c.args.words.now) c.in-Check.nodes depth seed c.in-Check.ensures.0 call)
+
+pub returns-in-Check-clause-gen_read : goal.returns-in-Check-clause-gen_read
+returns-in-Check-clause-gen_read g c = λ depth seed call. absurd (c.calls_exclude_each_other.ensures.check_apart (map string_bytes c.args.words.now) c.in-Check.nodes depth seed c.in-Check.ensures.0 call)
 
 -- a call of `gen`
 
