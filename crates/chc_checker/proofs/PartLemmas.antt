@@ -1,6 +1,6 @@
 -- A formula that says that others are true, and one of some parts, by what is decided of each part.
-use Rattle.std.proofs.Common.{◌≡◌, ℕ, zero, suc, List, [], ◌∷◌, ◌++◌, Bool, true, false, ◌&&◌, ◌||◌, refl, ap, sym, ◌∙◌, subst, arith, ◌<◌, ◌≤◌, length, take, drop, get_or}
-use Rattle.std.specs.Prelude.{ℤ, Option, Some, None, Result, Ok, Err, IfOk, IfSome}
+use Rattle.std.proofs.Common.{◌≡◌, ℕ, zero, suc, List, [], ◌∷◌, ◌++◌, Bool, true, false, ◌&&◌, ◌||◌, refl, ap, sym, ◌∙◌, arith, ◌<◌, ◌≤◌, length, take, get_or}
+use Rattle.std.specs.Prelude.{ℤ, Option, Some, None, IfSome}
 use Rattle.std.specs.List.{list_all, list_any}
 use Rattle.lin_atoms.specs.Truth.{truth}
 use Rattle.lin_atoms.specs.declared.form.Form.{Form}
