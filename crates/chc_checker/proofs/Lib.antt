@@ -10,3 +10,4 @@ pub mod ReadLemmas
 pub mod ReplaceLemmas
 pub mod ScriptLemmas
 pub mod TermLemmas
+pub mod PartLemmas

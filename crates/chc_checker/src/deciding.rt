@@ -17,7 +17,7 @@ use lin_atoms::Form;
 use std::alloc::Global;
 
 /// The decision as it is, which settles the formula, too: one that is kept as refuted has no point.
-fn told(decision: Decision) -> Decision
+pub(crate) fn told(decision: Decision) -> Decision
     ensures { (form : AForm) (vars nodes : ℕ) → Decides form vars nodes decision → Settles form vars nodes result }
 {
     match decision {
@@ -56,7 +56,7 @@ fn settled(decision: Decision) -> Option<Decision>
 }
 
 /// Whether a formula can be decided over variables below `vars`.
-fn is_ready(form: &Form, vars: u32) -> bool
+pub(crate) fn is_ready(form: &Form, vars: u32) -> bool
     ensures below { result ≡ true → is_below vars form.now ≡ true }
     ensures short { result ≡ true → has_short_multiples form.now ≡ true }
     ensures otherwise { result ≡ false → (is_below vars form.now && has_short_multiples form.now) ≡ false }
@@ -91,7 +91,12 @@ fn asked_without_links(
 /// Decides a formula: first with literals in place of its links, so that there are no cases for them.
 /// Where that is given up, or it has no links, the formula is decided as it is, so that evidence is of
 /// the formula itself. Each has `nodes` inner nodes of a split tree.
-pub(crate) fn settle(alloc: Global, form: Form, vars: u32, nodes: u32) -> Result<Decision, Memory>
+pub(crate) fn settle_whole(
+    alloc: Global,
+    form: Form,
+    vars: u32,
+    nodes: u32,
+) -> Result<Decision, Memory>
     requires below { is_below vars form ≡ true }
     requires short { has_short_multiples form ≡ true }
     requires few { vars ≤ most_variables }

@@ -10,6 +10,7 @@ mod laws;
 mod linking;
 mod links;
 mod model;
+mod parting;
 mod reading;
 mod verdict;
 mod whole;

@@ -13,7 +13,7 @@ ghost use Rattle.chc_checker.specs.Verdicts.{IsNormalScript, IsAssertionReached,
 ghost use Rattle.chc_checker.specs.machinery.Judging.{HaveFewArguments, IsDecided, Settles};
 
 use crate::counting::count_all;
-use crate::deciding::settle;
+use crate::parting::settle;
 use crate::verdict::{Hidden, Place, Unshown, Verdict};
 use base::{Items, Memory};
 use check_derivation::clauses_of;
