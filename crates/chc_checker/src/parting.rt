@@ -137,7 +137,8 @@ fn part_asked(
     requires some { 0 < nodes }
     ensures { IfOk result (λ found. IfSome found (Settles (And (part.now ∷ others.now)) vars nodes)) }
 {
-    match refuted_by_first(alloc, part, others, vars)? {
+    let found = refuted_by_first(alloc, part, others, vars)?;
+    match found {
         Some(decision) => Ok(Some(decision)),
         None => asked(alloc, part, others, vars, nodes),
     }
@@ -160,7 +161,8 @@ fn by_parts(
 {
     let mut last = None;
     for part in parts {
-        match part_asked(alloc, part, others, vars, nodes)? {
+        let found = part_asked(alloc, part, others, vars, nodes)?;
+        match found {
             Some(Decision::Refuted(refuted)) => last = Some(Decision::Refuted(refuted)),
             Some(Decision::Model(point)) => return Ok(Some(Decision::Model(point))),
             _ => return Ok(None),
