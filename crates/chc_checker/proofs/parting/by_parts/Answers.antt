@@ -14,7 +14,7 @@ returns-in-Some-Model c =
     let part = c.part-item.result in
     let others = c.args.others.now in
     let found : Settles (And (part ∷ others)) c.args.vars c.args.nodes (Model c.in-Some-Model.point) =
-        subst (λ (o : Option Decision). IfSome o (Settles (And (part ∷ others)) c.args.vars c.args.nodes)) (c.in-Some-Model.is ∙ ap (λ (d : Decision). Some d) c.in-Some-Model.field-0-is) c.in_ok-found.ensures in
+    subst (λ (o : Option Decision). IfSome o (Settles (And (part ∷ others)) c.args.vars c.args.nodes)) (c.in-Some-Model.is ∙ ap (λ (d : Decision). Some d) c.in-Some-Model.field-0-is) c.in_ok-found.ensures in
     part_model c.args.form.now others c.args.parts.now c.args.vars c.args.nodes c.loop-part.part-index part (Model c.in-Some-Model.point) c.requires.parts c.loop-part-test.true c.part-item.is tt found
 
 pub loop-part-preserved : goal.loop-part-preserved
@@ -23,7 +23,7 @@ loop-part-preserved c =
     let others = c.args.others.now in
     let index : ℕ = c.loop-part.part-index in
     let found : HasNoPoint (And (part ∷ others)) =
-        subst (λ (o : Option Decision). IfSome o (Settles (And (part ∷ others)) c.args.vars c.args.nodes)) (c.in-Some-Refuted.is ∙ ap (λ (d : Decision). Some d) c.in-Some-Refuted.field-0-is) c.in_ok-found.ensures in
+    subst (λ (o : Option Decision). IfSome o (Settles (And (part ∷ others)) c.args.vars c.args.nodes)) (c.in-Some-Refuted.is ∙ ap (λ (d : Decision). Some d) c.in-Some-Refuted.field-0-is) c.in_ok-found.ensures in
     let next : suc index ≡ index + 1 = omega arith in
     (subst (λ (n : ℕ). HaveNone others (take n c.args.parts.now)) next (none_more others c.args.parts.now index part c.loop-part-test.true c.part-item.is c.loop-part.invariant.0 found), tt)
 
